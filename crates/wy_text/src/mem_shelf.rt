@@ -1,0 +1,103 @@
+ghost use Rattle.std.specs.Prelude.{◌≡◌, ◌≤◌, ◌⊎◌, take, [], IfOk, OnErr, Err, Some, None, Contains};
+ghost use Rattle.std.specs.Option.{option_copied};
+ghost use Rattle.wy_text.specs.Outside.{gained, next_count, Rose};
+ghost use Rattle.wy_text.specs.Shelf.{GivesFile, read_well, read_badly, file_named};
+
+use crate::list::{CallList, Items};
+use crate::shelf::{FileList, NamedText, ReadDone, ReadError, Shelf};
+use crate::text::{Memory, Text, from_bytes};
+use std::alloc::Global;
+use std::marker::Model;
+
+/// A shelf in memory. It fails where the name is not there, and at the calls that it was told to fail.
+/// Of two files with one name it gives the first.
+#[derive(Debug, Drop)]
+pub struct MemShelf {
+    alloc: Global,
+    files: FileList,
+    fails: CallList,
+    calls: u64,
+    reads: Items<ReadDone>,
+    faults: u64,
+}
+
+impl Model for MemShelf {
+    ghost use Rattle.wy_text.specs.MemShelf.{MemShelfState};
+
+    ghost Value = { MemShelfState };
+
+    ghost view = { λ s. record { files = s.files; fails = s.fails; calls = s.calls; reads = s.reads; faults = s.faults } };
+}
+
+impl MemShelf {
+    /// A shelf of these files that was not read and has no faults. Its calls are counted from 1.
+    pub fn new(alloc: Global, files: FileList, fails: CallList) -> Result<MemShelf, Memory>
+        ensures { IfOk result (λ s. s ≡ record { files = files; fails = fails; calls = 0; reads = []; faults = 0 }) }
+    {
+        Ok(MemShelf {
+            alloc,
+            files,
+            fails,
+            calls: 0,
+            reads: Items::new(alloc),
+            faults: 0,
+        })
+    }
+}
+
+fn text_named<'a>(files: &'a [NamedText], name: &[u8]) -> Option<&'a Text>
+    ensures { option_copied result ≡ file_named name.now files.now }
+{
+    files
+        .iter()
+        .find(|file| file.name.as_bytes() == name)
+        .map(|file| &file.text)
+}
+
+fn first_bytes(alloc: Global, text: &Text, most: usize) -> Result<Vec<u8>, Memory>
+    ensures { IfOk result (λ v. v.items ≡ take most text.now) }
+{
+    let bytes = text.as_bytes();
+    let given = Vec::from_slice(alloc, &bytes[..most.min(bytes.len())])?;
+    Ok(given)
+}
+
+impl Shelf for MemShelf {
+    ghost state = { λ s. record { files = Some s.files; reads = Some s.reads; faults = s.faults } };
+
+    fn read(&mut self, name: &str, most: usize) -> Result<Vec<u8>, ReadError>
+        ensures files { Some self.new.files ≡ Some self.old.files }
+        ensures gives { IfOk result (λ v. GivesFile (Some self.old.files) name.now most v.items) }
+        ensures ok { IfOk result (λ _. Some self.new.reads ≡ gained (Some self.old.reads) (read_well name.now)) }
+        ensures bad { result ≡ Err ReadError.Failed → Some self.new.reads ≡ gained (Some self.old.reads) (read_badly name.now) }
+        ensures none { result ≡ Err ReadError.Memory → Some self.new.reads ≡ Some self.old.reads }
+        ensures counted { self.old.faults ≤ self.new.faults }
+        ensures failed { result ≡ Err ReadError.Failed → Rose self.old.faults self.new.faults }
+
+        // It fails exactly at the calls that it was told and where the name is not there.
+        ensures call { self.new.calls ≡ next_count self.old.calls }
+        ensures listed { result ≡ Err ReadError.Failed → Contains self.old.fails (next_count self.old.calls) ⊎ (file_named name.now self.old.files ≡ None) }
+        ensures served { IfOk result (λ _. ¬ Contains self.old.fails (next_count self.old.calls)) }
+        ensures same_list { self.new.fails ≡ self.old.fails }
+    {
+        self.calls = self.calls.saturating_add(1);
+        let asked = from_bytes(self.alloc, name.as_bytes())?;
+        if !self.fails.contains(self.calls)
+            && let Some(text) = text_named(self.files.as_slice(), name.as_bytes())
+        {
+            let given = first_bytes(self.alloc, text, most)?;
+            self.reads.push(ReadDone {
+                name: asked,
+                failed: false,
+            })?;
+            Ok(given)
+        } else {
+            self.reads.push(ReadDone {
+                name: asked,
+                failed: true,
+            })?;
+            self.faults = self.faults.saturating_add(1);
+            Err(ReadError::Failed)
+        }
+    }
+}
