@@ -1,0 +1,62 @@
+-- What a device means.
+use Rattle.std.specs.Prelude.{◌≡◌, ℕ, ◌≤◌, List, [], ◌∷◌, Option, Some, None, length, ⊤}
+use Rattle.wy_device.specs.declared.operation.Kind.{Kind}
+use Rattle.wy_device.specs.declared.operation.Op.{Op}
+use Rattle.wy_device.specs.declared.operation.OpName.{OpName}
+use Rattle.wy_device.specs.declared.operation.OpName.TheVariants.{ConsoleRead, ConsoleWrite, FolderRead, FolderHas, FolderWrite, FolderAppend, FolderNames, ClockNow, RandomWord}
+use Rattle.wy_device.specs.declared.operation.Answer.{Answer}
+use Rattle.wy_device.specs.declared.operation.Answer.TheVariants.{Bytes, Truth, Number, Unit as Done}
+use Rattle.wy_device.specs.declared.deed.Deed.{Deed}
+use Rattle.wy_device.specs.Operation.{name_of}
+
+-- a device's kind, its deeds, where it tells them, and its count of faults
+pub record DeviceState : Type 0 where
+  pub kind : Kind
+  pub deeds : Option (List Deed)
+  pub faults : ℕ
+
+-- the deeds of a device that keeps them to itself
+abbrev pub untold : Option (List Deed)
+untold = None
+
+-- bytes of at most this length
+abbrev pub IsBytesUpTo : ℕ → Answer → Type 0
+IsBytesUpTo most (Bytes text) = length text ≤ most
+IsBytesUpTo most (Truth truth) = ⊥
+IsBytesUpTo most (Number number) = ⊥
+IsBytesUpTo most Done = ⊥
+
+abbrev pub IsTruth : Answer → Type 0
+IsTruth (Bytes text) = ⊥
+IsTruth (Truth truth) = ⊤
+IsTruth (Number number) = ⊥
+IsTruth Done = ⊥
+
+abbrev pub IsNumber : Answer → Type 0
+IsNumber (Bytes text) = ⊥
+IsNumber (Truth truth) = ⊥
+IsNumber (Number number) = ⊤
+IsNumber Done = ⊥
+
+-- an answer that the operation of a name may have
+abbrev pub IsAnswerNamed : OpName → Answer → Type 0
+IsAnswerNamed ConsoleRead answer = IsBytesUpTo 65536 answer
+IsAnswerNamed ConsoleWrite answer = answer ≡ Done
+IsAnswerNamed FolderRead answer = IsBytesUpTo 1048576 answer
+IsAnswerNamed FolderHas answer = IsTruth answer
+IsAnswerNamed FolderWrite answer = answer ≡ Done
+IsAnswerNamed FolderAppend answer = answer ≡ Done
+IsAnswerNamed FolderNames answer = IsBytesUpTo 1048576 answer
+IsAnswerNamed ClockNow answer = IsNumber answer
+IsAnswerNamed RandomWord answer = IsNumber answer
+
+-- an answer of the operation's kind, within its length
+abbrev pub IsAnswerOf : Op → Answer → Type 0
+IsAnswerOf op answer = IsAnswerNamed (name_of op) answer
+
+-- the deed of an operation that was answered, and of one that failed
+abbrev pub deed_done : List ℕ → Op → Answer → List Deed
+deed_done grant op answer = record { grant = grant; op = op; answer = Some answer } ∷ []
+
+abbrev pub deed_failed : List ℕ → Op → List Deed
+deed_failed grant op = record { grant = grant; op = op; answer = None } ∷ []

@@ -1,0 +1,30 @@
+-- The four devices of a run.
+use Rattle.std.specs.Prelude.{◌≡◌}
+use Rattle.wy_device.specs.Device.{DeviceState}
+use Rattle.wy_device.specs.declared.operation.Kind.{Kind}
+use Rattle.wy_device.specs.declared.operation.Kind.TheVariants.{Console, Folder, Clock, Random}
+use Rattle.wy_device.specs.declared.devices.Devices.{Devices}
+
+-- what the device of each kind means
+pub record DevicesState : Type 0 where
+  pub console : DeviceState
+  pub folder : DeviceState
+  pub clock : DeviceState
+  pub random : DeviceState
+
+abbrev pub device_of : DevicesState → Kind → DeviceState
+device_of d Console = d.console
+device_of d Folder = d.folder
+device_of d Clock = d.clock
+device_of d Random = d.random
+
+-- each device is of the kind of its place
+pub record IsInOrder (d : DevicesState) : Type 0 where
+  pub console : d.console.kind ≡ Console
+  pub folder : d.folder.kind ≡ Folder
+  pub clock : d.clock.kind ≡ Clock
+  pub random : d.random.kind ≡ Random
+
+-- what four devices mean, where each means what the function says
+abbrev pub states : {D : Type 0} → (D → DeviceState) → Devices D → DevicesState
+states state d = record { console = state d.console; folder = state d.folder; clock = state d.clock; random = state d.random }

@@ -1,0 +1,4 @@
+pub mod Device
+pub mod Devices
+pub mod MemConsole
+pub mod Operation

@@ -1,0 +1,11 @@
+//! Operations, answers, deeds and events; the devices of a run, handed in, shut or in memory.
+#![tactic(auto)]
+
+pub mod deed;
+pub mod device;
+pub mod devices;
+pub mod handed;
+pub mod handing_in;
+pub mod mem_console;
+pub mod operation;
+pub mod shut;

@@ -1,0 +1,153 @@
+ghost use Rattle.std.specs.Prelude.{List, ℕ, ◌≡◌, ◌≤◌, ◌<◌, ◌+◌, ◌++◌, [], drop, length, Some, IfOk, IfSome, OnOk, OnErr, Err, Contains, position, ◌==◌};
+ghost use Rattle.wy_text.specs.Outside.{gained, next_count, Rose};
+ghost use Rattle.wy_device.specs.Device.{DeviceState, IsAnswerOf, deed_done, deed_failed};
+ghost use Rattle.wy_device.specs.MemConsole.{line_size, next_line};
+ghost use Rattle.wy_device.specs.Operation.{kind_of};
+
+use crate::deed::{Deed, DeedList};
+use crate::device::{Device, DeviceError};
+use crate::operation::{Answer, Kind, Op};
+use std::alloc::Global;
+use std::marker::Model;
+use wy_text::list::{CallList, Items};
+use wy_text::text::{Memory, Text, from_bytes};
+
+/// The greatest number of bytes that one `read` of a console gives.
+pub const LONGEST_LINE: usize = 65_536;
+
+/// A console in memory. It fails at the calls that it was told to fail.
+#[derive(Debug, Drop)]
+pub struct MemConsole {
+    alloc: Global,
+    input: Text,
+    at: usize,
+    written: Text,
+    deeds: DeedList,
+    fails: CallList,
+    calls: u64,
+    faults: u64,
+}
+
+impl Model for MemConsole {
+    ghost use Rattle.std.specs.Prelude.{◌≤◌, drop, length};
+    ghost use Rattle.wy_device.specs.MemConsole.{MemConsoleState};
+
+    ghost Value = { MemConsoleState };
+
+    ghost view = { λ c. record { input = drop c.at c.input; written = c.written; deeds = c.deeds; fails = c.fails; calls = c.calls; faults = c.faults } };
+
+    ghost invariant = { λ c. c.at ≤ length c.input };
+}
+
+/// How many bytes one line has, with its newline, or its first piece where it is longer.
+fn line_len(input: &[u8]) -> usize
+    ensures size { result ≡ line_size input.now }
+    ensures within { result ≤ length input.now }
+    ensures piece { result ≤ 65536 }
+{
+    match newline_at(input) {
+        Some(at) => (at + 1).min(LONGEST_LINE),
+        None => input.len().min(LONGEST_LINE),
+    }
+}
+
+fn newline_at(input: &[u8]) -> Option<usize>
+    ensures place { result ≡ position (λ b. b == 10) input.now }
+    ensures within { IfSome result (λ at. at < length input.now) }
+{
+    input.iter().position(|b| *b == b'\n')
+}
+
+impl MemConsole {
+    /// A console with this input that was not asked yet, has written nothing and has no faults.
+    /// Its calls are counted from 1.
+    pub fn new(alloc: Global, input: Text, fails: CallList) -> Result<MemConsole, Memory>
+        ensures { IfOk result (λ c. c ≡ record { input = input; written = []; deeds = []; fails = fails; calls = 0; faults = 0 }) }
+    {
+        let written = from_bytes(alloc, b"")?;
+        Ok(MemConsole {
+            alloc,
+            input,
+            at: 0,
+            written,
+            deeds: Items::new(alloc),
+            fails,
+            calls: 0,
+            faults: 0,
+        })
+    }
+
+    /// Gives the next line of the input, and notes the deed.
+    fn read_line(&mut self, grant: &Text, op: &Op) -> Result<Answer, Memory>
+        ensures ok { IfOk result (λ a. (a ≡ Answer.Bytes (next_line self.old.input)) × (self.new ≡ record self.old { input = drop (line_size self.old.input) self.old.input; deeds = self.old.deeds ++ deed_done grant.now op.now a })) }
+        ensures length { IfOk result (IsAnswerOf Op.ConsoleRead) }
+        ensures err { OnErr result (self.new ≡ self.old) }
+    {
+        let rest = &self.input.as_bytes()[self.at..];
+        let size = line_len(rest);
+        let line = from_bytes(self.alloc, &rest[..size])?;
+        let answer = Answer::Bytes(line);
+        self.deeds.push(Deed::done(grant, op, &answer)?)?;
+        self.at += size;
+        Ok(answer)
+    }
+
+    /// Writes a text, and notes the deed.
+    fn write_text(&mut self, grant: &Text, op: &Op, text: &Text) -> Result<Answer, Memory>
+        ensures ok { IfOk result (λ a. (a ≡ Answer.Unit) × (self.new ≡ record self.old { written = self.old.written ++ text.now; deeds = self.old.deeds ++ deed_done grant.now op.now a })) }
+        ensures err { OnErr result (self.new ≡ self.old) }
+    {
+        let written = self.written.joined(text)?;
+        self.deeds.push(Deed::done(grant, op, &Answer::Unit)?)?;
+        self.written = written;
+        Ok(Answer::Unit)
+    }
+}
+
+impl Device for MemConsole {
+    ghost use Rattle.wy_device.specs.declared.operation.Kind.{Kind};
+
+    ghost state = { λ c. record { kind = Kind.Console; deeds = Some c.deeds; faults = c.faults } };
+
+    fn kind(&self) -> Kind {
+        Kind::Console
+    }
+
+    fn deeds(&self) -> Option<&DeedList> {
+        Some(&self.deeds)
+    }
+
+    fn perform(&mut self, grant: &Text, op: &Op) -> Result<Answer, DeviceError>
+        requires { kind_of op.now ≡ Kind.Console }
+        ensures same_kind { Kind.Console ≡ Kind.Console }
+        ensures answer { IfOk result (IsAnswerOf op.now) }
+        ensures done { IfOk result (λ a. Some self.new.deeds ≡ gained (Some self.old.deeds) (deed_done grant.now op.now a)) }
+        ensures bad { result ≡ Err DeviceError.Failed → Some self.new.deeds ≡ gained (Some self.old.deeds) (deed_failed grant.now op.now) }
+        ensures none { result ≡ Err DeviceError.Memory → Some self.new.deeds ≡ Some self.old.deeds }
+        ensures counted { self.old.faults ≤ self.new.faults }
+        ensures failed { result ≡ Err DeviceError.Failed → Rose self.old.faults self.new.faults }
+
+        // It fails exactly at the calls that it was told.
+        ensures call { self.new.calls ≡ next_count self.old.calls }
+        ensures listed { result ≡ Err DeviceError.Failed → Contains self.old.fails (next_count self.old.calls) }
+        ensures served { OnOk result (¬ Contains self.old.fails (next_count self.old.calls)) }
+        ensures same_list { self.new.fails ≡ self.old.fails }
+
+        // A read takes the next line of the input, and a write adds its text to what was written.
+        ensures read { op.now ≡ Op.ConsoleRead → IfOk result (λ a. (a ≡ Answer.Bytes (next_line self.old.input)) × (self.new.input ≡ drop (line_size self.old.input) self.old.input) × (self.new.written ≡ self.old.written)) }
+        ensures wrote { (t : List ℕ) → op.now ≡ Op.ConsoleWrite t → OnOk result ((self.new.written ≡ self.old.written ++ t) × (self.new.input ≡ self.old.input)) }
+        ensures kept { OnErr result ((self.new.input ≡ self.old.input) × (self.new.written ≡ self.old.written)) }
+    {
+        self.calls = self.calls.saturating_add(1);
+        if self.fails.contains(self.calls) {
+            self.deeds.push(Deed::failed(grant, op)?)?;
+            self.faults = self.faults.saturating_add(1);
+            return Err(DeviceError::Failed);
+        }
+        match op {
+            Op::ConsoleRead => Ok(self.read_line(grant, op)?),
+            Op::ConsoleWrite(text) => Ok(self.write_text(grant, op, text)?),
+            _ => unreachable!(),
+        }
+    }
+}

@@ -1,0 +1,119 @@
+ghost use Rattle.std.specs.Prelude.{◌≡◌, IfOk};
+ghost use Rattle.wy_device.specs.Operation.{method_text, name_of};
+
+use wy_text::text::{Memory, Text};
+
+/// The four kinds of device, one for each primitive type (docs/LANGUAGE.md, "Primitive types").
+#[derive(Clone, Copy, Debug, PartialEq, Eq)]
+pub enum Kind {
+    Console,
+    Folder,
+    Clock,
+    Random,
+}
+
+/// An operation with its arguments. A folder's have the file's name first, and then the text.
+#[derive(Debug, Drop)]
+pub enum Op {
+    ConsoleRead,
+    ConsoleWrite(Text),
+    FolderRead(Text),
+    FolderHas(Text),
+    FolderWrite(Text, Text),
+    FolderAppend(Text, Text),
+    FolderNames,
+    ClockNow,
+    RandomWord,
+}
+
+/// An operation without its arguments.
+#[derive(Clone, Copy, Debug, PartialEq, Eq)]
+pub enum OpName {
+    ConsoleRead,
+    ConsoleWrite,
+    FolderRead,
+    FolderHas,
+    FolderWrite,
+    FolderAppend,
+    FolderNames,
+    ClockNow,
+    RandomWord,
+}
+
+/// What a device answers: bytes, a truth value, a number, or that it is done.
+#[derive(Debug, Drop)]
+pub enum Answer {
+    Bytes(Text),
+    Truth(bool),
+    Number(i64),
+    Unit,
+}
+
+impl Op {
+    /// The same operation with the same arguments.
+    pub fn copy(&self) -> Result<Op, Memory>
+        ensures { IfOk result (λ op. op ≡ self.now) }
+    {
+        Ok(match self {
+            Op::ConsoleRead => Op::ConsoleRead,
+            Op::ConsoleWrite(text) => Op::ConsoleWrite(text.copy()?),
+            Op::FolderRead(name) => Op::FolderRead(name.copy()?),
+            Op::FolderHas(name) => Op::FolderHas(name.copy()?),
+            Op::FolderWrite(name, text) => Op::FolderWrite(name.copy()?, text.copy()?),
+            Op::FolderAppend(name, text) => Op::FolderAppend(name.copy()?, text.copy()?),
+            Op::FolderNames => Op::FolderNames,
+            Op::ClockNow => Op::ClockNow,
+            Op::RandomWord => Op::RandomWord,
+        })
+    }
+
+    /// The operation without its arguments. It takes no memory.
+    pub fn name(&self) -> OpName
+        ensures { result ≡ name_of self.now }
+    {
+        match self {
+            Op::ConsoleRead => OpName::ConsoleRead,
+            Op::ConsoleWrite(_) => OpName::ConsoleWrite,
+            Op::FolderRead(_) => OpName::FolderRead,
+            Op::FolderHas(_) => OpName::FolderHas,
+            Op::FolderWrite(_, _) => OpName::FolderWrite,
+            Op::FolderAppend(_, _) => OpName::FolderAppend,
+            Op::FolderNames => OpName::FolderNames,
+            Op::ClockNow => OpName::ClockNow,
+            Op::RandomWord => OpName::RandomWord,
+        }
+    }
+}
+
+impl OpName {
+    /// The name of the method that asks for the operation, as `write`. It takes no memory.
+    pub fn method(self) -> &'static str
+        ensures { result.now ≡ method_text self }
+    {
+        match self {
+            OpName::ConsoleRead => "read",
+            OpName::ConsoleWrite => "write",
+            OpName::FolderRead => "read",
+            OpName::FolderHas => "has",
+            OpName::FolderWrite => "write",
+            OpName::FolderAppend => "append",
+            OpName::FolderNames => "names",
+            OpName::ClockNow => "now",
+            OpName::RandomWord => "word",
+        }
+    }
+}
+
+impl Answer {
+    /// The same answer.
+    pub fn copy(&self) -> Result<Answer, Memory>
+        ensures { IfOk result (λ answer. answer ≡ self.now) }
+    {
+        Ok(match self {
+            Answer::Bytes(text) => Answer::Bytes(text.copy()?),
+            Answer::Truth(truth) => Answer::Truth(*truth),
+            Answer::Number(number) => Answer::Number(*number),
+            Answer::Unit => Answer::Unit,
+        })
+    }
+}
