@@ -1,4 +1,7 @@
 pub mod Device
 pub mod Devices
+pub mod Ends
+pub mod Events
 pub mod MemConsole
 pub mod Operation
+pub mod Tapes
