@@ -6,3 +6,4 @@ pub mod Quoted
 pub mod RuleName
 pub mod Shelf
 pub mod Spelling
+pub mod Writing

@@ -12,3 +12,4 @@ pub mod shelf;
 pub mod sink;
 pub mod text;
 pub mod token;
+pub mod writing;

@@ -1,0 +1,96 @@
+-- What a call of the top function promises: which texts it accepts, what it prints, which operations it does, that
+-- they are within the authority that it printed, and how it ends.
+use Rattle.std.specs.Prelude.{◌≡◌, ◌≢◌, ◌⊎◌, ◌<◌, ◌≤◌, ℕ, List, [], ◌++◌, Option, Some, None, length}
+use Rattle.wy_text.specs.Outside.{gained, Rose, SinkState}
+use Rattle.wy_text.specs.declared.fault.Fault.{Fault}
+use Rattle.wy_device.specs.Devices.{DevicesState, device_of}
+use Rattle.wy_device.specs.Events.{DidExactly, TellsDeeds, deeds_of}
+use Rattle.wy_device.specs.Operation.{kind_named}
+use Rattle.wy_device.specs.Tapes.{Tapes, new_deeds_of, spliced, tapes_between}
+use Rattle.wy_device.specs.declared.deed.Deed.{Deed}
+use Rattle.wy_device.specs.declared.operation.Kind.{Kind}
+use Rattle.wy_device.specs.declared.operation.OpName.{OpName}
+use Rattle.wy_meaning.specs.Bounds.{Bounded}
+use Rattle.wy_meaning.specs.Meaning.{Meaning}
+use Rattle.wy_engine.specs.Judgement.{IsAccepted, IsRefused, IsUnbuilt, authority_of, meaning_of}
+use Rattle.wy_engine.specs.LastLine.{last_line}
+use Rattle.wy_engine.specs.Report.{allowed_by, report_text}
+use Rattle.wy_engine.specs.Status.{IsOfRun, status_of}
+use Rattle.wy_engine.specs.TopCall.{IsGiven, IsQuiet, ReadsFiles, TopCall, file_words}
+use Rattle.wy_engine.specs.declared.literal_form.Program.{Program}
+use Rattle.wy_engine.specs.declared.status.Status.{Status}
+use Rattle.wy_engine.specs.declared.status.Status.TheVariants as status
+
+-- Texts that the shelf tells and that were all read: which of them are accepted, and which are refused and how.
+-- Only want of memory may come in the place of these answers.
+pub record Accepts (call : TopCall) (ran : Option Program) (texts : List (List ℕ)) : Type 0 where
+  pub accepted : (program : Program) → ran ≡ Some program → IsAccepted texts program
+  pub accepts : (program : Program) → IsAccepted texts program → call.status ≢ status.Memory → ran ≡ Some program
+  pub refused : (fault : Fault) → call.status ≡ status.Refused fault → IsRefused texts fault
+  pub refuses : (fault : Fault) → IsRefused texts fault → call.status ≢ status.Memory → call.status ≡ status.Refused fault
+  pub unbuilt : call.status ≡ status.Unbuilt → IsUnbuilt texts
+  pub unbuilds : IsUnbuilt texts → call.status ≢ status.Memory → call.status ≡ status.Unbuilt
+
+-- The report stands on its sink, whole, before anything is done. Where it could not be written whole, a part of it
+-- stands there and nothing was done.
+pub record PrintsReport (call : TopCall) (text : List ℕ) : Type 0 where
+  pub front : List ℕ
+  pub rest : List ℕ
+  pub split : text ≡ front ++ rest
+  pub taken : call.report_after.taken ≡ gained call.report.taken front
+  pub first : (rest ≡ []) ⊎ (call.devices_after ≡ call.devices)
+  pub whole : call.status ≢ status.Unwritten → call.status ≢ status.Memory → rest ≡ []
+  pub proper : call.status ≡ status.Unwritten → (0 < length rest) × (call.devices_after ≡ call.devices) × Rose call.report.faults call.report_after.faults
+
+-- what a program means over the answers that its devices gave in this call
+abbrev pub meaning_in : TopCall → Program → Meaning
+meaning_in call program = meaning_of program (tapes_between call.devices call.devices_after)
+
+-- the deeds that a device did are the first of these
+abbrev pub DidFirst : Kind → TopCall → List Deed → Type 0
+DidFirst kind call deeds = (later : List Deed) × (deeds ≡ new_deeds_of kind call.devices call.devices_after ++ later)
+
+-- A program was accepted, and its run was begun. Where the devices tell their deeds:
+--   they did exactly the deeds of the program's meaning over the answers that they gave;
+--   over any tapes that begin with these answers, the deeds that were done are the first of the meaning's;
+--   and the status is the one that the meaning's end gives, unless memory was wanting or the report was not written.
+pub record Runs (call : TopCall) (program : Program) : Type 0 where
+  pub reached : IsOfRun call.status
+  pub printed : PrintsReport call (report_text (authority_of program))
+  pub operations : TellsDeeds call.devices → DidExactly call.devices call.devices_after (meaning_in call program).events
+  pub prefix : TellsDeeds call.devices → (kind : Kind) (more : Tapes) → DidFirst kind call (deeds_of kind (meaning_of program (spliced (tapes_between call.devices call.devices_after) more)).events)
+  pub authority : (tapes : Tapes) → Bounded (allowed_by (authority_of program)) (meaning_of program tapes).events
+  pub ends : TellsDeeds call.devices → call.status ≢ status.Memory → call.status ≢ status.Unwritten → call.status ≡ status_of (meaning_in call program).end
+  pub failed : (grant : List ℕ) (op : OpName) → call.status ≡ status.DeviceFailed grant op → Rose (device_of call.devices (kind_named op)).faults (device_of call.devices_after (kind_named op)).faults
+
+-- All that a call promises before its last line is written. Where no program was run, nothing was printed or done.
+pub record Settles (call : TopCall) : Type 0 where
+  pub reads : ReadsFiles call
+  pub ran : Option Program
+  pub accepts : (texts : List (List ℕ)) → IsGiven call texts → ((file : ℕ) → call.status ≢ status.Unread file) → Accepts call ran texts
+  pub quiet : ran ≡ None → IsQuiet call
+  pub idle : ran ≡ None → call.status ≢ status.Memory → ¬ IsOfRun call.status
+  pub runs : (program : Program) → ran ≡ Some program → Runs call program
+  pub counted : call.report.faults ≤ call.report_after.faults
+
+-- The last line of a settled status was written, whole unless the sink counted a fault; a fault changes no status.
+-- Where memory was wanting for it the status is Memory.
+pub record Closes (names : List (List ℕ)) (settled end : Status) (before after : SinkState) : Type 0 where
+  pub line : List ℕ
+  pub cut : List ℕ
+  pub split : last_line names settled ≡ line ++ cut
+  pub taken : after.taken ≡ gained before.taken line
+  pub whole : end ≢ status.Memory → (cut ≡ []) ⊎ Rose before.faults after.faults
+  pub kept : (end ≡ settled) ⊎ (end ≡ status.Memory)
+
+-- the call before its last line was written
+abbrev pub before_last_line : TopCall → Status → SinkState → TopCall
+before_last_line call settled report = record call { status = settled; report_after = report }
+
+-- the promises of the top call
+pub record Headline (call : TopCall) : Type 0 where
+  pub settled : Status
+  pub report : SinkState
+  pub settles : Settles (before_last_line call settled report)
+  pub closes : Closes (file_words call) settled call.status report call.report_after
+  pub out : call.out_after ≡ call.out

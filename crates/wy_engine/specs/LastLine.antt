@@ -1,0 +1,40 @@
+-- The last line of a call, by its status.
+use Rattle.std.specs.Prelude.{codes, ℕ, ◌-◌, List, [], ◌∷◌, ◌++◌, Option, Some, None, slice_get, unwrap_or}
+use Rattle.std.specs.Fmt.{decimal}
+use Rattle.wy_text.specs.RuleName.{rule_text}
+use Rattle.wy_text.specs.declared.fault.AtomName.{AtomName}
+use Rattle.wy_text.specs.declared.fault.Fault.{Fault}
+use Rattle.wy_text.specs.declared.fault.Place.{Place}
+use Rattle.wy_device.specs.Operation.{method_text}
+use Rattle.wy_engine.specs.Report.{atom_text}
+use Rattle.wy_engine.specs.declared.status.Status.{Status}
+use Rattle.wy_engine.specs.declared.status.Status.TheVariants as status
+
+-- the file word of a number, which counts from 1
+abbrev pub file_word : List (List ℕ) → ℕ → List ℕ
+file_word names file = unwrap_or (slice_get names (file - 1)) []
+
+-- a place, as `hello.wy:3:3`
+abbrev pub place_text : List (List ℕ) → Place → List ℕ
+place_text names place = file_word names place.file ++ (codes ":" ++ (decimal place.line ++ (codes ":" ++ decimal place.column)))
+
+abbrev pub lacks_text : Option AtomName → List ℕ
+lacks_text None = []
+lacks_text (Some atom) = codes " lacks " ++ atom_text atom
+
+abbrev pub fault_text : Fault → List ℕ
+fault_text fault = rule_text fault.rule ++ (codes " premise " ++ (decimal fault.premise ++ lacks_text fault.atom))
+
+abbrev pub usage_line : List ℕ
+usage_line = codes "usage: wyvern COMMAND [--steps N] [--depth N] FILE...\n"
+
+-- the last line of a call with these file words
+abbrev pub last_line : List (List ℕ) → Status → List ℕ
+last_line names status.Ended = []
+last_line names status.Usage = usage_line
+last_line names (status.Unread file) = file_word names file ++ codes ": unread\n"
+last_line names (status.Refused fault) = place_text names fault.place ++ (codes ": refused: " ++ (fault_text fault ++ codes "\n"))
+last_line names (status.DeviceFailed grant op) = grant ++ (codes "." ++ (method_text op ++ codes ": failed\n"))
+last_line names status.Unwritten = codes "unwritten\n"
+last_line names status.Memory = codes "no memory\n"
+last_line names status.Unbuilt = codes "unbuilt\n"
