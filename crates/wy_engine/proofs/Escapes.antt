@@ -1,5 +1,5 @@
 -- What a literal spells.
-use Rattle.std.proofs.Common.{◌≡◌, ◌≢◌, ◌≤◌, ◌<◌, ℕ, List, [], ◌∷◌, ◌++◌, Bool, true, false, ◌⊎◌, All, inl, inr, refl, sym, arith, rules, ap, subst, eqb, if◌then◌else◌, ◌==◌, ◌∙◌, append_assoc, append-nil}
+use Rattle.std.proofs.Common.{◌≡◌, ◌≢◌, ◌≤◌, ℕ, List, [], ◌∷◌, ◌++◌, All, inl, inr, refl, sym, arith, ap, ◌∙◌, append_assoc, append-nil}
 use Rattle.std.proofs.lemmas.Bool.Decides.{nat_tests}
 use Rattle.wy_engine.specs.LiteralForm.{literal, written, IsTextByte, IsReadable}
 use Rattle.std.proofs.lemmas.List.Elements.{All-head, All-tail, All-push}

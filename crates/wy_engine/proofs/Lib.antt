@@ -1,3 +1,9 @@
+mod Deeds
 mod Escapes
+mod Givens
 mod OneProgram
+mod Outcomes
 mod Peeling
+mod Performing
+mod ReadingOn
+mod Settling

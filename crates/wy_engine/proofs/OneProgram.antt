@@ -1,7 +1,7 @@
 -- A text spells one program at most.
-use Rattle.std.proofs.Common.{codes, ◌≡◌, ◌≢◌, ◌≤◌, ◌<◌, ℕ, List, [], ◌∷◌, ◌++◌, Bool, true, false, All, refl, sym, ◌∙◌, ap, arith, append_assoc, length}
+use Rattle.std.proofs.Common.{codes, ◌≡◌, ◌≢◌, ◌≤◌, ◌<◌, ℕ, List, [], ◌∷◌, ◌++◌, Bool, true, false, All, refl, sym, ◌∙◌, ap, arith, length}
 use Rattle.std.proofs.lemmas.List.Elements.{All-head}
-use Rattle.wy_engine.specs.LiteralForm.{IsSmall, IsTextByte, IsName, IsBlock, IsProgram, Spells, source, statements, statement_head, effect_set, opening}
+use Rattle.wy_engine.specs.LiteralForm.{IsSmall, IsName, IsBlock, Spells, statements, statement_head, effect_set, opening}
 use Rattle.wy_engine.specs.declared.literal_form.Program.{Program}
 use Rattle.wy_engine.proofs.Peeling.{cancel, parted_same, small_unmarked}
 

@@ -1,8 +1,8 @@
 -- A text is read from the front, and in one way.
-use Rattle.std.proofs.Common.{codes, ◌≡◌, ◌≢◌, ◌≤◌, ◌<◌, ℕ, List, [], ◌∷◌, ◌++◌, Bool, true, false, ◌⊎◌, inl, inr, All, refl, sym, ◌∙◌, ap, arith, rules, append_assoc, length, ◌-◌, ◌+◌, length-append}
+use Rattle.std.proofs.Common.{codes, ◌≡◌, ◌≢◌, ◌≤◌, ◌<◌, ℕ, List, [], ◌∷◌, ◌++◌, Bool, true, false, ◌⊎◌, inl, inr, All, refl, sym, ◌∙◌, ap, arith, append_assoc, length, length-append}
 use Rattle.std.proofs.lemmas.List.{append-nil}
 use Rattle.std.proofs.lemmas.List.Elements.{All-nil, All-cons, All-head, All-tail, All-append, All-push, All-weaker}
-use Rattle.wy_engine.specs.LiteralForm.{IsSmall, IsTextByte, IsReadable, IsName, IsBlock, literal, written, statement, statements, effect_set, opening}
+use Rattle.wy_engine.specs.LiteralForm.{IsSmall, IsTextByte, IsReadable, IsName, IsBlock, literal, written, statement, statements, effect_set}
 use Rattle.wy_engine.proofs.Escapes.{written_plain}
 
 pub cancel : (a : List ℕ) {b c : List ℕ} → a ++ b ≡ a ++ c → b ≡ c

@@ -3,7 +3,7 @@
 use Rattle.std.specs.Prelude.{◌≡◌, ◌≢◌, ◌⊎◌, ◌<◌, ◌≤◌, ℕ, List, [], ◌++◌, Option, Some, None, length}
 use Rattle.wy_text.specs.Outside.{gained, Rose, SinkState}
 use Rattle.wy_text.specs.declared.fault.Fault.{Fault}
-use Rattle.wy_device.specs.Devices.{DevicesState, device_of}
+use Rattle.wy_device.specs.Devices.{device_of}
 use Rattle.wy_device.specs.Events.{DidExactly, TellsDeeds, deeds_of}
 use Rattle.wy_device.specs.Operation.{kind_named}
 use Rattle.wy_device.specs.Tapes.{Tapes, new_deeds_of, spliced, tapes_between}

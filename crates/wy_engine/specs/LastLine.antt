@@ -1,5 +1,5 @@
 -- The last line of a call, by its status.
-use Rattle.std.specs.Prelude.{codes, ℕ, ◌-◌, List, [], ◌∷◌, ◌++◌, Option, Some, None, slice_get, unwrap_or}
+use Rattle.std.specs.Prelude.{codes, ℕ, ◌-◌, List, [], ◌++◌, Option, Some, None, slice_get, unwrap_or}
 use Rattle.std.specs.Fmt.{decimal}
 use Rattle.wy_text.specs.RuleName.{rule_text}
 use Rattle.wy_text.specs.declared.fault.AtomName.{AtomName}

@@ -2,6 +2,8 @@ pub mod Headline
 pub mod Judgement
 pub mod LastLine
 pub mod LiteralForm
+pub mod Reading
 pub mod Report
+pub mod Running
 pub mod Status
 pub mod TopCall

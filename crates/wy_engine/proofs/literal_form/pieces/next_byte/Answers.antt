@@ -1,4 +1,4 @@
-use Rattle.std.proofs.Common.{◌≡◌, ◌∷◌, ◌∙◌, ap, rules}
+use Rattle.std.proofs.Common.{rules}
 use Rattle.wy_engine.proofs.Escapes.{readable_escaped, readable_plain}
 use Rattle.wy_engine.proofs.literal_form.pieces.next_byte.Goals as goal
 

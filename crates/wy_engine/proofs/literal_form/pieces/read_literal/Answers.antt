@@ -1,4 +1,4 @@
-use Rattle.std.proofs.Common.{◌≡◌, ◌∷◌, ◌++◌, rules}
+use Rattle.std.proofs.Common.{rules}
 use Rattle.wy_engine.proofs.Escapes.{reading_more}
 use Rattle.wy_engine.proofs.literal_form.pieces.read_literal.Goals as goal
 

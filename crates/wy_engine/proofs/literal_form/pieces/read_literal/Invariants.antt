@@ -1,5 +1,4 @@
-use Rattle.std.proofs.Common.{length, ◌≡◌, ◌++◌, All}
-use Rattle.wy_engine.specs.LiteralForm.{IsTextByte, IsReadable, literal}
+use Rattle.std.proofs.Common.{length}
 use Rattle.wy_engine.proofs.Escapes.{IsReading}
 use Rattle.wy_engine.proofs.literal_form.pieces.read_literal.Given as goal
 

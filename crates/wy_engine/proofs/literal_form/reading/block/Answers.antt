@@ -1,4 +1,4 @@
-use Rattle.std.proofs.Common.{rules, arith}
+use Rattle.std.proofs.Common.{rules}
 use Rattle.std.proofs.lemmas.List.{nil_from_length}
 use Rattle.wy_engine.proofs.Peeling.{reading_step, block_broken, block_only}
 use Rattle.wy_engine.proofs.literal_form.reading.block.Goals as goal

@@ -1,5 +1,5 @@
-use Rattle.std.proofs.Common.{codes, rules, ◌≡◌, ◌∙◌, sym, ◌++◌, ◌∷◌, List, ℕ}
-use Rattle.wy_engine.proofs.Peeling.{no_effect, cancel}
+use Rattle.std.proofs.Common.{rules}
+use Rattle.wy_engine.proofs.Peeling.{no_effect}
 use Rattle.wy_engine.proofs.literal_form.reading.effect.Goals as goal
 
 pub returns-in_err-rest-3-clause-missing : goal.returns-in_err-rest-3-clause-missing

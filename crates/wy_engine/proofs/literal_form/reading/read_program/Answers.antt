@@ -1,5 +1,5 @@
-use Rattle.std.proofs.Common.{rules, arith, ◌≡◌, ◌∙◌, ap, ◌<◌, refl, length}
-use Rattle.wy_engine.specs.LiteralForm.{IsBlock, statement_head}
+use Rattle.std.proofs.Common.{rules, arith, ◌≡◌, refl, length}
+use Rattle.wy_engine.specs.LiteralForm.{statement_head}
 use Rattle.wy_engine.proofs.OneProgram.{no_header, no_set, parts_of, spelled, only_program}
 use Rattle.wy_engine.proofs.literal_form.reading.read_program.Goals as goal
 

@@ -1,0 +1,90 @@
+-- Files are read one after the other.
+use Rattle.std.proofs.Common.{◌≡◌, ◌≤◌, ◌<◌, ◌+◌, ◌++◌, ℕ, List, [], ◌∷◌, true, false, refl, sym, ◌∙◌, ap, subst, arith, length, take, drop, map, get_or, add-one}
+use Rattle.std.proofs.lemmas.List.{length-map, map-append}
+use Rattle.std.proofs.Math.ListN.{get_or-map}
+use Rattle.std.proofs.Math.Seq.{take-suc, drop-cons}
+use Rattle.wy_text.specs.Outside.{gained, Rose}
+use Rattle.wy_text.specs.Shelf.{GivesFile, ShelfState, read_badly, read_well}
+use Rattle.wy_text.proofs.Gains.{gained-gained, gained-nil, rose_later}
+use Rattle.wy_engine.specs.Reading.{GivesFiles, ReadsWell, StopsAfter, StopsAt}
+use Rattle.wy_engine.specs.TopCall.{reads_of}
+
+pub reads_none : (names : List (List ℕ)) (shelf : ShelfState) → ReadsWell names 0 shelf shelf []
+reads_none names shelf = record {
+  within = omega arith;
+  files = refl;
+  reads = sym (gained-nil shelf.reads);
+  gives = tt;
+  counted = omega arith;
+}
+
+-- the name that stands at a place, among the names that words give
+pub record StandsAt (names : List (List ℕ)) (at : ℕ) (name : List ℕ) : Type 0 where
+  pub within : at < length names
+  pub taken : take (at + 1) names ≡ take at names ++ name ∷ []
+  pub next : take 1 (drop at names) ≡ name ∷ []
+
+stands_among : (names : List (List ℕ)) (at : ℕ) (name : List ℕ) → at < length names → get_or names at name ≡ name → StandsAt names at name
+stands_among names at name h is = record {
+  within = h;
+  taken = rw add-one (take-suc names at name h ∙ ap (λ x. take at names ++ x ∷ []) is);
+  next = ap (λ x. take 1 x) (drop-cons names at name h) ∙ ap (λ x. x ∷ []) is;
+}
+
+pub stands_at : {X : Type 0} (f : X → List ℕ) (xs : List X) (at : ℕ) (x : X) → at < length xs → x ≡ get_or xs at x → StandsAt (map f xs) at (f x)
+stands_at f xs at x h is = stands_among (map f xs) at (f x) (rw length-map h) (get_or-map f xs at x ∙ ap f (sym is))
+
+gives_more : (shelf : ShelfState) (names texts : List (List ℕ)) (name text : List ℕ) → GivesFiles shelf names texts → GivesFile shelf.files name 1048577 text → GivesFiles shelf (names ++ name ∷ []) (texts ++ text ∷ [])
+gives_more shelf [] [] name text given more = (more, tt)
+gives_more shelf [] (t ∷ ts) name text given more = absurd given
+gives_more shelf (n ∷ ns) [] name text given more = absurd given
+gives_more shelf (n ∷ ns) (t ∷ ts) name text given more = (given.0, gives_more shelf ns ts name text given.1 more)
+
+same_reads : (well : ℕ) (names : List (List ℕ)) (name : List ℕ) (before mid after : ShelfState) → StandsAt names well name
+    → mid.reads ≡ gained before.reads (reads_of false (take well names)) → after.reads ≡ gained mid.reads (read_well name)
+    → after.reads ≡ gained before.reads (reads_of false (take (well + 1) names))
+same_reads well names name before mid after stands so more =
+    more ∙ ap (λ x. gained x (read_well name)) so ∙ gained-gained before.reads (reads_of false (take well names)) (read_well name)
+    ∙ ap (λ x. gained before.reads x) (sym (ap (λ x. reads_of false x) stands.taken ∙ map-append _ (take well names) (name ∷ [])))
+
+pub reads_more : (names : List (List ℕ)) (well : ℕ) (name text : List ℕ) (before mid after : ShelfState) (texts more : List (List ℕ)) → StandsAt names well name
+    → ReadsWell names well before mid texts → after.files ≡ mid.files → after.reads ≡ gained mid.reads (read_well name)
+    → GivesFile mid.files name 1048577 text → mid.faults ≤ after.faults → more ≡ texts ++ text ∷ [] → ReadsWell names (well + 1) before after more
+reads_more names well name text before mid after texts more stands so files reads gives counted is = rw is (record {
+  within = let h = stands.within in omega arith;
+  files = files ∙ so.files;
+  reads = same_reads well names name before mid after stands so.reads reads;
+  gives = subst (λ x. GivesFiles before x (texts ++ text ∷ [])) (sym stands.taken) (gives_more before (take well names) texts name text so.gives (subst (λ x. GivesFile x name 1048577 text) so.files gives));
+  counted = let h = so.counted in omega arith;
+})
+
+pub stops_after : (names : List (List ℕ)) (well : ℕ) (name : List ℕ) (before mid after : ShelfState) (texts : List (List ℕ)) → StandsAt names well name
+    → ReadsWell names well before mid texts → after.reads ≡ gained mid.reads (read_well name) → StopsAfter names before after
+stops_after names well name before mid after texts stands so reads = record {
+  well = well + 1;
+  reads = same_reads well names name before mid after stands so.reads reads;
+}
+
+pub stops_at : (names : List (List ℕ)) (well : ℕ) (name : List ℕ) (before mid after : ShelfState) (texts : List (List ℕ)) → StandsAt names well name
+    → ReadsWell names well before mid texts → after.reads ≡ gained mid.reads (read_badly name) → mid.faults ≤ after.faults → Rose mid.faults after.faults
+    → StopsAt names (well + 1) before after
+stops_at names well name before mid after texts stands so reads counted rose = record {
+  well = well;
+  within = stands.within;
+  number = refl;
+  reads = reads ∙ ap (λ x. gained x (read_badly name)) so.reads ∙ gained-gained before.reads (reads_of false (take well names)) (read_badly name)
+      ∙ ap (λ x. gained before.reads (reads_of false (take well names) ++ reads_of true x)) (sym stands.next);
+  counted = rose_later before.faults mid.faults after.faults so.counted rose counted;
+}
+
+one_item : (texts : List (List ℕ)) (text : List ℕ) → 1 ≤ length texts → length texts < 2 → text ≡ get_or texts 0 text → texts ≡ text ∷ []
+one_item [] text some few is = absurd (omega arith)
+one_item (t ∷ []) text some few is = ap (λ x. x ∷ []) (sym is)
+one_item (t ∷ u ∷ ts) text some few is = absurd (omega arith)
+
+-- all files were read, and there is one
+pub reads_one : (names : List (List ℕ)) (well : ℕ) (before after : ShelfState) (texts : List (List ℕ)) (text : List ℕ) → ReadsWell names well before after texts → well ≡ length names
+    → 1 ≤ length texts → length texts < 2 → text ≡ get_or texts 0 text → ReadsWell names (length names) before after (text ∷ [])
+reads_one names well before after texts text so all some few is =
+    let one : texts ≡ text ∷ [] = one_item texts text some few is in
+    subst (λ n. ReadsWell names n before after (text ∷ [])) all (subst (λ ts. ReadsWell names well before after ts) one so)

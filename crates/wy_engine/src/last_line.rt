@@ -1,0 +1,109 @@
+ghost use Rattle.std.specs.Prelude.{◌≡◌, ◌++◌, map, string_bytes, IfOk, OnOk};
+ghost use Rattle.std.specs.Fmt.{decimal};
+ghost use Rattle.wy_engine.specs.LastLine.{fault_text, file_word, lacks_text, last_line, place_text};
+ghost use Rattle.wy_engine.specs.Report.{atom_text};
+
+use crate::status::Status;
+use std::alloc::Global;
+use wy_text::fault::{AtomName, Fault, Place};
+use wy_text::text::Memory;
+
+/// The file word of a number, which counts from 1; the empty text where there is none.
+fn word_of(names: &[String], file: u16) -> &str
+    ensures { result.now ≡ file_word (map string_bytes names.now) file }
+{
+    match names.get(file.saturating_sub(1) as usize) {
+        Some(name) => name.as_str(),
+        None => "",
+    }
+}
+
+fn push_number(alloc: Global, line: &mut Vec<u8>, number: u32) -> Result<(), Memory>
+    ensures { OnOk result (line.new.items ≡ line.old.items ++ decimal number) }
+{
+    let digits = format!(in alloc; "{number}")?;
+    line.extend_from_slice(digits.as_bytes())?;
+    Ok(())
+}
+
+fn push_place(
+    alloc: Global,
+    line: &mut Vec<u8>,
+    names: &[String],
+    place: Place,
+) -> Result<(), Memory>
+    ensures { OnOk result (line.new.items ≡ line.old.items ++ place_text (map string_bytes names.now) place) }
+{
+    line.extend_from_slice(word_of(names, place.file).as_bytes())?;
+    line.extend_from_slice(b":")?;
+    push_number(alloc, line, place.line)?;
+    line.extend_from_slice(b":")?;
+    push_number(alloc, line, place.column)
+}
+
+fn push_lack(line: &mut Vec<u8>, atom: &Option<AtomName>) -> Result<(), Memory>
+    ensures { OnOk result (line.new.items ≡ line.old.items ++ lacks_text atom.now) }
+{
+    if let Some(atom) = atom {
+        line.extend_from_slice(b" lacks ")?;
+        line.extend_from_slice(atom.owner.as_bytes())?;
+        line.extend_from_slice(b".")?;
+        line.extend_from_slice(atom.member.as_bytes())?;
+    }
+    Ok(())
+}
+
+fn push_fault(alloc: Global, line: &mut Vec<u8>, fault: &Fault) -> Result<(), Memory>
+    ensures { OnOk result (line.new.items ≡ line.old.items ++ fault_text fault.now) }
+{
+    line.extend_from_slice(fault.rule.text().as_bytes())?;
+    line.extend_from_slice(b" premise ")?;
+    push_number(alloc, line, u32::from(fault.premise))?;
+    push_lack(line, &fault.atom)
+}
+
+/// Adds the last line of a status to a line.
+fn push_last_line(
+    alloc: Global,
+    line: &mut Vec<u8>,
+    names: &[String],
+    status: &Status,
+) -> Result<(), Memory>
+    ensures { OnOk result (line.new.items ≡ line.old.items ++ last_line (map string_bytes names.now) status.now) }
+{
+    match status {
+        Status::Ended => {}
+        Status::Usage => {
+            line.extend_from_slice(b"usage: wyvern COMMAND [--steps N] [--depth N] FILE...\n")?
+        }
+        Status::Unread(file) => {
+            line.extend_from_slice(word_of(names, *file).as_bytes())?;
+            line.extend_from_slice(b": unread\n")?;
+        }
+        Status::Refused(fault) => {
+            push_place(alloc, line, names, fault.place)?;
+            line.extend_from_slice(b": refused: ")?;
+            push_fault(alloc, line, fault)?;
+            line.extend_from_slice(b"\n")?;
+        }
+        Status::DeviceFailed { grant, op } => {
+            line.extend_from_slice(grant.as_bytes())?;
+            line.extend_from_slice(b".")?;
+            line.extend_from_slice(op.method().as_bytes())?;
+            line.extend_from_slice(b": failed\n")?;
+        }
+        Status::Unwritten => line.extend_from_slice(b"unwritten\n")?,
+        Status::Memory => line.extend_from_slice(b"no memory\n")?,
+        Status::Unbuilt => line.extend_from_slice(b"unbuilt\n")?,
+    }
+    Ok(())
+}
+
+/// The line that ends the report of a call with this status (docs/LANGUAGE.md, "Statuses"); no byte where it ended.
+pub fn last_line_of(alloc: Global, names: &[String], status: &Status) -> Result<Vec<u8>, Memory>
+    ensures { IfOk result (λ line. line.items ≡ last_line (map string_bytes names.now) status.now) }
+{
+    let mut line = Vec::new(alloc);
+    push_last_line(alloc, &mut line, names, status)?;
+    Ok(line)
+}
