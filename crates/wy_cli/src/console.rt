@@ -1,0 +1,113 @@
+ghost use Rattle.std.specs.Prelude.{◌≡◌, ◌≤◌, Err, IfOk, length};
+ghost use Rattle.wy_text.specs.Outside.{Rose};
+ghost use Rattle.wy_device.specs.Device.{DeviceState};
+
+use std::alloc::{AllocError, Global};
+use std::io::{self, BufRead, Read, Write};
+use wy_device::deed::DeedList;
+use wy_device::device::{Device, DeviceError};
+use wy_device::operation::{Answer, Kind, Op};
+use wy_text::text::{Text, from_bytes};
+
+/// The greatest number of bytes that one `read` gives.
+const LONGEST_LINE: usize = 65_536;
+
+/// Lines of a reader as the input, and a writer as the output. It tells no deeds.
+///
+/// What was read stays in `line` until it is given, so a read that wanted memory loses nothing.
+#[derive(Drop)]
+pub struct RealConsole<I, O> {
+    alloc: Global,
+    input: I,
+    output: O,
+    line: Vec<u8>,
+    faults: u64,
+}
+
+/// Whether these bytes are a line with its newline, or as long as a piece of one may be.
+fn is_whole(line: &[u8]) -> bool {
+    line.len() >= LONGEST_LINE || line.last() == Some(&b'\n')
+}
+
+/// Reads up to the next newline, the end of the input, or the greatest length of a piece.
+fn fill<I: BufRead>(input: &mut I, line: &mut Vec<u8>) -> io::Result<()> {
+    if !is_whole(line.as_slice()) {
+        let room = LONGEST_LINE.saturating_sub(line.len());
+        let _size = input.take(room as u64).read_until(b'\n', line)?;
+    }
+    Ok(())
+}
+
+impl<I: BufRead + Drop, O: Write + Drop> RealConsole<I, O> {
+    /// The room for a line is taken here, so that reading one takes no memory.
+    pub fn new(alloc: Global, input: I, output: O) -> Result<RealConsole<I, O>, AllocError> {
+        let line = Vec::with_capacity(alloc, LONGEST_LINE)?;
+        Ok(RealConsole {
+            alloc,
+            input,
+            output,
+            line,
+            faults: 0,
+        })
+    }
+
+    /// Counts a fault.
+    fn fault(&mut self) -> DeviceError
+        ensures failed { result ≡ DeviceError.Failed }
+        ensures counted { self.old.faults ≤ self.new.faults }
+        ensures rose { Rose self.old.faults self.new.faults }
+    {
+        self.faults = self.faults.saturating_add(1);
+        DeviceError::Failed
+    }
+
+    /// The next line with its newline, or a piece of it; the empty text at the end of the input.
+    fn read_line(&mut self) -> Result<Text, DeviceError>
+        ensures piece { IfOk result (λ text. length text ≤ 65536) }
+        ensures counted { self.old.faults ≤ self.new.faults }
+        ensures failed { result ≡ Err DeviceError.Failed → Rose self.old.faults self.new.faults }
+    {
+        if fill(&mut self.input, &mut self.line).is_err() || self.line.len() > LONGEST_LINE {
+            return Err(self.fault());
+        }
+        let line = from_bytes(self.alloc, self.line.as_slice())?;
+        self.line.clear();
+        Ok(line)
+    }
+
+    fn write_text(&mut self, text: &Text) -> Result<(), DeviceError>
+        ensures counted { self.old.faults ≤ self.new.faults }
+        ensures failed { result ≡ Err DeviceError.Failed → Rose self.old.faults self.new.faults }
+    {
+        match self.output.write_all(text.as_bytes()) {
+            Ok(()) => Ok(()),
+            Err(_) => Err(self.fault()),
+        }
+    }
+}
+
+impl<I: BufRead + Drop, O: Write + Drop> Device for RealConsole<I, O> {
+    ghost use Rattle.wy_device.specs.Device.{untold};
+    ghost use Rattle.wy_device.specs.declared.operation.Kind.TheVariants.{Console};
+
+    ghost state = { λ c. record { kind = Console; deeds = untold; faults = c.faults } };
+
+    fn kind(&self) -> Kind {
+        Kind::Console
+    }
+
+    fn deeds(&self) -> Option<&DeedList> {
+        None
+    }
+
+    fn perform(&mut self, _grant: &Text, op: &Op) -> Result<Answer, DeviceError> {
+        match op {
+            Op::ConsoleRead => Ok(Answer::Bytes(self.read_line()?)),
+            Op::ConsoleWrite(text) => {
+                self.write_text(text)?;
+                Ok(Answer::Unit)
+            }
+            _ => unreachable!(),
+        }
+    }
+}

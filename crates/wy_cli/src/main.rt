@@ -1,0 +1,65 @@
+//! The program: real files, streams and devices for the top call. These few lines are the edge that is
+//! trusted: they meet the traits of the outside, and tell nothing of what a file, a stream or a clock holds.
+#![tactic(auto)]
+
+mod console;
+mod files;
+mod stream;
+
+use console::RealConsole;
+use files::RealFiles;
+use std::alloc::Global;
+use std::env;
+use std::io::{self, BufReader};
+use std::process::ExitCode;
+use stream::Stream;
+use wy_device::device::Device;
+use wy_device::handed::Handed;
+use wy_device::operation::Kind;
+use wy_device::shut::Shut;
+use wy_engine::handing_in::devices;
+use wy_engine::status::Status;
+use wy_engine::top::wyvern;
+
+/// The words after the program's name; none where one of them is not text.
+fn words(rt: &HostRuntime) -> io::Result<Vec<String>> {
+    let mut words = Vec::new(rt.alloc());
+    for word in env::args(rt)?.skip(1) {
+        words.push(word)?;
+    }
+    Ok(words)
+}
+
+/// Makes the outside of the call from the real one, and calls.
+fn run(rt: HostRuntime) -> io::Result<Status> {
+    let alloc: Global = rt.alloc();
+    let words = words(&rt).unwrap_or(Vec::new(alloc));
+    let input = BufReader::new(alloc, rt.stdin())?;
+    let console = RealConsole::new(alloc, input, rt.stdout())?;
+    let console: Box<dyn Device> = Box::new(alloc, console)?;
+    let folder: Box<dyn Device> = Box::new(alloc, Shut::new(Kind::Folder))?;
+    let clock: Box<dyn Device> = Box::new(alloc, Shut::new(Kind::Clock))?;
+    let random: Box<dyn Device> = Box::new(alloc, Shut::new(Kind::Random))?;
+    let mut handed = devices(
+        Handed::new(console),
+        Handed::new(folder),
+        Handed::new(clock),
+        Handed::new(random),
+    );
+    let mut out = Stream::new(rt.stdout());
+    let mut report = Stream::new(rt.stderr());
+    let mut shelf = RealFiles::new(alloc, rt);
+    Ok(wyvern(
+        alloc,
+        words.as_slice(),
+        &mut shelf,
+        &mut out,
+        &mut report,
+        &mut handed,
+    ))
+}
+
+fn main(rt: HostRuntime) -> ExitCode {
+    let status = run(rt).unwrap_or(Status::Memory);
+    ExitCode::from(status.number())
+}
