@@ -9,6 +9,8 @@ pub mod reading;
 pub mod running;
 pub mod settings;
 pub mod status;
+#[cfg(test)]
+mod tests;
 pub mod top;
 
 pub use wy_device::{devices, handing_in};

@@ -1,0 +1,93 @@
+ghost use Rattle.std.specs.Prelude.{Some};
+ghost use Rattle.wy_text.specs.Outside.{SinkState};
+
+use crate::handing_in::devices;
+use crate::tests::support::{call, devices_with, failing_at};
+use std::test::Fail;
+use wy_device::device::Device;
+use wy_device::handed::Handed;
+use wy_device::mem_console::MemConsole;
+use wy_device::operation::Kind;
+use wy_device::shut::Shut;
+use wy_text::list::Items;
+use wy_text::mem_sink::MemSink;
+use wy_text::sink::{Sink, WriteError};
+use wy_text::text::from_bytes;
+
+const FOUR_WRITES: &[u8] =
+    b"program\n  grant console: Console\n  run: {console.Out}\n    console.write(\"a\")\n    console.write(\"b\")\n    console.write(\"c\")\n    console.write(\"d\")\n";
+
+/// A sink that takes a few bytes at a time, and no more than so many in all.
+#[derive(Drop)]
+struct Trickle {
+    taken: Vec<u8>,
+    room: usize,
+    faults: u64,
+}
+
+impl Sink for Trickle {
+    ghost state = { λ s. record { taken = Some s.taken.items; faults = s.faults } };
+
+    fn write(&mut self, bytes: &[u8]) -> Result<usize, WriteError> {
+        let size = bytes.len().min(7).min(self.room);
+        if size == 0 {
+            self.faults = self.faults.saturating_add(1);
+            return Err(WriteError::Failed);
+        }
+        match self.taken.extend_from_slice(&bytes[..size]) {
+            Ok(()) => {
+                self.room -= size;
+                Ok(size)
+            }
+            Err(_) => Err(WriteError::Memory),
+        }
+    }
+}
+
+#[test]
+fn a_write_that_fails_is_the_last_deed(rt: HostRuntime) -> Result<(), Fail> {
+    let alloc = rt.alloc();
+    let mut all = devices_with!(alloc, failing_at(alloc, 3)?);
+    let mut report = MemSink::new(alloc, Items::new(alloc))?;
+    let status = call(alloc, &["run", "b.wy"], FOUR_WRITES, &mut report, &mut all)?;
+    assert_eq!(rt; status.number(), 9);
+    assert_eq!(rt;
+        report.bytes(),
+        b"authority of main: console.Out\n  run: console.Out\nconsole.write: failed\n".as_slice()
+    );
+    let deeds = all.deeds(Kind::Console).ok_or("told")?;
+    assert_eq!(rt; deeds.len(), 3);
+    assert!(rt; deeds.get(1).ok_or("a deed")?.answer.is_some());
+    assert!(rt; deeds.get(2).ok_or("a deed")?.answer.is_none());
+    Ok(())
+}
+
+#[test]
+fn a_report_that_is_not_written_runs_nothing(rt: HostRuntime) -> Result<(), Fail> {
+    let alloc = rt.alloc();
+    let mut all = devices_with!(alloc, Items::new(alloc));
+    let mut report = MemSink::new(alloc, failing_at(alloc, 1)?)?;
+    let status = call(alloc, &["run", "b.wy"], FOUR_WRITES, &mut report, &mut all)?;
+    assert_eq!(rt; status.number(), 10);
+    assert_eq!(rt; report.bytes(), b"unwritten\n".as_slice());
+    assert_eq!(rt; all.deeds(Kind::Console).ok_or("told")?.len(), 0);
+    Ok(())
+}
+
+#[test]
+fn a_report_that_is_cut_short_runs_nothing(rt: HostRuntime) -> Result<(), Fail> {
+    let alloc = rt.alloc();
+    for (room, number, done) in [(0, 10, 0), (20, 10, 0), (49, 10, 0), (50, 0, 4)] {
+        let mut all = devices_with!(alloc, Items::new(alloc));
+        let mut report = Trickle {
+            taken: Vec::new(alloc),
+            room,
+            faults: 0,
+        };
+        let status = call(alloc, &["run", "b.wy"], FOUR_WRITES, &mut report, &mut all)?;
+        assert_eq!(rt; status.number(), number, "with room for {room}");
+        assert_eq!(rt; report.taken.len(), room);
+        assert_eq!(rt; all.deeds(Kind::Console).ok_or("told")?.len(), done);
+    }
+    Ok(())
+}

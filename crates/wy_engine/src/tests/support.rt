@@ -1,0 +1,85 @@
+ghost use Rattle.wy_device.specs.Devices.{IsInOrder, states};
+
+use crate::status::Status;
+use crate::top::wyvern;
+use std::alloc::{AllocError, Global};
+use std::test::Fail;
+use wy_device::device::Device;
+use wy_device::devices::Devices;
+use wy_text::list::Items;
+use wy_text::mem_shelf::MemShelf;
+use wy_text::mem_sink::MemSink;
+use wy_text::shelf::NamedText;
+use wy_text::sink::Sink;
+use wy_text::text::{Memory, from_bytes};
+
+/// A shelf with one file.
+fn shelf(alloc: Global, name: &str, text: &[u8]) -> Result<MemShelf, Memory> {
+    let name = from_bytes(alloc, name.as_bytes())?;
+    let text = from_bytes(alloc, text)?;
+    let mut files = Items::new(alloc);
+    files.push(NamedText { name, text })?;
+    MemShelf::new(alloc, files, Items::new(alloc))
+}
+
+fn strings(alloc: Global, words: &[&str]) -> Result<Vec<String>, AllocError> {
+    let mut strings = Vec::new(alloc);
+    for word in words {
+        strings.push(String::from_str(alloc, word)?)?;
+    }
+    Ok(strings)
+}
+
+/// The list of one call that is to fail.
+pub fn failing_at(alloc: Global, call: u64) -> Result<Items<u64>, Memory> {
+    let mut fails = Items::new(alloc);
+    fails.push(call)?;
+    Ok(fails)
+}
+
+/// Calls with these words, and a shelf that has the text as `b.wy`. Nothing may come to `out`.
+pub fn call<E: Sink, D: Device>(
+    alloc: Global,
+    words: &[&str],
+    text: &[u8],
+    report: &mut E,
+    devices: &mut Devices<D>,
+) -> Result<Status, Fail>
+    requires { IsInOrder (states D.state devices.old) }
+{
+    let mut shelf = shelf(alloc, "b.wy", text)?;
+    let mut out = MemSink::new(alloc, Items::new(alloc))?;
+    let words = strings(alloc, words)?;
+    let status = wyvern(
+        alloc,
+        words.as_slice(),
+        &mut shelf,
+        &mut out,
+        report,
+        devices,
+    );
+    if out.bytes().is_empty() {
+        Ok(status)
+    } else {
+        Err("bytes on out")?
+    }
+}
+
+/// The four devices of a test: a console in memory that fails at the listed calls, and three that are shut.
+macro_rules! devices_with {
+    ($alloc:expr, $fails:expr) => {{
+        let console = MemConsole::new($alloc, from_bytes($alloc, b"")?, $fails)?;
+        let console: Box<dyn Device> = Box::new($alloc, console)?;
+        let folder: Box<dyn Device> = Box::new($alloc, Shut::new(Kind::Folder))?;
+        let clock: Box<dyn Device> = Box::new($alloc, Shut::new(Kind::Clock))?;
+        let random: Box<dyn Device> = Box::new($alloc, Shut::new(Kind::Random))?;
+        devices(
+            Handed::new(console),
+            Handed::new(folder),
+            Handed::new(clock),
+            Handed::new(random),
+        )
+    }};
+}
+
+pub(crate) use devices_with;
