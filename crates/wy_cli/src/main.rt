@@ -5,6 +5,8 @@
 mod console;
 mod files;
 mod stream;
+#[cfg(test)]
+mod tests;
 
 use console::RealConsole;
 use files::RealFiles;

@@ -9,3 +9,5 @@ pub mod handing_in;
 pub mod mem_console;
 pub mod operation;
 pub mod shut;
+#[cfg(test)]
+mod tests;
