@@ -1,0 +1,12 @@
+pub mod Scanning
+pub mod NameRuns
+pub mod LongestWord
+pub mod WordRead
+pub mod LineWords
+pub mod OpenWidths
+pub mod Least
+pub mod Filewise
+pub mod Tables
+pub mod Past
+pub mod Limits
+pub mod WordCases

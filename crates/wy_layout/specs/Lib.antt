@@ -1,0 +1,12 @@
+pub mod Names
+pub mod Texts
+pub mod Words
+pub mod Faults
+pub mod Counts
+pub mod Widths
+pub mod Lines
+pub mod Layout
+pub mod Read
+pub mod Lexed
+pub mod Gives
+pub mod Tables
