@@ -1,5 +1,6 @@
 -- Reading all lines of a file gives [Layout]'s tokens exactly where there are any, and else the first fault.
-use Rattle.std.proofs.Common.{◌≡◌, ℕ, zero, suc, ◌+◌, ◌-◌, ◌<◌, ◌≤◌, ◌==◌, nat_lt, Bool, true, false, cond, List, [], ◌∷◌, ◌++◌, length, take, take_all, refl, sym, ap, subst, ◌∙◌, arith, ◌⊎◌, inl, inr, ltb-true, ltb-false}
+use Rattle.std.proofs.Common.{◌≡◌, ℕ, zero, suc, ◌+◌, ◌-◌, ◌<◌, ◌≤◌, ◌==◌, nat_lt, Bool, true, false, cond, List, [], ◌∷◌, ◌++◌, length, take, take_all, refl, sym, ap, subst, ◌∙◌, arith, ◌⊎◌, inl, inr, ltb-true, ltb-false, IsUtf8}
+use Rattle.std.proofs.lemmas.Str.{utf8_valid_len-IsUtf8}
 use Rattle.std.specs.Str.Lossy.{utf8_valid_len}
 use Rattle.wy_text.specs.declared.token.Token.{Token}
 use Rattle.wy_layout.specs.Counts.{most_tokens, most_file_bytes}
@@ -158,3 +159,20 @@ one_fault file bs f f' o o' h k = both (h.least f' o' k.stands) (k.least f o h.s
     both (inl a) (inr b) = absurd (let c = b.0 in omega arith)
     both (inr a) (inl b) = absurd (let c = a.0 in omega arith)
     both (inr a) (inr b) = (let c = a.1 in let d = b.1 in omega arith, a.0)
+
+-- a file that is text whole is read as a text
+pub text_read : (file : ℕ) (bs : List ℕ) → IsUtf8 bs → lex_bytes file bs ≡ lex_text file bs
+text_read file bs u =
+    let e = utf8_valid_len-IsUtf8 bs u in
+    ap (λ (b : Bool). cond b (or_utf8 (utf8_valid_len bs) (lex_text file (valid_text bs))) (lex_text file bs)) (not_less (utf8_valid_len bs) (length bs) (omega arith))
+
+-- a file that is text up to an offset
+pub cut_read : (file : ℕ) (bs z : List ℕ) (v : ℕ) → v ≡ utf8_valid_len bs → v < length bs → z ≡ take v bs → lex_bytes file bs ≡ or_utf8 v (lex_text file z)
+cut_read file bs z v e h p =
+    let n : nat_lt (utf8_valid_len bs) (length bs) ≡ true = less (utf8_valid_len bs) (length bs) (omega arith) in
+    ap (λ (b : Bool). cond b (or_utf8 (utf8_valid_len bs) (lex_text file (valid_text bs))) (lex_text file bs)) n
+    ∙ ap (λ (m : ℕ). or_utf8 m (lex_text file (take m bs))) (sym e)
+    ∙ ap (λ (u : List ℕ). or_utf8 v (lex_text file u)) (sym p)
+  where
+    less : (a b : ℕ) → a < b → nat_lt a b ≡ true
+    less a b h = grind arith

@@ -37,7 +37,7 @@ begins_before l h = let a = spaces_within l.content in let b = not_empty (after_
 abbrev Inside : Line → ℕ → Type 0
 Inside l o = (begin l ≤ o) × (o ≤ finish l)
 
-line_place : (n : ℕ) (ws : List ℕ) (l : Line) (f : Fault) (o : ℕ) → LineFault n ws l f o → Inside l o
+pub line_place : (n : ℕ) (ws : List ℕ) (l : Line) (f : Fault) (o : ℕ) → LineFault n ws l f o → Inside l o
 line_place n ws l f o (inl h) = let a = spaces_within l.content in let p = h.place in (omega arith, omega arith)
 line_place n ws l f o (inr (inl h)) = let a = spaces_within l.content in let p = h.place in (omega arith, omega arith)
 line_place n ws l f o (inr (inr (inl h))) =
@@ -141,7 +141,7 @@ opening_is n ws l here f op (bad_at g o) q (ks, w) = pick (o == begin l) refl (n
     pick false ea b eb = record { stands = inr (inl (record { line = here; kind = op; place = refl })); least = opening_first (rw ea refl) }
 
 -- a width that isn't open doesn't fit
-open_fits : (s : Step) (n depth : ℕ) → opening s n depth ≡ fits → IsClosed s → ⊥
+pub open_fits : (s : Step) (n depth : ℕ) → opening s n depth ≡ fits → IsClosed s → ⊥
 open_fits deeper n depth h k = k
 open_fits (back m) n depth h k = k
 open_fits (wrong m) n depth h k = absurd (go (nat_lt most_tokens (n + m)) h)
@@ -153,7 +153,7 @@ open_fits (wrong m) n depth h k = absurd (go (nat_lt most_tokens (n + m)) h)
 widths_full : (ws : List ℕ) (l : Line) → is_done (after_spaces l.content) ≡ false → widths ws l ≡ width l.content ∷ ws
 widths_full ws l h = rw h refl
 
-stack_here : (n : ℕ) (ws : List ℕ) (l : Line) → IsFull l → opening (step ws l) n (length (opens ws)) ≡ fits → stack_after (width l.content) (opens ws) ≡ opens (widths ws l)
+pub stack_here : (n : ℕ) (ws : List ℕ) (l : Line) → IsFull l → opening (step ws l) n (length (opens ws)) ≡ fits → stack_after (width l.content) (opens ws) ≡ opens (widths ws l)
 stack_here n ws l here op = stack_is (width l.content) ws (λ k. open_fits (step ws l) n (length (opens ws)) op k) ∙ ap opens (sym (widths_full ws l here.full))
 
 -- what stands before the words is right

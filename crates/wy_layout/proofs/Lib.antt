@@ -10,3 +10,9 @@ pub mod Tables
 pub mod Past
 pub mod Limits
 pub mod WordCases
+pub mod Tokenwise
+pub mod Cutting
+pub mod Laying
+pub mod LineOuts
+pub mod Linewise
+pub mod Whole

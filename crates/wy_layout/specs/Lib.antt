@@ -10,3 +10,6 @@ pub mod Read
 pub mod Lexed
 pub mod Gives
 pub mod Tables
+pub mod Turns
+pub mod Outs
+pub mod Cut

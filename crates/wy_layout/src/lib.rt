@@ -4,8 +4,15 @@
 
 pub mod count;
 pub mod escape;
+pub mod file;
 pub mod kinds;
+pub mod line;
+pub mod lines;
 pub mod names;
 pub mod refusal;
 pub mod row;
+pub mod widths;
 pub mod words;
+
+pub use file::lex;
+pub use wy_text::token::{Token, TokenKind};
