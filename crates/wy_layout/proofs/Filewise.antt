@@ -150,15 +150,36 @@ lexes_none file bs ts h f o (inl g) = let a = h.is_text in let b = g.2 in absurd
 lexes_none file bs ts h f o (inr g) =
     laid_none (first_row file) (length bs) 0 [] (lines (first_row file) bs) ts h.laid f o (subst (λ (z : List ℕ). TextFault file z f o) (take_all (utf8_valid_len bs) bs h.is_text) g.1)
 
--- nothing comes first at two places, and no two things come first
-pub one_fault : (file : ℕ) (bs : List ℕ) (f f' : Fault) (o o' : ℕ) → IsLeast file bs f o → IsLeast file bs f' o' → (rank f ≡ rank f') × (o ≡ o')
-one_fault file bs f f' o o' h k = both (h.least f' o' k.stands) (k.least f o h.stands)
+rank_one : (f g : Fault) → rank f ≡ rank g → f ≡ g
+rank_one f g e = ranked f ∙ ap fault_ranked e ∙ sym (ranked g)
   where
-    both : Before o f o' f' → Before o' f' o f → (rank f ≡ rank f') × (o ≡ o')
+    fault_ranked : ℕ → Fault
+    fault_ranked n =
+        cond (n == 0) fault.NameBytes (cond (n == 1) fault.Tokens (cond (n == 2) fault.Indents (cond (n == 3) fault.Marks (cond (n == 4) fault.NotUtf8
+        (cond (n == 5) fault.TabIndent (cond (n == 6) fault.BadDedent (cond (n == 7) fault.BadCharacter (cond (n == 8) fault.OpenText (cond (n == 9) fault.BadEscape fault.NumberTooLarge)))))))))
+
+    ranked : (f : Fault) → f ≡ fault_ranked (rank f)
+    ranked fault.NameBytes = refl
+    ranked fault.Tokens = refl
+    ranked fault.Indents = refl
+    ranked fault.Marks = refl
+    ranked fault.NotUtf8 = refl
+    ranked fault.TabIndent = refl
+    ranked fault.BadDedent = refl
+    ranked fault.BadCharacter = refl
+    ranked fault.OpenText = refl
+    ranked fault.BadEscape = refl
+    ranked fault.NumberTooLarge = refl
+
+-- no two things come first
+pub one_fault : (file : ℕ) (bs : List ℕ) (f g : Fault) (o p : ℕ) → IsLeast file bs f o → IsLeast file bs g p → (f ≡ g) × (o ≡ p)
+one_fault file bs f g o p h k = both (h.least g p k.stands) (k.least f o h.stands)
+  where
+    both : Before o f p g → Before p g o f → (f ≡ g) × (o ≡ p)
     both (inl a) (inl b) = absurd (omega arith)
     both (inl a) (inr b) = absurd (let c = b.0 in omega arith)
     both (inr a) (inl b) = absurd (let c = a.0 in omega arith)
-    both (inr a) (inr b) = (let c = a.1 in let d = b.1 in omega arith, a.0)
+    both (inr a) (inr b) = (rank_one f g (let c = a.1 in let d = b.1 in omega arith), a.0)
 
 -- a file that is text whole is read as a text
 pub text_read : (file : ℕ) (bs : List ℕ) → IsUtf8 bs → lex_bytes file bs ≡ lex_text file bs

@@ -16,3 +16,7 @@ pub mod Laying
 pub mod LineOuts
 pub mod Linewise
 pub mod Whole
+pub mod Placing
+pub mod Apart
+pub mod Examples
+pub mod Quoting

@@ -1,13 +1,10 @@
 -- The open widths, by the stack and by the lines before.
-use Rattle.std.proofs.Common.{◌≡◌, ℕ, zero, suc, ◌+◌, ◌<◌, ◌≤◌, ◌==◌, nat_lt, Bool, true, false, cond, List, [], ◌∷◌, ◌++◌, length, refl, sym, ap, subst, ◌∙◌, arith, inl, inr, ◌⊎◌, ltb-true, ltb-false}
+use Rattle.std.proofs.Common.{◌≡◌, ◌↔◌, ℕ, zero, suc, ◌+◌, ◌<◌, ◌≤◌, ◌==◌, nat_lt, Bool, true, false, cond, List, [], ◌∷◌, ◌++◌, length, refl, sym, ap, subst, ◌∙◌, arith, inl, inr, ◌⊎◌, ltb-true, ltb-false}
 use Rattle.std.specs.List.{AllByRecursion}
 use Rattle.wy_layout.specs.Widths.{IsOpen, below, opens, above, rest, is_top, Step, deeper, back, wrong, not_open, step_of, Stands}
+use Rattle.wy_layout.specs.Laws.{Has}
 use Rattle.wy_layout.specs.Lexed.{pushed, stack_after}
 use Rattle.wy_layout.proofs.Scanning.{eq_is}
-
-abbrev pub Has : ℕ → List ℕ → Type 0
-Has v [] = ⊥
-Has v (x ∷ st) = (v ≡ x) ⊎ Has v st
 
 abbrev pub Falls : List ℕ → Type 0
 Falls [] = Unit {0}
@@ -95,6 +92,9 @@ open_has v (w ∷ ws) (inr h) = longer (below_less w v (opens ws) (opens_fall ws
     longer : v < w → IsOpen v ws → IsOpen v (w ∷ ws)
     longer lt (inl e) = inl e
     longer lt (inr (later, before, parts, all)) = inr (w ∷ later, before, ap (λ (z : List ℕ). w ∷ z) parts, (omega arith, all))
+
+pub open_is : (v : ℕ) (ws : List ℕ) → Has v (opens ws) ↔ IsOpen v ws
+open_is v ws = (open_has v ws, has_open v ws)
 
 -- ---- a step
 

@@ -370,3 +370,10 @@ refused_of file bs f o s e = by_fault f (first (subst (LexIs file bs) e (lex_is 
     by_fault fault.OpenText h = h
     by_fault fault.BadEscape h = h
     by_fault fault.NumberTooLarge h = h
+
+pub either_way : (file : ℕ) (bs : List ℕ) → length bs ≤ most_file_bytes → ((ts : List Token) × Lexes file bs ts) ⊎ ((f : Fault) × (o : ℕ) × IsLeast file bs f o)
+either_way file bs s = go (lex_bytes file bs) (lex_is file bs)
+  where
+    go : (x : Lexed) → LexIs file bs x → ((ts : List Token) × Lexes file bs ts) ⊎ ((f : Fault) × (o : ℕ) × IsLeast file bs f o)
+    go (tokens ts) h = inl (ts, record { short = s; is_text = h.0; laid = h.1 })
+    go (refused f o) h = inr (f, o, h)

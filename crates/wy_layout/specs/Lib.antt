@@ -13,3 +13,5 @@ pub mod Tables
 pub mod Turns
 pub mod Outs
 pub mod Cut
+pub mod Laws
+pub mod Printed

@@ -3,16 +3,20 @@
 #![tactic(auto)]
 
 pub mod count;
-pub mod escape;
-pub mod file;
-pub mod kinds;
-pub mod line;
-pub mod lines;
-pub mod names;
+mod escape;
+mod file;
+mod kinds;
+pub mod laws;
+mod line;
+mod lines;
+mod names;
 pub mod refusal;
 pub mod row;
-pub mod widths;
-pub mod words;
+#[cfg(test)]
+mod tests;
+mod widths;
+mod words;
 
 pub use file::lex;
+pub use refusal::LexRefusal;
 pub use wy_text::token::{Token, TokenKind};
