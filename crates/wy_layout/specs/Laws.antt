@@ -1,0 +1,42 @@
+-- Laws of the definition.
+use Rattle.std.specs.Prelude.{◌≡◌, ◌↔◌, ◌≤◌, ◌-◌, ℕ, List, [], ◌∷◌, ◌++◌, length, take, drop, ◌⊎◌}
+use Rattle.std.specs.List.{AllByRecursion}
+use Rattle.wy_text.specs.declared.token.Token.{Token}
+use Rattle.wy_layout.specs.Counts.{most_file_bytes}
+use Rattle.wy_layout.specs.Widths.{IsOpen, Stands, step_of, opens}
+use Rattle.wy_layout.specs.Lines.{place_at}
+use Rattle.wy_layout.specs.Layout.{Lexes, FaultAt, IsLeast}
+use Rattle.wy_layout.specs.declared.refusal.Fault.{Fault}
+
+-- a file has at most one list of tokens
+abbrev pub OneList : Type 0
+OneList = (file : ℕ) (bs : List ℕ) (ts us : List Token) → Lexes file bs ts → Lexes file bs us → ts ≡ us
+
+-- in a file with tokens nothing is wrong
+abbrev pub NothingWrong : Type 0
+NothingWrong = (file : ℕ) (bs : List ℕ) (ts : List Token) → Lexes file bs ts → (f : Fault) (o : ℕ) → FaultAt file bs f o → ⊥
+
+-- a file within the limit on bytes has tokens, or something wrong in it comes first
+abbrev pub Decided : Type 0
+Decided = (file : ℕ) (bs : List ℕ) → length bs ≤ most_file_bytes → ((ts : List Token) × Lexes file bs ts) ⊎ ((f : Fault) × (o : ℕ) × IsLeast file bs f o)
+
+-- one thing comes first
+abbrev pub OneFault : Type 0
+OneFault = (file : ℕ) (bs : List ℕ) (f g : Fault) (o p : ℕ) → IsLeast file bs f o → IsLeast file bs g p → (f ≡ g) × (o ≡ p)
+
+-- each token has the place of its offset in the file
+abbrev pub PlacesOfOffsets : Type 0
+PlacesOfOffsets = (file : ℕ) (bs : List ℕ) (ts : List Token) → Lexes file bs ts → AllByRecursion (λ t. t.place ≡ place_at file bs t.start) ts
+
+-- one of the widths
+abbrev pub Has : ℕ → List ℕ → Type 0
+Has v [] = ⊥
+Has v (w ∷ st) = (v ≡ w) ⊎ Has v st
+
+-- the open widths are those that the lines before say
+abbrev pub OpenByLines : Type 0
+OpenByLines = (v : ℕ) (ws : List ℕ) → Has v (opens ws) ↔ IsOpen v ws
+
+-- and so is what stands before a line
+abbrev pub StepByLines : Type 0
+StepByLines = (w : ℕ) (ws : List ℕ) → Stands (step_of w (opens ws)) w ws

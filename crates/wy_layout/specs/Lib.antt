@@ -1,0 +1,17 @@
+pub mod Names
+pub mod Texts
+pub mod Words
+pub mod Faults
+pub mod Counts
+pub mod Widths
+pub mod Lines
+pub mod Layout
+pub mod Read
+pub mod Lexed
+pub mod Gives
+pub mod Tables
+pub mod Turns
+pub mod Outs
+pub mod Cut
+pub mod Laws
+pub mod Printed

@@ -1,0 +1,54 @@
+//! Laws of the definition of layout and tokens. No function here does anything: what it says is its clause.
+
+ghost use Rattle.wy_layout.specs.Printed.{PrintedWords, QuotedTexts, SpelledKinds};
+ghost use Rattle.wy_layout.specs.Laws.{Decided, NothingWrong, OneFault, OneList, OpenByLines, PlacesOfOffsets, StepByLines};
+
+/// A file has at most one list of tokens.
+pub fn one_list()
+    ensures { OneList }
+{}
+
+/// In a file with tokens nothing is wrong.
+pub fn nothing_wrong()
+    ensures { NothingWrong }
+{}
+
+/// A file within the limit on bytes has tokens, or something wrong in it comes first.
+pub fn decided()
+    ensures { Decided }
+{}
+
+/// Of what is wrong in a file one thing comes first.
+pub fn one_fault()
+    ensures { OneFault }
+{}
+
+/// Each token has the place of its offset in the file.
+pub fn places_of_offsets()
+    ensures { PlacesOfOffsets }
+{}
+
+/// The open widths before a line are 0 and the widths of earlier lines, where no line between is narrower.
+pub fn open_by_lines()
+    ensures { OpenByLines }
+{}
+
+/// What stands before a line is as its width and the open widths say.
+pub fn step_by_lines()
+    ensures { StepByLines }
+{}
+
+/// A printed word is read as itself, where nothing behind it goes on with it.
+pub fn printed_words()
+    ensures { PrintedWords }
+{}
+
+/// The quoted form of bytes is a text that stands for them.
+pub fn quoted_texts()
+    ensures { QuotedTexts }
+{}
+
+/// A reserved word or a symbol is of the kind that is spelled so.
+pub fn spelled_kinds()
+    ensures { SpelledKinds }
+{}
