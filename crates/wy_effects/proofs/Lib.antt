@@ -1,0 +1,5 @@
+pub mod Lists
+pub mod SetLaws
+pub mod Walks
+pub mod Replacing
+pub mod Places
