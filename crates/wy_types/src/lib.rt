@@ -1,0 +1,9 @@
+//! Programs with resolved names: their types and the methods of types, and the numbers that
+//! everything in a program goes by.
+#![tactic(auto)]
+
+pub mod code;
+pub mod linked;
+pub mod path;
+pub mod resolved;
+pub mod types;
