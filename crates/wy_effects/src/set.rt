@@ -1,4 +1,4 @@
-ghost use Rattle.std.specs.Prelude.{◌≡◌, ◌<◌, ◌≤◌, ◌↔◌, insert, IfNone, IfSome, List, [], ℕ, length, map, All, IfOk, OnOk, OnErr, IsTrue};
+ghost use Rattle.std.specs.Prelude.{◌≡◌, ◌<◌, ◌≤◌, ◌↔◌, insert, IfNone, IfSome, List, [], ℕ, length, map, slice_index_or, IfOk, OnOk, OnErr, IsTrue};
 ghost use Rattle.wy_effects.specs.EffSet.{IsSet, insert_atom, union, without, replace};
 ghost use Rattle.wy_effects.specs.Members.{Within};
 
@@ -68,16 +68,47 @@ fn vacancy(atoms: &[u16], atom: u16) -> Option<usize>
     Some(atoms.len())
 }
 
+/// The atoms of the set at a number; none where there is no such set.
+fn set_at<'a>(by: &'a [EffSet], atom: u16) -> &'a [u16]
+    ensures at { result.now ≡ slice_index_or by.now atom [] }
+    ensures set { IsSet 512 result.now }
+{
+    match by.get(atom as usize) {
+        Some(set) => set.atoms.as_slice(),
+        None => &[],
+    }
+}
+
 /// The atoms of all sets that stand for these atoms.
 fn replacement(alloc: Global, atoms: &[u16], by: &[EffSet]) -> Result<Vec<u16>, Memory>
-    requires { All (λ a. a < length by.now) atoms.now }
     ensures replaced { IfOk result (λ v. v.items ≡ replace by.now atoms.now) }
     ensures set { IfOk result (λ v. IsSet 512 v.items) }
 {
     let mut out = Vec::new(alloc);
     for i in (0..atoms.len()).rev() {
-        let set = &by[atoms[i] as usize];
-        out = merge(alloc, set.atoms.as_slice(), out.as_slice())?;
+        out = merge(alloc, set_at(by, atoms[i]), out.as_slice())?;
+    }
+    Ok(out)
+}
+
+/// A list of the same sets.
+pub fn copy_sets(alloc: Global, sets: &[EffSet]) -> Result<SetList, Memory>
+    ensures { IfOk result (λ l. l ≡ sets.now) }
+{
+    let mut out = Items::new(alloc);
+    for set in sets {
+        out.push(set.copy()?)?;
+    }
+    Ok(out)
+}
+
+/// The sets with each atom replaced by the set at its number in `by`.
+pub fn substitute_sets(alloc: Global, sets: &[EffSet], by: &[EffSet]) -> Result<SetList, Memory>
+    ensures { IfOk result (λ l. l ≡ map (replace by.now) sets.now) }
+{
+    let mut out = Items::new(alloc);
+    for set in sets {
+        out.push(set.substitute(by)?)?;
     }
     Ok(out)
 }
@@ -131,10 +162,9 @@ impl EffSet {
         Ok(EffSet { atoms })
     }
 
-    /// Each atom replaced by the set at its number: the atoms of all those sets. Every atom is to
-    /// be below the length of `by`.
+    /// Each atom replaced by the set at its number in `by`: the atoms of all those sets. An atom
+    /// that has no set there is left out.
     pub fn substitute(&self, by: &[EffSet]) -> Result<EffSet, Memory>
-        requires { All (λ a. a < length by.now) self.now }
         ensures { IfOk result (λ s. s ≡ replace by.now self.now) }
     {
         let alloc = *self.atoms.allocator();
@@ -151,13 +181,6 @@ impl EffSet {
             out.push(Atom(*atom))?;
         }
         Ok(out)
-    }
-
-    /// Whether every atom is below a number. It takes no memory.
-    pub fn is_below(&self, number: usize) -> bool
-        ensures { IsTrue result ↔ All (λ a. a < number) self.now }
-    {
-        self.atoms.iter().all(|a| (*a as usize) < number)
     }
 
     /// How many atoms the set has. It takes no memory.

@@ -1,3 +1,7 @@
 pub mod Code
+pub mod Paths
 pub mod Program
+pub mod Signature
+pub mod Subtyping
+pub mod Types
 pub mod View

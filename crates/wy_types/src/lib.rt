@@ -4,6 +4,8 @@
 
 pub mod code;
 pub mod linked;
+pub mod methods;
 pub mod path;
+pub mod reading;
 pub mod resolved;
 pub mod types;

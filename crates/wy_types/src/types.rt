@@ -1,6 +1,10 @@
-use wy_effects::set::{EffSet, SetList};
+ghost use Rattle.std.specs.Prelude.{◌≡◌, ◌↔◌, IfOk, IsTrue};
+ghost use Rattle.wy_types.specs.Types.{IsObject};
+
+use std::alloc::Global;
+use wy_effects::set::{EffSet, SetList, copy_sets};
 use wy_text::list::Items;
-use wy_text::text::Text;
+use wy_text::text::{Memory, Text};
 
 /// A type in a scope (docs/LANGUAGE.md, "Types"). A declared type goes by its number among the
 /// declarations; the sets are of the scope's atoms.
@@ -29,4 +33,37 @@ pub struct Method {
     pub params: TypeList,
     pub effect: EffSet,
     pub result: TypeRef,
+}
+
+impl TypeRef {
+    /// Whether it is no base type. It takes no memory.
+    pub fn is_object(&self) -> bool
+        ensures { IsTrue result ↔ IsObject self.now }
+    {
+        match self {
+            TypeRef::Int | TypeRef::Bool | TypeRef::Text | TypeRef::Unit => false,
+            TypeRef::Named { .. } | TypeRef::At { .. } | TypeRef::Own { .. } => true,
+        }
+    }
+
+    /// The same type.
+    pub fn copy(&self, alloc: Global) -> Result<TypeRef, Memory>
+        ensures { IfOk result (λ t. t ≡ self.now) }
+    {
+        Ok(match self {
+            TypeRef::Int => TypeRef::Int,
+            TypeRef::Bool => TypeRef::Bool,
+            TypeRef::Text => TypeRef::Text,
+            TypeRef::Unit => TypeRef::Unit,
+            TypeRef::Named { decl, members } => TypeRef::Named {
+                decl: *decl,
+                members: copy_sets(alloc, members.as_slice())?,
+            },
+            TypeRef::At { decl, bound } => TypeRef::At {
+                decl: *decl,
+                bound: bound.copy()?,
+            },
+            TypeRef::Own { literal } => TypeRef::Own { literal: *literal },
+        })
+    }
 }
