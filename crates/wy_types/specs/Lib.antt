@@ -1,4 +1,5 @@
 pub mod Code
+pub mod Fitting
 pub mod Paths
 pub mod Program
 pub mod Signature
