@@ -1,3 +1,4 @@
 pub mod Deciding
 pub mod Finite
 pub mod Owning
+pub mod Rows

@@ -6,3 +6,4 @@ pub mod Signature
 pub mod Subtyping
 pub mod Types
 pub mod View
+pub mod Written

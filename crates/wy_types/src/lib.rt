@@ -9,3 +9,4 @@ pub mod path;
 pub mod reading;
 pub mod resolved;
 pub mod types;
+pub mod written;
