@@ -1,4 +1,4 @@
-ghost use Rattle.std.specs.Prelude.{◌≡◌, ◌<◌, ◌≤◌, ◌↔◌, insert, IfNone, IfSome, List, [], ℕ, length, map, slice_index_or, IfOk, OnOk, OnErr, IsTrue};
+ghost use Rattle.std.specs.Prelude.{◌≡◌, ◌<◌, ◌≤◌, ◌↔◌, insert, IfNone, IfSome, List, [], ℕ, length, map, slice_index_or, IfOk, OnOk, OnErr, IsTrue, false};
 ghost use Rattle.wy_effects.specs.EffSet.{IsSet, insert_atom, union, without, replace};
 ghost use Rattle.wy_effects.specs.Members.{Within};
 
@@ -89,6 +89,22 @@ fn replacement(alloc: Global, atoms: &[u16], by: &[EffSet]) -> Result<Vec<u16>, 
         out = merge(alloc, set_at(by, atoms[i]), out.as_slice())?;
     }
     Ok(out)
+}
+
+/// Whether two lists have the same sets. It takes no memory.
+pub fn same_sets(a: &[EffSet], b: &[EffSet]) -> bool
+    ensures yes { IsTrue result → a.now ≡ b.now }
+    ensures no { result ≡ false → a.now ≡ b.now → ⊥ }
+{
+    if a.len() != b.len() {
+        return false;
+    }
+    for (i, set) in a.iter().enumerate() {
+        if !set.same(&b[i]) {
+            return false;
+        }
+    }
+    true
 }
 
 /// A list of the same sets.
@@ -188,6 +204,13 @@ impl EffSet {
         ensures { result ≡ length self.now }
     {
         self.atoms.len()
+    }
+
+    /// Whether the other has the same atoms. It takes no memory.
+    pub fn same(&self, other: &EffSet) -> bool
+        ensures { IsTrue result ↔ (self.now ≡ other.now) }
+    {
+        *self == *other
     }
 
     /// A set of the same atoms.

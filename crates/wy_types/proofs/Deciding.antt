@@ -11,8 +11,9 @@ decide_list d [] (y ∷ ys) = inr (λ e. cc)
 decide_list d (x ∷ xs) [] = inr (λ e. cc)
 decide_list d (x ∷ xs) (y ∷ ys) =
     elim (d x y) [
-        inl e ↦ elim (decide_list d xs ys) [ inl f ↦ inl (cc) | inr n ↦ inr (λ f. n (cc)) ]
-      | inr n ↦ inr (λ f. n (cc)) ]
+      | inl e ↦ elim (decide_list d xs ys) [ inl f ↦ inl (cc) | inr n ↦ inr (λ f. n (cc)) ]
+      | inr n ↦ inr (λ f. n (cc))
+    ]
 
 pub decide_type : (s t : TypeRef) → Decided (s ≡ t)
 decide_type Int Int = inl refl
@@ -21,12 +22,14 @@ decide_type Text Text = inl refl
 decide_type Nothing Nothing = inl refl
 decide_type (Named d ms) (Named e ns) =
     elim (cases_equal d e) [
-        inl f ↦ elim (decide_list (decide_list cases_equal) ms ns) [ inl g ↦ inl (cc) | inr n ↦ inr (λ h. n (cc)) ]
-      | inr n ↦ inr (λ h. n (cc)) ]
+      | inl f ↦ elim (decide_list (decide_list cases_equal) ms ns) [ inl g ↦ inl (cc) | inr n ↦ inr (λ h. n (cc)) ]
+      | inr n ↦ inr (λ h. n (cc))
+    ]
 decide_type (At d b) (At e c) =
     elim (cases_equal d e) [
-        inl f ↦ elim (decide_list cases_equal b c) [ inl g ↦ inl (cc) | inr n ↦ inr (λ h. n (cc)) ]
-      | inr n ↦ inr (λ h. n (cc)) ]
+      | inl f ↦ elim (decide_list cases_equal b c) [ inl g ↦ inl (cc) | inr n ↦ inr (λ h. n (cc)) ]
+      | inr n ↦ inr (λ h. n (cc))
+    ]
 decide_type (Own l) (Own k) = elim (cases_equal l k) [ inl e ↦ inl (cc) | inr n ↦ inr (λ h. n (cc)) ]
 decide_type s t = inr (λ e. cc)
 
@@ -39,5 +42,6 @@ decide_truth false true = inr (λ e. cc)
 pub decide_pair : {A B : Type 0} → ((x y : A) → Decided (x ≡ y)) → ((x y : B) → Decided (x ≡ y)) → (p q : A × B) → Decided (p ≡ q)
 decide_pair {A} {B} d e p q =
     elim (d p.0 q.0) [
-        inl f ↦ elim (e p.1 q.1) [ inl g ↦ inl (ap (λ (a : A). let r : A × B = (a, p.1) in r) f ∙ ap (λ (b : B). let r : A × B = (q.0, b) in r) g) | inr n ↦ inr (λ h. n (ap (λ (v : A × B). v.1) h)) ]
-      | inr n ↦ inr (λ h. n (ap (λ (v : A × B). v.0) h)) ]
+      | inl f ↦ elim (e p.1 q.1) [ inl g ↦ inl (ap (λ (a : A). let r : A × B = (a, p.1) in r) f ∙ ap (λ (b : B). let r : A × B = (q.0, b) in r) g) | inr n ↦ inr (λ h. n (ap (λ (v : A × B). v.1) h)) ]
+      | inr n ↦ inr (λ h. n (ap (λ (v : A × B). v.0) h))
+    ]

@@ -55,8 +55,8 @@ module _ (p : Program) (owns : ℕ) where
 
   -- signatures read in another way fit where the types and effects read so do
   Fits-mapped : (atoms : ℕ) (kind : TypeRef → TypeRef) (effect : List ℕ → List ℕ) (ms : List (Signature TypeRef)) →
-    ((t : TypeRef) → FitsType p atoms 0 t → FitsType p 512 owns (kind t)) → ((e : List ℕ) → IsSet atoms e → IsSet 512 (effect e)) →
-    AllSignaturesFit p atoms 0 ms → AllSignaturesFit p 512 owns (map (mapped_signature kind effect) ms)
+      ((t : TypeRef) → FitsType p atoms 0 t → FitsType p 512 owns (kind t)) → ((e : List ℕ) → IsSet atoms e → IsSet 512 (effect e)) →
+      AllSignaturesFit p atoms 0 ms → AllSignaturesFit p 512 owns (map (mapped_signature kind effect) ms)
   Fits-mapped atoms kind effect ms g h all m i =
       let r = In-unmap (mapped_signature kind effect) m ms i in
       let old : FitsSignature p atoms 0 r.0 = all r.0 r.1 in
@@ -74,16 +74,17 @@ read None = inl refl
 read (Some x) = inr (x, refl)
 
 Fits-declared : (p : Program) (w : SignaturesFit p) (owns k : ℕ) (kind : TypeRef → TypeRef) (effect : List ℕ → List ℕ) →
-  ((atoms : ℕ) (t : TypeRef) → FitsType p atoms 0 t → FitsType p 512 owns (kind t)) → ((e : List ℕ) → IsSet 512 (effect e)) →
-  AllSignaturesFit p 512 owns (map (mapped_signature kind effect) (declared_methods (slice_get p.declarations k)))
+    ((atoms : ℕ) (t : TypeRef) → FitsType p atoms 0 t → FitsType p 512 owns (kind t)) → ((e : List ℕ) → IsSet 512 (effect e)) →
+    AllSignaturesFit p 512 owns (map (mapped_signature kind effect) (declared_methods (slice_get p.declarations k)))
 Fits-declared p w owns k kind effect g h =
     let P : Option TypeDecl → Type 0 = λ o. AllSignaturesFit p 512 owns (map (mapped_signature kind effect) (declared_methods o)) in
     elim (read (slice_get p.declarations k)) [
-        inl e ↦ subst P (sym e) (λ m i. absurd i)
-      | inr r ↦ subst P (sym r.1) (Fits-mapped p owns (length r.0.members) kind effect (map signature r.0.methods) (g (length r.0.members)) (λ e s. h e) (w.declarations k r.0 r.1)) ]
+      | inl e ↦ subst P (sym e) (λ m i. absurd i)
+      | inr r ↦ subst P (sym r.1) (Fits-mapped p owns (length r.0.members) kind effect (map signature r.0.methods) (g (length r.0.members)) (λ e s. h e) (w.declarations k r.0 r.1))
+    ]
 
 Fits-named : (p : Program) (w : SignaturesFit p) (owns k : ℕ) (plain : Truth) (by : List (List ℕ)) → AreSets 512 by →
-  AllSignaturesFit p 512 owns (named_methods plain by (declared_methods (slice_get p.declarations k)))
+    AllSignaturesFit p 512 owns (named_methods plain by (declared_methods (slice_get p.declarations k)))
 Fits-named p w owns k true by h = Fits-declared p w owns k erased (λ e. []) (Fits-erased p owns) (λ e. tt)
 Fits-named p w owns k false by h =
     Fits-declared p w owns k (substituted by) (replace by) (λ atoms t f. Fits-substituted p owns atoms by t h f) (λ e. IsSet-replace 512 by e h)
@@ -92,15 +93,17 @@ owner_among : (l : ℕ) (bs : List Body) (m : Signature TypeRef) → In m (metho
 owner_among l [] m i = absurd i
 owner_among l (b ∷ bs) m i =
     elim (nat_eq b.owner l) as (λ t. In m (if t then (signature b.signature ∷ methods_of_owner l bs) else methods_of_owner l bs) → In m (map (λ (b : Body). signature b.signature) (b ∷ bs))) [
-        true ↦ λ h. elim h [ inl e ↦ inl e | inr g ↦ inr (owner_among l bs m g) ]
-      | false ↦ λ h. inr (owner_among l bs m h) ] i
+      | true ↦ λ h. elim h [ inl e ↦ inl e | inr g ↦ inr (owner_among l bs m g) ]
+      | false ↦ λ h. inr (owner_among l bs m h)
+    ] i
 
 Fits-own : (p : Program) (w : SignaturesFit p) (scope l : ℕ) → AllSignaturesFit p 512 (own_count p scope) (methods_of_owner l (scope_bodies (slice_get p.scopes scope)))
 Fits-own p w scope l =
     let P : Option Scope → Type 0 = λ o. AllSignaturesFit p 512 (length (scope_literals o)) (methods_of_owner l (scope_bodies o)) in
     elim (read (slice_get p.scopes scope)) [
-        inl q ↦ subst P (sym q) (λ m i. absurd i)
-      | inr s ↦ subst P (sym s.1) (λ m i. w.bodies scope s.0 s.1 m (owner_among l s.0.bodies m i)) ]
+      | inl q ↦ subst P (sym q) (λ m i. absurd i)
+      | inr s ↦ subst P (sym s.1) (λ m i. w.bodies scope s.0 s.1 m (owner_among l s.0.bodies m i))
+    ]
 
 -- the methods of a type that is in range are in range
 pub Fits-methods : (p : Program) (w : SignaturesFit p) (scope : ℕ) (t : TypeRef) → IsTypeOf p scope t → AllSignaturesFit p 512 (own_count p scope) (methods_of p scope t)
@@ -158,15 +161,15 @@ module _ (p : Program) (owns : ℕ) where
   In-all_types Nothing f = inr (inr (inr (inl refl)))
   In-all_types (Named d members) f =
       later (Named d members) (In-left (Named d members) (spread (named_types p) (length p.declarations)) _
-        (In-spread (named_types p) (length p.declarations) d (Named d members) f.0 (In-named p d members f.1 f.2)))
+      (In-spread (named_types p) (length p.declarations) d (Named d members) f.0 (In-named p d members f.1 f.2)))
   In-all_types (At d bound) f =
       later (At d bound) (In-right (At d bound) (spread (named_types p) (length p.declarations)) _
-        (In-left (At d bound) (spread at_types (length p.declarations)) (spread (λ l. Own l ∷ []) owns)
-          (In-spread at_types (length p.declarations) d (At d bound) f.0 (In-at d bound f.1))))
+      (In-left (At d bound) (spread at_types (length p.declarations)) (spread (λ l. Own l ∷ []) owns)
+      (In-spread at_types (length p.declarations) d (At d bound) f.0 (In-at d bound f.1))))
   In-all_types (Own l) f =
       later (Own l) (In-right (Own l) (spread (named_types p) (length p.declarations)) _
-        (In-right (Own l) (spread at_types (length p.declarations)) (spread (λ l. Own l ∷ []) owns)
-          (In-spread (λ l. Own l ∷ []) owns l (Own l) f (inl refl))))
+      (In-right (Own l) (spread at_types (length p.declarations)) (spread (λ l. Own l ∷ []) owns)
+      (In-spread (λ l. Own l ∷ []) owns l (Own l) f (inl refl))))
 
 -- how many types a scope's types can reach at most, how many pairs of them there are, and how many with a truth value beside them
 pub type_bound : Program → ℕ → ℕ
@@ -188,13 +191,13 @@ unfolding pair_bound
 length-le-pair_bound p scope ps d f =
     let us : List TypeRef = all_types p (own_count p scope) in
     length-apart ps (pairs_of us us) d
-      (λ q i. In-pairs_of q.0 q.1 us us (In-all_types p (own_count p scope) q.0 (f q i).0) (In-all_types p (own_count p scope) q.1 (f q i).1))
+    (λ q i. In-pairs_of q.0 q.1 us us (In-all_types p (own_count p scope) q.0 (f q i).0) (In-all_types p (own_count p scope) q.1 (f q i).1))
 
 pub length-le-marked_bound : (p : Program) (scope : ℕ) (ms : List (TypeRef × Truth)) → Apart ms → ((m : TypeRef × Truth) → In m ms → IsTypeOf p scope m.0) → length ms ≤ marked_bound p scope
 unfolding marked_bound
 length-le-marked_bound p scope ms d f =
     length-apart ms (pairs_of (all_types p (own_count p scope)) (true ∷ false ∷ []))
-      d (λ m i. In-pairs_of m.0 m.1 (all_types p (own_count p scope)) (true ∷ false ∷ []) (In-all_types p (own_count p scope) m.0 (f m i)) (either m.1))
+    d (λ m i. In-pairs_of m.0 m.1 (all_types p (own_count p scope)) (true ∷ false ∷ []) (In-all_types p (own_count p scope) m.0 (f m i)) (either m.1))
   where
     either : (b : Truth) → In b (true ∷ false ∷ [])
     either true = inl refl

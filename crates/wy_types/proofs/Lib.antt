@@ -1,4 +1,6 @@
 pub mod Deciding
 pub mod Finite
+pub mod Gathered
 pub mod Owning
+pub mod Reaching
 pub mod Rows

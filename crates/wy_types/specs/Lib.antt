@@ -1,7 +1,9 @@
 pub mod Code
 pub mod Fitting
+pub mod Gathering
 pub mod Paths
 pub mod Program
+pub mod Reached
 pub mod Signature
 pub mod Subtyping
 pub mod Types

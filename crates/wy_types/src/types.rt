@@ -2,7 +2,7 @@ ghost use Rattle.std.specs.Prelude.{◌≡◌, ◌↔◌, IfOk, IsTrue};
 ghost use Rattle.wy_types.specs.Types.{IsObject};
 
 use std::alloc::Global;
-use wy_effects::set::{EffSet, SetList, copy_sets};
+use wy_effects::set::{EffSet, SetList, copy_sets, same_sets};
 use wy_text::list::Items;
 use wy_text::text::{Memory, Text};
 
@@ -43,6 +43,32 @@ impl TypeRef {
         match self {
             TypeRef::Int | TypeRef::Bool | TypeRef::Text | TypeRef::Unit => false,
             TypeRef::Named { .. } | TypeRef::At { .. } | TypeRef::Own { .. } => true,
+        }
+    }
+
+    /// Whether the other is the same type. It takes no memory.
+    pub fn same(&self, other: &TypeRef) -> bool
+        ensures { IsTrue result ↔ (self.now ≡ other.now) }
+    {
+        match (self, other) {
+            (TypeRef::Int, TypeRef::Int) => true,
+            (TypeRef::Bool, TypeRef::Bool) => true,
+            (TypeRef::Text, TypeRef::Text) => true,
+            (TypeRef::Unit, TypeRef::Unit) => true,
+            (
+                TypeRef::Named {
+                    decl: d,
+                    members: m,
+                },
+                TypeRef::Named {
+                    decl: e,
+                    members: n,
+                },
+            ) => { *d == *e && same_sets(m.as_slice(), n.as_slice()) }
+            (TypeRef::At { decl: d, bound: b }, TypeRef::At { decl: e, bound: c }) => *d == *e
+                && b.same(c),
+            (TypeRef::Own { literal: l }, TypeRef::Own { literal: k }) => *l == *k,
+            _ => false,
         }
     }
 

@@ -21,10 +21,10 @@ add_expr-returns-in_ok-add_expr-in-Call t c =
     let P : List TypeRef → Type 0 = λ l. OnOk c.add_values-in-Call.result (c.add_values-in-Call.new.out ≡ l) in
     let rest : List TypeRef = values_types (values_of c.in-Call.values.items) in
     subst P
-      (ap (λ l. l ++ rest) (c.in_ok-add_expr-in-Call.ensures ∙ ap (λ x. c.args.out.now ++ expr_types (expr_of x)) c.deref-in-Call.ensures) ∙
-       append_assoc c.args.out.now (expr_types (expr_of c.in-Call.receiver.value)) rest ∙
-       ap (λ x. c.args.out.now ++ expr_types x) (sym (expr_call c.in-Call._place c.in-Call.receiver c.in-Call._method c.in-Call.values) ∙ ap expr_of (sym c.in-Call.is)))
-      c.add_values-in-Call.ensures
+    (ap (λ l. l ++ rest) (c.in_ok-add_expr-in-Call.ensures ∙ ap (λ x. c.args.out.now ++ expr_types (expr_of x)) c.deref-in-Call.ensures) ∙
+    append_assoc c.args.out.now (expr_types (expr_of c.in-Call.receiver.value)) rest ∙
+    ap (λ x. c.args.out.now ++ expr_types x) (sym (expr_call c.in-Call._place c.in-Call.receiver c.in-Call._method c.in-Call.values) ∙ ap expr_of (sym c.in-Call.is)))
+    c.add_values-in-Call.ensures
 
 pub add_value-returns-in_ok-add_block-in-If : goal.add_value-returns-in_ok-add_block-in-If
 add_value-returns-in_ok-add_block-in-If t c =
@@ -33,8 +33,8 @@ add_value-returns-in_ok-add_block-in-If t c =
     let first : List TypeRef = block_types (block_of c.in-If.first) in
     let second : List TypeRef = block_types (block_of c.in-If.second) in
     subst P
-      (ap (λ l. l ++ second)
-         (c.in_ok-add_block-in-If.ensures ∙ ap (λ l. l ++ first) (c.in_ok-add_expr-in-If.ensures ∙ ap (λ x. c.args.out.now ++ expr_types (expr_of x)) c.deref.ensures)) ∙
-       append_assoc (c.args.out.now ++ test) first second ∙ append_assoc c.args.out.now test (first ++ second) ∙
-       ap (λ x. c.args.out.now ++ value_types x) (sym (value_if c.in-If._place c.in-If.test c.in-If.first c.in-If.second) ∙ ap value_of (sym c.in-If.is)))
-      c.add_block-in-If.ensures
+    (ap (λ l. l ++ second)
+    (c.in_ok-add_block-in-If.ensures ∙ ap (λ l. l ++ first) (c.in_ok-add_expr-in-If.ensures ∙ ap (λ x. c.args.out.now ++ expr_types (expr_of x)) c.deref.ensures)) ∙
+    append_assoc (c.args.out.now ++ test) first second ∙ append_assoc c.args.out.now test (first ++ second) ∙
+    ap (λ x. c.args.out.now ++ value_types x) (sym (value_if c.in-If._place c.in-If.test c.in-If.first c.in-If.second) ∙ ap value_of (sym c.in-If.is)))
+    c.add_block-in-If.ensures
