@@ -1,7 +1,9 @@
 pub mod Code
+pub mod Core
 pub mod Fitting
 pub mod Gathering
 pub mod Paths
+pub mod Primitive
 pub mod Program
 pub mod Reached
 pub mod Signature

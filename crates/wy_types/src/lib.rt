@@ -6,6 +6,7 @@ pub mod code;
 pub mod linked;
 pub mod methods;
 pub mod path;
+pub mod primitive;
 pub mod reach;
 pub mod reading;
 pub mod resolved;
