@@ -1,5 +1,6 @@
 pub mod Code
 pub mod Core
+pub mod Few
 pub mod Fitting
 pub mod Gathering
 pub mod Paths

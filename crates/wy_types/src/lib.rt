@@ -3,6 +3,7 @@
 #![tactic(auto)]
 
 pub mod code;
+pub mod laws;
 pub mod linked;
 pub mod methods;
 pub mod path;
