@@ -1,5 +1,5 @@
 -- A finite list that has a start and is closed under `next`, where few elements are apart.
-use Rattle.std.proofs.Common.{◌≡◌, ℕ, zero, suc, ◌+◌, ◌<◌, ◌≤◌, List, [], ◌∷◌, ◌++◌, map, ◌⊎◌, inl, inr, length, refl, sym, ap, ◌∙◌, subst, arith, rules}
+use Rattle.std.proofs.Common.{◌≡◌, ℕ, zero, suc, ◌+◌, ◌<◌, ◌≤◌, List, [], ◌∷◌, ◌++◌, ◌⊎◌, inl, inr, length, refl, sym, subst, arith}
 use Rattle.wy_effects.specs.Members.{In, Within, Apart}
 use Rattle.wy_effects.proofs.Lists.{In-left, In-right, In-cases}
 

@@ -1,10 +1,10 @@
 -- The operations on sets are those on finite sets: what is in their results, and that sets stay sets.
-use Rattle.std.proofs.Common.{◌≡◌, ℕ, zero, suc, ◌+◌, ◌<◌, ◌≤◌, List, [], ◌∷◌, ◌++◌, map, ◌⊎◌, inl, inr, length, get_or, drop, Bool, true, false, refl, sym, ap, ◌∙◌, subst, arith}
-use Rattle.std.specs.Prelude.{nat_lt, nat_eq, ◌||◌, if◌then◌else◌, insert}
+use Rattle.std.proofs.Common.{◌≡◌, ℕ, zero, suc, ◌+◌, ◌<◌, ◌≤◌, List, [], ◌∷◌, ◌⊎◌, inl, inr, length, get_or, drop, true, false, refl, sym, ap, ◌∙◌, subst, arith}
+use Rattle.std.specs.Prelude.{if◌then◌else◌, insert}
 use Rattle.std.proofs.lemmas.Bool.{cases_lt}
 use Rattle.std.proofs.lemmas.Bool.Decides.{nat_tests}
 use Rattle.wy_effects.specs.Members.{In, Within}
-use Rattle.wy_effects.specs.EffSet.{IsSetFrom, IsSet, AreSets, has, insert_atom, union, without, replace}
+use Rattle.wy_effects.specs.EffSet.{IsSetFrom, has, insert_atom, union, without}
 
 pub insert_atom-skip : (a x : ℕ) (xs : List ℕ) → x < a → insert_atom a (x ∷ xs) ≡ x ∷ insert_atom a xs
 insert_atom-skip a x xs h = grind (arith, nat_tests)

@@ -1,6 +1,6 @@
 -- One step of a walk over two sets at once.
-use Rattle.std.proofs.Common.{◌≡◌, ℕ, zero, suc, ◌+◌, ◌<◌, ◌≤◌, List, [], ◌∷◌, ◌++◌, ◌⊎◌, inl, inr, length, get_or, drop, Bool, true, false, refl, sym, ap, ◌∙◌, subst, arith, drop-cons, add-one, append_assoc, append-nil, ◌-◌, take}
-use Rattle.std.specs.Prelude.{nat_eq, ◌||◌, if◌then◌else◌, ◌↔◌}
+use Rattle.std.proofs.Common.{◌≡◌, ℕ, zero, suc, ◌+◌, ◌<◌, ◌≤◌, List, [], ◌∷◌, ◌++◌, ◌⊎◌, inl, inr, length, get_or, drop, true, false, refl, sym, ap, ◌∙◌, subst, arith, drop-cons, add-one, append_assoc, append-nil, ◌-◌, take}
+use Rattle.std.specs.Prelude.{if◌then◌else◌, ◌↔◌}
 use Rattle.std.proofs.lemmas.Bool.Decides.{nat_tests}
 use Rattle.std.proofs.lemmas.List.{take_all, length-drop}
 use Rattle.wy_effects.specs.Members.{In, Within}

@@ -1,5 +1,5 @@
 -- Types are equal or not.
-use Rattle.std.proofs.Common.{◌≡◌, ℕ, List, [], ◌∷◌, ◌⊎◌, inl, inr, refl, ap, ◌∙◌, arith, Bool as Truth, true, false}
+use Rattle.std.proofs.Common.{◌≡◌, List, [], ◌∷◌, inl, inr, refl, ap, ◌∙◌, Bool as Truth, true, false}
 use Rattle.wy_effects.proofs.Closure.{Decided}
 use Rattle.wy_effects.proofs.SetLaws.{cases_equal}
 use Rattle.wy_types.specs.declared.types.TypeRef.{TypeRef}

@@ -1,7 +1,7 @@
 -- Finitely many types are reached: each is in a list that the program and the scope determine.
-use Rattle.std.proofs.Common.{◌≡◌, ℕ, zero, suc, ◌+◌, ◌<◌, ◌≤◌, List, [], ◌∷◌, ◌++◌, map, ◌⊎◌, inl, inr, length, refl, sym, ap, ◌∙◌, subst, arith, Option, Some, None, Bool as Truth, true, false}
+use Rattle.std.proofs.Common.{◌≡◌, ℕ, suc, ◌≤◌, List, [], ◌∷◌, ◌++◌, map, ◌⊎◌, inl, inr, length, refl, sym, ap, ◌∙◌, subst, arith, Option, Some, None, Bool as Truth, true, false}
 use Rattle.std.specs.Prelude.{slice_get, nat_eq, if◌then◌else◌}
-use Rattle.wy_effects.specs.Members.{In, Within, Apart}
+use Rattle.wy_effects.specs.Members.{In, Apart}
 use Rattle.wy_effects.specs.EffSet.{IsSet, AreSets, replace}
 use Rattle.wy_effects.proofs.Lists.{In-left, In-right, In-map, In-unmap, length-apart}
 use Rattle.wy_effects.proofs.Listing.{sets_from, In-sets_from, tuples, In-tuples, spread, In-spread, pairs_of, In-pairs_of}
@@ -11,7 +11,7 @@ use Rattle.wy_types.specs.declared.types.TypeRef.TheVariants.{Int, Bool, Text, U
 use Rattle.wy_types.specs.declared.resolved.TypeDecl.{TypeDecl}
 use Rattle.wy_types.specs.Program.{Program, Scope, Body}
 use Rattle.wy_types.specs.Signature.{Signature, mapped_signature}
-use Rattle.wy_types.specs.Types.{substituted, annotated, erased, signature, declared_methods, methods_of_owner, named_methods, bounded_methods, scope_is_plain, scope_bodies, methods_of}
+use Rattle.wy_types.specs.Types.{substituted, annotated, erased, signature, declared_methods, methods_of_owner, named_methods, scope_is_plain, scope_bodies, methods_of}
 use Rattle.wy_types.specs.Fitting.{member_count, scope_literals, own_count, FitsType, AllFit, FitsSignature, AllSignaturesFit, SignaturesFit, IsTypeOf}
 
 length-map' : {X Y : Type 0} (f : X → Y) (xs : List X) → length (map f xs) ≡ length xs

@@ -1,8 +1,6 @@
 -- Types added to a list, one after another.
-use Rattle.std.proofs.Common.{◌≡◌, ℕ, zero, suc, ◌+◌, ◌<◌, ◌≤◌, List, [], ◌∷◌, ◌++◌, map, take, ◌⊎◌, inl, inr, length, get_or, Option, Some, None, Ok, Err, refl, sym, ap, ◌∙◌, subst, arith, append_assoc, append-nil, length-append, add-one}
-use Rattle.std.specs.Prelude.{slice_get, Result}
-use Rattle.std.proofs.lemmas.List.{take_more, take_all}
-use Rattle.wy_text.specs.declared.limit.LimitName.TheVariants.{ReachedTypes}
+use Rattle.std.proofs.Common.{◌≡◌, ℕ, zero, suc, ◌+◌, ◌<◌, ◌≤◌, List, [], ◌∷◌, ◌++◌, map, take, ◌⊎◌, inl, inr, length, get_or, Err, refl, sym, ap, ◌∙◌, subst, arith, append_assoc, append-nil, length-append}
+use Rattle.std.proofs.lemmas.List.{take_more}
 use Rattle.wy_effects.specs.Members.{In, Within, Apart}
 use Rattle.wy_effects.proofs.Lists.{In-left, In-right, In-cases, Apart-push}
 use Rattle.wy_types.specs.declared.types.TypeRef.{TypeRef}

@@ -1,8 +1,7 @@
 -- What follows from what a core keeps: its signatures are in range, and so is all that types reach.
-use Rattle.std.proofs.Common.{◌≡◌, ℕ, ◌+◌, ◌<◌, ◌≤◌, List, [], ◌∷◌, ◌++◌, map, ◌⊎◌, inl, inr, length, refl, sym, subst, arith, Some}
-use Rattle.std.specs.Prelude.{slice_get}
-use Rattle.wy_effects.specs.Members.{In, Apart}
-use Rattle.wy_effects.specs.EffSet.{IsSetFrom, IsSet, AreSets}
+use Rattle.std.proofs.Common.{◌≡◌, ℕ, ◌+◌, ◌≤◌, List, [], ◌∷◌, ◌++◌, map, ◌⊎◌, inl, inr, length, refl, subst, arith}
+use Rattle.wy_effects.specs.Members.{In}
+use Rattle.wy_effects.specs.EffSet.{IsSetFrom}
 use Rattle.wy_effects.proofs.Lists.{In-left, In-right, In-unmap, In-slice_get}
 use Rattle.wy_types.specs.declared.types.TypeRef.{TypeRef}
 use Rattle.wy_types.specs.declared.types.TypeRef.TheVariants.{Int, Bool, Text, Unit as Nothing, Named, At, Own}
@@ -12,10 +11,10 @@ use Rattle.wy_types.specs.Signature.{Signature, signature_types}
 use Rattle.wy_types.specs.Types.{signature, methods_of}
 use Rattle.wy_types.specs.Paths.{Goes, Walks}
 use Rattle.wy_types.specs.Fitting.{FitsType, FitsSignature, AllSignaturesFit, SignaturesFit, IsTypeOf, own_count}
-use Rattle.wy_types.specs.Core.{IsCore, ScopeFits, DeclarationFits}
+use Rattle.wy_types.specs.Core.{IsCore, ScopeFits}
 use Rattle.wy_types.specs.Few.{ReachedAreFew}
 use Rattle.wy_types.proofs.Finite.{Fits-methods, type_bound, length-le-type_bound}
-use Rattle.wy_types.proofs.Reaching.{signature_types-part, part_of_signature}
+use Rattle.wy_types.proofs.Reaching.{signature_types-part}
 
 IsSetFrom-wider : (k m n : ℕ) (xs : List ℕ) → m ≤ n → IsSetFrom k m xs → IsSetFrom k n xs
 IsSetFrom-wider k m n [] le s = tt

@@ -4,9 +4,7 @@ use Rattle.std.specs.Prelude.{nat_eq, if◌then◌else◌}
 use Rattle.std.proofs.lemmas.Bool.Decides.{nat_tests}
 use Rattle.wy_effects.proofs.Walks.{drop_at}
 use Rattle.wy_types.specs.declared.resolved.Body.{Body}
-use Rattle.wy_types.specs.declared.types.TypeRef.{TypeRef}
 use Rattle.wy_types.specs.Program.{body_of}
-use Rattle.wy_types.specs.Signature.{Signature}
 use Rattle.wy_types.specs.Types.{signature, methods_of_owner}
 
 same_owner : (m l : ℕ) → m ≡ l → nat_eq m l ≡ true

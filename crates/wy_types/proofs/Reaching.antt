@@ -1,10 +1,8 @@
 -- The types that a scope reaches, by a list that is worked off.
-use Rattle.std.proofs.Common.{◌≡◌, ℕ, zero, suc, ◌+◌, ◌<◌, ◌≤◌, List, [], ◌∷◌, ◌++◌, map, take, ◌⊎◌, inl, inr, length, get_or, Option, Some, None, Ok, Err, refl, sym, ap, ◌∙◌, subst, arith, append_assoc, length-append}
-use Rattle.std.specs.Prelude.{slice_get, Result, ◌↔◌}
+use Rattle.std.proofs.Common.{◌≡◌, ℕ, ◌+◌, ◌<◌, ◌≤◌, List, [], ◌∷◌, ◌++◌, take, inl, inr, length, get_or, Ok, Err, refl, sym, ap, ◌∙◌, subst, arith, length-append}
+use Rattle.std.specs.Prelude.{slice_get}
 use Rattle.std.proofs.lemmas.List.{take_more, take_all, take-append-le}
-use Rattle.std.proofs.lemmas.List as lists
-use Rattle.wy_text.specs.declared.limit.LimitName.TheVariants.{ReachedTypes}
-use Rattle.wy_effects.specs.Members.{In, Within, Apart}
+use Rattle.wy_effects.specs.Members.{In, Apart}
 use Rattle.wy_effects.proofs.Lists.{In-left, In-right, In-cases, In-at, In-slice_get, In-read}
 use Rattle.wy_types.specs.declared.types.TypeRef.{TypeRef}
 use Rattle.wy_types.specs.declared.types.TypeRef.TheVariants.{Int, Bool, Text, Unit as Nothing, Named, At, Own}
@@ -18,7 +16,7 @@ use Rattle.wy_types.specs.Signature.{Signature, signature_types}
 use Rattle.wy_types.specs.Types.{IsObject, methods_of}
 use Rattle.wy_types.specs.Paths.{IsPartOf, Goes, Walks}
 use Rattle.wy_types.specs.Reached.{scope_first_types, IsReached, Reach}
-use Rattle.wy_types.specs.Gathering.{IsGathered, IsCrowd, Gathers, Begins}
+use Rattle.wy_types.specs.Gathering.{IsGathered, Gathers, Begins}
 use Rattle.wy_types.proofs.Gathered.{gathered_old, gathered_cases}
 
 -- the types in signatures are those at their parts

@@ -1,5 +1,5 @@
 -- The plain form of each value that holds a list or a block.
-use Rattle.std.proofs.Common.{◌≡◌, ℕ, List, [], ◌∷◌, ◌++◌, Vec, Box, Global, refl, sym, ap, ap₂, ◌∙◌}
+use Rattle.std.proofs.Common.{◌≡◌, ℕ, List, Vec, Box, Global, refl, ap, ap₂, ◌∙◌}
 use Rattle.wy_text.specs.declared.fault.Place.{Place}
 use Rattle.wy_types.specs.declared.code.TextOperator.{TextOperator}
 use Rattle.wy_types.specs.declared.code.Expr as e
@@ -7,7 +7,6 @@ use Rattle.wy_types.specs.declared.code.Expr.TheBlock as eb
 use Rattle.wy_types.specs.declared.code.Expr.TheVariants as ev
 use Rattle.wy_types.specs.declared.code.Value as v
 use Rattle.wy_types.specs.declared.code.Value.TheVariants as vv
-use Rattle.wy_types.specs.declared.code.Stmt.{Stmt}
 use Rattle.wy_types.specs.declared.code.Block.{Block}
 use Rattle.wy_types.specs.Code as plain
 use Rattle.wy_types.specs.View.{expr_of, value_of, row_values, row_block, stmt_block, values_of, stmts_block, block_of}

@@ -1,19 +1,19 @@
 -- The definitions tried on worked examples.
-use Rattle.std.proofs.Common.{◌≡◌, ℕ, List, [], ◌∷◌, ◌⊎◌, inl, inr, refl, sym, ap, ◌∙◌, subst, Some, None, true, false}
+use Rattle.std.proofs.Common.{ℕ, List, [], ◌∷◌, inl, inr, refl, subst, true, false}
 use Rattle.std.specs.Prelude.{codes}
-use Rattle.wy_effects.specs.Members.{In, Within}
+use Rattle.wy_effects.specs.Members.{Within}
 use Rattle.wy_types.specs.declared.types.TypeRef.{TypeRef}
-use Rattle.wy_types.specs.declared.types.TypeRef.TheVariants.{Int, Bool, Text, Unit as Nothing, Named, At, Own}
+use Rattle.wy_types.specs.declared.types.TypeRef.TheVariants.{Int, Unit as Nothing, Named}
 use Rattle.wy_types.specs.declared.types.Method.{Method}
 use Rattle.wy_types.specs.declared.path.Part.{Part}
-use Rattle.wy_types.specs.declared.path.Part.TheVariants.{Parameter, Result}
+use Rattle.wy_types.specs.declared.path.Part.TheVariants.{Parameter}
 use Rattle.wy_types.specs.declared.path.Step.{Step}
 use Rattle.wy_types.specs.declared.resolved.TypeDecl.{TypeDecl}
 use Rattle.wy_types.specs.Program.{Program}
 use Rattle.wy_types.specs.Signature.{Signature, find_method}
 use Rattle.wy_types.specs.Types.{IsObject, methods_of, signature}
-use Rattle.wy_types.specs.Subtyping.{IsSubtype, IsClosed, Covers, HasCover, IsAnnotatedSubtype}
-use Rattle.wy_types.specs.Paths.{IsPartOf, Goes, Walks, is_positive, Reaches, IsEffect}
+use Rattle.wy_types.specs.Subtyping.{IsClosed, HasCover, IsAnnotatedSubtype}
+use Rattle.wy_types.specs.Paths.{Goes, IsEffect}
 
 -- a method, and a type declaration of some abstract members
 method : List ℕ → List TypeRef → List ℕ → TypeRef → Method

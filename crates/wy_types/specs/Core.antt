@@ -24,7 +24,7 @@ use Rattle.wy_types.specs.Code.{Expr, Number, Quoted, Truth as TruthOf, Nothing 
 use Rattle.wy_types.specs.Program.{Program, Scope, Body, Start, Init, Run}
 use Rattle.wy_types.specs.Signature.{Signature}
 use Rattle.wy_types.specs.Types.{signature, is_plain, methods_of_owner}
-use Rattle.wy_types.specs.Fitting.{member_count, FitsType, FitsSignature, SignaturesFit}
+use Rattle.wy_types.specs.Fitting.{member_count, FitsType, FitsSignature}
 use Rattle.wy_types.specs.Primitive.{primitive_types}
 
 ------------------------------------------------------------

@@ -1,5 +1,5 @@
 -- A list of object types without repeats, to which types are added.
-use Rattle.std.specs.Prelude.{◌≡◌, ℕ, ◌<◌, ◌≤◌, List, [], ◌++◌, ◌⊎◌, Result, Ok, Err, length}
+use Rattle.std.specs.Prelude.{◌≡◌, ◌<◌, ◌≤◌, List, [], ◌++◌, ◌⊎◌, Result, Ok, Err, length}
 use Rattle.wy_text.specs.declared.limit.LimitName.TheVariants.{ReachedTypes}
 use Rattle.wy_effects.specs.Members.{In, Apart}
 use Rattle.wy_types.specs.declared.types.TypeRef.{TypeRef}

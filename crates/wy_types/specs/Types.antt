@@ -1,5 +1,5 @@
 -- The methods of types, and replacement of atoms in types.
-use Rattle.std.specs.Prelude.{◌≡◌, ℕ, ◌+◌, ◌<◌, List, [], ◌∷◌, Option, Some, None, Bool as Truth, true, false, map, length, slice_get, nat_eq, if◌then◌else◌}
+use Rattle.std.specs.Prelude.{ℕ, List, [], ◌∷◌, Option, Some, None, Bool as Truth, true, false, map, slice_get, nat_eq, if◌then◌else◌}
 use Rattle.wy_effects.specs.EffSet.{replace}
 use Rattle.wy_types.specs.declared.types.TypeRef.{TypeRef}
 use Rattle.wy_types.specs.declared.types.TypeRef.TheVariants.{Int, Bool, Text, Unit as Nothing, Named, At, Own}

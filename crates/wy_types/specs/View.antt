@@ -1,5 +1,5 @@
 -- The bodies of the code's own types as plain data.
-use Rattle.std.specs.Prelude.{ℕ, List, [], ◌∷◌}
+use Rattle.std.specs.Prelude.{List, [], ◌∷◌}
 use Rattle.wy_types.specs.declared.code.Expr as e
 use Rattle.wy_types.specs.declared.code.Value as v
 use Rattle.wy_types.specs.declared.code.Stmt as s

@@ -1,4 +1,4 @@
-use Rattle.std.proofs.Common.{◌≡◌, ◌≤◌, length, drop}
+use Rattle.std.proofs.Common.{◌≤◌, length, drop}
 use Rattle.std.specs.Prelude.{◌↔◌}
 use Rattle.wy_effects.specs.Members.{Within}
 use Rattle.wy_effects.proofs.merging.covers.Given as goal

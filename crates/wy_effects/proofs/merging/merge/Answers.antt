@@ -1,4 +1,4 @@
-use Rattle.std.proofs.Common.{◌≡◌, ◌<◌, ◌≤◌, ◌+◌, ℕ, ◌++◌, List, [], length, get_or, drop, inl, inr, ◌⊎◌, refl, sym, ap, ◌∙◌, subst, arith, rules}
+use Rattle.std.proofs.Common.{◌≡◌, ◌≤◌, ◌+◌, ℕ, ◌++◌, length, get_or, drop, inl, inr, ◌⊎◌, sym, subst, arith}
 use Rattle.wy_effects.specs.EffSet.{union}
 use Rattle.wy_effects.proofs.Walks.{given, union-drop-less, union-drop-greater, union-drop-same, merge_ended}
 use Rattle.wy_effects.proofs.merging.merge.Goals as goal

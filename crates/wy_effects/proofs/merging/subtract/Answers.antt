@@ -1,4 +1,4 @@
-use Rattle.std.proofs.Common.{◌≡◌, ◌<◌, ◌≤◌, ◌+◌, ℕ, ◌++◌, List, [], length, get_or, drop, inl, inr, ◌⊎◌, refl, sym, ap, ◌∙◌, subst, arith, rules, Vec, Global}
+use Rattle.std.proofs.Common.{◌≡◌, ◌<◌, ◌≤◌, ◌+◌, ℕ, ◌++◌, List, length, get_or, drop, inl, inr, ◌⊎◌, sym, ap, ◌∙◌, subst, arith, Vec, Global}
 use Rattle.wy_effects.specs.EffSet.{without}
 use Rattle.wy_effects.proofs.Walks.{given, without-drop-less, without-drop-greater, without-drop-same, subtract_ended}
 use Rattle.wy_effects.proofs.merging.subtract.Goals as goal

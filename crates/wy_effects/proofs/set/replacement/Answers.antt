@@ -1,6 +1,5 @@
-use Rattle.std.proofs.Common.{◌≡◌, ◌-◌, ◌<◌, ℕ, List, [], length, get_or, sym, ap, ◌∙◌, subst, arith, rules}
-use Rattle.std.proofs.lemmas.List.{get_or_read}
-use Rattle.wy_effects.specs.EffSet.{IsSet, union}
+use Rattle.std.proofs.Common.{◌≡◌, ℕ, List, sym, ◌∙◌, subst, arith}
+use Rattle.wy_effects.specs.EffSet.{IsSet}
 use Rattle.wy_effects.proofs.SetLaws.{IsSetFrom-union}
 use Rattle.wy_effects.proofs.Walks.{replace_turn}
 use Rattle.wy_effects.proofs.set.replacement.Goals as goal

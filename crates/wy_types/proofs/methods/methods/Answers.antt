@@ -1,6 +1,5 @@
-use Rattle.std.proofs.Common.{◌≡◌, List, map, Vec, Global, false, sym, ap, ◌∙◌, subst}
+use Rattle.std.proofs.Common.{◌≡◌, List, map, false, sym, ap, ◌∙◌, subst}
 use Rattle.std.specs.Prelude.{IfOk, slice_get}
-use Rattle.wy_types.specs.declared.types.Method.{Method}
 use Rattle.wy_types.specs.declared.types.TypeRef.{TypeRef}
 use Rattle.wy_types.specs.Program.{program_of}
 use Rattle.wy_types.specs.Signature.{Signature}

@@ -1,8 +1,6 @@
-use Rattle.std.proofs.Common.{◌≡◌, ℕ, ◌+◌, List, [], ◌∷◌, ◌++◌, map, length, drop, Vec, Global, refl, sym, ap, ◌∙◌, subst, arith, rules}
+use Rattle.std.proofs.Common.{◌≡◌, ◌+◌, [], ◌∷◌, ◌++◌, map, drop, Vec, Global, sym, ap, ◌∙◌, subst}
 use Rattle.wy_types.specs.declared.types.Method.{Method}
-use Rattle.wy_types.specs.declared.types.TypeRef.{TypeRef}
 use Rattle.wy_types.specs.Program.{body_of}
-use Rattle.wy_types.specs.Signature.{Signature}
 use Rattle.wy_types.specs.Types.{signature, methods_of_owner}
 use Rattle.wy_types.proofs.Owning.{methods_of_owner-this, methods_of_owner-other, map-push, given}
 use Rattle.wy_types.proofs.methods.owned.Goals as goal

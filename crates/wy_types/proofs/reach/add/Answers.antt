@@ -1,6 +1,5 @@
-use Rattle.std.proofs.Common.{◌≡◌, arith, rules, refl, ap, ◌∷◌, [], ◌++◌, ◌∙◌, List}
+use Rattle.std.proofs.Common.{arith, rules, refl, ap, ◌∷◌, [], ◌++◌, ◌∙◌}
 use Rattle.wy_types.specs.declared.types.TypeRef.{TypeRef}
-use Rattle.wy_types.specs.Types.{IsObject}
 use Rattle.wy_types.proofs.Gathered.{gathered_new, crowd_new}
 use Rattle.wy_types.proofs.reach.add.Goals as goal
 

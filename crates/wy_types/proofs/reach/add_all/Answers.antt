@@ -1,8 +1,7 @@
-use Rattle.std.proofs.Common.{◌≡◌, ◌∷◌, [], ◌++◌, take, arith, rules, refl, sym, ap, ◌∙◌, subst, Err}
+use Rattle.std.proofs.Common.{◌≡◌, ◌∷◌, [], take, rules, sym, subst, Err}
 use Rattle.std.specs.Prelude.{Result}
-use Rattle.wy_types.specs.declared.types.TypeRef.{TypeRef}
 use Rattle.wy_types.specs.declared.reach.ReachRefusal.{ReachRefusal}
-use Rattle.wy_types.specs.Gathering.{Gathers, IsGathered}
+use Rattle.wy_types.specs.Gathering.{Gathers}
 use Rattle.wy_types.proofs.Gathered.{gathered_turn, gathers_refused, take_and_next}
 use Rattle.wy_types.proofs.reach.add_all.Goals as goal
 

@@ -1,4 +1,4 @@
-use Rattle.std.proofs.Common.{◌≡◌, ◌<◌, ◌^◌, List, [], map, length, Option, Some, None, Err, sym, ap, ◌∙◌, subst, arith, rules, zero-le}
+use Rattle.std.proofs.Common.{◌≡◌, List, [], map, Option, Some, None, Err, sym, ap, ◌∙◌, subst, arith, rules}
 use Rattle.std.specs.Prelude.{slice_get, Result}
 use Rattle.std.specs.Option.{option_map}
 use Rattle.std.proofs.lemmas.Option.{slice_get-map}

@@ -1,6 +1,5 @@
-use Rattle.std.proofs.Common.{◌≡◌, List, arith, rules, refl, sym, ◌∙◌, subst}
-use Rattle.wy_effects.specs.Members.{In}
-use Rattle.wy_effects.proofs.Lists.{In-read, each_more, each_all}
+use Rattle.std.proofs.Common.{◌≡◌, rules, sym, ◌∙◌, subst}
+use Rattle.wy_effects.proofs.Lists.{In-read, each_more}
 use Rattle.wy_types.specs.declared.types.TypeRef.{TypeRef}
 use Rattle.wy_types.proofs.reach.has.Goals as goal
 

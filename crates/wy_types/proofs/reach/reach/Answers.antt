@@ -1,11 +1,11 @@
-use Rattle.std.proofs.Common.{◌≡◌, ◌<◌, ℕ, List, [], map, length, get_or, Ok, Err, sym, ap, ◌∙◌, subst, arith, rules}
-use Rattle.std.specs.Prelude.{slice_get, Result}
+use Rattle.std.proofs.Common.{◌≡◌, ◌<◌, List, map, length, get_or, Err, sym, ap, ◌∙◌, subst, arith, rules}
+use Rattle.std.specs.Prelude.{Result}
 use Rattle.wy_types.specs.declared.types.TypeRef.{TypeRef}
 use Rattle.wy_types.specs.declared.reach.ReachRefusal.{ReachRefusal}
 use Rattle.wy_types.specs.Program.{program_of}
 use Rattle.wy_types.specs.Signature.{Signature, signature_types}
 use Rattle.wy_types.specs.Types.{signature, methods_of}
-use Rattle.wy_types.specs.Reached.{Reach, scope_first_types}
+use Rattle.wy_types.specs.Reached.{Reach}
 use Rattle.wy_types.specs.Gathering.{IsGathered, Gathers}
 use Rattle.wy_types.proofs.Reaching.{work_start, work_more, work_done, work_refused, start_refused}
 use Rattle.wy_types.proofs.reach.reach.Goals as goal

@@ -1,4 +1,4 @@
-use Rattle.std.proofs.Common.{◌≡◌, List, ℕ, sym, ◌∙◌, ap, subst, arith, rules}
+use Rattle.std.proofs.Common.{◌≡◌, List, ℕ, sym, subst, arith, rules}
 use Rattle.wy_effects.specs.EffSet.{IsSet, insert_atom}
 use Rattle.wy_effects.proofs.SetLaws.{IsSetFrom-insert}
 use Rattle.wy_effects.proofs.set.EffSet.insert.Goals as goal

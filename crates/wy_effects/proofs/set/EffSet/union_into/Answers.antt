@@ -1,5 +1,3 @@
-use Rattle.std.proofs.Common.{List, ℕ, sym, ◌∙◌, subst}
-use Rattle.wy_effects.specs.EffSet.{IsSet, union}
 use Rattle.wy_effects.proofs.SetLaws.{IsSetFrom-union}
 use Rattle.wy_effects.proofs.set.EffSet.union_into.Goals as goal
 
