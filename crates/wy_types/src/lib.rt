@@ -11,5 +11,7 @@ pub mod primitive;
 pub mod reach;
 pub mod reading;
 pub mod resolved;
+#[cfg(test)]
+mod tests;
 pub mod types;
 pub mod written;
