@@ -1,0 +1,7 @@
+pub mod Closure
+pub mod Listing
+pub mod Lists
+pub mod Places
+pub mod Replacing
+pub mod SetLaws
+pub mod Walks

@@ -1,0 +1,3 @@
+pub mod AtomTable
+pub mod EffSet
+pub mod Members

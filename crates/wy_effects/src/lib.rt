@@ -1,0 +1,8 @@
+//! Effects: atoms and their tables, and finite sets of atoms.
+#![tactic(auto)]
+
+pub mod atom;
+pub mod merging;
+pub mod set;
+#[cfg(test)]
+mod tests;

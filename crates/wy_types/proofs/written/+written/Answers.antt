@@ -1,0 +1,40 @@
+use Rattle.std.proofs.Common.{◌≡◌, List, ◌++◌, sym, ap, ◌∙◌, subst, append_assoc}
+use Rattle.std.specs.Prelude.{OnOk}
+use Rattle.wy_types.specs.declared.types.TypeRef.{TypeRef}
+use Rattle.wy_types.specs.View.{expr_of, value_of, values_of, block_of}
+use Rattle.wy_types.specs.Written.{expr_types, value_types, values_types, block_types}
+use Rattle.wy_types.proofs.Rows.{expr_text_call, expr_call, expr_new, value_if}
+use Rattle.wy_types.proofs.written.+written.Goals as goal
+
+pub add_expr-returns-in-TextCall : goal.add_expr-returns-in-TextCall
+add_expr-returns-in-TextCall t c =
+    let P : List TypeRef → Type 0 = λ l. OnOk c.add_values.result (c.add_values.new.out ≡ c.args.out.now ++ l) in
+    subst P (ap expr_types (sym (expr_text_call c.in-TextCall._place c.in-TextCall._operator c.in-TextCall.values) ∙ ap expr_of (sym c.in-TextCall.is))) c.add_values.ensures
+
+pub add_expr-returns-in-New : goal.add_expr-returns-in-New
+add_expr-returns-in-New t c =
+    let P : List TypeRef → Type 0 = λ l. OnOk c.add_values-in-New.result (c.add_values-in-New.new.out ≡ c.args.out.now ++ l) in
+    subst P (ap expr_types (sym (expr_new c.in-New._place c.in-New._literal c.in-New.values) ∙ ap expr_of (sym c.in-New.is))) c.add_values-in-New.ensures
+
+pub add_expr-returns-in_ok-add_expr-in-Call : goal.add_expr-returns-in_ok-add_expr-in-Call
+add_expr-returns-in_ok-add_expr-in-Call t c =
+    let P : List TypeRef → Type 0 = λ l. OnOk c.add_values-in-Call.result (c.add_values-in-Call.new.out ≡ l) in
+    let rest : List TypeRef = values_types (values_of c.in-Call.values.items) in
+    subst P
+    (ap (λ l. l ++ rest) (c.in_ok-add_expr-in-Call.ensures ∙ ap (λ x. c.args.out.now ++ expr_types (expr_of x)) c.deref-in-Call.ensures) ∙
+    append_assoc c.args.out.now (expr_types (expr_of c.in-Call.receiver.value)) rest ∙
+    ap (λ x. c.args.out.now ++ expr_types x) (sym (expr_call c.in-Call._place c.in-Call.receiver c.in-Call._method c.in-Call.values) ∙ ap expr_of (sym c.in-Call.is)))
+    c.add_values-in-Call.ensures
+
+pub add_value-returns-in_ok-add_block-in-If : goal.add_value-returns-in_ok-add_block-in-If
+add_value-returns-in_ok-add_block-in-If t c =
+    let P : List TypeRef → Type 0 = λ l. OnOk c.add_block-in-If.result (c.add_block-in-If.new.out ≡ l) in
+    let test : List TypeRef = expr_types (expr_of c.in-If.test.value) in
+    let first : List TypeRef = block_types (block_of c.in-If.first) in
+    let second : List TypeRef = block_types (block_of c.in-If.second) in
+    subst P
+    (ap (λ l. l ++ second)
+    (c.in_ok-add_block-in-If.ensures ∙ ap (λ l. l ++ first) (c.in_ok-add_expr-in-If.ensures ∙ ap (λ x. c.args.out.now ++ expr_types (expr_of x)) c.deref.ensures)) ∙
+    append_assoc (c.args.out.now ++ test) first second ∙ append_assoc c.args.out.now test (first ++ second) ∙
+    ap (λ x. c.args.out.now ++ value_types x) (sym (value_if c.in-If._place c.in-If.test c.in-If.first c.in-If.second) ∙ ap value_of (sym c.in-If.is)))
+    c.add_block-in-If.ensures

@@ -1,0 +1,14 @@
+pub mod Code
+pub mod Core
+pub mod Few
+pub mod Fitting
+pub mod Gathering
+pub mod Paths
+pub mod Primitive
+pub mod Program
+pub mod Reached
+pub mod Signature
+pub mod Subtyping
+pub mod Types
+pub mod View
+pub mod Written

@@ -1,0 +1,17 @@
+//! Programs with resolved names: their types and the methods of types, and the numbers that
+//! everything in a program goes by.
+#![tactic(auto)]
+
+pub mod code;
+pub mod laws;
+pub mod linked;
+pub mod methods;
+pub mod path;
+pub mod primitive;
+pub mod reach;
+pub mod reading;
+pub mod resolved;
+#[cfg(test)]
+mod tests;
+pub mod types;
+pub mod written;

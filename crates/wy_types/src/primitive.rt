@@ -1,0 +1,131 @@
+//! The primitive types, which stand before the declared ones.
+
+ghost use Rattle.std.specs.Prelude.{◌≡◌, ◌<◌, ◌++◌, ◌∷◌, [], replicate, OnOk, IfOk};
+ghost use Rattle.wy_types.specs.Primitive.{primitive_method, console, folder, clock, random, primitive_types};
+
+use crate::resolved::TypeDecl;
+use crate::types::{Method, TypeList, TypeRef};
+use std::alloc::Global;
+use wy_effects::atom::Atom;
+use wy_effects::set::EffSet;
+use wy_text::list::Items;
+use wy_text::text::{Memory, Text, from_bytes};
+
+fn texts(alloc: Global, number: usize) -> Result<TypeList, Memory>
+    ensures { IfOk result (λ ts. ts ≡ replicate number TypeRef.Text) }
+{
+    let mut params = Items::new(alloc);
+    for _n in 0..number {
+        params.push(TypeRef::Text)?;
+    }
+    Ok(params)
+}
+
+/// Adds a method with a number of texts as parameters and the effect of one member.
+fn add_method(
+    alloc: Global,
+    methods: &mut Items<Method>,
+    name: &str,
+    params: usize,
+    member: u16,
+    result_type: TypeRef,
+) -> Result<(), Memory>
+    requires { member < 512 }
+    ensures { OnOk result (methods.new ≡ methods.old ++ primitive_method name.now params member result_type ∷ []) }
+{
+    let mut effect = EffSet::empty(alloc);
+    effect.insert(Atom(member))?;
+    methods.push(Method {
+        name: from_bytes(alloc, name.as_bytes())?,
+        params: texts(alloc, params)?,
+        effect,
+        result: result_type,
+    })
+}
+
+fn add_member(alloc: Global, members: &mut Items<Text>, name: &str) -> Result<(), Memory>
+    ensures { OnOk result (members.new ≡ members.old ++ name.now ∷ []) }
+{
+    members.push(from_bytes(alloc, name.as_bytes())?)
+}
+
+fn make_console(alloc: Global) -> Result<TypeDecl, Memory>
+    ensures { IfOk result (λ d. d ≡ console) }
+{
+    let mut members = Items::new(alloc);
+    add_member(alloc, &mut members, "In")?;
+    add_member(alloc, &mut members, "Out")?;
+    let mut methods = Items::new(alloc);
+    add_method(alloc, &mut methods, "read", 0, 0, TypeRef::Text)?;
+    add_method(alloc, &mut methods, "write", 1, 1, TypeRef::Unit)?;
+    Ok(TypeDecl {
+        name: from_bytes(alloc, b"Console")?,
+        members,
+        defined: Items::new(alloc),
+        methods,
+    })
+}
+
+fn make_folder(alloc: Global) -> Result<TypeDecl, Memory>
+    ensures { IfOk result (λ d. d ≡ folder) }
+{
+    let mut members = Items::new(alloc);
+    add_member(alloc, &mut members, "Read")?;
+    add_member(alloc, &mut members, "Write")?;
+    add_member(alloc, &mut members, "Append")?;
+    add_member(alloc, &mut members, "List")?;
+    let mut methods = Items::new(alloc);
+    add_method(alloc, &mut methods, "read", 1, 0, TypeRef::Text)?;
+    add_method(alloc, &mut methods, "has", 1, 0, TypeRef::Bool)?;
+    add_method(alloc, &mut methods, "write", 2, 1, TypeRef::Unit)?;
+    add_method(alloc, &mut methods, "append", 2, 2, TypeRef::Unit)?;
+    add_method(alloc, &mut methods, "names", 0, 3, TypeRef::Text)?;
+    Ok(TypeDecl {
+        name: from_bytes(alloc, b"Folder")?,
+        members,
+        defined: Items::new(alloc),
+        methods,
+    })
+}
+
+fn make_clock(alloc: Global) -> Result<TypeDecl, Memory>
+    ensures { IfOk result (λ d. d ≡ clock) }
+{
+    let mut members = Items::new(alloc);
+    add_member(alloc, &mut members, "Tick")?;
+    let mut methods = Items::new(alloc);
+    add_method(alloc, &mut methods, "now", 0, 0, TypeRef::Int)?;
+    Ok(TypeDecl {
+        name: from_bytes(alloc, b"Clock")?,
+        members,
+        defined: Items::new(alloc),
+        methods,
+    })
+}
+
+fn make_random(alloc: Global) -> Result<TypeDecl, Memory>
+    ensures { IfOk result (λ d. d ≡ random) }
+{
+    let mut members = Items::new(alloc);
+    add_member(alloc, &mut members, "Draw")?;
+    let mut methods = Items::new(alloc);
+    add_method(alloc, &mut methods, "word", 0, 0, TypeRef::Int)?;
+    Ok(TypeDecl {
+        name: from_bytes(alloc, b"Random")?,
+        members,
+        defined: Items::new(alloc),
+        methods,
+    })
+}
+
+/// The primitive types in the order of their numbers (docs/LANGUAGE.md, "Effects and types").
+pub fn primitives(alloc: Global) -> Result<Items<TypeDecl>, Memory>
+    ensures { IfOk result (λ ds. ds ≡ primitive_types) }
+{
+    let mut out = Items::new(alloc);
+    out.push(make_console(alloc)?)?;
+    out.push(make_folder(alloc)?)?;
+    out.push(make_clock(alloc)?)?;
+    out.push(make_random(alloc)?)?;
+    Ok(out)
+}
