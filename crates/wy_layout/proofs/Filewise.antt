@@ -1,12 +1,12 @@
 -- Reading all lines of a file gives [Layout]'s tokens exactly where there are any, and else the first fault.
-use Rattle.std.proofs.Common.{◌≡◌, ℕ, zero, suc, ◌+◌, ◌-◌, ◌<◌, ◌≤◌, ◌==◌, nat_lt, Bool, true, false, cond, List, [], ◌∷◌, ◌++◌, length, take, take_all, refl, sym, ap, subst, ◌∙◌, arith, ◌⊎◌, inl, inr, ltb-true, ltb-false, IsUtf8}
+use Rattle.std.proofs.Common.{◌≡◌, ℕ, ◌+◌, ◌<◌, ◌≤◌, ◌==◌, nat_lt, Bool, true, false, cond, List, [], ◌∷◌, length, take, take_all, refl, sym, ap, subst, ◌∙◌, arith, inl, inr, ltb-true, ltb-false, IsUtf8}
 use Rattle.std.proofs.lemmas.Str.{utf8_valid_len-IsUtf8}
 use Rattle.std.specs.Str.Lossy.{utf8_valid_len}
 use Rattle.wy_text.specs.declared.token.Token.{Token}
-use Rattle.wy_layout.specs.Counts.{most_tokens, most_file_bytes}
+use Rattle.wy_layout.specs.Counts.{most_tokens}
 use Rattle.wy_layout.specs.Widths.{opens}
 use Rattle.wy_layout.specs.Lines.{Line, lines, first_row}
-use Rattle.wy_layout.specs.Layout.{LineTokens, LineFault, widths, closing, Lays, FileFault, rank, Before, valid_text, TextFault, FaultAt, IsLeast, Lexes}
+use Rattle.wy_layout.specs.Layout.{LineTokens, widths, closing, Lays, FileFault, rank, Before, valid_text, TextFault, FaultAt, IsLeast, Lexes}
 use Rattle.wy_layout.specs.Lexed.{LineOut, laid, broken, line_out, Lexed, tokens, refused, join, by_out, end_of, lex_lines, lex_text, or_utf8, lex_bytes}
 use Rattle.wy_layout.specs.declared.row.Row.{Row}
 use Rattle.wy_layout.specs.declared.refusal.Fault.{Fault}
