@@ -20,3 +20,4 @@ pub mod Placing
 pub mod Apart
 pub mod Examples
 pub mod Quoting
+pub mod NameCharacters

@@ -15,3 +15,4 @@ pub mod Outs
 pub mod Cut
 pub mod Laws
 pub mod Printed
+pub mod Characters
