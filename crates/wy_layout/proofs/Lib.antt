@@ -21,3 +21,4 @@ pub mod Apart
 pub mod Examples
 pub mod Quoting
 pub mod NameCharacters
+pub mod SpanOrder

@@ -311,7 +311,7 @@ later_ends row at e (b ∷ bs) h = go (b == 10) (later_ends row (suc at) e bs (o
     go true k q = let c = content_within bs in (omega arith, omega arith, q)
     go false k q = k
 
-lines_end : (row : Row) (e : ℕ) (bs : List ℕ) → row.start + length bs ≤ e → EndsBy e (lines row bs)
+pub lines_end : (row : Row) (e : ℕ) (bs : List ℕ) → row.start + length bs ≤ e → EndsBy e (lines row bs)
 lines_end row e bs h = let c = content_within bs in (omega arith, omega arith, later_ends row row.start e bs h)
 
 fault_end : (e n : ℕ) (ws : List ℕ) (ls : List Line) (f : Fault) (o : ℕ) → EndsBy e ls → FileFault e n ws ls f o → o ≤ e

@@ -16,3 +16,4 @@ pub mod Cut
 pub mod Laws
 pub mod Printed
 pub mod Characters
+pub mod Spans

@@ -2,6 +2,7 @@
 
 ghost use Rattle.wy_layout.specs.Printed.{PrintedWords, QuotedTexts, SpelledKinds};
 ghost use Rattle.wy_layout.specs.Characters.{NamesByCharacters};
+ghost use Rattle.wy_layout.specs.Spans.{SpansInOrder};
 ghost use Rattle.wy_layout.specs.Laws.{Decided, NothingWrong, OneFault, OneList, OpenByLines, PlacesOfOffsets, StepByLines};
 
 /// A file has at most one list of tokens.
@@ -57,4 +58,9 @@ pub fn spelled_kinds()
 /// Bytes that are text are a name exactly where their first character begins one and the others go on in it.
 pub fn names_by_characters()
     ensures { NamesByCharacters }
+{}
+
+/// The spans of a file's tokens stand in order, within its bytes.
+pub fn spans_in_order()
+    ensures { SpansInOrder }
 {}
