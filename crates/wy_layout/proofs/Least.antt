@@ -1,4 +1,4 @@
--- Reading the lines gives [Layout]'s tokens, or the fault with the least place.
+-- Reading the lines gives the layout's tokens, or the fault with the least place.
 use Rattle.std.proofs.Common.{◌≡◌, ℕ, suc, ◌+◌, ◌<◌, ◌≤◌, ◌==◌, Bool, true, false, cond, ◌&&◌, List, [], ◌∷◌, ◌++◌, length, refl, sym, ap, subst, ◌∙◌, arith, ◌⊎◌, inl, inr, nat_lt, ltb-true, ltb-false}
 use Rattle.wy_text.specs.declared.token.Token.{Token}
 use Rattle.wy_text.specs.declared.token.TokenKind.TheVariants as kind

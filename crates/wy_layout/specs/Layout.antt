@@ -1,4 +1,4 @@
--- [Layout]: the tokens of a file's lines, and what can be wrong in them.
+-- Layout: the tokens of a file's lines, and what can be wrong in them.
 use Rattle.std.specs.Prelude.{◌≡◌, ℕ, ◌+◌, ◌-◌, ◌<◌, ◌≤◌, nat_lt, Bool, true, false, cond, List, [], ◌∷◌, ◌++◌, length, replicate, take, ◌⊎◌}
 use Rattle.std.specs.Str.Lossy.{utf8_valid_len}
 use Rattle.wy_text.specs.declared.fault.Place.{Place}
