@@ -1,24 +1,22 @@
 -- A word that is printed is read as itself, where nothing behind it goes on with it.
-use Rattle.std.proofs.Common.{◌≡◌, ℕ, zero, suc, ◌+◌, ◌*◌, ◌-◌, ◌/◌, ◌%◌, ◌<◌, ◌≤◌, ◌==◌, nat_lt, nat_le, Bool, true, false, not, cond, ◌&&◌, ◌||◌, List, [], ◌∷◌, ◌++◌, length, take, drop, map, Option, Some, None, refl, sym, ap, subst, ◌∙◌, arith, append_assoc, inl, inr}
-use Rattle.std.specs.List.{AllByRecursion}
-use Rattle.std.specs.Char.{is_ascii_digit, is_ascii_alphanumeric, is_ascii_hexdigit}
+use Rattle.std.proofs.Common.{◌≡◌, ℕ, ◌<◌, ◌==◌, Bool, true, false, cond, ◌||◌, List, [], ◌∷◌, ◌++◌, length, take, drop, refl, sym, ap, subst, ◌∙◌, arith, append_assoc, inl, inr}
+use Rattle.std.specs.Char.{is_ascii_digit, is_ascii_alphanumeric}
 use Rattle.std.specs.Str.{continuation_len}
 use Rattle.unicode_ident.specs.Ident.{is_xid_continue}
 use Rattle.unicode_ident.proofs.IdentLemmas.{is_xid_continue-ascii}
-use Rattle.wy_text.specs.Quoted.{hexadecimal_digit_of, is_printed, quoted_byte, quoted_bytes, quoted_form}
 use Rattle.wy_text.specs.declared.token.TokenKind.{TokenKind}
 use Rattle.wy_text.specs.declared.token.TokenKind.TheVariants as kind
 use Rattle.wy_text.specs.Spelling.{spelling_of}
 use Rattle.wy_layout.specs.Names.{is_name, starts, go_on, head_char}
-use Rattle.wy_layout.specs.Texts.{Piece, plain, short, hex, IsText, Good, good, spell, spelling, byte_of, hex_value, is_control}
-use Rattle.wy_layout.specs.Words.{Word, name, number, text, fixed, IsWord, IsLongest, Within, fits, passes, over, most_name_bytes, is_number, all_digits, value_from, edge, among, lookup, or_else, reserved, symbols, kind_of}
+use Rattle.wy_layout.specs.Texts.{IsText, spell}
+use Rattle.wy_layout.specs.Words.{Word, name, number, text, fixed, IsWord, Within, fits, over, is_number, all_digits, value_from, among, reserved, symbols, kind_of}
 use Rattle.wy_layout.specs.Faults.{IsWithin}
-use Rattle.wy_layout.specs.Read.{Scan, scan, text_read, Read, yes, bad, longest_at, limited, by_limit, word_at, name_word, name_len, first_len, digits_len, symbol_read}
+use Rattle.wy_layout.specs.Read.{scan, text_read, yes, bad, longest_at, limited, by_limit, word_at, name_word, name_len, first_len, digits_len, symbol_read}
 use Rattle.wy_layout.specs.Printed.{Ends, Apart}
 use Rattle.wy_layout.specs.declared.escape.State.TheVariants as state
 use Rattle.wy_layout.specs.declared.refusal.Fault.TheVariants as fault
 use Rattle.wy_layout.proofs.Scanning.{and_left, and_right, scan_closed}
-use Rattle.wy_layout.proofs.NameRuns.{both, name_reach, starts_same, head_ascii}
+use Rattle.wy_layout.proofs.NameRuns.{name_reach, starts_same, head_ascii}
 use Rattle.wy_layout.proofs.LongestWord.{at_name, at_digit, at_symbol, no_quote_starts, no_digit_starts, digit_no_quote, digits_reach, symbols_like, other_is, among_holds, reserved_name}
 use Rattle.wy_layout.proofs.WordRead.{WordIs, word_is}
 

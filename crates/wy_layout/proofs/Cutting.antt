@@ -1,5 +1,5 @@
 -- Cutting a line off.
-use Rattle.std.proofs.Common.{◌≡◌, ℕ, zero, suc, ◌+◌, ◌-◌, ◌<◌, ◌≤◌, ◌==◌, Bool, true, false, cond, List, [], ◌∷◌, length, drop, take, refl, sym, ap, ◌∙◌, arith}
+use Rattle.std.proofs.Common.{◌≡◌, ℕ, suc, ◌+◌, ◌<◌, ◌≤◌, ◌==◌, Bool, true, false, cond, List, [], ◌∷◌, length, drop, take, refl, ap, ◌∙◌, arith}
 use Rattle.wy_layout.specs.Lines.{Line, later_lines, line_at, next_row, content_of, ends_line}
 use Rattle.wy_layout.specs.declared.row.Row.{Row}
 use Rattle.wy_layout.specs.Cut.{line_len}

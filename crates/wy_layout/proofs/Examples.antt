@@ -1,11 +1,11 @@
 -- The definition's plain program, computed on small files.
-use Rattle.std.proofs.Common.{◌≡◌, ℕ, pos, List, [], ◌∷◌, refl, codes}
+use Rattle.std.proofs.Common.{◌≡◌, ℕ, pos, [], ◌∷◌, refl, codes}
 use Rattle.wy_text.specs.declared.token.Token.{Token}
 use Rattle.wy_text.specs.declared.token.TokenKind.{TokenKind}
 use Rattle.wy_text.specs.declared.token.TokenKind.TheVariants as kind
 use Rattle.wy_layout.specs.Lines.{place_at}
 use Rattle.wy_layout.specs.Read.{word_at, next_at}
-use Rattle.wy_layout.specs.Lexed.{Lexed, tokens, refused, words_of, line_out, lex_text}
+use Rattle.wy_layout.specs.Lexed.{tokens, refused, words_of, line_out, lex_text}
 use Rattle.wy_layout.specs.declared.refusal.Fault.TheVariants as fault
 
 at : TokenKind → ℕ → ℕ → ℕ → ℕ → Token

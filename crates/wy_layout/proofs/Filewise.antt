@@ -1,12 +1,12 @@
--- Reading all lines of a file gives [Layout]'s tokens exactly where there are any, and else the first fault.
-use Rattle.std.proofs.Common.{◌≡◌, ℕ, zero, suc, ◌+◌, ◌-◌, ◌<◌, ◌≤◌, ◌==◌, nat_lt, Bool, true, false, cond, List, [], ◌∷◌, ◌++◌, length, take, take_all, refl, sym, ap, subst, ◌∙◌, arith, ◌⊎◌, inl, inr, ltb-true, ltb-false, IsUtf8}
+-- Reading all lines of a file gives the layout's tokens exactly where there are any, and else the first fault.
+use Rattle.std.proofs.Common.{◌≡◌, ℕ, ◌+◌, ◌<◌, ◌≤◌, ◌==◌, nat_lt, Bool, true, false, cond, List, [], ◌∷◌, length, take, take_all, refl, sym, ap, subst, ◌∙◌, arith, inl, inr, ltb-true, ltb-false, IsUtf8}
 use Rattle.std.proofs.lemmas.Str.{utf8_valid_len-IsUtf8}
 use Rattle.std.specs.Str.Lossy.{utf8_valid_len}
 use Rattle.wy_text.specs.declared.token.Token.{Token}
-use Rattle.wy_layout.specs.Counts.{most_tokens, most_file_bytes}
+use Rattle.wy_layout.specs.Counts.{most_tokens}
 use Rattle.wy_layout.specs.Widths.{opens}
 use Rattle.wy_layout.specs.Lines.{Line, lines, first_row}
-use Rattle.wy_layout.specs.Layout.{LineTokens, LineFault, widths, closing, Lays, FileFault, rank, Before, valid_text, TextFault, FaultAt, IsLeast, Lexes}
+use Rattle.wy_layout.specs.Layout.{LineTokens, widths, closing, Lays, FileFault, rank, Before, valid_text, TextFault, FaultAt, IsLeast, Lexes}
 use Rattle.wy_layout.specs.Lexed.{LineOut, laid, broken, line_out, Lexed, tokens, refused, join, by_out, end_of, lex_lines, lex_text, or_utf8, lex_bytes}
 use Rattle.wy_layout.specs.declared.row.Row.{Row}
 use Rattle.wy_layout.specs.declared.refusal.Fault.{Fault}
@@ -58,7 +58,7 @@ lexed_is row e n ws (l ∷ ls) = go (line_out n (opens ws) l) (line_is n ws l) (
     go (broken f o) h ih = first_least e n ws l ls f o h
     go (laid us st) (t, s) ih = joined us t (lex_lines l.row e (n + length us) st ls) (subst (λ (z : List ℕ). LexedIs l.row e (n + length us) (widths ws l) ls (lex_lines l.row e (n + length us) z ls)) (sym s) (ih us))
 
--- ---- and back: what [Layout] lays is read
+-- ---- and back: what the layout lays is read
 
 pub laid_read : (row : Row) (e n : ℕ) (ws : List ℕ) (ls : List Line) (ts : List Token) → Lays row e n ws ls ts → lex_lines row e n (opens ws) ls ≡ tokens ts
 laid_read row e n ws [] ts h = let k : nat_lt most_tokens (n + length (opens ws)) ≡ false = not_less _ _ h.0 in ap (λ (b : Bool). cond b (refused fault.Tokens e) (tokens (closing row e (opens ws)))) k ∙ ap tokens (sym h.1)
@@ -70,7 +70,7 @@ laid_read row e n ws (l ∷ ls) ts (us, more, t, p, h) =
     ∙ ap (join us) (laid_read l.row e (n + length us) (widths ws l) ls more h)
     ∙ ap tokens (sym p)
 
--- where [Layout] lays tokens, nothing is wrong
+-- where the layout lays tokens, nothing is wrong
 pub laid_none : (row : Row) (e n : ℕ) (ws : List ℕ) (ls : List Line) (ts : List Token) → Lays row e n ws ls ts → (f : Fault) (o : ℕ) → FileFault e n ws ls f o → ⊥
 laid_none row e n ws [] ts h f o g = let a = h.0 in let b = g.0 in absurd (omega arith)
 laid_none row e n ws (l ∷ ls) ts (us, more, t, p, h) f o (inl g) = tokens_none n ws l us t f o g
@@ -131,7 +131,7 @@ lex_is file bs = go (nat_lt (utf8_valid_len bs) (length bs)) refl
 not_less : (a b : ℕ) → b ≤ a → nat_lt a b ≡ false
 not_less a b h = grind arith
 
--- what [Layout] relates to the file is what is given
+-- what the layout relates to the file is what is given
 pub lexes_read : (file : ℕ) (bs : List ℕ) (ts : List Token) → Lexes file bs ts → lex_bytes file bs ≡ tokens ts
 lexes_read file bs ts h =
     ap (λ (b : Bool). cond b (or_utf8 (utf8_valid_len bs) (lex_text file (valid_text bs))) (lex_text file bs)) (not_less (utf8_valid_len bs) (length bs) h.is_text)

@@ -1,18 +1,16 @@
--- Reading the lines gives [Layout]'s tokens, or the fault with the least place.
-use Rattle.std.proofs.Common.{◌≡◌, ℕ, zero, suc, ◌+◌, ◌-◌, ◌<◌, ◌≤◌, ◌==◌, Bool, true, false, cond, ◌&&◌, List, [], ◌∷◌, ◌++◌, length, refl, sym, ap, subst, ◌∙◌, arith, ◌⊎◌, inl, inr, nat_lt, ltb-true, ltb-false}
+-- Reading the lines gives the layout's tokens, or the fault with the least place.
+use Rattle.std.proofs.Common.{◌≡◌, ℕ, suc, ◌+◌, ◌<◌, ◌≤◌, ◌==◌, Bool, true, false, cond, ◌&&◌, List, [], ◌∷◌, ◌++◌, length, refl, sym, ap, subst, ◌∙◌, arith, ◌⊎◌, inl, inr, nat_lt, ltb-true, ltb-false}
 use Rattle.wy_text.specs.declared.token.Token.{Token}
 use Rattle.wy_text.specs.declared.token.TokenKind.TheVariants as kind
-use Rattle.wy_layout.specs.Words.{Word, Within, fits, passes}
-use Rattle.wy_layout.specs.Counts.{counted_from, most_tokens, most_indents}
-use Rattle.wy_layout.specs.declared.count.Count.{Count}
-use Rattle.wy_layout.specs.Widths.{Step, deeper, back, wrong, step_of, opens}
+use Rattle.wy_layout.specs.Words.{Within, fits, passes}
+use Rattle.wy_layout.specs.Counts.{most_tokens}
+use Rattle.wy_layout.specs.Widths.{Step, deeper, back, wrong, opens}
 use Rattle.wy_layout.specs.Lines.{Line, width, after_spaces, is_done, has_tab}
-use Rattle.wy_layout.specs.Layout.{step, wrong_step, mark, marks, mark_count, off, begin, finish, Words, WrongIn, count_in, opening, HasTokens, HasTokensOr, LineTokens, IsFull, IsTab, IsOpening, IsInWords, IsAtEnd, LineFault, widths, closing, Lays, FileFault, rank, Before}
-use Rattle.wy_layout.specs.Lexed.{Found, good, bad_at, words_of, stack_after, LineOut, laid, broken, with_end, sooner, line_words, by_opening, by_step, line_out, Lexed, tokens, refused, join, by_out, end_of, lex_lines}
-use Rattle.wy_layout.specs.declared.row.Row.{Row}
+use Rattle.wy_layout.specs.Layout.{step, mark, marks, mark_count, begin, finish, Words, count_in, opening, HasTokens, HasTokensOr, LineTokens, IsFull, IsTab, IsOpening, IsInWords, IsAtEnd, LineFault, widths, rank, Before}
+use Rattle.wy_layout.specs.Lexed.{Found, good, bad_at, words_of, stack_after, LineOut, laid, broken, with_end, sooner, line_words, by_opening, by_step, line_out}
 use Rattle.wy_layout.specs.declared.refusal.Fault.{Fault}
 use Rattle.wy_layout.specs.declared.refusal.Fault.TheVariants as fault
-use Rattle.wy_layout.proofs.Scanning.{eq_is, and_left, and_right}
+use Rattle.wy_layout.proofs.Scanning.{eq_is}
 use Rattle.wy_layout.proofs.OpenWidths.{IsClosed, stack_is}
 use Rattle.wy_layout.proofs.LineWords.{FoundIs, words_are, words_read, wrong_read, wrong_place}
 

@@ -20,3 +20,5 @@ pub mod Placing
 pub mod Apart
 pub mod Examples
 pub mod Quoting
+pub mod NameCharacters
+pub mod SpanOrder

@@ -1,7 +1,7 @@
 -- What the limits leave of each kind of word.
-use Rattle.std.proofs.Common.{◌≡◌, ℕ, zero, suc, ◌+◌, ◌-◌, ◌<◌, ◌≤◌, nat_lt, nat_le, Bool, true, false, cond, List, [], ◌∷◌, length, take, drop, refl, sym, ap, ◌∙◌, arith, length-take-le}
-use Rattle.wy_layout.specs.Words.{Word, name, fixed, reserved, symbols, among, most_name_bytes, over, Within, fits, passes}
-use Rattle.wy_layout.specs.Read.{Read, yes, bad, first_len, name_word, name_read, symbol_read, limited, by_limit, limited_name}
+use Rattle.std.proofs.Common.{◌≡◌, ℕ, ◌≤◌, nat_lt, nat_le, Bool, true, false, cond, List, length, take, drop, refl, sym, ap, ◌∙◌, arith, length-take-le}
+use Rattle.wy_layout.specs.Words.{name, fixed, reserved, symbols, among, most_name_bytes, over, Within, fits, passes}
+use Rattle.wy_layout.specs.Read.{yes, bad, first_len, name_word, name_read, symbol_read, limited, by_limit, limited_name}
 use Rattle.wy_layout.specs.declared.refusal.Fault.TheVariants as fault
 use Rattle.wy_layout.proofs.LongestWord.{among_holds}
 

@@ -1,12 +1,12 @@
 -- What the code gives for a line is the line's outcome.
-use Rattle.std.proofs.Common.{◌≡◌, ℕ, zero, suc, ◌+◌, ◌-◌, ◌<◌, ◌≤◌, nat_lt, Bool, true, false, cond, List, [], ◌∷◌, ◌++◌, length, append-nil, refl, sym, ap, subst, ◌∙◌, arith, Result, Ok, Err}
+use Rattle.std.proofs.Common.{◌≡◌, ℕ, zero, suc, ◌+◌, ◌-◌, ◌≤◌, nat_lt, Bool, true, false, cond, List, [], ◌∷◌, ◌++◌, length, append-nil, refl, sym, ap, subst, ◌∙◌, arith, Result, Ok, Err}
 use Rattle.wy_text.specs.declared.token.Token.{Token}
 use Rattle.wy_text.specs.declared.token.TokenKind.TheVariants as kind
 use Rattle.wy_layout.specs.Words.{Within, fits, passes}
 use Rattle.wy_layout.specs.Counts.{counted_from, most_tokens}
-use Rattle.wy_layout.specs.Widths.{Step, deeper, back, wrong, not_open, step_of, above, rest, is_top}
+use Rattle.wy_layout.specs.Widths.{Step, back, not_open, step_of, above, rest, is_top}
 use Rattle.wy_layout.specs.Lines.{Line, width, after_spaces, is_done, has_tab}
-use Rattle.wy_layout.specs.Layout.{mark, marks, mark_count, begin, finish, opening}
+use Rattle.wy_layout.specs.Layout.{mark, marks, mark_count, begin, opening}
 use Rattle.wy_layout.specs.Lexed.{Found, good, bad_at, words_of, stack_after, LineOut, laid, broken, with_end, sooner, line_words, by_opening, by_step, line_out}
 use Rattle.wy_layout.specs.Outs.{Added, GivesAdded, Laid, GivesOut, Halts, line_of}
 use Rattle.wy_layout.specs.declared.line.Halt.{Halt}

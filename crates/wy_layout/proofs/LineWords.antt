@@ -1,20 +1,17 @@
 -- The words of a line, or the one place where they go wrong.
-use Rattle.std.proofs.Common.{◌≡◌, ℕ, zero, suc, ◌+◌, ◌-◌, ◌<◌, ◌≤◌, ◌==◌, Bool, true, false, cond, ◌||◌, ◌&&◌, List, [], ◌∷◌, ◌++◌, length, refl, sym, ap, subst, ◌∙◌, arith, length-append, ◌⊎◌, inl, inr, nat_lt, nat_le}
+use Rattle.std.proofs.Common.{◌≡◌, ℕ, zero, suc, ◌+◌, ◌<◌, ◌≤◌, ◌==◌, Bool, true, false, cond, ◌||◌, List, [], ◌∷◌, ◌++◌, length, refl, sym, ap, subst, ◌∙◌, arith, length-append, inl, inr}
 use Rattle.wy_text.specs.declared.token.Token.{Token}
-use Rattle.wy_text.specs.declared.token.TokenKind.{TokenKind}
 use Rattle.wy_layout.specs.Texts.{spell}
-use Rattle.wy_layout.specs.Words.{Word, name, number, text, fixed, kind_of, IsWord, over, Within, passes, fits, most_name_bytes, edge, among, reserved, symbols}
+use Rattle.wy_layout.specs.Words.{Word, name, number, text, fixed, kind_of, IsWord}
 use Rattle.wy_layout.specs.Read.{Read, yes, bad, next_at}
-use Rattle.wy_layout.specs.Faults.{IsWordFault, IsWithin, PassesLimit, Fails, StopsAt, part}
-use Rattle.wy_layout.specs.Counts.{counted, passed, is_counted, most_tokens, most_marks}
+use Rattle.wy_layout.specs.Faults.{IsWordFault, IsWithin, part}
+use Rattle.wy_layout.specs.Counts.{counted}
 use Rattle.wy_layout.specs.declared.count.Count.{Count}
 use Rattle.wy_layout.specs.Lines.{after_blanks, is_done}
-use Rattle.wy_layout.specs.Layout.{token, off, IsNext, IsWrong, PassesCount, Words, WrongIn, rank}
+use Rattle.wy_layout.specs.Layout.{token, off, IsNext, IsWrong, Words, WrongIn}
 use Rattle.wy_layout.specs.Lexed.{Found, good, bad_at, onto, next, read_words}
 use Rattle.wy_layout.specs.declared.row.Row.{Row}
 use Rattle.wy_layout.specs.declared.refusal.Fault.{Fault}
-use Rattle.wy_layout.specs.declared.refusal.Fault.TheVariants as fault
-use Rattle.wy_layout.specs.declared.escape.State.{State}
 use Rattle.wy_layout.proofs.WordRead.{NextIs, next_is, next_read, wrong_next}
 
 -- a word has a character

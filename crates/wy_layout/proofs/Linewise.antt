@@ -1,9 +1,9 @@
 -- A turn of the loop over lines.
-use Rattle.std.proofs.Common.{◌≡◌, ℕ, suc, ◌+◌, ◌-◌, ◌<◌, ◌≤◌, nat_lt, Bool, true, false, cond, List, [], ◌∷◌, ◌++◌, length, length-append, drop, refl, sym, ap, subst, ◌∙◌, arith, append_assoc, Ok, Err}
+use Rattle.std.proofs.Common.{◌≡◌, ℕ, suc, ◌+◌, ◌<◌, ◌≤◌, nat_lt, Bool, true, false, cond, List, ◌++◌, length, length-append, drop, refl, sym, ap, subst, ◌∙◌, arith, append_assoc, Err}
 use Rattle.wy_text.specs.declared.token.Token.{Token}
 use Rattle.wy_layout.specs.Counts.{most_tokens}
 use Rattle.wy_layout.specs.Cut.{line_len}
-use Rattle.wy_layout.specs.Lines.{Line, lines, later_lines, line_at, next_row, content_of}
+use Rattle.wy_layout.specs.Lines.{Line, lines, later_lines, next_row, content_of}
 use Rattle.wy_layout.specs.Layout.{closing}
 use Rattle.wy_layout.specs.Lexed.{LineOut, laid, broken, line_out, Lexed, tokens, refused, join, by_out, end_of, lex_lines}
 use Rattle.wy_layout.specs.Outs.{Laid, GivesOut, GivesLines, line_of}

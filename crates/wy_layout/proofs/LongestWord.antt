@@ -1,5 +1,5 @@
 -- The word that is read at a place is the longest word there.
-use Rattle.std.proofs.Common.{◌≡◌, ℕ, zero, suc, ◌+◌, ◌*◌, ◌-◌, ◌<◌, ◌≤◌, ◌==◌, nat_lt, Bool, true, false, not, ◌&&◌, ◌||◌, cond, List, [], ◌∷◌, ◌++◌, map, length, take, drop, refl, sym, ap, subst, ◌∙◌, append_assoc, append-nil, arith, take-append-drop, length-drop, length-append, take_all, lt-ltb, Some, None, ◌⊎◌, inl, inr, ◌≢◌}
+use Rattle.std.proofs.Common.{◌≡◌, ℕ, suc, ◌+◌, ◌<◌, ◌≤◌, ◌==◌, nat_lt, Bool, true, false, not, ◌&&◌, ◌||◌, cond, List, [], ◌∷◌, ◌++◌, length, take, drop, refl, sym, ap, subst, ◌∙◌, append_assoc, append-nil, arith, take-append-drop, length-drop, length-append, take_all, lt-ltb, Some, ◌⊎◌, inl, inr, ◌≢◌}
 use Rattle.std.specs.Char.{is_ascii_alphabetic, is_ascii_alphanumeric, is_ascii_digit}
 use Rattle.unicode_ident.specs.Ident.{is_xid_continue}
 use Rattle.unicode_ident.proofs.IdentLemmas.{is_xid_continue-ascii}
@@ -8,12 +8,10 @@ use Rattle.wy_text.specs.declared.token.TokenKind.{TokenKind}
 use Rattle.wy_text.specs.Spelling.{spelling_of}
 use Rattle.wy_layout.specs.Names.{head_char, starts, go_on, is_name}
 use Rattle.wy_layout.specs.Texts.{IsText, spell}
-use Rattle.wy_layout.specs.Words.{Word, name, number, text, fixed, reserved, symbols, same, lookup, is_some, among, all_digits, is_number, value_from, IsWord, IsLongest}
+use Rattle.wy_layout.specs.Words.{Word, name, number, text, fixed, reserved, symbols, same, lookup, is_some, among, all_digits, is_number, value_from, IsWord}
 use Rattle.wy_layout.specs.Read.{Scan, closed, stuck, scan, Read, yes, bad, text_read, digits_len, number_read, name_len, first_len, name_word, name_read, symbol_read, longest_at}
-use Rattle.wy_layout.specs.Faults.{IsTextFault, Quoteless}
-use Rattle.wy_layout.specs.declared.refusal.Fault.{Fault}
+use Rattle.wy_layout.specs.Faults.{IsTextFault}
 use Rattle.wy_layout.specs.declared.refusal.Fault.TheVariants as fault
-use Rattle.wy_layout.specs.declared.escape.State.{State}
 use Rattle.wy_layout.specs.declared.escape.State.TheVariants as state
 use Rattle.wy_layout.proofs.Scanning.{and_left, and_right, not_is, eq_is, ScanIs, scan_is, scan_closed}
 use Rattle.wy_layout.proofs.NameRuns.{both, first_taken, name_reach, starts_same, starts_ascii, head_ascii}

@@ -1,5 +1,5 @@
 -- One character of a name, by the text that it begins.
-use Rattle.std.proofs.Common.{◌≡◌, ℕ, zero, suc, ◌+◌, ◌-◌, ◌<◌, ◌≤◌, Bool, true, false, cond, List, [], ◌∷◌, length, drop, refl, sym, ap, ◌∙◌, arith, slice_index, length-drop, ◌*◌, take, take_all, nat_eq, ◌==◌}
+use Rattle.std.proofs.Common.{◌≡◌, ℕ, suc, ◌+◌, ◌-◌, ◌<◌, ◌≤◌, true, false, List, [], ◌∷◌, length, drop, refl, ap, arith, slice_index, length-drop, ◌*◌, take, take_all, nat_eq}
 use Rattle.std.specs.Str.{continuation_len}
 use Rattle.unicode_ident.specs.Ident.{is_xid_continue}
 use Rattle.wy_layout.specs.Names.{head_char, starts}

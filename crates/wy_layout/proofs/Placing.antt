@@ -1,15 +1,14 @@
 -- The places of tokens are those of their offsets.
-use Rattle.std.proofs.Common.{◌≡◌, ℕ, zero, suc, ◌+◌, ◌-◌, ◌<◌, ◌≤◌, ◌==◌, Bool, true, false, cond, ◌&&◌, ◌||◌, List, [], ◌∷◌, ◌++◌, length, take, take_all, replicate, refl, sym, ap, subst, ◌∙◌, arith}
+use Rattle.std.proofs.Common.{◌≡◌, ℕ, zero, suc, ◌+◌, ◌-◌, ◌≤◌, ◌==◌, Bool, true, false, cond, List, [], ◌∷◌, ◌++◌, length, take, take_all, replicate, refl, sym, ap, subst, ◌∙◌, arith}
 use Rattle.std.specs.List.{AllByRecursion}
 use Rattle.wy_text.specs.declared.fault.Place.{Place}
 use Rattle.wy_text.specs.declared.token.Token.{Token}
-use Rattle.wy_text.specs.declared.token.TokenKind.{TokenKind}
 use Rattle.wy_text.specs.declared.token.TokenKind.TheVariants as kind
 use Rattle.wy_layout.specs.Words.{kind_of}
 use Rattle.wy_layout.specs.Counts.{counted}
 use Rattle.wy_layout.specs.Widths.{Step, deeper, back, wrong, opens}
-use Rattle.wy_layout.specs.Lines.{Line, spot, lines, later_lines, line_at, next_row, first_row, row_of, place_at, content_of, ends_line, after_spaces, after_blanks, is_done, has_tab}
-use Rattle.wy_layout.specs.Layout.{token, mark, marks, off, begin, finish, step, Words, count_in, HasTokens, HasTokensOr, LineTokens, widths, closing, Lays, Lexes}
+use Rattle.wy_layout.specs.Lines.{Line, spot, lines, later_lines, line_at, next_row, first_row, row_of, place_at, content_of, ends_line, after_spaces, after_blanks, is_done}
+use Rattle.wy_layout.specs.Layout.{mark, marks, off, begin, finish, step, Words, count_in, HasTokensOr, LineTokens, widths, Lays, Lexes}
 use Rattle.wy_layout.specs.declared.count.Count.{Count}
 use Rattle.wy_layout.specs.declared.row.Row.{Row}
 use Rattle.wy_layout.proofs.LineWords.{shrinks, blanks_within}

@@ -1,10 +1,10 @@
 -- A text in its quoted form is a text that stands for its bytes.
-use Rattle.std.proofs.Common.{◌≡◌, ℕ, zero, suc, ◌+◌, ◌*◌, ◌-◌, ◌/◌, ◌%◌, ◌<◌, ◌≤◌, ◌==◌, nat_lt, nat_le, Bool, true, false, not, cond, ◌&&◌, ◌||◌, List, [], ◌∷◌, ◌++◌, map, codes, refl, sym, ap, ◌∙◌, arith}
+use Rattle.std.proofs.Common.{◌≡◌, ℕ, ◌+◌, ◌*◌, ◌-◌, ◌/◌, ◌%◌, ◌<◌, ◌==◌, nat_lt, Bool, true, false, cond, List, [], ◌∷◌, ◌++◌, map, codes, refl, ap, ◌∙◌, arith}
 use Rattle.std.specs.List.{AllByRecursion}
 use Rattle.std.specs.Char.{is_ascii_hexdigit}
 use Rattle.wy_text.specs.Quoted.{hexadecimal_digit_of, is_printed, quoted_byte, quoted_bytes, quoted_form}
 use Rattle.wy_layout.specs.Texts.{Piece, plain, short, hex, IsText, Good, good, spell, spelling, byte_of, hex_value, is_control, is_plain}
-use Rattle.wy_layout.proofs.Scanning.{eq_is, and_left, and_right}
+use Rattle.wy_layout.proofs.Scanning.{eq_is}
 
 -- the digit of a value below 16 is one, and has the value
 pub digit_good : (v : ℕ) → v < 16 → is_ascii_hexdigit (hexadecimal_digit_of v) ≡ true

@@ -1,7 +1,7 @@
 -- The states of a text spell its pieces.
-use Rattle.std.proofs.Common.{◌≡◌, ℕ, zero, suc, ◌+◌, ◌*◌, ◌==◌, Bool, true, false, not, ◌&&◌, ◌||◌, cond, List, [], ◌∷◌, ◌++◌, map, refl, sym, ap, subst, ◌∙◌, append_assoc, append-nil, arith, ◌⊎◌, inl, inr}
+use Rattle.std.proofs.Common.{◌≡◌, ℕ, ◌+◌, ◌*◌, ◌==◌, Bool, true, false, not, ◌&&◌, cond, List, [], ◌∷◌, ◌++◌, map, refl, sym, ap, subst, ◌∙◌, append_assoc, arith, inl, inr}
 use Rattle.std.specs.Char.{is_ascii_hexdigit}
-use Rattle.wy_layout.specs.Texts.{Piece, plain, short, hex, spelling, byte_of, good, Good, spell, is_control, is_short, is_plain, short_value, hex_value}
+use Rattle.wy_layout.specs.Texts.{Piece, plain, short, hex, spelling, byte_of, good, Good, spell, is_control, is_short, short_value, hex_value}
 use Rattle.wy_layout.specs.Read.{step, wrong_escape, Scan, closed, stuck, put, follow, scan}
 use Rattle.wy_layout.specs.Faults.{part, Sane, Misses, StopsAt, Fails, IsTextFault}
 use Rattle.wy_layout.specs.declared.refusal.Fault.{Fault}

@@ -1,8 +1,8 @@
 -- A word is looked up among those of its length.
-use Rattle.std.proofs.Common.{◌≡◌, ℕ, zero, suc, ◌+◌, ◌<◌, ◌≤◌, ◌==◌, nat_le, Bool, true, false, cond, ◌&&◌, List, [], ◌∷◌, length, refl, sym, ap, ◌∙◌, arith, Option, Some, None, ◌≢◌}
+use Rattle.std.proofs.Common.{◌≡◌, ℕ, ◌<◌, ◌≤◌, ◌==◌, nat_le, Bool, true, false, cond, ◌&&◌, List, [], ◌∷◌, length, refl, ap, ◌∙◌, arith, Option, Some, None, ◌≢◌}
 use Rattle.wy_text.specs.declared.token.TokenKind.{TokenKind}
 use Rattle.wy_text.specs.Spelling.{spelling_of}
-use Rattle.wy_layout.specs.Words.{same, lookup, is_some, among, reserved, symbols}
+use Rattle.wy_layout.specs.Words.{same, lookup, is_some, reserved}
 use Rattle.wy_layout.specs.Tables.{of_length}
 use Rattle.wy_layout.proofs.Scanning.{and_left, and_right}
 use Rattle.wy_layout.proofs.LongestWord.{same_is, among_holds}

@@ -1,5 +1,5 @@
 -- One token at a time.
-use Rattle.std.proofs.Common.{◌≡◌, ℕ, zero, suc, ◌+◌, ◌-◌, ◌<◌, ◌≤◌, nat_le, Bool, true, false, cond, ◌&&◌, List, [], ◌∷◌, ◌++◌, length, refl, sym, ap, subst, ◌∙◌, arith, append_assoc, Err, ltb-false}
+use Rattle.std.proofs.Common.{◌≡◌, ℕ, suc, ◌+◌, ◌-◌, ◌<◌, ◌≤◌, nat_le, Bool, true, false, cond, ◌&&◌, List, [], ◌∷◌, ◌++◌, length, refl, sym, ap, subst, ◌∙◌, arith, append_assoc, Err}
 use Rattle.wy_text.specs.declared.token.Token.{Token}
 use Rattle.wy_text.specs.declared.token.TokenKind.{TokenKind}
 use Rattle.wy_layout.specs.Words.{Word, kind_of, Within, fits, passes}
@@ -7,9 +7,9 @@ use Rattle.wy_layout.specs.Counts.{counted, passed, is_counted, most_tokens, mos
 use Rattle.wy_layout.specs.Read.{Read, yes, bad, word_at, next_at, by_count, by_limit}
 use Rattle.wy_layout.specs.Faults.{IsWithin}
 use Rattle.wy_layout.specs.Lines.{after_blanks, is_done}
-use Rattle.wy_layout.specs.Layout.{token, off, IsNext, IsWrong}
+use Rattle.wy_layout.specs.Layout.{token, off, IsNext}
 use Rattle.wy_layout.specs.Lexed.{Found, good, bad_at, onto, next, read_words, words_of}
-use Rattle.wy_layout.specs.Gives.{Kinded, given, denied, as_kind, GivesWord}
+use Rattle.wy_layout.specs.Gives.{given, as_kind, GivesWord}
 use Rattle.wy_layout.specs.Turns.{StopsWithin, halt_of, GivesTurn, prepend, IsTurn}
 use Rattle.wy_layout.specs.declared.count.Count.{Count}
 use Rattle.wy_layout.specs.declared.row.Row.{Row}

@@ -1,16 +1,15 @@
 -- What the tokens of a file keep, and what its faults are.
-use Rattle.std.proofs.Common.{◌≡◌, ℕ, pos, zero, suc, ◌+◌, ◌-◌, ◌<◌, ◌≤◌, ◌==◌, nat_lt, nat_le, Bool, true, false, cond, ◌&&◌, Option, Some, None, List, [], ◌∷◌, ◌++◌, length, length-append, length-take-le, take, replicate, refl, sym, ap, subst, ◌∙◌, arith, append_assoc, ◌⊎◌, inl, inr, ltb-false}
+use Rattle.std.proofs.Common.{◌≡◌, ℕ, pos, zero, suc, ◌+◌, ◌-◌, ◌<◌, ◌≤◌, ◌==◌, nat_lt, nat_le, Bool, true, false, cond, ◌&&◌, Option, Some, None, List, [], ◌∷◌, ◌++◌, length, length-append, take, replicate, refl, sym, ap, subst, ◌∙◌, arith, append_assoc, ◌⊎◌, inl, inr}
 use Rattle.std.specs.Str.Lossy.{utf8_valid_len}
 use Rattle.wy_text.specs.declared.token.Token.{Token}
 use Rattle.wy_text.specs.declared.token.TokenKind.{TokenKind}
 use Rattle.wy_text.specs.declared.token.TokenKind.TheVariants as kind
 use Rattle.wy_text.specs.Spelling.{spelling_of}
-use Rattle.wy_layout.specs.Words.{Word, name, number, text, fixed, same, lookup, is_some, among, reserved, symbols, or_else, kind_of, number_kind, edge, IsWord, Within, fits, passes}
-use Rattle.wy_layout.specs.Faults.{IsWithin}
-use Rattle.wy_layout.specs.Counts.{most_file_bytes, most_tokens, most_indents, most_marks, is_mark, is_counted, marks_after, braces_after, indents_after, IndentsWithin, is_line_end, MarksWithin, is_end, EndsOnce, IsWhole, counted, counted_from, passed}
+use Rattle.wy_layout.specs.Words.{Word, name, number, text, fixed, same, lookup, is_some, among, reserved, symbols, or_else, kind_of, edge, IsWord, fits, passes}
+use Rattle.wy_layout.specs.Counts.{most_file_bytes, most_tokens, most_indents, most_marks, is_counted, marks_after, braces_after, indents_after, IndentsWithin, is_line_end, MarksWithin, is_end, EndsOnce, IsWhole, counted, passed}
 use Rattle.wy_layout.specs.Widths.{Step, deeper, back, wrong, not_open, step_of, opens, above, rest, is_top}
-use Rattle.wy_layout.specs.Lines.{Line, lines, later_lines, line_at, next_row, first_row, content_of, ends_line, place_at, width, after_spaces, after_blanks, is_done, has_tab}
-use Rattle.wy_layout.specs.Layout.{mark, marks, mark_count, begin, finish, off, step, opening, wrong_step, IsNext, IsFull, Words, count_in, HasTokens, HasTokensOr, LineTokens, LineFault, widths, closing, Lays, FileFault, FaultAt, IsLeast, IsFirst, IsRefused, Lexes, valid_text}
+use Rattle.wy_layout.specs.Lines.{Line, lines, later_lines, line_at, next_row, first_row, content_of, ends_line, place_at, width, after_spaces, after_blanks, is_done}
+use Rattle.wy_layout.specs.Layout.{mark, marks, begin, finish, off, step, opening, IsNext, IsFull, Words, count_in, HasTokensOr, LineTokens, widths, Lays, FileFault, FaultAt, IsLeast, IsFirst, IsRefused, Lexes, valid_text}
 use Rattle.wy_layout.specs.Lexed.{Lexed, tokens, refused, lex_bytes, stack_after, pushed}
 use Rattle.wy_layout.specs.Outs.{refusal_of}
 use Rattle.wy_layout.specs.declared.count.Count.{Count}
@@ -18,11 +17,10 @@ use Rattle.wy_layout.specs.declared.refusal.Fault.{Fault}
 use Rattle.wy_layout.specs.declared.refusal.Fault.TheVariants as fault
 use Rattle.wy_layout.specs.declared.row.Row.{Row}
 use Rattle.wy_layout.proofs.Scanning.{and_left, and_right}
-use Rattle.wy_layout.proofs.OpenWidths.{IsClosed, stack_is, rest_count}
-use Rattle.wy_layout.proofs.LineWords.{wrong_place}
-use Rattle.wy_layout.proofs.Least.{spaces_within, line_place, open_fits, stack_here}
+use Rattle.wy_layout.proofs.OpenWidths.{IsClosed, rest_count}
+use Rattle.wy_layout.proofs.Least.{line_place, open_fits, stack_here}
 use Rattle.wy_layout.proofs.Filewise.{LexIs, lex_is}
-use Rattle.wy_layout.proofs.Laying.{length_marks, length_replicate}
+use Rattle.wy_layout.proofs.Laying.{length_replicate}
 
 -- ---- kinds of words
 
@@ -313,7 +311,7 @@ later_ends row at e (b ∷ bs) h = go (b == 10) (later_ends row (suc at) e bs (o
     go true k q = let c = content_within bs in (omega arith, omega arith, q)
     go false k q = k
 
-lines_end : (row : Row) (e : ℕ) (bs : List ℕ) → row.start + length bs ≤ e → EndsBy e (lines row bs)
+pub lines_end : (row : Row) (e : ℕ) (bs : List ℕ) → row.start + length bs ≤ e → EndsBy e (lines row bs)
 lines_end row e bs h = let c = content_within bs in (omega arith, omega arith, later_ends row row.start e bs h)
 
 fault_end : (e n : ℕ) (ws : List ℕ) (ls : List Line) (f : Fault) (o : ℕ) → EndsBy e ls → FileFault e n ws ls f o → o ≤ e

@@ -1,5 +1,5 @@
 -- `word_at` by its first byte.
-use Rattle.std.proofs.Common.{◌≡◌, ℕ, ◌+◌, ◌≤◌, ◌==◌, Bool, true, false, not, cond, Option, Some, None, List, [], ◌∷◌, length, drop, take, take_all, length-drop, ◌-◌, refl, sym, ap, ◌∙◌, arith, slice_index}
+use Rattle.std.proofs.Common.{◌≡◌, ℕ, ◌≤◌, ◌==◌, Bool, true, false, not, cond, Option, Some, None, List, [], ◌∷◌, length, drop, take, take_all, length-drop, ◌-◌, refl, sym, ap, ◌∙◌, arith, slice_index}
 use Rattle.std.specs.Str.{continuation_len}
 use Rattle.std.specs.Char.{is_ascii_digit}
 use Rattle.wy_layout.specs.Names.{starts}
@@ -7,12 +7,12 @@ use Rattle.wy_text.specs.declared.token.TokenKind.{TokenKind}
 use Rattle.wy_text.specs.declared.token.TokenKind.TheVariants as kind
 use Rattle.wy_layout.specs.Words.{fixed, reserved, symbols, lookup, is_some, among, or_else}
 use Rattle.wy_layout.specs.Tables.{pair_of, single_of}
-use Rattle.wy_layout.specs.Gives.{Kinded, given, denied, as_kind}
+use Rattle.wy_layout.specs.Gives.{given, denied, as_kind}
 use Rattle.wy_layout.specs.declared.escape.State.TheVariants as state
 use Rattle.wy_layout.specs.declared.refusal.Fault.{Fault}
 use Rattle.wy_layout.specs.declared.refusal.Fault.TheVariants as fault
-use Rattle.wy_layout.specs.Read.{Scan, closed, stuck, scan, text_read, number_read, Read, yes, bad, word_at, limited_name, symbol_read, limited, longest_at, name_len, first_len, name_read}
-use Rattle.wy_layout.proofs.NameRuns.{starts_empty, starts_whole, name_len_within}
+use Rattle.wy_layout.specs.Read.{Scan, closed, stuck, scan, text_read, number_read, Read, yes, bad, word_at, limited_name, symbol_read, limited, longest_at, name_read}
+use Rattle.wy_layout.proofs.NameRuns.{starts_empty, name_len_within}
 use Rattle.wy_layout.proofs.LongestWord.{at_name, at_digit, among_holds}
 use Rattle.wy_layout.proofs.Tables.{none_by}
 use Rattle.wy_layout.proofs.Limits.{name_limited, symbol_limited}

@@ -1,13 +1,12 @@
 -- `word_at` gives the longest word exactly where there is one within its limits, and else the fault.
-use Rattle.std.proofs.Common.{◌≡◌, ℕ, zero, suc, ◌+◌, ◌<◌, ◌≤◌, Bool, true, false, cond, List, [], ◌∷◌, ◌++◌, length, refl, sym, ap, subst, ◌∙◌, append_assoc, arith, length-append, ◌⊎◌, inl, inr, ◌≢◌}
+use Rattle.std.proofs.Common.{◌≡◌, ℕ, suc, ◌+◌, ◌≤◌, List, [], ◌∷◌, ◌++◌, length, refl, sym, ap, subst, ◌∙◌, arith, length-append, inl, inr}
 use Rattle.wy_layout.specs.Words.{Word, kind_of, IsWord, IsLongest, Within, fits, passes, over}
 use Rattle.wy_layout.specs.Counts.{passed}
 use Rattle.wy_layout.specs.declared.count.Count.{Count}
-use Rattle.wy_layout.specs.Layout.{IsNext, IsWrong, PassesCount}
+use Rattle.wy_layout.specs.Layout.{IsNext, IsWrong}
 use Rattle.wy_layout.specs.Read.{Scan, Read, yes, bad, longest_at, limited, by_limit, word_at, by_count, next_at, scan, stuck, text_read}
-use Rattle.wy_layout.specs.Faults.{IsTextFault, Quoteless, IsWithin, IsWordFault, BeginsNone, WrongText, PassesLimit}
+use Rattle.wy_layout.specs.Faults.{IsWithin, IsWordFault, BeginsNone, WrongText}
 use Rattle.wy_layout.specs.declared.refusal.Fault.{Fault}
-use Rattle.wy_layout.specs.declared.refusal.Fault.TheVariants as fault
 use Rattle.wy_layout.specs.declared.escape.State.TheVariants as state
 use Rattle.wy_layout.proofs.Scanning.{scan_stuck}
 use Rattle.wy_layout.proofs.LongestWord.{FoundIs, found_is, Reaches, reaches}

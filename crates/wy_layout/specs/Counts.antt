@@ -1,5 +1,5 @@
 -- The limits that are counted over tokens, and what the layers above may rely on.
-use Rattle.std.specs.Prelude.{◌≡◌, ℕ, suc, ◌+◌, ◌-◌, ◌≤◌, ◌==◌, nat_le, Bool, true, false, ◌&&◌, cond, List, [], ◌∷◌, length}
+use Rattle.std.specs.Prelude.{◌≡◌, ℕ, suc, ◌-◌, ◌≤◌, ◌==◌, nat_le, Bool, true, false, ◌&&◌, cond, List, [], ◌∷◌, length}
 use Rattle.wy_text.specs.declared.token.Token.{Token}
 use Rattle.wy_text.specs.declared.token.TokenKind.{TokenKind}
 use Rattle.wy_text.specs.declared.token.TokenKind.TheVariants as kind
@@ -9,6 +9,7 @@ use Rattle.wy_layout.specs.Words.{Within, fits, passes}
 use Rattle.wy_layout.specs.declared.count.Count.{Count}
 use Rattle.wy_layout.specs.declared.refusal.Fault.TheVariants as fault
 
+-- the limits' numbers
 abbrev pub most_file_bytes : ℕ
 most_file_bytes = limit_number limit.FileBytes
 
@@ -70,6 +71,7 @@ abbrev pub IndentsWithin : ℕ → List Token → Type 0
 IndentsWithin indents [] = Unit {0}
 IndentsWithin indents (t ∷ ts) = (indents_after indents t.kind ≤ most_indents) × IndentsWithin (indents_after indents t.kind) ts
 
+-- the token of a line's end
 abbrev pub is_line_end : TokenKind → Bool
 is_line_end kind.Nl = true
 is_line_end other = false
@@ -81,6 +83,7 @@ MarksWithin marks open_braces (t ∷ ts) =
     (marks_after marks open_braces t.kind ≤ most_marks) ×
     MarksWithin (cond (is_line_end t.kind) 0 (marks_after marks open_braces t.kind)) (cond (is_line_end t.kind) 0 (braces_after open_braces t.kind)) ts
 
+-- the token of the file's end
 abbrev pub is_end : TokenKind → Bool
 is_end kind.End = true
 is_end other = false

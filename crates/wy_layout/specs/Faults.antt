@@ -1,8 +1,8 @@
 -- What can be wrong with a word, and at which of its characters.
-use Rattle.std.specs.Prelude.{◌≡◌, ℕ, ◌≤◌, ◌==◌, Bool, true, false, List, [], ◌∷◌, ◌++◌, ◌≢◌, ◌⊎◌}
+use Rattle.std.specs.Prelude.{◌≡◌, ℕ, ◌==◌, true, false, List, [], ◌∷◌, ◌++◌, ◌≢◌, ◌⊎◌}
 use Rattle.std.specs.Char.{is_ascii_hexdigit}
 use Rattle.wy_layout.specs.Texts.{Piece, Good, spell, is_control, is_short}
-use Rattle.wy_layout.specs.Words.{Word, IsWord, IsLongest, over, Within, passes, fits}
+use Rattle.wy_layout.specs.Words.{Word, IsWord, IsLongest, over, passes, fits}
 use Rattle.wy_layout.specs.declared.refusal.Fault.{Fault}
 use Rattle.wy_layout.specs.declared.refusal.Fault.TheVariants as fault
 use Rattle.wy_layout.specs.declared.escape.State.{State}
@@ -47,6 +47,7 @@ pub record IsTextFault (f : Fault) (cs r : List ℕ) : Type 0 where
   pub parts : cs ≡ spell pieces ++ (part escape ++ r)
   pub fails : Fails f escape r
 
+-- it begins with no quote
 abbrev pub Quoteless : List ℕ → Type 0
 Quoteless [] = Unit {0}
 Quoteless (c ∷ cs) = c ≢ 34
@@ -75,6 +76,7 @@ pub record PassesLimit (f : Fault) (u r : List ℕ) : Type 0 where
   pub longest : IsLongest word written rest
   pub passed : over word ≡ passes f
 
+-- a word is wrong
 abbrev pub IsWordFault : Fault → List ℕ → List ℕ → Type 0
 IsWordFault f u r = BeginsNone f u r ⊎ (WrongText f u r ⊎ PassesLimit f u r)
 

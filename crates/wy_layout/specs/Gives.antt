@@ -1,5 +1,5 @@
 -- What the code gives, beside the plain programs.
-use Rattle.std.specs.Prelude.{◌≡◌, ◌≤◌, ℕ, Bool, true, false, cond, List, [], ◌∷◌, ◌++◌, Option, Some, None, Result, Ok, Err, Vec}
+use Rattle.std.specs.Prelude.{◌≡◌, ◌≤◌, ℕ, List, ◌++◌, Option, Some, None, Result, Ok, Err, Vec}
 use Rattle.std.specs.Borrow.{Bor}
 use Rattle.wy_text.specs.declared.token.TokenKind.{TokenKind}
 use Rattle.wy_layout.specs.Words.{kind_of, Within, fits, passes}
@@ -19,6 +19,7 @@ LeadsOn (move.Put v) = Unit {0}
 LeadsOn move.Close = Unit {0}
 LeadsOn (move.Stop f) = Unit {0}
 
+-- what a limit's test says
 abbrev pub within_of : Option Fault → Within
 within_of None = fits
 within_of (Some f) = passes f
@@ -28,6 +29,7 @@ pub record IsCalm (c : Count) : Type 0 where
   pub marks : c.marks ≤ c.tokens
   pub open_braces : c.open_braces ≤ c.tokens
 
+-- the code's answer for the inside of a text is the plain program's
 abbrev pub GivesScan : {A : Type 0} → Result (Vec ℕ A × Bor (List ℕ)) Stop → Scan → Type 0
 GivesScan (Ok p) x = x ≡ closed p.0.items p.1.now
 GivesScan (Err (At f r)) x = x ≡ stuck f r.now
@@ -43,10 +45,12 @@ pub data Kinded : Type 0 where
   given : TokenKind → List ℕ → Kinded
   denied : Fault → List ℕ → Kinded
 
+-- the word's kind in its place
 abbrev pub as_kind : Read → Kinded
 as_kind (yes word r) = given (kind_of word) r
 as_kind (bad f r) = denied f r
 
+-- the code's answer for a word is the plain program's
 abbrev pub GivesWord : Result (TokenKind × Bor (List ℕ)) Stop → Read → Type 0
 GivesWord (Ok p) x = as_kind x ≡ given p.0 p.1.now
 GivesWord (Err (At f r)) x = x ≡ bad f r.now

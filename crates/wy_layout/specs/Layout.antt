@@ -1,5 +1,5 @@
--- [Layout]: the tokens of a file's lines, and what can be wrong in them.
-use Rattle.std.specs.Prelude.{◌≡◌, ℕ, zero, suc, ◌+◌, ◌-◌, ◌<◌, ◌≤◌, ◌==◌, nat_lt, Bool, true, false, cond, List, [], ◌∷◌, ◌++◌, length, replicate, take, ◌⊎◌}
+-- Layout: the tokens of a file's lines, and what can be wrong in them.
+use Rattle.std.specs.Prelude.{◌≡◌, ℕ, ◌+◌, ◌-◌, ◌<◌, ◌≤◌, nat_lt, Bool, true, false, cond, List, [], ◌∷◌, ◌++◌, length, replicate, take, ◌⊎◌}
 use Rattle.std.specs.Str.Lossy.{utf8_valid_len}
 use Rattle.wy_text.specs.declared.fault.Place.{Place}
 use Rattle.wy_text.specs.declared.token.Token.{Token}
@@ -21,6 +21,7 @@ use Rattle.wy_layout.specs.declared.row.Row.{Row}
 
 -- ---- tokens
 
+-- a token of a line, by its offsets
 abbrev pub token : Row → TokenKind → ℕ → ℕ → Token
 token row k start end = record { kind = k; place = spot row start; start = start; end = end }
 
@@ -34,6 +35,7 @@ marks row deeper at = mark row kind.In at ∷ []
 marks row (back n) at = replicate n (mark row kind.Out at)
 marks row (wrong n) at = replicate n (mark row kind.Out at)
 
+-- how many tokens stand before a line
 abbrev pub mark_count : Step → ℕ
 mark_count deeper = 1
 mark_count (back n) = n
@@ -47,6 +49,7 @@ off at u v = at + (length u - length v)
 abbrev pub begin : Line → ℕ
 begin l = off l.row.start l.content (after_spaces l.content)
 
+-- where a line's end begins
 abbrev pub finish : Line → ℕ
 finish l = l.row.start + length l.content
 
@@ -74,6 +77,7 @@ pub record PassesCount (c : Count) (f : Fault) (u r : List ℕ) : Type 0 where
   pub within : IsWithin word u behind
   pub passing : passed c (kind_of word) ≡ passes f
 
+-- a word is wrong, or passes a limit that is counted
 abbrev pub IsWrong : Count → Fault → List ℕ → List ℕ → Type 0
 IsWrong c f u r = IsWordFault f u r ⊎ PassesCount c f u r
 
@@ -85,6 +89,7 @@ WrongIn (word ∷ words) c at u f o =
 
 -- ---- a line: behind n tokens, ws being the widths of the lines before that aren't blank
 
+-- what stands before the line
 abbrev pub step : List ℕ → Line → Step
 step ws l = step_of (width l.content) (opens ws)
 
@@ -99,6 +104,7 @@ wrong_step deeper indents = cond (nat_lt most_indents indents) (passes fault.Ind
 wrong_step (back m) indents = fits
 wrong_step (wrong m) indents = passes fault.BadDedent
 
+-- what is wrong with the tokens before a line, the limit on tokens first
 abbrev pub opening : Step → ℕ → ℕ → Within
 opening s n indents = cond (nat_lt most_tokens (n + mark_count s)) (passes fault.Tokens) (wrong_step s indents)
 
@@ -110,6 +116,7 @@ pub record HasTokens (n : ℕ) (ws : List ℕ) (l : Line) (ts : List Token) : Ty
   pub room : n + mark_count (step ws l) + length words < most_tokens
   pub parts : ts ≡ marks l.row (step ws l) (begin l) ++ (words ++ mark l.row kind.Nl (finish l) ∷ [])
 
+-- the tokens of a line that isn't blank, or none
 abbrev pub HasTokensOr : Bool → ℕ → List ℕ → Line → List Token → Type 0
 HasTokensOr true n ws l ts = ts ≡ []
 HasTokensOr false n ws l ts = HasTokens n ws l ts
@@ -150,6 +157,7 @@ pub record IsAtEnd (n : ℕ) (ws : List ℕ) (l : Line) (f : Fault) (o : ℕ) : 
   pub kind : f ≡ fault.Tokens
   pub place : o ≡ finish l
 
+-- what is wrong in a line
 abbrev pub LineFault : ℕ → List ℕ → Line → Fault → ℕ → Type 0
 LineFault n ws l f o = IsTab l f o ⊎ (IsOpening n ws l f o ⊎ (IsInWords n ws l f o ⊎ IsAtEnd n ws l f o))
 

@@ -15,3 +15,5 @@ pub mod Outs
 pub mod Cut
 pub mod Laws
 pub mod Printed
+pub mod Characters
+pub mod Spans

@@ -1,5 +1,5 @@
 -- The lines of a file, and places in it.
-use Rattle.std.specs.Prelude.{ℕ, suc, ◌+◌, ◌-◌, ◌==◌, Bool, true, false, ◌&&◌, ◌||◌, cond, List, [], ◌∷◌, length, take}
+use Rattle.std.specs.Prelude.{ℕ, suc, ◌-◌, ◌==◌, Bool, true, false, ◌&&◌, ◌||◌, cond, List, [], ◌∷◌, take}
 use Rattle.wy_text.specs.declared.fault.Place.{Place}
 use Rattle.wy_layout.specs.declared.row.Row.{Row}
 
@@ -23,9 +23,11 @@ abbrev pub content_of : List ℕ → List ℕ
 content_of [] = []
 content_of (c ∷ cs) = cond (ends_line (c ∷ cs)) [] (c ∷ content_of cs)
 
+-- the line at the front of bytes
 abbrev pub line_at : Row → List ℕ → Line
 line_at row bs = record { row = row; content = content_of bs }
 
+-- the first line of a file
 abbrev pub first_row : ℕ → Row
 first_row file = record { file = file; number = 1; start = 0 }
 
@@ -59,10 +61,12 @@ abbrev pub width : List ℕ → ℕ
 width [] = 0
 width (c ∷ cs) = cond (c == 32) (suc (width cs)) 0
 
+-- what is left behind the leading spaces
 abbrev pub after_spaces : List ℕ → List ℕ
 after_spaces [] = []
 after_spaces (c ∷ cs) = cond (c == 32) (after_spaces cs) (c ∷ cs)
 
+-- what is left behind spaces and tabs
 abbrev pub after_blanks : List ℕ → List ℕ
 after_blanks [] = []
 after_blanks (c ∷ cs) = cond ((c == 32) || (c == 9)) (after_blanks cs) (c ∷ cs)
@@ -73,6 +77,7 @@ is_done [] = true
 is_done (a ∷ []) = false
 is_done (a ∷ b ∷ cs) = (a == 47) && (b == 47)
 
+-- a tab is at the front
 abbrev pub has_tab : List ℕ → Bool
 has_tab [] = false
 has_tab (c ∷ cs) = c == 9

@@ -1,9 +1,9 @@
 -- What the code gives for a line and a file.
-use Rattle.std.specs.Prelude.{◌≡◌, ℕ, ◌+◌, ◌-◌, nat_lt, cond, List, [], ◌∷◌, ◌++◌, length, Result, Ok, Err, Vec}
+use Rattle.std.specs.Prelude.{◌≡◌, ℕ, nat_lt, cond, List, ◌++◌, length, Result, Ok, Err, Vec}
 use Rattle.wy_text.specs.declared.token.Token.{Token}
 use Rattle.wy_layout.specs.Widths.{Step, deeper, back, wrong}
 use Rattle.wy_layout.specs.Lines.{Line}
-use Rattle.wy_layout.specs.Lexed.{LineOut, laid, broken, Lexed, tokens, refused, join, end_of, lex_lines}
+use Rattle.wy_layout.specs.Lexed.{LineOut, laid, broken, Lexed, tokens, refused, join, end_of}
 use Rattle.wy_layout.specs.declared.line.Halt.{Halt}
 use Rattle.wy_layout.specs.declared.line.Halt.TheVariants as halt
 use Rattle.wy_layout.specs.declared.refusal.Fault.{Fault}
@@ -16,11 +16,13 @@ use Rattle.wy_layout.specs.declared.row.Row.{Row}
 use Rattle.wy_layout.specs.declared.widths.Before.{Before}
 use Rattle.wy_layout.specs.declared.widths.Before.TheVariants as before
 
+-- what the code says of the tokens before a line
 abbrev pub step_is : Before → Step
 step_is before.In = deeper
 step_is (before.Out n) = back n
 step_is (before.Wrong n) = wrong n
 
+-- a line by its row and its text
 abbrev pub line_of : Row → List ℕ → Line
 line_of row z = record { row = row; content = z }
 
@@ -29,20 +31,24 @@ abbrev pub Added : List Token → List Token → LineOut → Type 0
 Added old new (laid us s) = new ≡ old ++ us
 Added old new (broken f o) = ⊥
 
+-- the code's answer for a line's tokens is the plain program's
 abbrev pub GivesAdded : {A : Type 0} → Result A Halt → List Token → List Token → LineOut → Type 0
 GivesAdded (Ok x) old new out = Added old new out
 GivesAdded (Err (halt.At f o)) old new out = out ≡ broken f o
 GivesAdded (Err halt.Memory) old new out = Unit {0}
 
+-- the line is laid, and the stack is the one behind it
 abbrev pub Laid : List Token → List Token → List ℕ → LineOut → Type 0
 Laid old new st (laid us s) = (new ≡ old ++ us) × (st ≡ s)
 Laid old new st (broken f o) = ⊥
 
+-- the code's answer for a line is the plain program's
 abbrev pub GivesOut : {A : Type 0} → Result A Halt → List Token → List Token → List ℕ → LineOut → Type 0
 GivesOut (Ok x) old new st out = Laid old new st out
 GivesOut (Err (halt.At f o)) old new st out = out ≡ broken f o
 GivesOut (Err halt.Memory) old new st out = Unit {0}
 
+-- the code's stop is the plain program's
 abbrev pub Halts : Halt → LineOut → Type 0
 Halts (halt.At f o) out = out ≡ broken f o
 Halts halt.Memory out = Unit {0}
@@ -53,11 +59,13 @@ GivesLines (Ok row) old new st e x = join old x ≡ join new (end_of row e (leng
 GivesLines (Err (halt.At f o)) old new st e x = x ≡ refused f o
 GivesLines (Err halt.Memory) old new st e x = Unit {0}
 
+-- the code's answer for the end of a file is the plain program's
 abbrev pub GivesEnd : {A : Type 0} → Result A Halt → List Token → List Token → Lexed → Type 0
 GivesEnd (Ok y) old new x = join old x ≡ tokens new
 GivesEnd (Err (halt.At f o)) old new x = x ≡ refused f o
 GivesEnd (Err halt.Memory) old new x = Unit {0}
 
+-- the code's answer for a file is the plain program's
 abbrev pub GivesText : {A : Type 0} → Result (Vec Token A) Halt → Lexed → Type 0
 GivesText (Ok v) x = x ≡ tokens v.items
 GivesText (Err (halt.At f o)) x = x ≡ refused f o

@@ -17,6 +17,7 @@ use Rattle.wy_layout.specs.declared.escape.Move.TheVariants as move
 
 -- ---- inside a text
 
+-- an escape that goes on with a wrong byte
 abbrev pub wrong_escape : ℕ → Move
 wrong_escape c = move.Stop (cond (is_control c) fault.BadCharacter fault.BadEscape)
 
@@ -32,16 +33,19 @@ pub data Scan : Type 0 where
   closed : List ℕ → List ℕ → Scan
   stuck : Fault → List ℕ → Scan
 
+-- with a byte before
 abbrev pub put : ℕ → Scan → Scan
 put v (closed vs r) = closed (v ∷ vs) r
 put v (stuck f r) = stuck f r
 
+-- where a byte leads
 abbrev pub follow : Move → List ℕ → List ℕ → (State → Scan) → Scan
 follow (move.Go s) here next k = k s
 follow (move.Put v) here next k = put v (k state.Plain)
 follow move.Close here next k = closed [] next
 follow (move.Stop f) here next k = stuck f here
 
+-- the inside of a text, from a state on
 abbrev pub scan : State → List ℕ → Scan
 scan s [] = stuck fault.OpenText []
 scan s (c ∷ cs) = follow (step s c) (c ∷ cs) cs (λ t. scan t cs)
@@ -53,14 +57,17 @@ pub data Read : Type 0 where
   yes : Word → List ℕ → Read
   bad : Fault → List ℕ → Read
 
+-- a text behind its quote
 abbrev pub text_read : List ℕ → Scan → Read
 text_read here (closed v r) = yes (text v) r
 text_read here (stuck f r) = bad f r
 
+-- how many digits stand at the front
 abbrev pub digits_len : List ℕ → ℕ
 digits_len [] = 0
 digits_len (b ∷ bs) = cond (is_ascii_digit b) (suc (digits_len bs)) 0
 
+-- the number at the front
 abbrev pub number_read : List ℕ → Read
 number_read u = let n = digits_len u in yes (number (value_from 0 (take n u))) (drop n u)
 
@@ -70,16 +77,20 @@ name_len count [] = 0
 name_len zero (b ∷ bs) = cond (is_xid_continue (head_char (b ∷ bs))) (suc (name_len (continuation_len b) bs)) 0
 name_len (suc count) (b ∷ bs) = suc (name_len count bs)
 
+-- how many bytes the name at the front has
 abbrev pub first_len : List ℕ → ℕ
 first_len [] = 0
 first_len (b ∷ bs) = suc (name_len (continuation_len b) bs)
 
+-- a name, or a reserved word
 abbrev pub name_word : List ℕ → Word
 name_word w = cond (among w reserved) (fixed w) (name w)
 
+-- the name at the front
 abbrev pub name_read : List ℕ → Read
 name_read u = let n = first_len u in yes (name_word (take n u)) (drop n u)
 
+-- the symbol at the front: of two bytes, else of one
 abbrev pub symbol_read : List ℕ → Read
 symbol_read u =
     cond (among (take 2 u) symbols) (yes (fixed (take 2 u)) (drop 2 u))
@@ -93,10 +104,12 @@ longest_at (c ∷ cs) =
     (cond (is_ascii_digit c) (number_read (c ∷ cs))
     (cond (starts (c ∷ cs)) (name_read (c ∷ cs)) (symbol_read (c ∷ cs))))
 
+-- the word, where it passes no limit
 abbrev pub by_limit : Within → Word → List ℕ → List ℕ → Read
 by_limit fits word u r = yes word r
 by_limit (passes f) word u r = bad f u
 
+-- with the word's own limits
 abbrev pub limited : List ℕ → Read → Read
 limited u (yes word r) = by_limit (over word) word u r
 limited u (bad f r) = bad f r
@@ -105,6 +118,7 @@ limited u (bad f r) = bad f r
 unfoldable pub word_at : List ℕ → Read
 word_at u = limited u (longest_at u)
 
+-- with the limits that are counted
 abbrev pub by_count : Count → List ℕ → Read → Read
 by_count c u (yes word r) = by_limit (passed c (kind_of word)) word u r
 by_count c u (bad f r) = bad f r

@@ -15,6 +15,7 @@ pair_of [] = None
 pair_of (a ∷ []) = None
 pair_of (a ∷ b ∷ u) = lookup (a ∷ b ∷ []) symbols
 
+-- the symbol of a single byte at the front of a text
 abbrev pub single_of : List ℕ → Option TokenKind
 single_of [] = None
 single_of (a ∷ u) = lookup (a ∷ []) symbols

@@ -41,14 +41,17 @@ byte_of (hex h l) = hex_value h * 16 + hex_value l
 abbrev pub is_plain : ℕ → Bool
 is_plain c = not (c == 34) && (not (c == 92) && not (is_control c))
 
+-- a piece that may stand in a text
 abbrev pub good : Piece → Bool
 good (plain c) = is_plain c
 good (short c) = is_short c
 good (hex h l) = is_ascii_hexdigit h && is_ascii_hexdigit l
 
+-- pieces that may
 abbrev pub Good : List Piece → Type 0
 Good ps = AllByRecursion (λ p. good p ≡ true) ps
 
+-- the bytes that pieces are written with
 abbrev pub spell : List Piece → List ℕ
 spell [] = []
 spell (p ∷ ps) = spelling p ++ spell ps

@@ -11,6 +11,7 @@ abbrev pub below : ℕ → List ℕ → List ℕ
 below w [] = []
 below w (v ∷ st) = cond (nat_lt v w) (v ∷ st) (below w st)
 
+-- the open widths before a line
 abbrev pub opens : List ℕ → List ℕ
 opens [] = 0 ∷ []
 opens (w ∷ ws) = w ∷ below w (opens ws)
@@ -20,10 +21,12 @@ abbrev pub above : ℕ → List ℕ → ℕ
 above w [] = 0
 above w (v ∷ st) = cond (nat_lt w v) (suc (above w st)) 0
 
+-- those that are not greater than w
 abbrev pub rest : ℕ → List ℕ → List ℕ
 rest w [] = []
 rest w (v ∷ st) = cond (nat_lt w v) (rest w st) (v ∷ st)
 
+-- w is the greatest
 abbrev pub is_top : ℕ → List ℕ → Bool
 is_top w [] = false
 is_top w (v ∷ st) = w == v
@@ -35,6 +38,7 @@ pub data Step : Type 0 where
   back : ℕ → Step
   wrong : ℕ → Step
 
+-- a width that isn't open, by the number of greater ones
 abbrev pub not_open : ℕ → Step
 not_open zero = deeper
 not_open (suc n) = wrong (suc n)
@@ -60,6 +64,7 @@ pub record IsNotOpen (n w : ℕ) (ws : List ℕ) : Type 0 where
   pub wider : (v : ℕ) × IsOpen v ws × (w < v)
   pub count : n ≡ above w (opens ws)
 
+-- what stands before a line of the width w, by the lines before
 abbrev pub Stands : Step → ℕ → List ℕ → Type 0
 Stands deeper w ws = IsIn w ws
 Stands (back n) w ws = IsOuts n w ws

@@ -1,6 +1,8 @@
 //! Laws of the definition of layout and tokens. No function here does anything: what it says is its clause.
 
 ghost use Rattle.wy_layout.specs.Printed.{PrintedWords, QuotedTexts, SpelledKinds};
+ghost use Rattle.wy_layout.specs.Characters.{NamesByCharacters};
+ghost use Rattle.wy_layout.specs.Spans.{SpansInOrder};
 ghost use Rattle.wy_layout.specs.Laws.{Decided, NothingWrong, OneFault, OneList, OpenByLines, PlacesOfOffsets, StepByLines};
 
 /// A file has at most one list of tokens.
@@ -51,4 +53,14 @@ pub fn quoted_texts()
 /// A reserved word or a symbol is of the kind that is spelled so.
 pub fn spelled_kinds()
     ensures { SpelledKinds }
+{}
+
+/// Bytes that are text are a name exactly where their first character begins one and the others go on in it.
+pub fn names_by_characters()
+    ensures { NamesByCharacters }
+{}
+
+/// The spans of a file's tokens stand in order, within its bytes.
+pub fn spans_in_order()
+    ensures { SpansInOrder }
 {}

@@ -1,10 +1,8 @@
 use Rattle.std.proofs.Common.{◌≡◌, sym, subst, Err, Global}
 use Rattle.wy_layout.specs.Layout.{IsRefused}
 use Rattle.wy_layout.specs.Lexed.{lex_bytes, refused}
-use Rattle.wy_layout.specs.Lines.{place_at}
 use Rattle.wy_layout.specs.Outs.{GivesText, refusal_of}
 use Rattle.wy_layout.specs.declared.line.Halt.{Halt}
-use Rattle.wy_layout.specs.declared.refusal.LexRefusal.{LexRefusal}
 use Rattle.wy_text.specs.declared.fault.Place.{Place}
 use Rattle.wy_layout.proofs.Whole.{lexes_of, whole_of, offset_of, refused_of}
 use Rattle.wy_layout.proofs.file.lex.Goals as goal

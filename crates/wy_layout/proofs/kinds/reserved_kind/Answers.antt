@@ -1,4 +1,4 @@
-use Rattle.std.proofs.Common.{◌≡◌, ◌∙◌, sym}
+use Rattle.std.proofs.Common.{◌∙◌, sym}
 use Rattle.wy_layout.proofs.Tables.{sized}
 use Rattle.wy_layout.proofs.kinds.reserved_kind.Goals as goal
 

@@ -1,4 +1,4 @@
-use Rattle.std.proofs.Common.{◌≡◌, ◌≤◌, ◌<◌, ◌+◌, ◌^◌, length}
+use Rattle.std.proofs.Common.{◌≡◌, ◌≤◌, ◌+◌, length}
 use Rattle.wy_layout.specs.Counts.{counted_from}
 use Rattle.wy_layout.specs.Gives.{IsCalm}
 use Rattle.wy_layout.specs.Lexed.{words_of}

@@ -1,4 +1,4 @@
-use Rattle.std.proofs.Common.{◌≡◌, ◌∙◌, sym, ap, arith, subst, Err}
+use Rattle.std.proofs.Common.{◌∙◌, sym, ap, arith, subst, Err}
 use Rattle.wy_layout.specs.Lines.{is_done}
 use Rattle.wy_layout.specs.Turns.{GivesTurn}
 use Rattle.wy_layout.specs.declared.line.Halt.{Halt}

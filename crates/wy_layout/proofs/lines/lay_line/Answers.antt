@@ -4,7 +4,7 @@ use Rattle.wy_layout.specs.Counts.{counted_from}
 use Rattle.wy_layout.specs.Layout.{mark_count, opening}
 use Rattle.wy_layout.specs.Lexed.{sooner, words_of}
 use Rattle.wy_layout.specs.Outs.{step_is, Halts}
-use Rattle.wy_layout.proofs.LineOuts.{At, IsFrom, count_within, tab_out, done_out, fault_out, laid_out}
+use Rattle.wy_layout.proofs.LineOuts.{IsFrom, count_within, tab_out, done_out, fault_out, laid_out}
 use Rattle.wy_layout.proofs.lines.lay_line.Goals as goal
 
 pub returns-then-has_tab : goal.returns-then-has_tab

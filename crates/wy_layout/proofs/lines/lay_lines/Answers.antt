@@ -1,5 +1,5 @@
-use Rattle.std.proofs.Common.{◌≡◌, ◌∙◌, ◌+◌, ◌<◌, ◌≤◌, ℕ, List, sym, ap, arith, length, reverse, take, drop}
-use Rattle.wy_layout.specs.Lines.{lines, next_row, content_of}
+use Rattle.std.proofs.Common.{◌∙◌, ◌+◌, ◌<◌, ℕ, List, sym, ap, arith, length, reverse, take, drop}
+use Rattle.wy_layout.specs.Lines.{lines, next_row}
 use Rattle.wy_layout.specs.Cut.{line_len}
 use Rattle.wy_layout.specs.Lexed.{join, lex_lines}
 use Rattle.wy_layout.specs.declared.row.Row.{Row}

@@ -1,4 +1,4 @@
-use Rattle.std.proofs.Common.{◌≡◌, ◌∙◌, sym, ap}
+use Rattle.std.proofs.Common.{◌∙◌, sym, ap}
 use Rattle.unicode_ident.specs.Ident.{is_xid_continue}
 use Rattle.wy_layout.proofs.Past.{past_is, past_ends, full}
 use Rattle.wy_layout.proofs.names.past_char.Goals as goal

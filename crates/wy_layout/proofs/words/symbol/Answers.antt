@@ -1,4 +1,4 @@
-use Rattle.std.proofs.Common.{◌≡◌, ◌∙◌, sym, ap}
+use Rattle.std.proofs.Common.{◌∙◌, sym, ap}
 use Rattle.wy_layout.specs.Gives.{given}
 use Rattle.wy_layout.proofs.WordCases.{symbol_pair, symbol_single, pair_long, single_long, rest_taken}
 use Rattle.wy_layout.proofs.words.symbol.Goals as goal

@@ -1,4 +1,4 @@
-use Rattle.std.proofs.Common.{◌≡◌, ◌∙◌, sym, subst}
+use Rattle.std.proofs.Common.{◌∙◌, sym, subst}
 use Rattle.wy_layout.specs.Read.{Read}
 use Rattle.wy_layout.specs.Gives.{GivesWord}
 use Rattle.wy_layout.proofs.WordCases.{word_text, word_number, word_name, word_symbol}
