@@ -9,7 +9,7 @@ use wy_text::fault::AtomName;
 use wy_text::limit::LimitName;
 use wy_text::text::Text;
 
-/// An effect of one scope, as its number in the scope's table (docs/LANGUAGE.md, "Effects").
+/// An effect of one scope, as its number in the scope's table (docs/LANGUAGE.md, "Effects and types").
 #[derive(Clone, Copy, Debug, PartialEq, Eq)]
 pub struct Atom(pub u16);
 

@@ -1,20 +1,20 @@
 -- What follows from what a core keeps: its signatures are in range, and so is all that types reach.
-use Rattle.std.proofs.Common.{◌≡◌, ℕ, ◌+◌, ◌≤◌, List, [], ◌∷◌, ◌++◌, map, ◌⊎◌, inl, inr, length, refl, subst, arith}
-use Rattle.wy_effects.specs.Members.{In}
+use Rattle.std.proofs.Common.{ℕ, ◌+◌, ◌≤◌, List, [], ◌∷◌, map, inl, length, refl, subst, arith}
 use Rattle.wy_effects.specs.EffSet.{IsSetFrom}
 use Rattle.wy_effects.proofs.Lists.{In-left, In-right, In-unmap, In-slice_get}
 use Rattle.wy_types.specs.declared.types.TypeRef.{TypeRef}
 use Rattle.wy_types.specs.declared.types.TypeRef.TheVariants.{Int, Bool, Text, Unit as Nothing, Named, At, Own}
+use Rattle.wy_types.specs.declared.path.Part.{Part}
+use Rattle.wy_types.specs.declared.path.Part.TheVariants.{Parameter, Result}
 use Rattle.wy_types.specs.declared.path.Step.{Step}
 use Rattle.wy_types.specs.Program.{Program, Scope, Body}
-use Rattle.wy_types.specs.Signature.{Signature, signature_types}
+use Rattle.wy_types.specs.Signature.{Signature}
 use Rattle.wy_types.specs.Types.{signature, methods_of}
-use Rattle.wy_types.specs.Paths.{Goes, Walks}
+use Rattle.wy_types.specs.Paths.{IsPartOf, Goes, Walks}
 use Rattle.wy_types.specs.Fitting.{FitsType, FitsSignature, AllSignaturesFit, SignaturesFit, IsTypeOf, own_count}
 use Rattle.wy_types.specs.Core.{IsCore, ScopeFits}
 use Rattle.wy_types.specs.Few.{ReachedAreFew}
 use Rattle.wy_types.proofs.Finite.{Fits-methods, type_bound, length-le-type_bound}
-use Rattle.wy_types.proofs.Reaching.{signature_types-part}
 
 IsSetFrom-wider : (k m n : ℕ) (xs : List ℕ) → m ≤ n → IsSetFrom k m xs → IsSetFrom k n xs
 IsSetFrom-wider k m n [] le s = tt
@@ -48,20 +48,14 @@ core_signatures_fit p c = record {
   bodies = λ k s e. body_signatures p s (c.scopes s (In-slice_get p.scopes k s e));
 }
 
+-- the types at the parts of a signature in range are in range
+pub Fits-part : (p : Program) (scope : ℕ) (m : Signature TypeRef) (part : Part) (u : TypeRef) → FitsSignature p 512 (own_count p scope) m → IsPartOf TypeRef (methods_of p scope) m part u → IsTypeOf p scope u
+Fits-part p scope m Result u f e = let P : TypeRef → Type 0 = λ v. IsTypeOf p scope v in subst P e f.result
+Fits-part p scope m (Parameter i) u f e = f.params u (In-slice_get m.params i u e)
+
 -- what a type in range reaches is in range
 pub Fits-goes : (p : Program) (w : SignaturesFit p) (scope : ℕ) (t : TypeRef) (s : Step) (u : TypeRef) → IsTypeOf p scope t → Goes TypeRef (methods_of p scope) t s u → IsTypeOf p scope u
-Fits-goes p w scope t s u f g =
-    let i : In u (signature_types (g.method ∷ [])) = signature_types-part TypeRef (methods_of p scope) (g.method ∷ []) g.method s.part u (inl refl) g.part in
-    let m : FitsSignature p 512 (own_count p scope) g.method = Fits-methods p w scope t f g.method g.has in
-    let P : TypeRef → Type 0 = λ v. IsTypeOf p scope v in
-    elim (In-params g.method u i) [ inl j ↦ m.params u j | inr e ↦ subst P e m.result ]
-  where
-    In-params : (m : Signature TypeRef) (u : TypeRef) → In u (signature_types (m ∷ [])) → In u m.params ⊎ (m.result ≡ u)
-    In-params m u i = split m.params i
-      where
-        split : (ps : List TypeRef) → In u ((ps ++ m.result ∷ []) ++ []) → In u ps ⊎ (m.result ≡ u)
-        split [] h = elim h [ inl e ↦ inr e | inr z ↦ absurd z ]
-        split (q ∷ ps) h = elim h [ inl e ↦ inl (inl e) | inr g ↦ elim (split ps g) [ inl j ↦ inl (inr j) | inr e ↦ inr e ] ]
+Fits-goes p w scope t s u f g = Fits-part p scope g.method s.part u (Fits-methods p w scope t f g.method g.has) g.part
 
 pub Fits-walks : (p : Program) (w : SignaturesFit p) (scope : ℕ) (path : List Step) (t u : TypeRef) → IsTypeOf p scope t → Walks TypeRef (methods_of p scope) t path u → IsTypeOf p scope u
 Fits-walks p w scope [] t u f walk = let P : TypeRef → Type 0 = λ v. IsTypeOf p scope v in subst P walk f

@@ -1,8 +1,12 @@
+pub mod Annotating
+pub mod Closing
+pub mod Composing
 pub mod Deciding
 pub mod Finite
 pub mod Gathered
 pub mod Kept
 pub mod Owning
 pub mod Reaching
+pub mod Reflecting
 pub mod Rows
 pub mod Worked

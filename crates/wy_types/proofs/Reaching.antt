@@ -60,6 +60,16 @@ object_of p scope (Named d ms) m i = tt
 object_of p scope (At d b) m i = tt
 object_of p scope (Own l) m i = tt
 
+-- a base type has no methods
+pub no_methods : (p : Program) (scope : ℕ) (t : TypeRef) → (IsObject t → ⊥) → methods_of p scope t ≡ []
+no_methods p scope Int n = refl
+no_methods p scope Bool n = refl
+no_methods p scope Text n = refl
+no_methods p scope Nothing n = refl
+no_methods p scope (Named d ms) n = absurd (n tt)
+no_methods p scope (At d b) n = absurd (n tt)
+no_methods p scope (Own l) n = absurd (n tt)
+
 step_to : (p : Program) (scope : ℕ) (t u : TypeRef) → In u (signature_types (methods_of p scope t)) → (s : Step) × Goes TypeRef (methods_of p scope) t s u
 step_to p scope t u i =
     let r = part_of_signature TypeRef (methods_of p scope) (methods_of p scope t) u i in

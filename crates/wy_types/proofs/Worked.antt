@@ -1,18 +1,20 @@
 -- The definitions tried on worked examples.
-use Rattle.std.proofs.Common.{ℕ, List, [], ◌∷◌, inl, inr, refl, subst, true, false}
+use Rattle.std.proofs.Common.{◌≡◌, ℕ, List, [], ◌∷◌, inl, inr, refl, subst, true, false}
 use Rattle.std.specs.Prelude.{codes}
 use Rattle.wy_effects.specs.Members.{Within}
 use Rattle.wy_types.specs.declared.types.TypeRef.{TypeRef}
-use Rattle.wy_types.specs.declared.types.TypeRef.TheVariants.{Int, Unit as Nothing, Named}
+use Rattle.wy_types.specs.declared.types.TypeRef.TheVariants.{Int, Unit as Nothing, Named, Bool}
 use Rattle.wy_types.specs.declared.types.Method.{Method}
 use Rattle.wy_types.specs.declared.path.Part.{Part}
-use Rattle.wy_types.specs.declared.path.Part.TheVariants.{Parameter}
+use Rattle.wy_types.specs.declared.path.Part.TheVariants.{Parameter, Result}
 use Rattle.wy_types.specs.declared.path.Step.{Step}
 use Rattle.wy_types.specs.declared.resolved.TypeDecl.{TypeDecl}
 use Rattle.wy_types.specs.Program.{Program}
 use Rattle.wy_types.specs.Signature.{Signature, find_method}
 use Rattle.wy_types.specs.Types.{IsObject, methods_of, signature}
-use Rattle.wy_types.specs.Subtyping.{IsClosed, HasCover, IsAnnotatedSubtype}
+use Rattle.wy_types.specs.Subtyping.{IsClosed, HasCover, IsAnnotatedSubtype, Leads}
+use Rattle.wy_types.proofs.Closing.{closed_path}
+use Rattle.wy_types.proofs.Reaching.{no_methods}
 use Rattle.wy_types.specs.Paths.{Goes, IsEffect}
 
 -- a method, and a type declaration of some abstract members
@@ -133,3 +135,41 @@ module _ (x : ℕ) where
     (step (codes "g") (Parameter 0) ∷ [], (with_atom 2 x, B_to_C, refl), refl),
     (signature (method (codes "h") [] (x ∷ []) (with_atom 0 x)), inl refl, inl refl),
   )
+
+------------------------------------------------------------
+-- Types that go on three times and end in different base types
+
+ending : List ℕ → TypeRef → TypeDecl
+ending name last = declaration name [] (method (codes "next") [] [] last ∷ [])
+
+ending_apart : Program
+ending_apart = record {
+  declarations =
+      ending (codes "S0") (Named 1 []) ∷ ending (codes "S1") (Named 2 []) ∷ ending (codes "S2") Int ∷
+      ending (codes "U0") (Named 4 []) ∷ ending (codes "U1") (Named 5 []) ∷ ending (codes "U2") Bool ∷ [];
+  scopes = [];
+}
+
+next_result : Step
+next_result = step (codes "next") Result
+
+-- three steps lead from S0 and U0 to Int and Bool
+to_different_ends : Leads TypeRef (methods_of ending_apart 0) IsObject Within (Named 0 [], Named 3 []) (next_result ∷ next_result ∷ next_result ∷ []) (Int, Bool)
+unfolding ending_apart ending declaration method next_result step
+to_different_ends = (
+  (Named 1 [], Named 4 []),
+  record { left = signature (method (codes "next") [] [] (Named 1 [])); right = signature (method (codes "next") [] [] (Named 4 [])); found = refl; asked = inl refl; named = refl; leads = (refl, refl) },
+  (
+    (Named 2 [], Named 5 []),
+    record { left = signature (method (codes "next") [] [] (Named 2 [])); right = signature (method (codes "next") [] [] (Named 5 [])); found = refl; asked = inl refl; named = refl; leads = (refl, refl) },
+    ((Int, Bool), record { left = signature (method (codes "next") [] [] Int); right = signature (method (codes "next") [] [] Bool); found = refl; asked = inl refl; named = refl; leads = (refl, refl) }, (refl, refl)),
+  ),
+)
+
+-- so S0 is no subtype of U0
+S0_not_under_U0 : IsAnnotatedSubtype ending_apart 0 (Named 0 []) (Named 3 []) → ⊥
+S0_not_under_U0 h =
+    elim (h.closed (Int, Bool) (closed_path TypeRef (methods_of ending_apart 0) IsObject Within (no_methods ending_apart 0) h.pairs h.closed (next_result ∷ next_result ∷ next_result ∷ []) (Named 0 [], Named 3 []) (Int, Bool) h.first to_different_ends)) [
+      | inl base ↦ (let e : Int ≡ Bool = base.0 in absurd (cc))
+      | inr object ↦ object.0
+    ]

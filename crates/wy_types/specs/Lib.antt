@@ -3,6 +3,7 @@ pub mod Core
 pub mod Few
 pub mod Fitting
 pub mod Gathering
+pub mod Order
 pub mod Paths
 pub mod Primitive
 pub mod Program

@@ -22,12 +22,14 @@ pub enum Binding {
     Own(u32),
 }
 
+/// The operators of one operand.
 #[derive(Clone, Copy, Debug, PartialEq, Eq)]
 pub enum UnaryOperator {
     Negate,
     Not,
 }
 
+/// The operators of two operands.
 #[derive(Clone, Copy, Debug, PartialEq, Eq)]
 pub enum BinaryOperator {
     Add,
@@ -86,6 +88,7 @@ pub enum Value {
     If(Place, Box<Expr>, Block, Block),
 }
 
+/// A statement of a block, but for its last one.
 #[derive(Debug, Drop)]
 #[cycle(code)]
 pub enum Stmt {

@@ -75,6 +75,7 @@ pub fn copy_types(alloc: Global, types: &[TypeRef]) -> Result<TypeList, Memory>
     Ok(out)
 }
 
+/// The types with each atom replaced by the set at its number in `by`.
 pub fn substitute_types(alloc: Global, types: &[TypeRef], by: &[EffSet]) -> Result<TypeList, Memory>
     ensures { IfOk result (λ l. l ≡ map (substituted by.now) types.now) }
 {
@@ -85,6 +86,7 @@ pub fn substitute_types(alloc: Global, types: &[TypeRef], by: &[EffSet]) -> Resu
     Ok(out)
 }
 
+/// The types with every declared type at the bound.
 pub fn annotate_types(alloc: Global, types: &[TypeRef], bound: &EffSet) -> Result<TypeList, Memory>
     ensures { IfOk result (λ l. l ≡ map (annotated bound.now) types.now) }
 {
@@ -95,6 +97,7 @@ pub fn annotate_types(alloc: Global, types: &[TypeRef], bound: &EffSet) -> Resul
     Ok(out)
 }
 
+/// The types with every declared type bare.
 pub fn erase_types(alloc: Global, types: &[TypeRef]) -> Result<TypeList, Memory>
     ensures { IfOk result (λ l. l ≡ map erased types.now) }
 {

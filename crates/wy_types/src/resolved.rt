@@ -23,6 +23,7 @@ pub struct TypeDecl {
     pub methods: Items<Method>,
 }
 
+/// The kinds of modules, and the program (docs/LANGUAGE.md, "Modules").
 #[derive(Clone, Copy, Debug, PartialEq, Eq)]
 pub enum ScopeKind {
     Pure,
@@ -63,6 +64,7 @@ pub struct OwnName {
     pub origin: Origin,
 }
 
+/// A field of a module or of an object literal.
 #[derive(Debug, Drop)]
 pub struct Field {
     pub name: Text,

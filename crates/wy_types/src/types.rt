@@ -6,7 +6,7 @@ use wy_effects::set::{EffSet, SetList, copy_sets, same_sets};
 use wy_text::list::Items;
 use wy_text::text::{Memory, Text};
 
-/// A type in a scope (docs/LANGUAGE.md, "Types"). A declared type goes by its number among the
+/// A type in a scope (docs/LANGUAGE.md, "Effects and types"). A declared type goes by its number among the
 /// declarations; the sets are of the scope's atoms.
 #[derive(Debug, Drop, PartialEq, Eq)]
 pub enum TypeRef {
