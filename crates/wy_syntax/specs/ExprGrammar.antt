@@ -1,5 +1,5 @@
 -- Which tokens spell expressions.
-use Rattle.std.specs.Prelude.{◌≡◌, ℕ, zero, suc, ◌≤◌, ℤ, pos, negsuc, Bool, true, false, List, [], ◌∷◌, ◌⊎◌}
+use Rattle.std.specs.Prelude.{◌≡◌, ℕ, zero, suc, ◌≤◌, ℤ, pos, negsuc, Bool, false, List, [], ◌∷◌, ◌⊎◌}
 use Rattle.wy_text.specs.declared.fault.Place.{Place}
 use Rattle.wy_text.specs.declared.token.TokenKind.{TokenKind}
 use Rattle.wy_text.specs.declared.token.TokenKind.TheVariants as kind
@@ -7,7 +7,7 @@ use Rattle.wy_syntax.specs.declared.expressions.Operator.{Operator}
 use Rattle.wy_syntax.specs.declared.expressions.Operator.TheVariants as op
 use Rattle.wy_syntax.specs.Tokens.{Tok, starts}
 use Rattle.wy_syntax.specs.Trees.{ExprTree, ExprTrees, number, text, yes, no, this, name, unit, negate, invert, binary, call, size, part, byte_at, byte, show, ascribe, choice, none, more}
-use Rattle.wy_syntax.specs.Languages.{Lang, Sign, Mark, Word, Then, ◌⨟◌, Nothing, Only}
+use Rattle.wy_syntax.specs.Languages.{Lang, Sign, Mark, Word, ◌⨟◌, Only}
 use Rattle.wy_syntax.specs.TypeGrammar.{SpellsType}
 
 -- The levels: 0 Arg, 1 Expr, 2 And, 3 Cmp, 4 Sum, 5 Product, 6 Unary, 7 Post, 8 Atomic.

@@ -1,5 +1,5 @@
 -- Which tokens spell items and files.
-use Rattle.std.specs.Prelude.{◌≡◌, ℕ, Bool, true, false, List, [], ◌∷◌, ◌++◌, Option, None, Some}
+use Rattle.std.specs.Prelude.{◌≡◌, true, false, List, [], Option, None, Some}
 use Rattle.wy_text.specs.declared.token.TokenKind.TheVariants as kind
 use Rattle.wy_syntax.specs.declared.types.Name.{Name}
 use Rattle.wy_syntax.specs.declared.items.Member.{Member}
@@ -11,7 +11,7 @@ use Rattle.wy_syntax.specs.declared.items.Init.{Init}
 use Rattle.wy_syntax.specs.declared.items.Grant.{Grant}
 use Rattle.wy_syntax.specs.Tokens.{Tok}
 use Rattle.wy_syntax.specs.Trees.{InsideTree, no_parts, ItemTree, type_item, pure_item, resource_item, plain_item, program_item}
-use Rattle.wy_syntax.specs.Languages.{Lang, Sign, Mark, Word, Then, ◌⨟◌, Nothing, Only, Each, Commas, Indented}
+use Rattle.wy_syntax.specs.Languages.{Lang, Sign, Mark, Word, ◌⨟◌, Each, Commas, Indented}
 use Rattle.wy_syntax.specs.TypeGrammar.{SpellsSet, SpellsModuleParam, SpellsSignature}
 use Rattle.wy_syntax.specs.StmtGrammar.{SpellsParts, SpellsTail}
 
@@ -67,9 +67,9 @@ SpellsItem (plain_item p n params sealed parts) =
     Mark kind.KwPlain p ⨟ Sign kind.KwModule ⨟ Word n
     ⨟ Sign kind.SymOpenParen ⨟ Commas (SpellsModuleParam true) params ⨟ Sign kind.SymCloseParen
     ⨟ Sign kind.SymColon ⨟ Word sealed ⨟ Sign kind.Nl ⨟ Indented (parts ≡ no_parts) (SpellsParts true parts)
-SpellsItem (program_item p grants uses lines run effect body) =
+SpellsItem (program_item p grants uses lines started effect body) =
     Mark kind.KwProgram p ⨟ Sign kind.Nl ⨟ Sign kind.In ⨟ Each SpellsGrant grants ⨟ Each SpellsUse uses ⨟ Each SpellsLine lines
-    ⨟ Mark kind.KwRun run ⨟ Sign kind.SymColon ⨟ SpellsSet effect ⨟ SpellsTail false body ⨟ Sign kind.Out
+    ⨟ Mark kind.KwRun started ⨟ Sign kind.SymColon ⨟ SpellsSet effect ⨟ SpellsTail false body ⨟ Sign kind.Out
 
 -- File
 abbrev pub Spells : List Tok → List ItemTree → Type 0

@@ -1,6 +1,8 @@
+pub mod Canonical
 pub mod ExprGrammar
 pub mod Grammar
 pub mod Languages
+pub mod Nodes
 pub mod StmtGrammar
 pub mod Tokens
 pub mod Trees

@@ -1,12 +1,11 @@
 -- Which tokens spell right sides, statements, parts and bodies.
-use Rattle.std.specs.Prelude.{◌≡◌, ℕ, Bool, true, false, List, [], ◌∷◌, Option, None, Some}
+use Rattle.std.specs.Prelude.{◌≡◌, ℕ, Bool, true, false, [], None, Some}
 use Rattle.wy_text.specs.declared.token.TokenKind.{TokenKind}
 use Rattle.wy_text.specs.declared.token.TokenKind.TheVariants as kind
 use Rattle.wy_syntax.specs.declared.statements.FieldKind.{FieldKind}
 use Rattle.wy_syntax.specs.declared.statements.FieldKind.TheVariants as fields
-use Rattle.wy_syntax.specs.Tokens.{Tok}
 use Rattle.wy_syntax.specs.Trees.{RhsTree, literal, branch, value, StmtTree, StmtTrees, val, assign, run, no_stmts, more_stmts, PartTree, PartTrees, field, method, no_parts, more_parts, TailTree, short, long}
-use Rattle.wy_syntax.specs.Languages.{Lang, Sign, Mark, Word, Then, ◌⨟◌, Nothing, Only, Indented}
+use Rattle.wy_syntax.specs.Languages.{Lang, Sign, Mark, Word, ◌⨟◌, Only, Indented}
 use Rattle.wy_syntax.specs.TypeGrammar.{SpellsType, SpellsSignature}
 use Rattle.wy_syntax.specs.ExprGrammar.{SpellsExpr}
 

@@ -1,5 +1,5 @@
 -- Tokens as the grammar sees them, and a number for each kind of token.
-use Rattle.std.specs.Prelude.{ℕ, ℤ, pos, negsuc, Bool, true, false, ◌||◌, ◌==◌, List, [], ◌∷◌, map}
+use Rattle.std.specs.Prelude.{ℕ, pos, negsuc, Bool, false, ◌||◌, ◌==◌, List, [], ◌∷◌, map}
 use Rattle.wy_text.specs.declared.fault.Place.{Place}
 use Rattle.wy_text.specs.declared.token.Token.{Token}
 use Rattle.wy_text.specs.declared.token.TokenKind.{TokenKind}

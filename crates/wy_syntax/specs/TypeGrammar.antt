@@ -1,5 +1,5 @@
 -- Which tokens spell sets, types and signatures. `plain` is true in plain modules.
-use Rattle.std.specs.Prelude.{◌≡◌, Bool, true, false, List, [], ◌∷◌, Option, None, Some}
+use Rattle.std.specs.Prelude.{◌≡◌, Bool, true, false, List, Option, None, Some}
 use Rattle.wy_text.specs.declared.token.TokenKind.TheVariants as kind
 use Rattle.wy_syntax.specs.declared.types.Name.{Name}
 use Rattle.wy_syntax.specs.declared.types.AtomUse.{AtomUse}
@@ -8,8 +8,7 @@ use Rattle.wy_syntax.specs.declared.types.TypeUse.{TypeUse}
 use Rattle.wy_syntax.specs.declared.types.TypeUse.TheVariants as types
 use Rattle.wy_syntax.specs.declared.types.Param.{Param}
 use Rattle.wy_syntax.specs.declared.types.Signature.{Signature}
-use Rattle.wy_syntax.specs.Tokens.{Tok}
-use Rattle.wy_syntax.specs.Languages.{Lang, Sign, Mark, Word, Then, ◌⨟◌, Nothing, Only, Commas, Commas1}
+use Rattle.wy_syntax.specs.Languages.{Lang, Sign, Mark, Word, ◌⨟◌, Nothing, Only, Commas, Commas1}
 
 -- a member, or an owner and its member
 abbrev pub OwnedName : Option Name → Name → Lang

@@ -1,5 +1,5 @@
 -- The tree of each of the code's values.
-use Rattle.std.specs.Prelude.{ℕ, List, map}
+use Rattle.std.specs.Prelude.{List, map}
 use Rattle.wy_syntax.specs.declared.expressions.Expr.{Expr, fold-Expr}
 use Rattle.wy_syntax.specs.declared.expressions.Expr.TheOpen.{Expr-F}
 use Rattle.wy_syntax.specs.declared.statements.Part.TheOpen.{Part-F, Rhs-F, Stmt-F, Tail-F}
