@@ -11,7 +11,7 @@ use Rattle.wy_syntax.specs.declared.items.Init.{Init}
 use Rattle.wy_syntax.specs.declared.items.Grant.{Grant}
 use Rattle.wy_syntax.specs.Tokens.{Tok}
 use Rattle.wy_syntax.specs.Trees.{InsideTree, no_parts, ItemTree, type_item, pure_item, resource_item, plain_item, program_item}
-use Rattle.wy_syntax.specs.Languages.{Lang, Sign, Mark, Word, ◌⨟◌, Each, Commas, Indented}
+use Rattle.wy_syntax.specs.Languages.{Lang, Sign, Mark, Word, ◌⨟◌, Each, Commas, Indented, InParens}
 use Rattle.wy_syntax.specs.TypeGrammar.{SpellsSet, SpellsModuleParam, SpellsSignature}
 use Rattle.wy_syntax.specs.StmtGrammar.{SpellsParts, SpellsTail}
 
@@ -29,10 +29,10 @@ SpellsUse n = Sign kind.KwUse ⨟ Word n ⨟ Sign kind.Nl
 abbrev pub SpellsLine : Line → Lang
 SpellsLine (lines.Instance x m arguments) =
     Sign kind.KwInstance ⨟ Word x ⨟ Sign kind.SymEqual ⨟ Word m
-    ⨟ Sign kind.SymOpenParen ⨟ Commas Word arguments ⨟ Sign kind.SymCloseParen ⨟ Sign kind.Nl
+    ⨟ InParens (Commas Word arguments) ⨟ Sign kind.Nl
 SpellsLine (lines.Import x m arguments bound) =
     Sign kind.KwImport ⨟ Word x ⨟ Sign kind.SymEqual ⨟ Word m
-    ⨟ Sign kind.SymOpenParen ⨟ Commas Word arguments ⨟ Sign kind.SymCloseParen ⨟ Sign kind.KwAt ⨟ SpellsSet bound ⨟ Sign kind.Nl
+    ⨟ InParens (Commas Word arguments) ⨟ Sign kind.KwAt ⨟ SpellsSet bound ⨟ Sign kind.Nl
 
 -- Define
 abbrev pub SpellsDefine : Define → Lang
@@ -61,11 +61,11 @@ SpellsItem (type_item t) = Mark kind.KwType t.place ⨟ Word t.name ⨟ Sign kin
 SpellsItem (pure_item p n sealed inside) = Mark kind.KwModule p ⨟ Word n ⨟ Sign kind.SymColon ⨟ Word sealed ⨟ Sign kind.Nl ⨟ SpellsInside inside
 SpellsItem (resource_item p n params sealed inside) =
     Mark kind.KwResource p ⨟ Sign kind.KwModule ⨟ Word n
-    ⨟ Sign kind.SymOpenParen ⨟ Commas (SpellsModuleParam false) params ⨟ Sign kind.SymCloseParen
+    ⨟ InParens (Commas (SpellsModuleParam false) params)
     ⨟ Sign kind.SymColon ⨟ Word sealed ⨟ Sign kind.Nl ⨟ SpellsInside inside
 SpellsItem (plain_item p n params sealed parts) =
     Mark kind.KwPlain p ⨟ Sign kind.KwModule ⨟ Word n
-    ⨟ Sign kind.SymOpenParen ⨟ Commas (SpellsModuleParam true) params ⨟ Sign kind.SymCloseParen
+    ⨟ InParens (Commas (SpellsModuleParam true) params)
     ⨟ Sign kind.SymColon ⨟ Word sealed ⨟ Sign kind.Nl ⨟ Indented (parts ≡ no_parts) (SpellsParts true parts)
 SpellsItem (program_item p grants uses lines started effect body) =
     Mark kind.KwProgram p ⨟ Sign kind.Nl ⨟ Sign kind.In ⨟ Each SpellsGrant grants ⨟ Each SpellsUse uses ⨟ Each SpellsLine lines

@@ -62,6 +62,13 @@ abbrev pub Commas : {A : Type 0} → (A → Lang) → List A → Lang
 Commas P [] u = u ≡ []
 Commas P (a ∷ as') u = (P a ⨟ Each (λ b. Sign kind.SymComma ⨟ P b) as') u
 
+-- in lines of their own, one indentation further in
+abbrev pub Lines : Lang → Lang
+Lines P = Sign kind.In ⨟ P ⨟ Sign kind.Out
+
 -- indented lines, or none where nothing stands in them
 abbrev pub Indented : Type 0 → Lang → Lang
-Indented Empty P u = (Empty × (u ≡ [])) ⊎ (Sign kind.In ⨟ P ⨟ Sign kind.Out) u
+Indented Empty P u = (Empty × (u ≡ [])) ⊎ Lines P u
+
+abbrev pub InParens : Lang → Lang
+InParens P = Sign kind.SymOpenParen ⨟ P ⨟ Sign kind.SymCloseParen

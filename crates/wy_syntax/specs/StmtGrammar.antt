@@ -5,7 +5,7 @@ use Rattle.wy_text.specs.declared.token.TokenKind.TheVariants as kind
 use Rattle.wy_syntax.specs.declared.statements.FieldKind.{FieldKind}
 use Rattle.wy_syntax.specs.declared.statements.FieldKind.TheVariants as fields
 use Rattle.wy_syntax.specs.Trees.{RhsTree, literal, branch, value, StmtTree, StmtTrees, val, assign, run, no_stmts, more_stmts, PartTree, PartTrees, field, method, no_parts, more_parts, TailTree, short, long}
-use Rattle.wy_syntax.specs.Languages.{Lang, Sign, Mark, Word, ◌⨟◌, Only, Indented}
+use Rattle.wy_syntax.specs.Languages.{Lang, Sign, Mark, Word, ◌⨟◌, Only, Indented, Lines}
 use Rattle.wy_syntax.specs.TypeGrammar.{SpellsType, SpellsSignature}
 use Rattle.wy_syntax.specs.ExprGrammar.{SpellsExpr}
 
@@ -23,8 +23,8 @@ abbrev mutual
   pub SpellsRhs : Bool → ℕ → RhsTree → Lang
   SpellsRhs plain k (literal p ps) u = (Mark kind.KwNew p ⨟ Sign kind.Nl ⨟ Indented (ps ≡ no_parts) (SpellsParts plain ps)) u
   SpellsRhs plain k (branch p c a b) u = Only (k ≡ 0)
-      (Mark kind.KwIf p ⨟ SpellsExpr plain 1 c ⨟ Sign kind.Nl ⨟ Sign kind.In ⨟ SpellsBlock plain a ⨟ Sign kind.Out
-      ⨟ Sign kind.KwElse ⨟ Sign kind.Nl ⨟ Sign kind.In ⨟ SpellsBlock plain b ⨟ Sign kind.Out) u
+      (Mark kind.KwIf p ⨟ SpellsExpr plain 1 c ⨟ Sign kind.Nl ⨟ Lines (SpellsBlock plain a)
+      ⨟ Sign kind.KwElse ⨟ Sign kind.Nl ⨟ Lines (SpellsBlock plain b)) u
   SpellsRhs plain k (value e) u = (SpellsExpr plain k e ⨟ Sign kind.Nl) u
 
   -- Stmt
@@ -52,4 +52,4 @@ abbrev mutual
   -- Tail
   pub SpellsTail : Bool → TailTree → Lang
   SpellsTail plain (short r) u = (Sign kind.SymEqual ⨟ SpellsRhs plain 0 r) u
-  SpellsTail plain (long ss) u = (Sign kind.Nl ⨟ Sign kind.In ⨟ SpellsBlock plain ss ⨟ Sign kind.Out) u
+  SpellsTail plain (long ss) u = (Sign kind.Nl ⨟ Lines (SpellsBlock plain ss)) u

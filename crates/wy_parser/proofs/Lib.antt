@@ -1,0 +1,9 @@
+pub mod Blocks
+pub mod Else
+pub mod Exact
+pub mod KindNumbers
+pub mod Made
+pub mod Two
+pub mod TypeReaders
+pub mod Levels
+pub mod ExprReaders
