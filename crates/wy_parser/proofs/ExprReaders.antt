@@ -551,7 +551,7 @@ made_chain plain next next' n n' m h k M =
 
 -- ---- choices
 
-abbrev ChoiceRest : Bool → Place → ExprTree → ExprTree → List Tok → Type 0
+abbrev pub ChoiceRest : Bool → Place → ExprTree → ExprTree → List Tok → Type 0
 ChoiceRest plain p c = SeqOf (λ q. Mark kind.KwThen q) (λ k0. SeqOf (λ e u. SpellsExpr plain 0 e u) (λ a. SeqOf (λ q. Mark kind.KwElse q) (λ k2. MapOf (λ b. choice c a b p) (λ e u. SpellsExpr plain 0 e u))))
 
 pub made_choice_rest : (plain : Bool) (p : Place) (c : ExprTree) (arg arg' : R ExprTree) (m : ℕ) → Made arg arg' (λ e u. SpellsExpr plain 0 e u) arg_first arg_behind false m → Made (choice_rest arg p c) (choice_rest arg' p c) (ChoiceRest plain p c) (23 ∷ []) arg_behind false m
@@ -562,7 +562,7 @@ made_choice_rest plain p c arg arg' m A =
     seq (made_mark 24 m refl) (λ k2.
     map_to (λ b. choice c a b p) (A)) refl) refl) refl
 
-abbrev Choices : Bool → ExprTree → List Tok → Type 0
+abbrev pub Choices : Bool → ExprTree → List Tok → Type 0
 Choices plain = SeqOf (λ q. Mark kind.KwIf q) (λ p. SeqOf (λ e u. SpellsExpr plain 1 e u) (λ c. ChoiceRest plain p c))
 
 made_choice : (plain : Bool) (expr expr' arg arg' : R ExprTree) (m : ℕ) → Made expr expr' (λ e u. SpellsExpr plain 1 e u) expr_first expr_behind false (m - 1) → Made arg arg' (λ e u. SpellsExpr plain 0 e u) arg_first arg_behind false (m - 1) → Made (choice_of expr arg) (choice_of expr' arg') (Choices plain) (22 ∷ []) arg_behind false m

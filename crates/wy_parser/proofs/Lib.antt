@@ -7,3 +7,5 @@ pub mod Two
 pub mod TypeReaders
 pub mod Levels
 pub mod ExprReaders
+pub mod StmtReaders
+pub mod ItemReaders
