@@ -9,3 +9,4 @@ pub mod Levels
 pub mod ExprReaders
 pub mod StmtReaders
 pub mod ItemReaders
+pub mod FileReader
