@@ -10,3 +10,5 @@ pub mod ExprReaders
 pub mod StmtReaders
 pub mod ItemReaders
 pub mod FileReader
+pub mod Numbers
+pub mod Turns
