@@ -17,11 +17,11 @@ use Rattle.wy_syntax.specs.TypeGrammar.{SpellsType}
 use Rattle.wy_syntax.specs.ExprGrammar.{symbol_of, level_of_op, left_level_of, right_level_of, Within, edge, SpellsNumber, Wrapped, Placed, Unnumbered, Bare, Arguments, MoreArguments, SpellsExpr}
 use Rattle.wy_parser.specs.Reading.{Reader, ◌>>=◌, ret, choose, starts}
 use Rattle.wy_parser.specs.Parsing.{R, tok, mark, word, commas, text_of_kind, value_of_kind, type_use}
-use Rattle.wy_parser.specs.ExprParsing.{expr_first, arg_first, digits, minus_of, operator_at, number_alone, text_alone, alone, name_alone, built1, built2, built3, is_choice, closing_unit, ascription, closing_expr, after_arg, enclosed, parens, built, atomic, call_part, add_call, post, minus_digits, minus_edge, negated, minus, bang, unary, operator_part, add_binary, level, product, sum, compare_set, compare, conj, disj, chain, choice_rest, choice_of, p_unary, p_expr, p_arg}
+use Rattle.wy_parser.specs.ExprParsing.{expr_first, arg_first, digits, minus_of, operator_at, number_alone, text_alone, alone, name_alone, argument_at, one_argument, built1, built2, built3, is_choice, closing_unit, ascription, closing_expr, after_arg, enclosed, parens, built, atomic, call_part, add_call, post, minus_digits, minus_edge, negated, minus, bang, unary, operator_part, add_binary, level, product, sum, compare_set, compare, conj, disj, chain, choice_rest, choice_of, p_unary, p_expr, p_arg}
 use Rattle.wy_parser.proofs.KindNumbers.{kind_at, number_is, text_is}
 use Rattle.wy_parser.proofs.Exact.{Last, Spelled}
 use Rattle.wy_parser.proofs.Else.{Other}
-use Rattle.wy_parser.proofs.Made.{Made, SeqOf, MapOf, IsOf, OneOf, Or, Elsewhere, LeftOf, seq, behind, map_to, give, alt, otherwise, made_never, become, nullable, less, here, token_at, made_tok, made_mark, made_word, made_commas, made_left, left_fits, is_member, member_is, pass, unpass, all_of, alone_of, map_of, sign, unsign, sub, off}
+use Rattle.wy_parser.proofs.Made.{Made, SeqOf, MapOf, IsOf, OneOf, Or, Elsewhere, LeftOf, seq, behind, map_to, give, alt, otherwise, made_never, become, nullable, less, here, token_at, made_tok, made_mark, made_word, made_commas, made_left, left_fits, is_member, member_is, pass, unpass, unpass_as, all_of, alone_of, map_of, sign, unsign, sub, off}
 use Rattle.wy_parser.proofs.Levels.{bare, lower, lower_wrapped, lower_placed, no_choice, raise_arg, IsLevel, level1, level2, level3, level4, level5, Tail, join, split}
 use Rattle.wy_parser.proofs.TypeReaders.{made_type}
 
@@ -102,12 +102,14 @@ abbrev IsSize : Bool → ExprTree → List Tok → Type 0
 IsSize plain = SeqOf (λ q. Mark kind.KwTextSize q) (λ p. SeqOf (λ q. Mark kind.SymOpenParen q) (λ k1. SeqOf (λ e u. SpellsExpr plain 0 e u) (λ e. MapOf (λ k3. size e p) (λ q. Mark kind.SymCloseParen q))))
 
 made_size : (plain : Bool) (arg arg' : R ExprTree) (m : ℕ) → Made arg arg' (λ e u. SpellsExpr plain 0 e u) arg_first arg_behind false (m - 1) → Made (built1 33 size arg) (built1 33 size arg') (IsSize plain) (33 ∷ []) [] false m
-unfolding built1
-made_size plain arg arg' m A =
+unfolding built1 one_argument
+made_size plain arg arg' m A = become (map_to (λ x. size x.0 x.1) (
     behind (made_mark 33 m refl) (λ p.
     seq (made_mark 38 (m - 1) refl) (λ k1.
     seq (A) (λ e.
-    map_to (λ k3. size e p) (made_mark 39 (m - 1) refl)) refl) refl) refl
+    map_to (λ k3. argument_at e p) (made_mark 39 (m - 1) refl)) refl) refl) refl))
+    (λ z u s. let w = s.spelled in unpass_as w w.value w.first (unpass_as w.second w.second.value w.second.first (unpass_as w.second.second w.second.second.value w.second.second.first (map_of w.second.second.second.value (s.is ∙ ap (λ (y : ExprTree × Place). size y.0 y.1) w.second.second.second.is) w.second.second.second.spelled))))
+    (λ z u s. map_of (argument_at s.second.second.value s.value) s.second.second.second.is (unpass_as s s.value s.first (unpass_as s.second s.second.value s.second.first (unpass_as s.second.second s.second.second.value s.second.second.first (map_of s.second.second.second.value refl s.second.second.second.spelled))))) refl
 
 abbrev IsPart : Bool → ExprTree → List Tok → Type 0
 IsPart plain = SeqOf (λ q. Mark kind.KwTextPart q) (λ p. SeqOf (λ q. Mark kind.SymOpenParen q) (λ k1. SeqOf (λ e u. SpellsExpr plain 0 e u) (λ e. SeqOf (λ q. Mark kind.SymComma q) (λ k3. SeqOf (λ e u. SpellsExpr plain 0 e u) (λ a. SeqOf (λ q. Mark kind.SymComma q) (λ k5. SeqOf (λ e u. SpellsExpr plain 0 e u) (λ b. MapOf (λ k7. part e a b p) (λ q. Mark kind.SymCloseParen q))))))))
@@ -141,23 +143,27 @@ abbrev IsByte : Bool → ExprTree → List Tok → Type 0
 IsByte plain = SeqOf (λ q. Mark kind.KwTextByte q) (λ p. SeqOf (λ q. Mark kind.SymOpenParen q) (λ k1. SeqOf (λ e u. SpellsExpr plain 0 e u) (λ e. MapOf (λ k3. byte e p) (λ q. Mark kind.SymCloseParen q))))
 
 made_byte : (plain : Bool) (arg arg' : R ExprTree) (m : ℕ) → Made arg arg' (λ e u. SpellsExpr plain 0 e u) arg_first arg_behind false (m - 1) → Made (built1 36 byte arg) (built1 36 byte arg') (IsByte plain) (36 ∷ []) [] false m
-unfolding built1
-made_byte plain arg arg' m A =
+unfolding built1 one_argument
+made_byte plain arg arg' m A = become (map_to (λ x. byte x.0 x.1) (
     behind (made_mark 36 m refl) (λ p.
     seq (made_mark 38 (m - 1) refl) (λ k1.
     seq (A) (λ e.
-    map_to (λ k3. byte e p) (made_mark 39 (m - 1) refl)) refl) refl) refl
+    map_to (λ k3. argument_at e p) (made_mark 39 (m - 1) refl)) refl) refl) refl))
+    (λ z u s. let w = s.spelled in unpass_as w w.value w.first (unpass_as w.second w.second.value w.second.first (unpass_as w.second.second w.second.second.value w.second.second.first (map_of w.second.second.second.value (s.is ∙ ap (λ (y : ExprTree × Place). byte y.0 y.1) w.second.second.second.is) w.second.second.second.spelled))))
+    (λ z u s. map_of (argument_at s.second.second.value s.value) s.second.second.second.is (unpass_as s s.value s.first (unpass_as s.second s.second.value s.second.first (unpass_as s.second.second s.second.second.value s.second.second.first (map_of s.second.second.second.value refl s.second.second.second.spelled))))) refl
 
 abbrev IsShow : Bool → ExprTree → List Tok → Type 0
 IsShow plain = SeqOf (λ q. Mark kind.KwTextShow q) (λ p. SeqOf (λ q. Mark kind.SymOpenParen q) (λ k1. SeqOf (λ e u. SpellsExpr plain 0 e u) (λ e. MapOf (λ k3. show e p) (λ q. Mark kind.SymCloseParen q))))
 
 made_show : (plain : Bool) (arg arg' : R ExprTree) (m : ℕ) → Made arg arg' (λ e u. SpellsExpr plain 0 e u) arg_first arg_behind false (m - 1) → Made (built1 37 show arg) (built1 37 show arg') (IsShow plain) (37 ∷ []) [] false m
-unfolding built1
-made_show plain arg arg' m A =
+unfolding built1 one_argument
+made_show plain arg arg' m A = become (map_to (λ x. show x.0 x.1) (
     behind (made_mark 37 m refl) (λ p.
     seq (made_mark 38 (m - 1) refl) (λ k1.
     seq (A) (λ e.
-    map_to (λ k3. show e p) (made_mark 39 (m - 1) refl)) refl) refl) refl
+    map_to (λ k3. argument_at e p) (made_mark 39 (m - 1) refl)) refl) refl) refl))
+    (λ z u s. let w = s.spelled in unpass_as w w.value w.first (unpass_as w.second w.second.value w.second.first (unpass_as w.second.second w.second.second.value w.second.second.first (map_of w.second.second.second.value (s.is ∙ ap (λ (y : ExprTree × Place). show y.0 y.1) w.second.second.second.is) w.second.second.second.spelled))))
+    (λ z u s. map_of (argument_at s.second.second.value s.value) s.second.second.second.is (unpass_as s s.value s.first (unpass_as s.second s.second.value s.second.first (unpass_as s.second.second s.second.second.value s.second.second.first (map_of s.second.second.second.value refl s.second.second.second.spelled))))) refl
 
 abbrev Builts : Bool → ExprTree → List Tok → Type 0
 Builts plain = (Or (IsSize plain) (Or (IsPart plain) (Or (IsByteat plain) (Or (IsByte plain) (IsShow plain)))))

@@ -12,3 +12,7 @@ pub mod ItemReaders
 pub mod FileReader
 pub mod Numbers
 pub mod Turns
+pub mod Depths
+pub mod Rows
+pub mod Ends
+pub mod Examples

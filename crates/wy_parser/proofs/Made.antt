@@ -298,6 +298,10 @@ pass s q w = record { front = s.front; back = s.back; parts = s.parts; first = q
 pub unpass : {A B : Type 0} {S : A → List Tok → Type 0} {P : A → B → List Tok → Type 0} {b : B} {u : List Tok} {Q W : List Tok → Type 0} (s : Then Q W u) (a : A) → S a s.front → P a b s.back → SeqOf S P b u
 unpass s a q w = record { value = a; front = s.front; back = s.back; parts = s.parts; first = q; second = w }
 
+-- a sequence that was read, with other relations
+pub unpass_as : {A B D : Type 0} {S S' : A → List Tok → Type 0} {P : A → B → List Tok → Type 0} {P' : A → D → List Tok → Type 0} {b : B} {d : D} {u : List Tok} (s : SeqOf S P b u) (a : A) → S' a s.front → P' a d s.back → SeqOf S' P' d u
+unpass_as s a q w = record { value = a; front = s.front; back = s.back; parts = s.parts; first = q; second = w }
+
 -- a first part that is all, since nothing stands behind it
 pub all_of : {A B : Type 0} {S : A → List Tok → Type 0} {P : A → B → List Tok → Type 0} {b : B} {u : List Tok} (a : A) → S a u → P a b [] → SeqOf S P b u
 all_of {A} {B} {S} {P} {b} {u} a s t = record { value = a; front = u; back = []; parts = sym (append-nil u); first = s; second = t }

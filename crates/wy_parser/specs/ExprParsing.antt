@@ -68,13 +68,22 @@ name_alone = do
 
 -- ---- what takes arguments in parentheses
 
-unfoldable pub built1 : ℕ → (ExprTree → Place → ExprTree) → R ExprTree → R ExprTree
-built1 k f arg = do
+abbrev pub argument_at : ExprTree → Place → ExprTree × Place
+argument_at e p = (e, p)
+
+-- a word and one argument
+unfoldable pub one_argument : ℕ → R ExprTree → R (ExprTree × Place)
+one_argument k arg = do
   p ← mark k
   opening ← mark 38
   e ← arg
   closing ← mark 39
-  ret (f e p)
+  ret (argument_at e p)
+
+unfoldable pub built1 : ℕ → (ExprTree → Place → ExprTree) → R ExprTree → R ExprTree
+built1 k f arg = do
+  x ← one_argument k arg
+  ret (f x.0 x.1)
 
 unfoldable pub built2 : R ExprTree → R ExprTree
 built2 arg = do

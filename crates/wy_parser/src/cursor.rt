@@ -1,7 +1,7 @@
 //! The smallest readers: one token of some kinds.
 ghost use Rattle.std.specs.Prelude.{◌≡◌, IfOk};
 ghost use Rattle.wy_syntax.specs.Tokens.{code, code_of, member, tok_of, toks};
-ghost use Rattle.wy_parser.specs.Reading.{starts};
+ghost use Rattle.wy_parser.specs.Reading.{starts, starts2};
 ghost use Rattle.wy_parser.specs.Parsing.{tok, mark, word, name_at, text_of_kind, value_of_kind};
 ghost use Rattle.wy_parser.specs.Sorts.{number_of, numbers, Gives};
 
@@ -82,4 +82,16 @@ pub fn word<'a>(alloc: Global, tokens: &'a [Token]) -> Result<(Name, &'a [Token]
         },
         rest,
     ))
+}
+
+/// Whether the first token's kind is in the first set and the second one's in the second.
+pub fn begins_two(tokens: &[Token], first: &[Sort], second: &[Sort]) -> bool
+    ensures { result ≡ starts2 code (numbers first.now) (numbers second.now) (toks tokens.now) }
+{
+    match tokens {
+        [one, two, ..] => {
+            has(first, sort_of(&one.kind).number()) && has(second, sort_of(&two.kind).number())
+        }
+        _ => false,
+    }
 }
