@@ -67,7 +67,7 @@ hello_tokens = hello_front ++ tok kind.End 5 1 ∷ []
 
 abbrev pub hello_tree : List ItemTree
 hello_tree = program_item (at 1 1) (grant (named (codes "console") 2 9) (named (codes "Console") 2 18) ∷ []) [] [] (at 3 3) (owned (codes "console") 3 9 (codes "Out") 3 17 ∷ [])
-      (long (more_stmts (run (value (call (name (named (codes "console") 4 5)) (named (codes "write") 4 13) (more (text (codes "hello\n") (at 4 19)) none)))) no_stmts)) ∷ []
+    (long (more_stmts (run (value (call (name (named (codes "console") 4 5)) (named (codes "write") 4 13) (more (text (codes "hello\n") (at 4 19)) none)))) no_stmts)) ∷ []
 
 hello_read : p_file (length hello_tokens + 2) hello_tokens ≡ Yes hello_tree []
 unfolding items item type_of pure_of resource_of plain_of program_of p_file inside_lines inside_of grant_of init_of define_of line_of import_of instance_of use_of members_inside member_of method_member effect_member part method_of field_of tail block_of stmt assign_of val_of untyped_val typed_val untyped_rhs rhs expr_line if_of branch_rest indented_block literal_of parts_inside p_rhs atomic built built1 built2 built3 one_argument parens ascription call_part post minus bang unary product sum compare conj disj choice_rest choice_of p_unary atom set member_set object_rest object type_use param module_param effect signature
@@ -94,9 +94,14 @@ logger_tokens = logger_front ++ tok kind.End 7 1 ∷ []
 abbrev pub logger_tree : List ItemTree
 logger_tree = type_item (record { place = at 1 1; name = named (codes "Logger") 1 6; members = members.Abstract (named (codes "Log") 2 10) ∷ members.Method (signed (at 3 3) (named (codes "log") 3 7) (string (codes "t") 3 11 3 14 ∷ []) (alone (codes "Log") 3 24 ∷ []) (types.Unit (at 3 29))) ∷ [] })
     ∷ resource_item (at 4 1) (named (codes "logger") 4 17) (record { name = named (codes "disk") 4 24; type_use = types.Bare (named (codes "Folder") 4 30) } ∷ []) (named (codes "Logger") 4 39)
-      (record { uses = []; lines = []; defines = record { name = named (codes "Log") 5 10; effect = owned (codes "disk") 5 17 (codes "Append") 5 22 ∷ [] } ∷ []; init = None;
-        parts = more_parts (method (signed (at 6 3) (named (codes "log") 6 7) (string (codes "t") 6 11 6 14 ∷ []) (alone (codes "Log") 6 24 ∷ []) (types.Unit (at 6 29)))
-          (short (value (call (name (named (codes "disk") 6 36)) (named (codes "append") 6 41) (more (text (codes "log") (at 6 48)) (more (name (named (codes "t") 6 55)) none)))))) no_parts }) ∷ []
+    (record {
+      uses = [];
+      lines = [];
+      defines = record { name = named (codes "Log") 5 10; effect = owned (codes "disk") 5 17 (codes "Append") 5 22 ∷ [] } ∷ [];
+      init = None;
+      parts = more_parts (method (signed (at 6 3) (named (codes "log") 6 7) (string (codes "t") 6 11 6 14 ∷ []) (alone (codes "Log") 6 24 ∷ []) (types.Unit (at 6 29)))
+          (short (value (call (name (named (codes "disk") 6 36)) (named (codes "append") 6 41) (more (text (codes "log") (at 6 48)) (more (name (named (codes "t") 6 55)) none)))))) no_parts;
+    }) ∷ []
 
 logger_read : p_file (length logger_tokens + 2) logger_tokens ≡ Yes logger_tree []
 unfolding items item type_of pure_of resource_of plain_of program_of p_file inside_lines inside_of grant_of init_of define_of line_of import_of instance_of use_of members_inside member_of method_member effect_member part method_of field_of tail block_of stmt assign_of val_of untyped_val typed_val untyped_rhs rhs expr_line if_of branch_rest indented_block literal_of parts_inside p_rhs atomic built built1 built2 built3 one_argument parens ascription call_part post minus bang unary product sum compare conj disj choice_rest choice_of p_unary atom set member_set object_rest object type_use param module_param effect signature
@@ -118,9 +123,14 @@ pick_tokens = pick_front ++ tok kind.End 3 1 ∷ []
 
 abbrev pub pick_tree : List ItemTree
 pick_tree = resource_item (at 1 1) (named (codes "pick") 1 17) [] (named (codes "Pick") 1 25)
-      (record { uses = []; lines = []; defines = []; init = None;
-        parts = more_parts (method (signed (at 2 3) (named (codes "pick") 2 7) (record { name = named (codes "c") 2 12; type_use = types.Bool (at 2 15) } ∷ record { name = named (codes "x") 2 21; type_use = types.Bare (named (codes "B") 2 24) } ∷ record { name = named (codes "y") 2 27; type_use = types.Bare (named (codes "A") 2 30) } ∷ []) [] (types.Bare (named (codes "A") 2 37)))
-          (short (value (choice (name (named (codes "c") 2 44)) (name (named (codes "x") 2 51)) (name (named (codes "y") 2 58)) (at 2 41))))) no_parts }) ∷ []
+    (record {
+      uses = [];
+      lines = [];
+      defines = [];
+      init = None;
+      parts = more_parts (method (signed (at 2 3) (named (codes "pick") 2 7) (record { name = named (codes "c") 2 12; type_use = types.Bool (at 2 15) } ∷ record { name = named (codes "x") 2 21; type_use = types.Bare (named (codes "B") 2 24) } ∷ record { name = named (codes "y") 2 27; type_use = types.Bare (named (codes "A") 2 30) } ∷ []) [] (types.Bare (named (codes "A") 2 37)))
+          (short (value (choice (name (named (codes "c") 2 44)) (name (named (codes "x") 2 51)) (name (named (codes "y") 2 58)) (at 2 41))))) no_parts;
+    }) ∷ []
 
 pick_read : p_file (length pick_tokens + 2) pick_tokens ≡ Yes pick_tree []
 unfolding items item type_of pure_of resource_of plain_of program_of p_file inside_lines inside_of grant_of init_of define_of line_of import_of instance_of use_of members_inside member_of method_member effect_member part method_of field_of tail block_of stmt assign_of val_of untyped_val typed_val untyped_rhs rhs expr_line if_of branch_rest indented_block literal_of parts_inside p_rhs atomic built built1 built2 built3 one_argument parens ascription call_part post minus bang unary product sum compare conj disj choice_rest choice_of p_unary atom set member_set object_rest object type_use param module_param effect signature
