@@ -1,0 +1,167 @@
+-- What is read from left to right, in readers: words, sets, types and signatures.
+use Rattle.std.specs.Prelude.{ℕ, zero, suc, ℤ, pos, negsuc, Bool, true, false, List, [], ◌∷◌, ◌++◌, Option, None, Some}
+use Rattle.wy_text.specs.declared.fault.Place.{Place}
+use Rattle.wy_text.specs.declared.token.TokenKind.{TokenKind}
+use Rattle.wy_text.specs.declared.token.TokenKind.TheVariants as kind
+use Rattle.wy_syntax.specs.declared.types.Name.{Name}
+use Rattle.wy_syntax.specs.declared.types.AtomUse.{AtomUse}
+use Rattle.wy_syntax.specs.declared.types.MemberSet.{MemberSet}
+use Rattle.wy_syntax.specs.declared.types.TypeUse.{TypeUse}
+use Rattle.wy_syntax.specs.declared.types.TypeUse.TheVariants as types
+use Rattle.wy_syntax.specs.declared.types.Param.{Param}
+use Rattle.wy_syntax.specs.declared.types.Signature.{Signature}
+use Rattle.wy_syntax.specs.Tokens.{Tok, code}
+use Rattle.wy_parser.specs.Reading.{Out, Yes, No, Deep, Reader, ◌>>=◌, ret, one_of, choose, fold_many}
+
+abbrev pub R : Type 0 → Type 0
+R A = Reader Tok A
+
+-- the bytes of a name or a text
+abbrev pub text_of_kind : TokenKind → List ℕ
+text_of_kind (kind.Name s) = s
+text_of_kind (kind.Text s) = s
+text_of_kind _ = []
+
+abbrev pub value_of_int : ℤ → ℕ
+value_of_int (pos n) = n
+value_of_int (negsuc n) = 0
+
+abbrev pub value_of_kind : TokenKind → ℕ
+value_of_kind (kind.Number v) = value_of_int v
+value_of_kind _ = 0
+
+abbrev pub tok : List ℕ → R Tok
+tok G = one_of code G
+
+-- the place of one token of a kind
+abbrev pub mark : ℕ → R Place
+mark k = do
+  x ← tok (k ∷ [])
+  ret x.place
+
+abbrev pub name_at : Tok → Name
+name_at x = record { text = text_of_kind x.kind; place = x.place }
+
+abbrev pub word : R Name
+word = do
+  x ← tok (1 ∷ [])
+  ret (name_at x)
+
+-- ---- lists
+
+abbrev pub snoc : {A : Type 0} → List A → A → List A
+snoc items a = items ++ a ∷ []
+
+-- while the next token is in the set, one more
+abbrev pub each : {A : Type 0} → List ℕ → R A → ℕ → R (List A)
+each F item n = fold_many code n F item snoc []
+
+abbrev pub comma_part : {A : Type 0} → R A → R A
+comma_part item = do
+  comma ← mark 44
+  item
+
+abbrev pub commas1 : {A : Type 0} → R A → ℕ → R (List A)
+commas1 item n = do
+  first ← item
+  fold_many code n (44 ∷ []) (comma_part item) snoc (first ∷ [])
+
+abbrev pub commas : {A : Type 0} → List ℕ → R A → ℕ → R (List A)
+commas F item n = choose code F (commas1 item n) (ret [])
+
+-- ---- sets and types; n turns of a loop at most
+
+abbrev pub owned : Name → R AtomUse
+owned n = do
+  dot ← mark 46
+  m ← word
+  ret (record { owner = Some n; member = m })
+
+abbrev pub member_alone : Name → AtomUse
+member_alone n = record { owner = None; member = n }
+
+unfoldable pub atom : R AtomUse
+atom = do
+  n ← word
+  choose code (46 ∷ []) (owned n) (ret (member_alone n))
+
+unfoldable pub set : ℕ → R (List AtomUse)
+set n = do
+  opening ← mark 42
+  atoms ← commas (1 ∷ []) atom n
+  closing ← mark 43
+  ret atoms
+
+unfoldable pub member_set : ℕ → R MemberSet
+member_set n = do
+  m ← word
+  equal ← mark 47
+  s ← set n
+  ret (record { name = m; effect = s })
+
+abbrev pub with_sets : Name → ℕ → R TypeUse
+with_sets w n = do
+  opening ← mark 40
+  ms ← commas1 (member_set n) n
+  closing ← mark 41
+  ret (types.With w ms)
+
+abbrev pub at_set : Name → ℕ → R TypeUse
+at_set w n = do
+  at' ← mark 16
+  s ← set n
+  ret (types.At w s)
+
+-- what stands behind the name of a declared type
+unfoldable pub object_rest : Bool → Name → ℕ → R TypeUse
+object_rest true w n = ret (types.Bare w)
+object_rest false w n = choose code (40 ∷ []) (with_sets w n) (choose code (16 ∷ []) (at_set w n) (ret (types.Bare w)))
+
+unfoldable pub object : Bool → ℕ → R TypeUse
+object plain n = do
+  w ← word
+  object_rest plain w n
+
+abbrev pub base : ℕ → (Place → TypeUse) → R TypeUse
+base k f = do
+  p ← mark k
+  ret (f p)
+
+unfoldable pub type_use : Bool → ℕ → R TypeUse
+type_use plain n =
+    choose code (29 ∷ []) (base 29 (λ p. types.Int p))
+    (choose code (30 ∷ []) (base 30 (λ p. types.Bool p))
+    (choose code (31 ∷ []) (base 31 (λ p. types.Text p))
+    (choose code (32 ∷ []) (base 32 (λ p. types.Unit p)) (object plain n))))
+
+unfoldable pub param : Bool → ℕ → R Param
+param plain n = do
+  w ← word
+  colon ← mark 45
+  t ← type_use plain n
+  ret (record { name = w; type_use = t })
+
+unfoldable pub module_param : Bool → ℕ → R Param
+module_param plain n = do
+  w ← word
+  colon ← mark 45
+  t ← object plain n
+  ret (record { name = w; type_use = t })
+
+unfoldable pub effect : Bool → ℕ → R (Option (List AtomUse))
+effect true n = ret None
+effect false n = do
+  s ← set n
+  ret (Some s)
+
+unfoldable pub signature : Bool → ℕ → R Signature
+signature plain n = do
+  p ← mark 7
+  w ← word
+  opening ← mark 38
+  ps ← commas (1 ∷ []) (param plain n) n
+  closing ← mark 39
+  colon ← mark 45
+  e ← effect plain n
+  t ← type_use plain n
+  ret (record { place = p; name = w; params = ps; effect = e; result = t })

@@ -1,0 +1,719 @@
+//! Expressions by recursive descent. `inner` is the depth that is left inside, and bounds the turns of
+//! each loop; it is one less at each expression, argument or operand of a prefix in another.
+ghost use Rattle.std.specs.Prelude.{◌≡◌, [], ◌∷◌, IfOk, map, pos};
+ghost use Rattle.wy_syntax.specs.Tokens.{code, tok_of, toks};
+ghost use Rattle.wy_syntax.specs.Trees.{byte_at, choice, part};
+ghost use Rattle.wy_syntax.specs.Views.{expr_tree};
+ghost use Rattle.wy_parser.specs.Parsing.{commas, comma_part, value_of_int, value_of_kind};
+ghost use Rattle.wy_parser.specs.ExprParsing.{arg_first, add_binary, minus_of, minus_digits, minus_edge, is_choice, operator_at, number_alone, text_alone, one_argument, built, built2, built3, parens, ascription, after_arg, atomic, call_part, add_call, post, minus, unary_at, product_at, sum_at, compare_at, conj_at, disj_at, choice_rest, choice_of, p_unary, p_expr, p_arg};
+ghost use Rattle.wy_parser.specs.Reading.{choose};
+ghost use Rattle.wy_parser.specs.Sorts.{number_of, Gives};
+
+use crate::cursor::{begins, mark, take, text_of, word};
+use crate::sort::{Sort, sort_of};
+use crate::stop::Stop;
+use crate::types::type_use;
+use std::alloc::{AllocError, Global};
+use wy_syntax::expressions::{Expr, Operator};
+use wy_syntax::types::Name;
+use wy_text::fault::Place;
+use wy_text::token::{Token, TokenKind};
+
+/// What an argument begins with.
+pub const ARG_FIRST: [Sort; 15] = [
+    Sort::KwIf,
+    Sort::Name,
+    Sort::Number,
+    Sort::Text,
+    Sort::KwThis,
+    Sort::KwTrue,
+    Sort::KwFalse,
+    Sort::KwTextSize,
+    Sort::KwTextPart,
+    Sort::KwTextCode,
+    Sort::KwTextByte,
+    Sort::KwTextShow,
+    Sort::SymOpenParen,
+    Sort::SymMinus,
+    Sort::SymNot,
+];
+
+const BUILT: [Sort; 5] = [
+    Sort::KwTextSize,
+    Sort::KwTextPart,
+    Sort::KwTextCode,
+    Sort::KwTextByte,
+    Sort::KwTextShow,
+];
+
+const COMPARISONS: [Sort; 6] = [
+    Sort::SymEqualEqual,
+    Sort::SymNotEqual,
+    Sort::SymLess,
+    Sort::SymLessEqual,
+    Sort::SymGreater,
+    Sort::SymGreaterEqual,
+];
+
+/// The value of a number; 0 for what is none.
+#[tactic(auto, using(crate::proofs::Numbers::value_rules))]
+fn value_of(token: &Token) -> i64
+    ensures { result ≡ pos (value_of_kind token.now.kind) }
+{
+    match &token.kind {
+        TokenKind::Number(value) => at_least_zero(*value),
+        _ => 0,
+    }
+}
+
+#[tactic(auto, using(crate::proofs::Numbers::value_rules))]
+fn at_least_zero(value: i64) -> i64
+    ensures { result ≡ pos (value_of_int value) }
+{
+    if value < 0 { 0 } else { value }
+}
+
+/// The number that a `-` and these digits make.
+#[tactic(auto, using(crate::proofs::Numbers::value_rules))]
+fn minus_value(token: &Token) -> i64
+    ensures { result ≡ minus_of (value_of_kind token.now.kind) }
+{
+    let value = value_of(token);
+    -value
+}
+
+/// The operator of a symbol.
+fn operator_of(sort: Sort) -> Operator
+    ensures { result ≡ operator_at (number_of sort) }
+{
+    match sort {
+        Sort::SymAndAnd => Operator::And,
+        Sort::SymEqualEqual => Operator::Equal,
+        Sort::SymNotEqual => Operator::NotEqual,
+        Sort::SymLess => Operator::Less,
+        Sort::SymLessEqual => Operator::LessEqual,
+        Sort::SymGreater => Operator::Greater,
+        Sort::SymGreaterEqual => Operator::GreaterEqual,
+        Sort::SymPlus => Operator::Plus,
+        Sort::SymMinus => Operator::Minus,
+        Sort::SymPlusPlus => Operator::Join,
+        Sort::SymStar => Operator::Times,
+        Sort::SymSlash => Operator::Divide,
+        Sort::SymPercent => Operator::Remainder,
+        _ => Operator::Or,
+    }
+}
+
+/// An operator's node with its operands.
+fn binary(alloc: Global, symbol: &Token, left: Expr, right: Expr) -> Result<Expr, AllocError>
+    ensures { IfOk result (λ e. expr_tree e ≡ add_binary (expr_tree left) (tok_of symbol.now, expr_tree right)) }
+{
+    let left = Box::new(alloc, left)?;
+    let right = Box::new(alloc, right)?;
+    let operator = operator_of(sort_of(&symbol.kind));
+    Ok(Expr::Binary(operator, left, right, symbol.place))
+}
+
+/// A call's node with its receiver and arguments.
+fn call(alloc: Global, receiver: Expr, name: Name, arguments: Vec<Expr>) -> Result<Expr, AllocError>
+    ensures { IfOk result (λ e. expr_tree e ≡ add_call (expr_tree receiver) (name, map expr_tree arguments.items)) }
+{
+    Ok(Expr::Call(Box::new(alloc, receiver)?, name, arguments))
+}
+
+fn choice_node(
+    alloc: Global,
+    condition: Expr,
+    first: Expr,
+    second: Expr,
+    place: Place,
+) -> Result<Expr, AllocError>
+    ensures { IfOk result (λ e. expr_tree e ≡ choice (expr_tree condition) (expr_tree first) (expr_tree second) place) }
+{
+    let condition = Box::new(alloc, condition)?;
+    let first = Box::new(alloc, first)?;
+    let second = Box::new(alloc, second)?;
+    Ok(Expr::Choice(condition, first, second, place))
+}
+
+fn code_node(alloc: Global, text: Expr, at: Expr, place: Place) -> Result<Expr, AllocError>
+    ensures { IfOk result (λ e. expr_tree e ≡ byte_at (expr_tree text) (expr_tree at) place) }
+{
+    let text = Box::new(alloc, text)?;
+    let at = Box::new(alloc, at)?;
+    Ok(Expr::TextCode(text, at, place))
+}
+
+fn part_node(
+    alloc: Global,
+    text: Expr,
+    from: Expr,
+    to: Expr,
+    place: Place,
+) -> Result<Expr, AllocError>
+    ensures { IfOk result (λ e. expr_tree e ≡ part (expr_tree text) (expr_tree from) (expr_tree to) place) }
+{
+    let text = Box::new(alloc, text)?;
+    let from = Box::new(alloc, from)?;
+    let to = Box::new(alloc, to)?;
+    Ok(Expr::TextPart(text, from, to, place))
+}
+
+/// Whether an expression is an `if`, which stands in parentheses only with a type.
+fn is_choice(e: &Expr) -> bool
+    ensures { result ≡ is_choice (expr_tree e.now) }
+{
+    match e {
+        Expr::Choice(_, _, _, _) => true,
+        _ => false,
+    }
+}
+
+fn number<'a>(tokens: &'a [Token]) -> Result<(Expr, &'a [Token]), Stop<'a>>
+    ensures { Gives expr_tree result (number_alone (toks tokens.now)) }
+{
+    let (token, rest) = take(tokens, &[Sort::Number])?;
+    Ok((Expr::Number(value_of(token), token.place), rest))
+}
+
+fn text<'a>(alloc: Global, tokens: &'a [Token]) -> Result<(Expr, &'a [Token]), Stop<'a>>
+    ensures { Gives expr_tree result (text_alone (toks tokens.now)) }
+{
+    let (token, rest) = take(tokens, &[Sort::Text])?;
+    let bytes = text_of(alloc, token)?;
+    Ok((Expr::Text(bytes, token.place), rest))
+}
+
+/// The number behind a `-` whose place is given.
+fn negative<'a>(tokens: &'a [Token], place: Place) -> Result<(Expr, &'a [Token]), Stop<'a>>
+    ensures { Gives expr_tree result (choose code (2 ∷ []) (minus_digits place) (minus_edge place) (toks tokens.now)) }
+{
+    if begins(tokens, &[Sort::Number]) {
+        let (token, rest) = take(tokens, &[Sort::Number])?;
+        return Ok((Expr::Number(minus_value(token), place), rest));
+    }
+    let (_, rest) = mark(tokens, Sort::Edge)?;
+    Ok((Expr::Number(i64::MIN, place), rest))
+}
+
+/// An argument: `if` with an expression on each side, or an expression.
+#[cycle(expressions)]
+#[tactic(auto, using(crate::proofs::Depths::arg_rules))]
+pub fn arg<'a>(
+    alloc: Global,
+    tokens: &'a [Token],
+    plain: bool,
+    depth: usize,
+) -> Result<(Expr, &'a [Token]), Stop<'a>>
+    ensures { Gives expr_tree result (p_arg plain depth (toks tokens.now)) }
+{
+    if depth == 0 {
+        return Err(Stop::Deep);
+    }
+    if begins(tokens, &[Sort::KwIf]) {
+        choice(alloc, tokens, plain, depth - 1)
+    } else {
+        disjunction(alloc, tokens, plain, depth - 1)
+    }
+}
+
+/// An expression.
+#[cycle(expressions)]
+#[tactic(auto, using(crate::proofs::Depths::expr_rules))]
+pub fn expr<'a>(
+    alloc: Global,
+    tokens: &'a [Token],
+    plain: bool,
+    depth: usize,
+) -> Result<(Expr, &'a [Token]), Stop<'a>>
+    ensures { Gives expr_tree result (p_expr plain depth (toks tokens.now)) }
+{
+    if depth == 0 {
+        return Err(Stop::Deep);
+    }
+    disjunction(alloc, tokens, plain, depth - 1)
+}
+
+/// An `if` with an expression on each side.
+#[cycle(expressions)]
+#[tactic(auto, unfolding(crate::specs::ExprParsing::choice_of))]
+fn choice<'a>(
+    alloc: Global,
+    tokens: &'a [Token],
+    plain: bool,
+    inner: usize,
+) -> Result<(Expr, &'a [Token]), Stop<'a>>
+    ensures { Gives expr_tree result (choice_of (p_expr plain inner) (p_arg plain inner) (toks tokens.now)) }
+{
+    let (place, rest) = mark(tokens, Sort::KwIf)?;
+    let (condition, rest) = expr(alloc, rest, plain, inner)?;
+    choice_rest(alloc, rest, place, condition, plain, inner)
+}
+
+/// What stands behind the condition of a choice.
+#[cycle(expressions)]
+#[tactic(auto, unfolding(crate::specs::ExprParsing::choice_rest))]
+pub fn choice_rest<'a>(
+    alloc: Global,
+    tokens: &'a [Token],
+    place: Place,
+    condition: Expr,
+    plain: bool,
+    inner: usize,
+) -> Result<(Expr, &'a [Token]), Stop<'a>>
+    ensures { Gives expr_tree result (choice_rest (p_arg plain inner) place (expr_tree condition) (toks tokens.now)) }
+{
+    let (_, rest) = mark(tokens, Sort::KwThen)?;
+    let (first, rest) = arg(alloc, rest, plain, inner)?;
+    let (_, rest) = mark(rest, Sort::KwElse)?;
+    let (second, rest) = arg(alloc, rest, plain, inner)?;
+    Ok((choice_node(alloc, condition, first, second, place)?, rest))
+}
+
+/// Conjunctions with `||` between.
+#[cycle(expressions)]
+#[tactic(auto, unfolding(crate::specs::ExprParsing::disj))]
+fn disjunction<'a>(
+    alloc: Global,
+    tokens: &'a [Token],
+    plain: bool,
+    inner: usize,
+) -> Result<(Expr, &'a [Token]), Stop<'a>>
+    ensures { Gives expr_tree result (disj_at plain inner (toks tokens.now)) }
+{
+    let (mut left, mut rest) = conjunction(alloc, tokens, plain, inner)?;
+    for _ in 0..inner {
+        if !begins(rest, &[Sort::SymOrOr]) {
+            return Ok((left, rest));
+        }
+        let (symbol, after) = take(rest, &[Sort::SymOrOr])?;
+        let (right, after) = conjunction(alloc, after, plain, inner)?;
+        left = binary(alloc, symbol, left, right)?;
+        rest = after;
+    }
+    Err(Stop::Deep)
+}
+
+/// Comparisons with `&&` between.
+#[cycle(expressions)]
+#[tactic(auto, unfolding(crate::specs::ExprParsing::conj))]
+fn conjunction<'a>(
+    alloc: Global,
+    tokens: &'a [Token],
+    plain: bool,
+    inner: usize,
+) -> Result<(Expr, &'a [Token]), Stop<'a>>
+    ensures { Gives expr_tree result (conj_at plain inner (toks tokens.now)) }
+{
+    let (mut left, mut rest) = comparison(alloc, tokens, plain, inner)?;
+    for _ in 0..inner {
+        if !begins(rest, &[Sort::SymAndAnd]) {
+            return Ok((left, rest));
+        }
+        let (symbol, after) = take(rest, &[Sort::SymAndAnd])?;
+        let (right, after) = comparison(alloc, after, plain, inner)?;
+        left = binary(alloc, symbol, left, right)?;
+        rest = after;
+    }
+    Err(Stop::Deep)
+}
+
+/// Products with `+`, `-` and `++` between.
+#[cycle(expressions)]
+#[tactic(auto, unfolding(crate::specs::ExprParsing::sum))]
+fn summation<'a>(
+    alloc: Global,
+    tokens: &'a [Token],
+    plain: bool,
+    inner: usize,
+) -> Result<(Expr, &'a [Token]), Stop<'a>>
+    ensures { Gives expr_tree result (sum_at plain inner (toks tokens.now)) }
+{
+    let (mut left, mut rest) = multiplication(alloc, tokens, plain, inner)?;
+    for _ in 0..inner {
+        if !begins(rest, &[Sort::SymPlus, Sort::SymMinus, Sort::SymPlusPlus]) {
+            return Ok((left, rest));
+        }
+        let (symbol, after) = take(rest, &[Sort::SymPlus, Sort::SymMinus, Sort::SymPlusPlus])?;
+        let (right, after) = multiplication(alloc, after, plain, inner)?;
+        left = binary(alloc, symbol, left, right)?;
+        rest = after;
+    }
+    Err(Stop::Deep)
+}
+
+/// Operands with `*`, `/` and `%` between.
+#[cycle(expressions)]
+#[tactic(auto, unfolding(crate::specs::ExprParsing::product))]
+fn multiplication<'a>(
+    alloc: Global,
+    tokens: &'a [Token],
+    plain: bool,
+    inner: usize,
+) -> Result<(Expr, &'a [Token]), Stop<'a>>
+    ensures { Gives expr_tree result (product_at plain inner (toks tokens.now)) }
+{
+    let (mut left, mut rest) = prefix_in(alloc, tokens, plain, inner)?;
+    for _ in 0..inner {
+        if !begins(rest, &[Sort::SymStar, Sort::SymSlash, Sort::SymPercent]) {
+            return Ok((left, rest));
+        }
+        let (symbol, after) = take(rest, &[Sort::SymStar, Sort::SymSlash, Sort::SymPercent])?;
+        let (right, after) = prefix_in(alloc, after, plain, inner)?;
+        left = binary(alloc, symbol, left, right)?;
+        rest = after;
+    }
+    Err(Stop::Deep)
+}
+
+/// A sum, or two with a comparison between.
+#[cycle(expressions)]
+#[tactic(auto, unfolding(crate::specs::ExprParsing::compare))]
+fn comparison<'a>(
+    alloc: Global,
+    tokens: &'a [Token],
+    plain: bool,
+    inner: usize,
+) -> Result<(Expr, &'a [Token]), Stop<'a>>
+    ensures { Gives expr_tree result (compare_at plain inner (toks tokens.now)) }
+{
+    let (left, rest) = summation(alloc, tokens, plain, inner)?;
+    if !begins(rest, &COMPARISONS) {
+        return Ok((left, rest));
+    }
+    let (symbol, rest) = take(rest, &COMPARISONS)?;
+    let (right, rest) = summation(alloc, rest, plain, inner)?;
+    Ok((binary(alloc, symbol, left, right)?, rest))
+}
+
+/// The operand of a prefix.
+#[cycle(expressions)]
+#[tactic(auto, using(crate::proofs::Depths::unary_rules))]
+fn prefix<'a>(
+    alloc: Global,
+    tokens: &'a [Token],
+    plain: bool,
+    depth: usize,
+) -> Result<(Expr, &'a [Token]), Stop<'a>>
+    ensures { Gives expr_tree result (p_unary plain depth (toks tokens.now)) }
+{
+    if depth == 0 {
+        return Err(Stop::Deep);
+    }
+    prefix_in(alloc, tokens, plain, depth - 1)
+}
+
+/// `-` or `!` and an operand, or what calls stand behind.
+#[cycle(expressions)]
+#[tactic(auto, unfolding(crate::specs::ExprParsing::unary, crate::specs::ExprParsing::bang))]
+fn prefix_in<'a>(
+    alloc: Global,
+    tokens: &'a [Token],
+    plain: bool,
+    inner: usize,
+) -> Result<(Expr, &'a [Token]), Stop<'a>>
+    ensures { Gives expr_tree result (unary_at plain inner (toks tokens.now)) }
+{
+    if begins(tokens, &[Sort::SymMinus, Sort::SymNot]) {
+        if begins(tokens, &[Sort::SymMinus]) {
+            minus(alloc, tokens, plain, inner)
+        } else {
+            let (place, rest) = mark(tokens, Sort::SymNot)?;
+            let (e, rest) = prefix(alloc, rest, plain, inner)?;
+            Ok((Expr::Not(Box::new(alloc, e)?, place), rest))
+        }
+    } else {
+        postfix(alloc, tokens, plain, inner)
+    }
+}
+
+/// `-`: directly before a number it belongs to it.
+#[cycle(expressions)]
+#[tactic(auto, unfolding(crate::specs::ExprParsing::minus))]
+fn minus<'a>(
+    alloc: Global,
+    tokens: &'a [Token],
+    plain: bool,
+    inner: usize,
+) -> Result<(Expr, &'a [Token]), Stop<'a>>
+    ensures { Gives expr_tree result (minus (p_unary plain inner) (toks tokens.now)) }
+{
+    let (place, rest) = mark(tokens, Sort::SymMinus)?;
+    if begins(rest, &[Sort::Number, Sort::Edge]) {
+        return negative(rest, place);
+    }
+    let (e, rest) = prefix(alloc, rest, plain, inner)?;
+    Ok((Expr::Negate(Box::new(alloc, e)?, place), rest))
+}
+
+/// Something and the calls behind it.
+#[cycle(expressions)]
+#[tactic(auto, unfolding(crate::specs::ExprParsing::post))]
+fn postfix<'a>(
+    alloc: Global,
+    tokens: &'a [Token],
+    plain: bool,
+    inner: usize,
+) -> Result<(Expr, &'a [Token]), Stop<'a>>
+    ensures { Gives expr_tree result (post plain (p_arg plain inner) inner (toks tokens.now)) }
+{
+    let (mut e, mut rest) = atomic(alloc, tokens, plain, inner)?;
+    for _ in 0..inner {
+        if !begins(rest, &[Sort::SymDot]) {
+            return Ok((e, rest));
+        }
+        let ((name, arguments), after) = call_part(alloc, rest, plain, inner)?;
+        e = call(alloc, e, name, arguments)?;
+        rest = after;
+    }
+    Err(Stop::Deep)
+}
+
+/// A dot, a method's name and its arguments.
+#[cycle(expressions)]
+#[tactic(auto, unfolding(crate::specs::ExprParsing::call_part))]
+fn call_part<'a>(
+    alloc: Global,
+    tokens: &'a [Token],
+    plain: bool,
+    inner: usize,
+) -> Result<((Name, Vec<Expr>), &'a [Token]), Stop<'a>>
+    ensures { Gives (λ x. (x.0, map expr_tree x.1.items)) result (call_part (p_arg plain inner) inner (toks tokens.now)) }
+{
+    let (_, rest) = mark(tokens, Sort::SymDot)?;
+    let (name, rest) = word(alloc, rest)?;
+    let (_, rest) = mark(rest, Sort::SymOpenParen)?;
+    let (arguments, rest) = arguments(alloc, rest, plain, inner)?;
+    let (_, rest) = mark(rest, Sort::SymCloseParen)?;
+    Ok(((name, arguments), rest))
+}
+
+/// Arguments with commas between, or none.
+#[cycle(expressions)]
+fn arguments<'a>(
+    alloc: Global,
+    tokens: &'a [Token],
+    plain: bool,
+    inner: usize,
+) -> Result<(Vec<Expr>, &'a [Token]), Stop<'a>>
+    ensures { Gives (λ v. map expr_tree v.items) result (commas arg_first (p_arg plain inner) inner (toks tokens.now)) }
+{
+    let mut items = Vec::new(alloc);
+    if !begins(tokens, &ARG_FIRST) {
+        return Ok((items, tokens));
+    }
+    let (first, mut rest) = arg(alloc, tokens, plain, inner)?;
+    items.push(first)?;
+    for _ in 0..inner {
+        if !begins(rest, &[Sort::SymComma]) {
+            return Ok((items, rest));
+        }
+        let (item, after) = comma_arg(alloc, rest, plain, inner)?;
+        items.push(item)?;
+        rest = after;
+    }
+    Err(Stop::Deep)
+}
+
+/// A comma and an argument.
+#[cycle(expressions)]
+fn comma_arg<'a>(
+    alloc: Global,
+    tokens: &'a [Token],
+    plain: bool,
+    inner: usize,
+) -> Result<(Expr, &'a [Token]), Stop<'a>>
+    ensures { Gives expr_tree result (comma_part (p_arg plain inner) (toks tokens.now)) }
+{
+    let (_, rest) = mark(tokens, Sort::SymComma)?;
+    arg(alloc, rest, plain, inner)
+}
+
+/// What stands alone or in parentheses.
+#[cycle(expressions)]
+#[tactic(auto, unfolding(crate::specs::ExprParsing::atomic))]
+fn atomic<'a>(
+    alloc: Global,
+    tokens: &'a [Token],
+    plain: bool,
+    inner: usize,
+) -> Result<(Expr, &'a [Token]), Stop<'a>>
+    ensures { Gives expr_tree result (atomic plain (p_arg plain inner) inner (toks tokens.now)) }
+{
+    if begins(tokens, &[Sort::Number]) {
+        return number(tokens);
+    }
+    if begins(tokens, &[Sort::Text]) {
+        return text(alloc, tokens);
+    }
+    if begins(tokens, &[Sort::KwTrue]) {
+        let (place, rest) = mark(tokens, Sort::KwTrue)?;
+        return Ok((Expr::True(place), rest));
+    }
+    if begins(tokens, &[Sort::KwFalse]) {
+        let (place, rest) = mark(tokens, Sort::KwFalse)?;
+        return Ok((Expr::False(place), rest));
+    }
+    if begins(tokens, &[Sort::KwThis]) {
+        let (place, rest) = mark(tokens, Sort::KwThis)?;
+        return Ok((Expr::This(place), rest));
+    }
+    if begins(tokens, &[Sort::Name]) {
+        let (name, rest) = word(alloc, tokens)?;
+        return Ok((Expr::Name(name), rest));
+    }
+    if begins(tokens, &BUILT) {
+        built(alloc, tokens, plain, inner)
+    } else {
+        parens(alloc, tokens, plain, inner)
+    }
+}
+
+/// `()`, an expression in parentheses, or an argument with a type in parentheses.
+#[cycle(expressions)]
+#[tactic(auto, unfolding(crate::specs::ExprParsing::parens))]
+fn parens<'a>(
+    alloc: Global,
+    tokens: &'a [Token],
+    plain: bool,
+    inner: usize,
+) -> Result<(Expr, &'a [Token]), Stop<'a>>
+    ensures { Gives expr_tree result (parens plain (p_arg plain inner) inner (toks tokens.now)) }
+{
+    let (place, rest) = mark(tokens, Sort::SymOpenParen)?;
+    if begins(rest, &[Sort::SymCloseParen]) {
+        let (_, rest) = mark(rest, Sort::SymCloseParen)?;
+        return Ok((Expr::Unit(place), rest));
+    }
+    let (e, rest) = arg(alloc, rest, plain, inner)?;
+    after_arg(alloc, rest, place, e, plain, inner)
+}
+
+/// A `text_` word and its arguments.
+#[cycle(expressions)]
+#[tactic(auto, unfolding(crate::specs::ExprParsing::built, crate::specs::ExprParsing::built1))]
+fn built<'a>(
+    alloc: Global,
+    tokens: &'a [Token],
+    plain: bool,
+    inner: usize,
+) -> Result<(Expr, &'a [Token]), Stop<'a>>
+    ensures { Gives expr_tree result (built (p_arg plain inner) (toks tokens.now)) }
+{
+    if begins(tokens, &[Sort::KwTextSize]) {
+        let ((e, place), rest) = one_argument(alloc, tokens, Sort::KwTextSize, plain, inner)?;
+        return Ok((Expr::TextSize(Box::new(alloc, e)?, place), rest));
+    }
+    if begins(tokens, &[Sort::KwTextPart]) {
+        return three_arguments(alloc, tokens, plain, inner);
+    }
+    if begins(tokens, &[Sort::KwTextCode]) {
+        return two_arguments(alloc, tokens, plain, inner);
+    }
+    if begins(tokens, &[Sort::KwTextByte]) {
+        let ((e, place), rest) = one_argument(alloc, tokens, Sort::KwTextByte, plain, inner)?;
+        return Ok((Expr::TextByte(Box::new(alloc, e)?, place), rest));
+    }
+    let ((e, place), rest) = one_argument(alloc, tokens, Sort::KwTextShow, plain, inner)?;
+    Ok((Expr::TextShow(Box::new(alloc, e)?, place), rest))
+}
+
+/// A word and one argument in parentheses.
+#[cycle(expressions)]
+#[tactic(auto, unfolding(crate::specs::ExprParsing::one_argument))]
+fn one_argument<'a>(
+    alloc: Global,
+    tokens: &'a [Token],
+    sort: Sort,
+    plain: bool,
+    inner: usize,
+) -> Result<((Expr, Place), &'a [Token]), Stop<'a>>
+    ensures { Gives (λ x. (expr_tree x.0, x.1)) result (one_argument (number_of sort) (p_arg plain inner) (toks tokens.now)) }
+{
+    let (place, rest) = mark(tokens, sort)?;
+    let (_, rest) = mark(rest, Sort::SymOpenParen)?;
+    let (e, rest) = arg(alloc, rest, plain, inner)?;
+    let (_, rest) = mark(rest, Sort::SymCloseParen)?;
+    Ok(((e, place), rest))
+}
+
+/// `text_code` and its arguments.
+#[cycle(expressions)]
+#[tactic(auto, unfolding(crate::specs::ExprParsing::built2))]
+fn two_arguments<'a>(
+    alloc: Global,
+    tokens: &'a [Token],
+    plain: bool,
+    inner: usize,
+) -> Result<(Expr, &'a [Token]), Stop<'a>>
+    ensures { Gives expr_tree result (built2 (p_arg plain inner) (toks tokens.now)) }
+{
+    let (place, rest) = mark(tokens, Sort::KwTextCode)?;
+    let (_, rest) = mark(rest, Sort::SymOpenParen)?;
+    let (text, rest) = arg(alloc, rest, plain, inner)?;
+    let (_, rest) = mark(rest, Sort::SymComma)?;
+    let (at, rest) = arg(alloc, rest, plain, inner)?;
+    let (_, rest) = mark(rest, Sort::SymCloseParen)?;
+    Ok((code_node(alloc, text, at, place)?, rest))
+}
+
+/// `text_part` and its arguments.
+#[cycle(expressions)]
+#[tactic(auto, unfolding(crate::specs::ExprParsing::built3))]
+fn three_arguments<'a>(
+    alloc: Global,
+    tokens: &'a [Token],
+    plain: bool,
+    inner: usize,
+) -> Result<(Expr, &'a [Token]), Stop<'a>>
+    ensures { Gives expr_tree result (built3 (p_arg plain inner) (toks tokens.now)) }
+{
+    let (place, rest) = mark(tokens, Sort::KwTextPart)?;
+    let (_, rest) = mark(rest, Sort::SymOpenParen)?;
+    let (text, rest) = arg(alloc, rest, plain, inner)?;
+    let (_, rest) = mark(rest, Sort::SymComma)?;
+    let (from, rest) = arg(alloc, rest, plain, inner)?;
+    let (_, rest) = mark(rest, Sort::SymComma)?;
+    let (to, rest) = arg(alloc, rest, plain, inner)?;
+    let (_, rest) = mark(rest, Sort::SymCloseParen)?;
+    Ok((part_node(alloc, text, from, to, place)?, rest))
+}
+
+/// `: T)` behind an expression in parentheses.
+#[tactic(auto, unfolding(crate::specs::ExprParsing::ascription))]
+fn ascription<'a>(
+    alloc: Global,
+    tokens: &'a [Token],
+    place: Place,
+    e: Expr,
+    plain: bool,
+    inner: usize,
+) -> Result<(Expr, &'a [Token]), Stop<'a>>
+    ensures { Gives expr_tree result (ascription plain place (expr_tree e) inner (toks tokens.now)) }
+{
+    let (_, rest) = mark(tokens, Sort::SymColon)?;
+    let (type_use, rest) = type_use(alloc, rest, plain, inner)?;
+    let (_, rest) = mark(rest, Sort::SymCloseParen)?;
+    Ok((Expr::Ascribe(Box::new(alloc, e)?, type_use, place), rest))
+}
+
+/// What stands behind an argument in parentheses: an `if` must have a type there.
+fn after_arg<'a>(
+    alloc: Global,
+    tokens: &'a [Token],
+    place: Place,
+    e: Expr,
+    plain: bool,
+    inner: usize,
+) -> Result<(Expr, &'a [Token]), Stop<'a>>
+    ensures { Gives expr_tree result (after_arg plain place (expr_tree e) inner (toks tokens.now)) }
+{
+    if is_choice(&e) {
+        return ascription(alloc, tokens, place, e, plain, inner);
+    }
+    if begins(tokens, &[Sort::SymColon]) {
+        return ascription(alloc, tokens, place, e, plain, inner);
+    }
+    let (_, rest) = mark(tokens, Sort::SymCloseParen)?;
+    Ok((e, rest))
+}

@@ -1,0 +1,13 @@
+//! The parser: from a file's tokens to its tree, or to the first token that fits nothing.
+#![tactic(auto)]
+
+mod copying;
+mod cursor;
+mod expressions;
+mod items;
+mod lines;
+pub mod parsing;
+mod sort;
+mod statements;
+mod stop;
+mod types;

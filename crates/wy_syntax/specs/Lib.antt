@@ -1,0 +1,10 @@
+pub mod Canonical
+pub mod ExprGrammar
+pub mod Grammar
+pub mod Languages
+pub mod Nodes
+pub mod StmtGrammar
+pub mod Tokens
+pub mod Trees
+pub mod TypeGrammar
+pub mod Views
