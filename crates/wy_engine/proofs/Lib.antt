@@ -1,5 +1,6 @@
 mod Deeds
 mod Escapes
+mod Examples
 mod Givens
 mod OneProgram
 mod Outcomes
