@@ -69,8 +69,3 @@ reads_as texts bytes program is spells =
     let small : length bytes ≤ 1048576 = rw spells.text size in
     let whole : bytes ≡ one.0 = cut_whole 1048576 one.0 bytes one.2 small in
     record { spelled = one.1 ∙ ap (λ x. x ∷ []) (sym whole ∙ spells.text); valid = spells.valid }
-
--- texts that are not one text read as no program
-pub reads_as_none : (texts read : List (List ℕ)) (program : Program) → read ≡ map cut texts → length read ≢ 1 → ¬ ReadsAs texts program
-reads_as_none texts read program is some reads =
-    some (ap length is ∙ ap (λ x. length (map cut x)) reads.spelled)

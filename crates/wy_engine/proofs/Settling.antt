@@ -12,7 +12,7 @@ use Rattle.wy_device.specs.declared.operation.OpName.TheVariants.{ConsoleWrite}
 use Rattle.wy_engine.specs.Headline.{Accepts, Runs, Settles}
 use Rattle.wy_engine.specs.Judgement.{IsAccepted, fault_of}
 use Rattle.wy_engine.specs.LiteralForm.{Spells}
-use Rattle.wy_engine.specs.Reading.{GivesFiles, ReadsWell, StopsAfter, StopsAt}
+use Rattle.wy_engine.specs.Reading.{GivesFiles, ReadsWell, StopsAt}
 use Rattle.wy_engine.specs.Running.{Declines, Ran, RunsText, declined, performed, ran, refused, starved, stopped, unbuilt}
 use Rattle.wy_engine.specs.Status.{IsOfReading, IsOfRun, status_of}
 use Rattle.wy_engine.specs.TopCall.{IsGiven, ReadsFiles, ReadsInOrder, TopCall, reads_of, settings_of}
@@ -20,7 +20,7 @@ use Rattle.wy_engine.specs.declared.literal_form.Program.{Program}
 use Rattle.wy_engine.specs.declared.status.Status.{Status}
 use Rattle.wy_engine.specs.declared.status.Status.TheVariants as status
 use Rattle.wy_engine.proofs.Deeds.{bounded, did_exactly, did_first, did_nothing, ends_so}
-use Rattle.wy_engine.proofs.Givens.{cut, read_of_given, reads_as, reads_as_none, spells_of}
+use Rattle.wy_engine.proofs.Givens.{cut, read_of_given, reads_as, spells_of}
 
 reads_by : (call : TopCall) (names : List (List ℕ)) → settings_of call.words ≡ Some names → call.status ≢ status.Usage → ReadsInOrder call names
     → ((file : ℕ) → call.status ≡ status.Unread file → Rose call.shelf.faults call.shelf_after.faults) → ReadsFiles call
@@ -51,33 +51,6 @@ settles_unread call names file words stops report devices is = record {
   counted = rw report (omega arith);
 }
 
--- memory was wanting while the files were read
-pub settles_starved : (call : TopCall) (names : List (List ℕ)) → settings_of call.words ≡ Some names → StopsAfter names call.shelf call.shelf_after
-    → call.report_after ≡ call.report → call.devices_after ≡ call.devices → call.status ≡ status.Memory → Settles call
-settles_starved call names words stops report devices is = record {
-  reads = reads_by call names words (λ usage. let q : status.Memory ≡ status.Usage = sym is ∙ usage in absurd (cc)) (record {
-    well = stops.well;
-    badly = [];
-    reads = stops.reads ∙ ap (λ x. gained call.shelf.reads x) (sym (append-nil (reads_of false (take stops.well names))));
-    unread = λ file same. let q : status.Memory ≡ status.Unread file = sym is ∙ same in absurd (cc);
-    others = λ none. refl;
-    all = λ full none. absurd (full is);
-  }) (λ file same. let q : status.Memory ≡ status.Unread file = sym is ∙ same in absurd (cc));
-  ran = None;
-  accepts = λ texts given none. record {
-    accepted = λ program is_none. absurd (cc);
-    accepts = λ program allows full. absurd (full is);
-    refused = λ fault same. let q : status.Memory ≡ status.Refused fault = sym is ∙ same in absurd (cc);
-    refuses = λ fault refuses_it full. absurd (full is);
-    unbuilt = λ same. let q : status.Memory ≡ status.Unbuilt = sym is ∙ same in absurd (cc);
-    unbuilds = λ none full. absurd (full is);
-  };
-  quiet = λ _. record { report = report; devices = devices };
-  idle = λ _ full run. full is;
-  runs = λ program none. absurd (cc);
-  counted = rw report (omega arith);
-}
-
 not_usage : (end : Status) → ¬ IsOfReading end → end ≢ status.Usage
 not_usage end judged is = judged (subst IsOfReading (sym is) tt)
 
@@ -97,26 +70,6 @@ reads_all call names texts words so judged = reads_by call names words (not_usag
 
 read_whole : (call : TopCall) (names texts given : List (List ℕ)) → settings_of call.words ≡ Some names → ReadsWell names (length names) call.shelf call.shelf_after texts → IsGiven call given → texts ≡ map cut given
 read_whole call names texts given words so told = read_of_given call names texts given words (subst (λ x. GivesFiles call.shelf x texts) (take-length names) so.gives) told
-
--- the texts are more than one, or none: no form that is built has such
-pub settles_unbuilt : (call : TopCall) (names texts : List (List ℕ)) → settings_of call.words ≡ Some names → ReadsWell names (length names) call.shelf call.shelf_after texts
-    → length texts ≢ 1 → call.report_after ≡ call.report → call.devices_after ≡ call.devices → call.status ≡ status.Unbuilt → Settles call
-settles_unbuilt call names texts words so some report devices is = record {
-  reads = reads_all call names texts words so (λ reading. subst IsOfReading is reading);
-  ran = None;
-  accepts = λ given told none. let read : texts ≡ map cut given = read_whole call names texts given words so told in record {
-    accepted = λ program is_none. absurd (cc);
-    accepts = λ program allows full. absurd (reads_as_none given texts program read some allows.read);
-    refused = λ fault same. let q : status.Unbuilt ≡ status.Refused fault = sym is ∙ same in absurd (cc);
-    refuses = λ fault refuses_it full. absurd (reads_as_none given texts refuses_it.program read some refuses_it.read);
-    unbuilt = λ same program. reads_as_none given texts program read some;
-    unbuilds = λ none full. is;
-  };
-  quiet = λ _. record { report = report; devices = devices };
-  idle = λ _ full run. subst IsOfRun is run;
-  runs = λ program none. absurd (cc);
-  counted = rw report (omega arith);
-}
 
 judged_declined : (bytes : List ℕ) (end : Status) → Declines bytes end → ¬ IsOfReading end
 judged_declined bytes end (starved is) reading = subst IsOfReading is reading
