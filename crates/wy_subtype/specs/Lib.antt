@@ -1,0 +1,3 @@
+pub mod Unfolding
+pub mod Verdict
+pub mod Worklist
