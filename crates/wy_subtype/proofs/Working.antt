@@ -14,11 +14,9 @@ use Rattle.wy_types.specs.Program.{Program}
 use Rattle.wy_types.specs.Signature.{Signature, find_method}
 use Rattle.wy_types.specs.Types.{IsObject, methods_of}
 use Rattle.wy_types.specs.Fitting.{FitsSignature, IsTypeOf, own_count}
-use Rattle.wy_types.specs.Core.{IsCore}
 use Rattle.wy_types.specs.Subtyping.{ParamsIn, Covers, HasCover, IsSubtype, LeadsBy}
 use Rattle.wy_types.proofs.Closing.{find_in, closed_path, IsClosed-more}
 use Rattle.wy_types.proofs.Finite.{pair_bound, length-le-pair_bound, Fits-methods}
-use Rattle.wy_types.proofs.Kept.{core_signatures_fit}
 use Rattle.wy_types.proofs.Reaching.{no_methods}
 use Rattle.wy_subtype.specs.declared.verdict.Mode.{Mode}
 use Rattle.wy_subtype.specs.declared.verdict.Mode.TheVariants.{Annotated, Plain}
@@ -28,6 +26,7 @@ use Rattle.wy_subtype.specs.declared.verdict.Verdict.{Verdict}
 use Rattle.wy_subtype.specs.declared.verdict.Verdict.TheVariants.{Yes, No}
 use Rattle.wy_subtype.specs.declared.unfolding.UnfoldedPair.{UnfoldedPair}
 use Rattle.wy_subtype.specs.declared.subtype.Entry.{Entry}
+use Rattle.wy_subtype.specs.InRange.{IsInRange}
 use Rattle.wy_subtype.specs.Verdict.{Pair, Includes, IsSubtypeIn, Closes, StepsTo, LeadsTo, AreObjects, FailsBy, FailsAt, IsVerdict, IsYes}
 use Rattle.wy_subtype.specs.Unfolding.{sides, Asks}
 use Rattle.wy_subtype.specs.Worklist.{entry_pair, pairs, entry_of, IsAdded, AreAdded, IsLinked, IsSeen, Extends, Advances, EntryFails, BeginsWith, IsWork, Traces, GoesBack}
@@ -102,15 +101,15 @@ Fits-leads program scope mode left right Result q f g l =
 Fits-leads program scope mode left right (Parameter i) q f g l =
     (g.params q.0 (In-slice_get right.params i q.0 l.0), f.params q.1 (In-slice_get left.params i q.1 l.1))
 
-Fits-step : (program : Program) (core : IsCore program) (scope : ℕ) (mode : Mode) (p : Pair) (s : Step) (q : Pair) → FitsPair program scope p → StepsTo program scope mode p s q → FitsPair program scope q
+Fits-step : (program : Program) (core : IsInRange program) (scope : ℕ) (mode : Mode) (p : Pair) (s : Step) (q : Pair) → FitsPair program scope p → StepsTo program scope mode p s q → FitsPair program scope q
 Fits-step program core scope mode p s q f step =
-    let w = core_signatures_fit program core in
+    let w = core.signatures in
     Fits-leads program scope mode step.left step.right s.part q
     (Fits-methods program w scope p.0 f.0 step.left (find_in step.right.name (methods_of program scope p.0) step.left step.found))
     (Fits-methods program w scope p.1 f.1 step.right step.asked)
     step.leads
 
-module _ (program : Program) (core : IsCore program) (scope : ℕ) (mode : Mode) where
+module _ (program : Program) (core : IsInRange program) (scope : ℕ) (mode : Mode) where
   -- a pair that is new, by a step from an entry
   push_seen : (es : List Entry) (at : ℕ) (p : Entry) (c : UnfoldedPair) → slice_get es at ≡ Some p → StepsTo program scope mode (entry_pair p) c.step (sides c) → (In (sides c) (pairs es) → ⊥) → IsSeen program scope mode es → IsSeen program scope mode (es ++ entry_of c at ∷ [])
   push_seen es at p c is step new seen =
@@ -169,7 +168,7 @@ Extends-within a b f q i =
 Extends-none : (a b : List Entry) → b ≡ a → Extends a b
 Extends-none a b e = ([], e ∙ sym (append-nil a))
 
-module _ (program : Program) (core : IsCore program) (scope : ℕ) (mode : Mode) where
+module _ (program : Program) (core : IsInRange program) (scope : ℕ) (mode : Mode) where
   all_added : (cs : List UnfoldedPair) (es new : List Entry) (at : ℕ) (p : Entry) → slice_get es at ≡ Some p → ((c : UnfoldedPair) → In c cs → StepsTo program scope mode (entry_pair p) c.step (sides c)) → IsSeen program scope mode es → AreAdded es cs at new →
       IsSeen program scope mode new × Extends es new × Within (map sides cs) (pairs new)
   all_added [] es new at p is steps seen h =

@@ -2,7 +2,7 @@ ghost use Rattle.std.specs.Prelude.{◌≡◌, ◌<◌, ◌↔◌, ◌++◌, IfO
 ghost use Rattle.wy_effects.specs.Members.{In as IsIn};
 ghost use Rattle.wy_types.specs.Program.{program_of};
 ghost use Rattle.wy_types.specs.Fitting.{IsTypeOf};
-ghost use Rattle.wy_types.specs.Core.{IsCore};
+ghost use Rattle.wy_subtype.specs.InRange.{IsInRange};
 ghost use Rattle.wy_subtype.specs.Verdict.{IsVerdict, IsYes, IsSubtypeIn};
 ghost use Rattle.wy_subtype.specs.Worklist.{entry_pair, pairs, IsAdded, AreAdded, IsSeen, EntryFails, Advances, GoesBack, Traces, BeginsWith};
 
@@ -114,7 +114,7 @@ fn advance(
     at: usize,
     mode: Mode,
 ) -> Result<Option<Cause>, Memory>
-    requires core { IsCore (program_of core.now) }
+    requires core { IsInRange (program_of core.now) }
     requires seen { IsSeen (program_of core.now) scope mode seen.old.items }
     requires within { at < length seen.old.items }
     ensures fails { IfOk result (λ o. IfSome o (λ c. EntryFails (program_of core.now) scope mode seen.new.items at c)) }
@@ -139,7 +139,7 @@ fn explore(
     mut seen: Vec<Entry>,
     mode: Mode,
 ) -> Result<Verdict, Memory>
-    requires core { IsCore (program_of core.now) }
+    requires core { IsInRange (program_of core.now) }
     requires seen { IsSeen (program_of core.now) scope mode seen.items }
     requires within { 0 < length seen.items }
     ensures { IfOk result (λ v. (q : TypeRef × TypeRef) → BeginsWith q seen.items → IsVerdict (program_of core.now) scope mode q v) }
@@ -159,8 +159,8 @@ fn explore(
 /// Whether the first type is a subtype of the second in a scope, in a mode (docs/LANGUAGE.md,
 /// "Subtyping"). `No` comes exactly where it is not; its path leads from the two types,
 /// with the sides exchanged at each parameter, to a pair that fails by itself by the cause. The
-/// numbers in both types are in range in the scope, and a declared type has a set for each abstract
-/// member, or is bare.
+/// core's signatures are in range, as those of every resolved program are. The numbers in both types
+/// are in range in the scope, and a declared type has a set for each abstract member, or is bare.
 pub fn subtype(
     alloc: Global,
     core: &Core,
@@ -169,7 +169,7 @@ pub fn subtype(
     t: &TypeRef,
     mode: Mode,
 ) -> Result<Verdict, Memory>
-    requires core { IsCore (program_of core.now) }
+    requires core { IsInRange (program_of core.now) }
     requires left { IsTypeOf (program_of core.now) scope s.now }
     requires right { IsTypeOf (program_of core.now) scope t.now }
     ensures exact { IfOk result (λ v. IsYes v ↔ IsSubtypeIn (program_of core.now) scope mode s.now t.now) }

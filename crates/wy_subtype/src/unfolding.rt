@@ -6,7 +6,7 @@ ghost use Rattle.wy_effects.specs.Members.{In, Within};
 ghost use Rattle.wy_types.specs.Program.{program_of};
 ghost use Rattle.wy_types.specs.Types.{signature};
 ghost use Rattle.wy_types.specs.Signature.{find_method};
-ghost use Rattle.wy_types.specs.Core.{IsCore};
+ghost use Rattle.wy_subtype.specs.InRange.{IsInRange};
 ghost use Rattle.wy_subtype.specs.Verdict.{Includes};
 ghost use Rattle.wy_subtype.specs.Unfolding.{param_pairs, method_pairs, found_pairs, CauseOf, FaultOf, IsMet, AreMet, IsUnfolded};
 
@@ -196,7 +196,7 @@ pub fn unfold(
     right: &TypeRef,
     mode: Mode,
 ) -> Result<Unfolding, Memory>
-    requires core { IsCore (program_of core.now) }
+    requires core { IsInRange (program_of core.now) }
     ensures { IfOk result (λ u. IsUnfolded (program_of core.now) scope mode (left.now, right.now) u) }
 {
     if !left.is_object() {
