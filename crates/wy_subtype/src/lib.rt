@@ -2,6 +2,10 @@
 //! fails where it is not.
 #![tactic(auto)]
 
+#[cfg(test)]
+mod ranges;
 pub mod subtype;
+#[cfg(test)]
+mod tests;
 pub mod unfolding;
 pub mod verdict;

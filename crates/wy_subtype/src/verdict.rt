@@ -25,7 +25,7 @@ pub enum Cause {
 }
 
 /// What the test of subtyping answers.
-#[derive(Debug, Drop)]
+#[derive(Debug, Drop, PartialEq, Eq)]
 pub enum Verdict {
     Yes,
     /// The path leads from the pair, with the sides exchanged at each parameter, to a pair that
