@@ -1,10 +1,9 @@
 -- What the checks of tests show of a core's signatures.
-use Rattle.std.proofs.Common.{◌≡◌, ℕ, suc, ◌+◌, ◌<◌, ◌≤◌, List, [], ◌∷◌, map, inl, inr, length, refl, sym, ap, subst}
-use Rattle.std.specs.Prelude.{slice_get}
+use Rattle.std.proofs.Common.{◌≡◌, ℕ, ◌+◌, ◌<◌, ◌≤◌, List, [], ◌∷◌, map, inl, inr, length, refl, sym, ap, subst}
 use Rattle.wy_effects.specs.declared.atom.Atom.{Atom}
 use Rattle.wy_effects.specs.Members.{In}
 use Rattle.wy_effects.specs.EffSet.{IsSetFrom, IsSet}
-use Rattle.wy_effects.proofs.Lists.{In-map, In-unmap, In-slice_get}
+use Rattle.wy_effects.proofs.Lists.{In-unmap, In-slice_get}
 use Rattle.wy_types.specs.declared.types.TypeRef.{TypeRef}
 use Rattle.wy_types.specs.declared.types.Method.{Method}
 use Rattle.wy_types.specs.declared.resolved.TypeDecl.{TypeDecl}

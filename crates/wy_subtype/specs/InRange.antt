@@ -1,5 +1,5 @@
 -- Programs whose signatures are in range.
-use Rattle.std.specs.Prelude.{ℕ, ◌≤◌, length, map}
+use Rattle.std.specs.Prelude.{◌≤◌, length, map}
 use Rattle.wy_effects.specs.Members.{In}
 use Rattle.wy_types.specs.declared.types.TypeRef.{TypeRef}
 use Rattle.wy_types.specs.declared.resolved.TypeDecl.{TypeDecl}

@@ -1,4 +1,4 @@
-use Rattle.std.proofs.Common.{◌≡◌, ◌∙◌, rules, subst, sym, List, length, ℕ}
+use Rattle.std.proofs.Common.{rules, subst, List, ℕ}
 use Rattle.wy_effects.specs.Members.{In}
 use Rattle.wy_effects.proofs.Lists.{each_more, each_all}
 use Rattle.wy_types.specs.declared.types.Method.{Method}

@@ -1,4 +1,4 @@
-use Rattle.std.proofs.Common.{◌≡◌, rules, subst}
+use Rattle.std.proofs.Common.{rules, subst}
 use Rattle.wy_effects.proofs.Lists.{each_more, each_all}
 use Rattle.wy_types.specs.declared.types.Method.{Method}
 use Rattle.wy_types.specs.Program.{program_of}

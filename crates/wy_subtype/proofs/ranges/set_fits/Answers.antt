@@ -1,4 +1,4 @@
-use Rattle.std.proofs.Common.{◌≡◌, ◌<◌, ◌∙◌, ap, map}
+use Rattle.std.proofs.Common.{◌<◌, ◌∙◌, ap, map}
 use Rattle.wy_effects.specs.declared.atom.Atom.{Atom}
 use Rattle.wy_effects.proofs.Lists.{each_more, each_all}
 use Rattle.wy_subtype.proofs.Ranging.{set_below}

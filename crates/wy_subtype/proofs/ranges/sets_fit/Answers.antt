@@ -1,4 +1,4 @@
-use Rattle.std.proofs.Common.{◌≡◌, rules, subst, List, ℕ}
+use Rattle.std.proofs.Common.{rules, subst, List, ℕ}
 use Rattle.wy_effects.proofs.Lists.{each_more, each_all}
 use Rattle.wy_effects.specs.EffSet.{IsSet}
 use Rattle.wy_subtype.proofs.ranges.sets_fit.Goals as goal
