@@ -112,13 +112,16 @@ fn declare_next(alloc: Global, core: &mut Core, gives: TypeRef) -> Result<(), Me
     declare(alloc, core, false, methods)
 }
 
-/// Types 4 to 17: `P` and `Q`; `R`; `S0` to `S2` and `U0` to `U2`; `F` and `G`, whose `next` differ
-/// in their numbers of parameters; `C` with a member; `V` with a member, which takes a `C`; `W`,
-/// which goes on to `X`, and `X` to `W`.
-fn core_of_types(alloc: Global, kind: ScopeKind) -> Result<Core, Memory> {
-    let mut core = empty_core(alloc, kind)?;
-    declare_next(alloc, &mut core, named(alloc, 4, None)?)?;
-    declare_next(alloc, &mut core, named(alloc, 5, None)?)?;
+/// Types that each go on by `next` to the declared type of a number.
+fn declare_links(alloc: Global, core: &mut Core, links: &[u16]) -> Result<(), Memory> {
+    for decl in links {
+        declare_next(alloc, core, named(alloc, *decl, None)?)?;
+    }
+    Ok(())
+}
+
+/// A type that goes on to itself, and has a method more.
+fn declare_more(alloc: Global, core: &mut Core, own: u16) -> Result<(), Memory> {
     let mut methods = Items::new(alloc);
     add_method(
         alloc,
@@ -126,17 +129,14 @@ fn core_of_types(alloc: Global, kind: ScopeKind) -> Result<Core, Memory> {
         b"next",
         None,
         &[],
-        named(alloc, 6, None)?,
+        named(alloc, own, None)?,
     )?;
     add_method(alloc, &mut methods, b"more", None, &[], TypeRef::Int)?;
-    declare(alloc, &mut core, false, methods)?;
-    declare_next(alloc, &mut core, named(alloc, 8, None)?)?;
-    declare_next(alloc, &mut core, named(alloc, 9, None)?)?;
-    declare_next(alloc, &mut core, TypeRef::Int)?;
-    declare_next(alloc, &mut core, named(alloc, 11, None)?)?;
-    declare_next(alloc, &mut core, named(alloc, 12, None)?)?;
-    declare_next(alloc, &mut core, TypeRef::Bool)?;
-    declare_next(alloc, &mut core, TypeRef::Unit)?;
+    declare(alloc, core, false, methods)
+}
+
+/// A type whose `next` has a parameter.
+fn declare_taking(alloc: Global, core: &mut Core) -> Result<(), Memory> {
     let mut methods = Items::new(alloc);
     add_method(
         alloc,
@@ -146,23 +146,40 @@ fn core_of_types(alloc: Global, kind: ScopeKind) -> Result<Core, Memory> {
         &[],
         TypeRef::Unit,
     )?;
-    declare(alloc, &mut core, false, methods)?;
+    declare(alloc, core, false, methods)
+}
+
+/// A type with a member, whose `run` has the member as its effect.
+fn declare_running(alloc: Global, core: &mut Core) -> Result<(), Memory> {
     let mut methods = Items::new(alloc);
     add_method(alloc, &mut methods, b"run", None, &[0], TypeRef::Unit)?;
-    declare(alloc, &mut core, true, methods)?;
+    declare(alloc, core, true, methods)
+}
+
+/// A type with a member, which takes the type before it and goes on to itself.
+fn declare_user(alloc: Global, core: &mut Core, before: u16, own: u16) -> Result<(), Memory> {
     let mut methods = Items::new(alloc);
-    let taken = named(alloc, 15, Some(&[0]))?;
-    add_method(
-        alloc,
-        &mut methods,
-        b"next",
-        Some(taken),
-        &[],
-        named(alloc, 16, Some(&[0]))?,
-    )?;
-    declare(alloc, &mut core, true, methods)?;
-    declare_next(alloc, &mut core, named(alloc, 18, None)?)?;
-    declare_next(alloc, &mut core, named(alloc, 17, None)?)?;
+    let taken = named(alloc, before, Some(&[0]))?;
+    let gives = named(alloc, own, Some(&[0]))?;
+    add_method(alloc, &mut methods, b"next", Some(taken), &[], gives)?;
+    declare(alloc, core, true, methods)
+}
+
+/// Types 4 to 18: `P` and `Q`; `R`; `S0` to `S2` and `U0` to `U2`; two whose `next` differ in their
+/// numbers of parameters; one with a member, and one that takes it; two that go on to each other.
+fn core_of_types(alloc: Global, kind: ScopeKind) -> Result<Core, Memory> {
+    let mut core = empty_core(alloc, kind)?;
+    declare_links(alloc, &mut core, &[4, 5])?;
+    declare_more(alloc, &mut core, 6)?;
+    declare_links(alloc, &mut core, &[8, 9])?;
+    declare_next(alloc, &mut core, TypeRef::Int)?;
+    declare_links(alloc, &mut core, &[11, 12])?;
+    declare_next(alloc, &mut core, TypeRef::Bool)?;
+    declare_next(alloc, &mut core, TypeRef::Unit)?;
+    declare_taking(alloc, &mut core)?;
+    declare_running(alloc, &mut core)?;
+    declare_user(alloc, &mut core, 15, 16)?;
+    declare_links(alloc, &mut core, &[18, 17])?;
     Ok(core)
 }
 
