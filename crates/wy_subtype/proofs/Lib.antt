@@ -1,0 +1,4 @@
+pub mod Arities
+pub mod Asking
+pub mod Ranging
+pub mod Working

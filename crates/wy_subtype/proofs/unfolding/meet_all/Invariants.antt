@@ -1,0 +1,12 @@
+use Rattle.std.proofs.Common.{◌≡◌, ◌++◌, drop, take, map}
+use Rattle.wy_effects.specs.Members.{In}
+use Rattle.wy_types.specs.declared.types.Method.{Method}
+use Rattle.wy_types.specs.Signature.{find_method}
+use Rattle.wy_types.specs.Types.{signature}
+use Rattle.wy_subtype.specs.Unfolding.{all_pairs, IsMet}
+use Rattle.wy_subtype.proofs.unfolding.meet_all.Given as goal
+
+abbrev pub invariant-loop-right : goal.invariant-loop-right
+invariant-loop-right l =
+    (l.asked.items ++ all_pairs (map signature l.lefts) (map signature (drop l.right-index l.rights)) ≡ all_pairs (map signature l.lefts) (map signature l.rights)) ×
+    ((n : Method) → In n (take l.right-index l.rights) → IsMet l.mode (find_method n.name (map signature l.lefts)) (signature n))

@@ -1,0 +1,4 @@
+pub mod InRange
+pub mod Unfolding
+pub mod Verdict
+pub mod Worklist

@@ -1,0 +1,81 @@
+-- What the list of pairs keeps while they are tested one by one.
+use Rattle.std.specs.Prelude.{◌≡◌, ℕ, ◌<◌, ◌≤◌, List, [], ◌∷◌, ◌++◌, ◌⊎◌, Some, map, length, slice_get}
+use Rattle.wy_effects.specs.Members.{In, Apart}
+use Rattle.wy_types.specs.declared.path.Step.{Step}
+use Rattle.wy_types.specs.Program.{Program}
+use Rattle.wy_types.specs.Fitting.{IsTypeOf}
+use Rattle.wy_subtype.specs.declared.verdict.Mode.{Mode}
+use Rattle.wy_subtype.specs.declared.verdict.Cause.{Cause}
+use Rattle.wy_subtype.specs.declared.unfolding.UnfoldedPair.{UnfoldedPair}
+use Rattle.wy_subtype.specs.declared.subtype.Entry.{Entry}
+use Rattle.wy_subtype.specs.Verdict.{Pair, Closes, StepsTo, FailsBy}
+use Rattle.wy_subtype.specs.Unfolding.{sides}
+
+abbrev pub entry_pair : Entry → Pair
+entry_pair e = (e.left, e.right)
+
+abbrev pub pairs : List Entry → List Pair
+pairs es = map entry_pair es
+
+abbrev pub entry_of : UnfoldedPair → ℕ → Entry
+entry_of c parent = record { left = c.left; right = c.right; parent = parent; step = c.step }
+
+-- the pair is there, or comes last
+abbrev pub IsAdded : List Entry → UnfoldedPair → ℕ → List Entry → Type 0
+IsAdded old c parent new =
+    (In (sides c) (pairs old) × (new ≡ old)) ⊎ ((In (sides c) (pairs old) → ⊥) × (new ≡ old ++ entry_of c parent ∷ []))
+
+-- one pair after another
+abbrev pub AreAdded : List Entry → List UnfoldedPair → ℕ → List Entry → Type 0
+AreAdded old [] parent new = new ≡ old
+AreAdded old (c ∷ cs) parent new = (mid : List Entry) × IsAdded old c parent mid × AreAdded mid cs parent new
+
+-- an entry comes by a step from an earlier one
+pub record IsLinked (p : Program) (scope : ℕ) (mode : Mode) (es : List Entry) (k : ℕ) (e : Entry) : Type 0 where
+  pub parent : Entry
+  pub at : slice_get es e.parent ≡ Some parent
+  pub before : e.parent < k
+  pub step : StepsTo p scope mode (entry_pair parent) e.step (entry_pair e)
+
+-- distinct pairs in range, each but the first by a step from an earlier one
+pub record IsSeen (p : Program) (scope : ℕ) (mode : Mode) (es : List Entry) : Type 0 where
+  pub apart : Apart (pairs es)
+  pub fits : (q : Pair) → In q (pairs es) → IsTypeOf p scope q.0 × IsTypeOf p scope q.1
+  pub linked : (k : ℕ) (e : Entry) → 0 < k → slice_get es k ≡ Some e → IsLinked p scope mode es k e
+
+abbrev pub Extends : List Entry → List Entry → Type 0
+Extends old new = (tail : List Entry) × (new ≡ old ++ tail)
+
+-- the list closes the pair at a place
+abbrev pub IsDone : Program → ℕ → Mode → List Entry → ℕ → Type 0
+IsDone p scope mode es k = (e : Entry) → slice_get es k ≡ Some e → Closes p scope mode (pairs es) (entry_pair e)
+
+-- the pair at a place was tested
+pub record Advances (p : Program) (scope : ℕ) (mode : Mode) (old new : List Entry) (k : ℕ) : Type 0 where
+  pub seen : IsSeen p scope mode new
+  pub extends : Extends old new
+  pub done : IsDone p scope mode new k
+
+-- the pair at a place fails by the cause
+abbrev pub EntryFails : Program → ℕ → Mode → List Entry → ℕ → Cause → Type 0
+EntryFails p scope mode es k cause = (e : Entry) × (slice_get es k ≡ Some e) × FailsBy p scope mode (entry_pair e) cause
+
+-- the list begins with the pair
+abbrev pub BeginsWith : Pair → List Entry → Type 0
+BeginsWith q es = (e : Entry) × (slice_get es 0 ≡ Some e) × (entry_pair e ≡ q)
+
+-- all pairs before a place were tested
+pub record IsWork (p : Program) (scope : ℕ) (mode : Mode) (first es : List Entry) (next : ℕ) : Type 0 where
+  pub seen : IsSeen p scope mode es
+  pub extends : Extends first es
+  pub within : next ≤ length es
+  pub done : (k : ℕ) → k < next → IsDone p scope mode es k
+
+-- the steps back from a place to the first
+abbrev pub Traces : List Entry → ℕ → List Step → Type 0
+Traces es at [] = at ≡ 0
+Traces es at (s ∷ rest) = (e : Entry) × (slice_get es at ≡ Some e) × (0 < at) × (e.step ≡ s) × Traces es e.parent rest
+
+-- each entry but the first has its parent before it
+abbrev pub GoesBack : List Entry → Type 0
+GoesBack es = (k : ℕ) (e : Entry) → 0 < k → slice_get es k ≡ Some e → e.parent < k

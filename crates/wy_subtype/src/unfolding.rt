@@ -1,0 +1,214 @@
+//! The test of one pair of types by itself.
+
+ghost use Rattle.std.specs.Prelude.{◌≡◌, ◌≤◌, ◌++◌, IfOk, OnOk, IfSome, IfNone, map, length};
+ghost use Rattle.std.specs.Option.{option_copied, option_map};
+ghost use Rattle.wy_effects.specs.Members.{In, Within};
+ghost use Rattle.wy_types.specs.Program.{program_of};
+ghost use Rattle.wy_types.specs.Types.{signature};
+ghost use Rattle.wy_types.specs.Signature.{find_method};
+ghost use Rattle.wy_subtype.specs.InRange.{IsInRange};
+ghost use Rattle.wy_subtype.specs.Verdict.{Includes};
+ghost use Rattle.wy_subtype.specs.Unfolding.{param_pairs, method_pairs, found_pairs, CauseOf, FaultOf, IsMet, AreMet, IsUnfolded};
+
+use crate::verdict::{Cause, Mode};
+use std::alloc::Global;
+use wy_effects::atom::Atom;
+use wy_effects::set::EffSet;
+use wy_text::text::{Memory, Text};
+use wy_types::methods::methods;
+use wy_types::path::{Part, Step};
+use wy_types::resolved::Core;
+use wy_types::types::{Method, TypeRef};
+
+/// A pair that another asks for, one step away.
+#[derive(Debug, Drop)]
+pub struct UnfoldedPair {
+    pub step: Step,
+    pub left: TypeRef,
+    pub right: TypeRef,
+}
+
+/// What a pair's own test says.
+#[derive(Debug, Drop)]
+pub enum Unfolding {
+    /// The pair is closed by these.
+    Closed(Vec<UnfoldedPair>),
+    Fails(Cause),
+}
+
+/// The first method of a name.
+fn find<'a>(methods: &'a [Method], name: &Text) -> Option<&'a Method>
+    ensures { option_map signature (option_copied result) ≡ find_method name.now (map signature methods.now) }
+{
+    for m in methods {
+        if m.name == *name {
+            return Some(m);
+        }
+    }
+    None
+}
+
+/// An atom of the left effect that the right one lacks.
+fn lacking(left: &EffSet, right: &EffSet) -> Result<Option<Atom>, Memory>
+    ensures none { IfOk result (λ o. IfNone o (Within left.now right.now)) }
+    ensures some { IfOk result (λ o. IfSome o (λ a. In a.0 left.now × (In a.0 right.now → ⊥))) }
+{
+    if right.includes(left) {
+        return Ok(None);
+    }
+    let atoms = left.without(right)?.atoms()?;
+    Ok(atoms.first().copied())
+}
+
+/// An atom that the right effect should have and lacks.
+fn effect_fault(left: &EffSet, right: &EffSet, mode: Mode) -> Result<Option<Atom>, Memory>
+    ensures none { IfOk result (λ o. IfNone o (Includes mode left.now right.now)) }
+    ensures some { IfOk result (λ o. IfSome o (λ a. (mode ≡ Mode.Annotated) × In a.0 left.now × (In a.0 right.now → ⊥))) }
+{
+    match mode {
+        Mode::Plain => Ok(None),
+        Mode::Annotated => lacking(left, right),
+    }
+}
+
+/// What is at fault with the left side's method, but for the pairs that it then asks for.
+fn method_fault(left: &Method, right: &Method, mode: Mode) -> Result<Option<Cause>, Memory>
+    ensures none { IfOk result (λ o. IfNone o ((length left.now.params ≡ length right.now.params) × Includes mode left.now.effect right.now.effect)) }
+    ensures some { IfOk result (λ o. IfSome o (λ c. CauseOf mode (signature left.now) (signature right.now) c)) }
+{
+    if left.params.len() != right.params.len() {
+        return Ok(Some(Cause::Arity(right.name.copy()?)));
+    }
+    match effect_fault(&left.effect, &right.effect, mode)? {
+        Some(atom) => Ok(Some(Cause::Effect {
+            method: right.name.copy()?,
+            atom,
+        })),
+        None => Ok(None),
+    }
+}
+
+/// Adds the pairs of two methods' parameters, with their sides exchanged.
+fn add_parameters(
+    alloc: Global,
+    into: &mut Vec<UnfoldedPair>,
+    name: &Text,
+    left: &[TypeRef],
+    right: &[TypeRef],
+) -> Result<(), Memory>
+    requires same { length left.now ≡ length right.now }
+    requires few { length left.now ≤ 16 }
+    ensures { OnOk result (into.new.items ≡ into.old.items ++ param_pairs name.now 0 left.now right.now) }
+{
+    for (i, a) in left.iter().enumerate() {
+        into.push(UnfoldedPair {
+            step: Step {
+                method: name.copy()?,
+                part: Part::Parameter(i as u16),
+            },
+            left: right[i].copy(alloc)?,
+            right: a.copy(alloc)?,
+        })?;
+    }
+    Ok(())
+}
+
+/// Adds the pairs that two methods ask for.
+fn add_pairs(
+    alloc: Global,
+    into: &mut Vec<UnfoldedPair>,
+    left: &Method,
+    right: &Method,
+) -> Result<(), Memory>
+    requires same { length left.now.params ≡ length right.now.params }
+    requires few { length right.now.params ≤ 16 }
+    ensures { OnOk result (into.new.items ≡ into.old.items ++ method_pairs (signature left.now) (signature right.now)) }
+{
+    add_parameters(
+        alloc,
+        into,
+        &right.name,
+        left.params.as_slice(),
+        right.params.as_slice(),
+    )?;
+    into.push(UnfoldedPair {
+        step: Step {
+            method: right.name.copy()?,
+            part: Part::Result,
+        },
+        left: left.result.copy(alloc)?,
+        right: right.result.copy(alloc)?,
+    })?;
+    Ok(())
+}
+
+/// Tests one method of the right side, and adds the pairs that it asks for.
+fn meet(
+    alloc: Global,
+    into: &mut Vec<UnfoldedPair>,
+    lefts: &[Method],
+    right: &Method,
+    mode: Mode,
+) -> Result<Option<Cause>, Memory>
+    requires few { length right.now.params ≤ 16 }
+    ensures met { IfOk result (λ o. IfNone o (IsMet mode (find_method right.now.name (map signature lefts.now)) (signature right.now))) }
+    ensures added { IfOk result (λ o. IfNone o (into.new.items ≡ into.old.items ++ found_pairs (find_method right.now.name (map signature lefts.now)) (signature right.now))) }
+    ensures fault { IfOk result (λ o. IfSome o (λ c. FaultOf mode (find_method right.now.name (map signature lefts.now)) (signature right.now) c)) }
+{
+    match find(lefts, &right.name) {
+        None => Ok(Some(Cause::MissingMethod(right.name.copy()?))),
+        Some(left) => {
+            if let Some(cause) = method_fault(left, right, mode)? {
+                return Ok(Some(cause));
+            }
+            add_pairs(alloc, into, left, right)?;
+            Ok(None)
+        }
+    }
+}
+
+/// Tests all methods of the right side.
+fn meet_all(
+    alloc: Global,
+    lefts: &[Method],
+    rights: &[Method],
+    mode: Mode,
+) -> Result<Unfolding, Memory>
+    requires few { (m : Method) → In m rights.now → length m.params ≤ 16 }
+    ensures { IfOk result (λ u. AreMet mode (map signature lefts.now) (map signature rights.now) u) }
+{
+    let mut asked = Vec::new(alloc);
+    for right in rights {
+        if let Some(cause) = meet(alloc, &mut asked, lefts, right, mode)? {
+            return Ok(Unfolding::Fails(cause));
+        }
+    }
+    Ok(Unfolding::Closed(asked))
+}
+
+/// The test of one pair by itself, in a mode: the cause by which it fails, or the pairs that it
+/// asks for, those of parameters with their sides exchanged (docs/LANGUAGE.md, "Subtyping").
+pub fn unfold(
+    alloc: Global,
+    core: &Core,
+    scope: u16,
+    left: &TypeRef,
+    right: &TypeRef,
+    mode: Mode,
+) -> Result<Unfolding, Memory>
+    requires core { IsInRange (program_of core.now) }
+    ensures { IfOk result (λ u. IsUnfolded (program_of core.now) scope mode (left.now, right.now) u) }
+{
+    if !left.is_object() {
+        if left.same(right) {
+            return Ok(Unfolding::Closed(Vec::new(alloc)));
+        }
+        return Ok(Unfolding::Fails(Cause::Base));
+    }
+    if !right.is_object() {
+        return Ok(Unfolding::Fails(Cause::Base));
+    }
+    let lefts = methods(alloc, core, scope, left)?;
+    let rights = methods(alloc, core, scope, right)?;
+    meet_all(alloc, lefts.as_slice(), rights.as_slice(), mode)
+}

@@ -1,0 +1,34 @@
+use wy_effects::atom::Atom;
+use wy_text::text::Text;
+pub use wy_types::path::{Part, Path, Step};
+
+/// Which subtyping is asked (docs/LANGUAGE.md, "Subtyping").
+#[derive(Clone, Copy, Debug, PartialEq, Eq)]
+pub enum Mode {
+    /// With effects: the left method's effect is within the right one's.
+    Annotated,
+    /// Without effects, for plain modules.
+    Plain,
+}
+
+/// Why a pair of types fails by itself. The methods are those of the right side.
+#[derive(Debug, Drop, PartialEq, Eq)]
+pub enum Cause {
+    /// The left side has no method of this name.
+    MissingMethod(Text),
+    /// The left side's method of this name has another number of parameters.
+    Arity(Text),
+    /// Two different base types, or a base type and an object type.
+    Base,
+    /// The atom is in the effect of the left side's method of this name, and not in the right side's.
+    Effect { method: Text, atom: Atom },
+}
+
+/// What the test of subtyping answers.
+#[derive(Debug, Drop, PartialEq, Eq)]
+pub enum Verdict {
+    Yes,
+    /// The path leads from the pair, with the sides exchanged at each parameter, to a pair that
+    /// fails by itself by the cause.
+    No { path: Path, cause: Cause },
+}
