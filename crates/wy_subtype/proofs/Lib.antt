@@ -1,4 +1,3 @@
-pub mod Arities
 pub mod Asking
 pub mod Ranging
 pub mod Working

@@ -13,7 +13,7 @@ use Rattle.wy_types.specs.Program.{Program, Scope, Body, scope_of, body_of, prog
 use Rattle.wy_types.specs.Signature.{Signature}
 use Rattle.wy_types.specs.Types.{signature}
 use Rattle.wy_types.specs.Fitting.{FitsSignature, AllSignaturesFit}
-use Rattle.wy_subtype.specs.InRange.{IsInRange}
+use Rattle.wy_types.specs.InRange.{IsInRange}
 
 abbrev pub MethodFits : Program → ℕ → Method → Type 0
 MethodFits p number m = FitsSignature p number 0 (signature m) × (length m.params ≤ 16)

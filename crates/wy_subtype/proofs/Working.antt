@@ -26,7 +26,7 @@ use Rattle.wy_subtype.specs.declared.verdict.Verdict.{Verdict}
 use Rattle.wy_subtype.specs.declared.verdict.Verdict.TheVariants.{Yes, No}
 use Rattle.wy_subtype.specs.declared.unfolding.UnfoldedPair.{UnfoldedPair}
 use Rattle.wy_subtype.specs.declared.subtype.Entry.{Entry}
-use Rattle.wy_subtype.specs.InRange.{IsInRange}
+use Rattle.wy_types.specs.InRange.{IsInRange}
 use Rattle.wy_subtype.specs.Verdict.{Pair, Includes, IsSubtypeIn, Closes, StepsTo, LeadsTo, AreObjects, FailsBy, FailsAt, IsVerdict, IsYes}
 use Rattle.wy_subtype.specs.Unfolding.{sides, Asks}
 use Rattle.wy_subtype.specs.Worklist.{entry_pair, pairs, entry_of, IsAdded, AreAdded, IsLinked, IsSeen, Extends, Advances, EntryFails, BeginsWith, IsWork, Traces, GoesBack}

@@ -1,4 +1,3 @@
-pub mod InRange
 pub mod Unfolding
 pub mod Verdict
 pub mod Worklist

@@ -6,7 +6,7 @@ ghost use Rattle.wy_effects.specs.EffSet.{IsSet, AreSets};
 ghost use Rattle.wy_types.specs.Program.{program_of};
 ghost use Rattle.wy_types.specs.Types.{signature};
 ghost use Rattle.wy_types.specs.Fitting.{FitsType, FitsSignature};
-ghost use Rattle.wy_subtype.specs.InRange.{IsInRange};
+ghost use Rattle.wy_types.specs.InRange.{IsInRange};
 
 use wy_effects::set::EffSet;
 use wy_text::text::Memory;

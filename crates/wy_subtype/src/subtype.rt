@@ -2,7 +2,7 @@ ghost use Rattle.std.specs.Prelude.{◌≡◌, ◌<◌, ◌↔◌, ◌++◌, IfO
 ghost use Rattle.wy_effects.specs.Members.{In as IsIn};
 ghost use Rattle.wy_types.specs.Program.{program_of};
 ghost use Rattle.wy_types.specs.Fitting.{IsTypeOf};
-ghost use Rattle.wy_subtype.specs.InRange.{IsInRange};
+ghost use Rattle.wy_types.specs.InRange.{IsInRange};
 ghost use Rattle.wy_subtype.specs.Verdict.{IsVerdict, IsYes, IsSubtypeIn};
 ghost use Rattle.wy_subtype.specs.Worklist.{entry_pair, pairs, IsAdded, AreAdded, IsSeen, EntryFails, Advances, GoesBack, Traces, BeginsWith};
 

@@ -6,7 +6,7 @@ ghost use Rattle.wy_effects.specs.Members.{In, Within};
 ghost use Rattle.wy_types.specs.Program.{program_of};
 ghost use Rattle.wy_types.specs.Types.{signature};
 ghost use Rattle.wy_types.specs.Signature.{find_method};
-ghost use Rattle.wy_subtype.specs.InRange.{IsInRange};
+ghost use Rattle.wy_types.specs.InRange.{IsInRange};
 ghost use Rattle.wy_subtype.specs.Verdict.{Includes};
 ghost use Rattle.wy_subtype.specs.Unfolding.{param_pairs, method_pairs, found_pairs, CauseOf, FaultOf, IsMet, AreMet, IsUnfolded};
 

@@ -54,7 +54,7 @@ annotated-annotated e b (Named d ms) = refl
 annotated-annotated e b (At d c) = refl
 annotated-annotated e b (Own l) = refl
 
-annotated-erased : (e : List ℕ) (t : TypeRef) → annotated e (erased t) ≡ annotated e t
+pub annotated-erased : (e : List ℕ) (t : TypeRef) → annotated e (erased t) ≡ annotated e t
 annotated-erased e Int = refl
 annotated-erased e Bool = refl
 annotated-erased e Text = refl
@@ -193,6 +193,15 @@ unfolding turned_by
 turned_by-true [] = refl
 turned_by-true (s ∷ path) = turned-turned_by s.part path true ∙ ap (turned s.part) (turned_by-true path)
 
+-- where a path ends that begins at a polarity and has this one, or the other
+turned_by-same : (path : List Step) (start : Truth) → is_positive path ≡ start → turned_by path start ≡ true
+turned_by-same path true h = turned_by-true path ∙ h
+turned_by-same path false h = not-turned_by path true ∙ ap not (turned_by-true path ∙ h)
+
+turned_by-other : (path : List Step) (start : Truth) → is_positive path ≡ not start → turned_by path start ≡ false
+turned_by-other path true h = turned_by-true path ∙ h
+turned_by-other path false h = not-turned_by path true ∙ ap not (turned_by-true path ∙ h)
+
 module _ (p : Program) (w : IsCore p) (scope : ℕ) (e : List ℕ)
     (ps : List (TypeRef × TypeRef)) (closed : (q : TypeRef × TypeRef) → In q ps → IsClosed TypeRef (methods_of p scope) IsObject Within ps q) where
   walk_sided : (path : List Step) (b : Truth) (t u : TypeRef) → Writable p t → In (sided e b t) ps → Walks TypeRef (methods_of p scope) t path u → Writable p u × In (sided e (turned_by path b) u) ps
@@ -224,21 +233,21 @@ module _ (p : Program) (w : IsCore p) (scope : ℕ) (e : List ℕ)
       let cover : Covers TypeRef (methods_of p scope) IsObject Within ps (at_bound e m) m = subst Q found (h.2 m i) in
       cover.effect
 
-  both_ways : (t : TypeRef) → Writable p t → In (sided e true t) ps → EffectsWithin TypeRef (methods_of p scope) t true e × IsSafe TypeRef (methods_of p scope) t false e
-  both_ways t f i = (
+  both_ways : (start : Truth) (t : TypeRef) → Writable p t → In (sided e start t) ps → EffectsWithin TypeRef (methods_of p scope) t start e × IsSafe TypeRef (methods_of p scope) t (not start) e
+  both_ways start t f i = (
     λ a x. let u = x.0 in
         let r = x.1 in
-        let g = walk_sided r.0 true t u f i r.1 in
+        let g = walk_sided r.0 start t u f i r.1 in
         let P : Truth → Type 0 = λ b. In (sided e b u) ps in
-        effect_true u g.0 (closed (sided e true u) (subst P (turned_by-true r.0 ∙ r.2) g.1)) x.2.0 x.2.1 a x.2.2,
-    λ u r. let g = walk_sided r.0 true t u f i r.1 in
+        effect_true u g.0 (closed (sided e true u) (subst P (turned_by-same r.0 start r.2) g.1)) x.2.0 x.2.1 a x.2.2,
+    λ u r. let g = walk_sided r.0 start t u f i r.1 in
         let P : Truth → Type 0 = λ b. In (sided e b u) ps in
-        effect_false u g.0 (closed (sided e false u) (subst P (turned_by-true r.0 ∙ r.2) g.1)),
+        effect_false u g.0 (closed (sided e false u) (subst P (turned_by-other r.0 start r.2) g.1)),
   )
 
-pub effects_from_subtype : (p : Program) (w : IsCore p) (scope : ℕ) → (e : List ℕ) (t : TypeRef) → Writable p t →
-    IsSubtype TypeRef (methods_of p scope) IsObject Within t (annotated e t) → EffectsWithin TypeRef (methods_of p scope) t true e × IsSafe TypeRef (methods_of p scope) t false e
-effects_from_subtype p w scope e t f sub = both_ways p w scope e sub.pairs sub.closed t f sub.first
+effects_from_subtype : (p : Program) (w : IsCore p) (scope : ℕ) → (e : List ℕ) (start : Truth) (t : TypeRef) → Writable p t →
+    IsSubtype TypeRef (methods_of p scope) IsObject Within (sided e start t).0 (sided e start t).1 → EffectsWithin TypeRef (methods_of p scope) t start e × IsSafe TypeRef (methods_of p scope) t (not start) e
+effects_from_subtype p w scope e start t f sub = both_ways p w scope e sub.pairs sub.closed start t f sub.first
 
 -- the other way: what is reached, each type with its polarity
 abbrev Mark : Type 0
@@ -296,19 +305,41 @@ turned-twice Result q b = refl
 turned-twice (Parameter i) Result b = refl
 turned-twice (Parameter i) (Parameter j) b = refl
 
-is_positive-snoc : (path : List Step) (s : Step) → is_positive (path ++ s ∷ []) ≡ turned s.part (is_positive path)
+pub is_positive-snoc : (path : List Step) (s : Step) → is_positive (path ++ s ∷ []) ≡ turned s.part (is_positive path)
 is_positive-snoc [] s = refl
 is_positive-snoc (x ∷ path) s = ap (turned x.part) (is_positive-snoc path s) ∙ turned-twice x.part s.part (is_positive path)
 
-Reaches-more : (p : Program) (scope : ℕ) (t u v : TypeRef) (b : Truth) (s : Step) → Reaches TypeRef (methods_of p scope) t b u → Goes TypeRef (methods_of p scope) u s v → Reaches TypeRef (methods_of p scope) t (turned s.part b) v
+pub Reaches-more : (p : Program) (scope : ℕ) (t u v : TypeRef) (b : Truth) (s : Step) → Reaches TypeRef (methods_of p scope) t b u → Goes TypeRef (methods_of p scope) u s v → Reaches TypeRef (methods_of p scope) t (turned s.part b) v
 Reaches-more p scope t u v b s r g = (r.0 ++ s ∷ [], walks_more TypeRef (methods_of p scope) r.0 s t u v r.1 g, is_positive-snoc r.0 s ∙ ap (turned s.part) r.2)
 
-module _ (p : Program) (w : IsCore p) (scope : ℕ) (e : List ℕ) (t : TypeRef) where
+-- the polarity of a path that begins at another polarity than the positive one
+abbrev pub relative : Truth → Truth → Truth
+relative true b = b
+relative false b = not b
+
+relative-self : (start : Truth) → true ≡ relative start start
+relative-self true = refl
+relative-self false = refl
+
+relative-true : (start : Truth) → relative start true ≡ start
+relative-true true = refl
+relative-true false = refl
+
+relative-false : (start : Truth) → relative start false ≡ not start
+relative-false true = refl
+relative-false false = refl
+
+relative-turned : (start : Truth) (part : Part) (b : Truth) → turned part (relative start b) ≡ relative start (turned part b)
+relative-turned true part b = refl
+relative-turned false part b = not-turned part b
+
+-- from a type on one of the two sides
+module _ (p : Program) (w : IsCore p) (scope : ℕ) (e : List ℕ) (start : Truth) (t : TypeRef) where
   next_marks : Mark → List Mark
   next_marks x = marks x.1 (methods_of p scope x.0)
 
   abbrev Marked : Mark → Type 0
-  Marked x = Writable p x.0 × Reaches TypeRef (methods_of p scope) t x.1 x.0
+  Marked x = Writable p x.0 × Reaches TypeRef (methods_of p scope) t (relative start x.1) x.0
 
   mark_kept : (x y : Mark) → Marked x → In y (next_marks x) → Marked y
   unfolding next_marks
@@ -318,11 +349,11 @@ module _ (p : Program) (w : IsCore p) (scope : ℕ) (e : List ℕ) (t : TypeRef)
       let s : Step = record { method = r.0.name; part = part.0 } in
       let g : Goes TypeRef (methods_of p scope) x.0 s y.0 = record { method = r.0; has = r.1; named = refl; part = part.1 } in
       let P : Truth → Type 0 = λ b. Reaches TypeRef (methods_of p scope) t b y.0 in
-      (Written-goes p w scope e x.0 s y.0 f.0 g, subst P part.2 (Reaches-more p scope t x.0 y.0 x.1 s f.1 g))
+      (Written-goes p w scope e x.0 s y.0 f.0 g, subst P (relative-turned start part.0 x.1 ∙ ap (relative start) part.2) (Reaches-more p scope t x.0 y.0 (relative start x.1) s f.1 g))
 
-  all_marks : Writable p t → Closes Mark next_marks Marked [] ((t, true) ∷ [])
+  all_marks : Writable p t → Closes Mark next_marks Marked [] ((t, start) ∷ [])
   all_marks f = closure Mark (decide_pair decide_type decide_truth) next_marks Marked mark_kept (marked_bound p scope)
-      (λ ms apart each. length-le-marked_bound p scope ms apart (λ m i. Fits-wider p 512 (own_count p scope) m.0 (omega arith) (each m i).0)) (t, true) (f, ([], refl, refl))
+      (λ ms apart each. length-le-marked_bound p scope ms apart (λ m i. Fits-wider p 512 (own_count p scope) m.0 (omega arith) (each m i).0)) (t, start) (f, ([], refl, relative-self start))
 
   params_true : (ps : List (TypeRef × TypeRef)) (vs : List TypeRef) → ((v : TypeRef) → In v vs → In (sided e false v) ps) → ParamsIn ps vs (map (annotated e) vs)
   params_true ps [] h = tt
@@ -332,7 +363,7 @@ module _ (p : Program) (w : IsCore p) (scope : ℕ) (e : List ℕ) (t : TypeRef)
   params_false ps [] h = tt
   params_false ps (v ∷ vs) h = (h v (inl refl), params_false ps vs (λ u i. h u (inr i)))
 
-  module _ (effects : EffectsWithin TypeRef (methods_of p scope) t true e) (safe : IsSafe TypeRef (methods_of p scope) t false e) (ps : List (TypeRef × TypeRef)) where
+  module _ (effects : EffectsWithin TypeRef (methods_of p scope) t start e) (safe : IsSafe TypeRef (methods_of p scope) t (not start) e) (ps : List (TypeRef × TypeRef)) where
     close_true : (u : TypeRef) → Marked (u, true) → ((m : Signature TypeRef) → In m (methods_of p scope u) → ((v : TypeRef) → In v m.params → In (sided e false v) ps) × In (sided e true m.result) ps) → IsClosed TypeRef (methods_of p scope) IsObject Within ps (sided e true u)
     close_true u f parts =
         elim (object_cases u) [
@@ -347,9 +378,10 @@ module _ (p : Program) (w : IsCore p) (scope : ℕ) (e : List ℕ) (t : TypeRef)
                 let q = parts m r.1 in
                 let Q : Option (Signature TypeRef) → Type 0 = λ o. HasCover TypeRef (methods_of p scope) IsObject Within ps o (at_bound e m) in
                 let R : Signature TypeRef → Type 0 = λ v. HasCover TypeRef (methods_of p scope) IsObject Within ps (find_method v.name (methods_of p scope u)) v in
+                let S : Truth → Type 0 = λ b. Reaches TypeRef (methods_of p scope) t b u in
                 subst R r.2 (subst Q (sym (names p w scope u m r.1)) (record {
                   params = params_true ps m.params q.0;
-                  effect = λ a j. effects a (u, f.1, (m, r.1, j));
+                  effect = λ a j. effects a (u, subst S (relative-true start) f.1, (m, r.1, j));
                   result = q.1;
                 })),
           )
@@ -371,9 +403,10 @@ module _ (p : Program) (w : IsCore p) (scope : ℕ) (e : List ℕ) (t : TypeRef)
                 let Q : Option (Signature TypeRef) → Type 0 = λ o. HasCover TypeRef (methods_of p scope) IsObject Within ps o m in
                 let found : find_method m.name (methods_of p scope (annotated e u)) ≡ Some (at_bound e m) =
                 subst P (sym (methods-bound p scope e u f.0)) (find-bounded e m.name (methods_of p scope u) m (names p w scope u m i)) in
+                let S : Truth → Type 0 = λ b. Reaches TypeRef (methods_of p scope) t b u in
                 subst Q (sym found) (record {
                   params = params_false ps m.params q.0;
-                  effect = safe u f.1 m i;
+                  effect = safe u (subst S (relative-false start) f.1) m i;
                   result = q.1;
                 }),
           )
@@ -383,15 +416,15 @@ module _ (p : Program) (w : IsCore p) (scope : ℕ) (e : List ℕ) (t : TypeRef)
     close true u f parts = close_true u f parts
     close false u f parts = close_false u f parts
 
-  sub_from : Writable p t → EffectsWithin TypeRef (methods_of p scope) t true e → IsSafe TypeRef (methods_of p scope) t false e → IsSubtype TypeRef (methods_of p scope) IsObject Within t (annotated e t)
+  sub_from : Writable p t → EffectsWithin TypeRef (methods_of p scope) t start e → IsSafe TypeRef (methods_of p scope) t (not start) e → IsSubtype TypeRef (methods_of p scope) IsObject Within (sided e start t).0 (sided e start t).1
   unfolding next_marks
   sub_from f effects safe =
-      let r : Closes Mark next_marks Marked [] ((t, true) ∷ []) = all_marks f in
+      let r : Closes Mark next_marks Marked [] ((t, start) ∷ []) = all_marks f in
       let turn : Mark → TypeRef × TypeRef = λ x. sided e x.1 x.0 in
       let ps : List (TypeRef × TypeRef) = map turn r.list in
       record {
         pairs = ps;
-        first = In-map turn (t, true) r.list (r.new (t, true) (inl refl));
+        first = In-map turn (t, start) r.list (r.new (t, start) (inl refl));
         closed = λ z i.
             let q = In-unmap turn z r.list i in
             let P : (TypeRef × TypeRef) → Type 0 = λ v. IsClosed TypeRef (methods_of p scope) IsObject Within ps v in
@@ -406,4 +439,9 @@ module _ (p : Program) (w : IsCore p) (scope : ℕ) (e : List ℕ) (t : TypeRef)
 -- the law of annotation
 pub annotation : (p : Program) (w : IsCore p) (scope : ℕ) → (e : List ℕ) (t : TypeRef) → Writable p t →
     (EffectsWithin TypeRef (methods_of p scope) t true e × IsSafe TypeRef (methods_of p scope) t false e) ↔ IsSubtype TypeRef (methods_of p scope) IsObject Within t (annotated e t)
-annotation p w scope e t f = (λ h. sub_from p w scope e t f h.0 h.1, λ sub. effects_from_subtype p w scope e t f sub)
+annotation p w scope e t f = (λ h. sub_from p w scope e true t f h.0 h.1, λ sub. effects_from_subtype p w scope e true t f sub)
+
+-- its dual: the sides are exchanged, and so are the polarities
+pub dual_annotation : (p : Program) (w : IsCore p) (scope : ℕ) → (e : List ℕ) (t : TypeRef) → Writable p t →
+    (IsSafe TypeRef (methods_of p scope) t true e × EffectsWithin TypeRef (methods_of p scope) t false e) ↔ IsSubtype TypeRef (methods_of p scope) IsObject Within (annotated e t) t
+dual_annotation p w scope e t f = (λ h. sub_from p w scope e false t f h.1 h.0, λ sub. (let r = effects_from_subtype p w scope e false t f sub in (r.1, r.0)))

@@ -1,10 +1,12 @@
 pub mod Annotating
+pub mod Arities
 pub mod Closing
 pub mod Composing
 pub mod Deciding
 pub mod Finite
 pub mod Gathered
 pub mod Kept
+pub mod Keyed
 pub mod Owning
 pub mod Reaching
 pub mod Reflecting

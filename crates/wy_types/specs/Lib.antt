@@ -3,6 +3,8 @@ pub mod Core
 pub mod Few
 pub mod Fitting
 pub mod Gathering
+pub mod InRange
+pub mod Keys
 pub mod Order
 pub mod Paths
 pub mod Primitive

@@ -3,6 +3,7 @@
 #![tactic(auto)]
 
 pub mod code;
+pub mod key;
 pub mod laws;
 pub mod linked;
 pub mod methods;

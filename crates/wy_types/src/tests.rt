@@ -1,4 +1,5 @@
 use crate::code::{Block, Expr, Value};
+use crate::key::{key_of_mark, key_of_pair};
 use crate::methods::methods;
 use crate::primitive::primitives;
 use crate::reach::{ReachRefusal, reach};
@@ -193,6 +194,45 @@ fn a_scope_reaches_at_most_1024_types(rt: HostRuntime) -> Result<(), Fail> {
     );
     for (number, want) in [(3, Some(4)), (1023, Some(1024)), (1024, None)] {
         assert_eq!(rt; reached(alloc, &chained_core(alloc, number)?)?, want);
+    }
+    Ok(())
+}
+
+fn named_by(alloc: Global, sets: &[&[u16]]) -> Result<TypeRef, Memory> {
+    Ok(TypeRef::Named {
+        decl: 4,
+        members: sets_of(alloc, sets)?,
+    })
+}
+
+/// Types no two of which are equal.
+fn distinct_types(alloc: Global) -> Result<Vec<TypeRef>, Memory> {
+    let mut types = Vec::new(alloc);
+    types.push(TypeRef::Int)?;
+    types.push(TypeRef::Unit)?;
+    types.push(TypeRef::Own { literal: 4 })?;
+    types.push(named_by(alloc, &[])?)?;
+    types.push(named_by(alloc, &[&[1, 2]])?)?;
+    types.push(named_by(alloc, &[&[1, 2], &[]])?)?;
+    types.push(named_by(alloc, &[&[1], &[2]])?)?;
+    types.push(TypeRef::At {
+        decl: 4,
+        bound: set_of(alloc, &[1, 2])?,
+    })?;
+    Ok(types)
+}
+
+#[test]
+fn keys_differ_where_types_do(rt: HostRuntime) -> Result<(), Fail> {
+    let alloc = rt.alloc();
+    let types = distinct_types(alloc)?;
+    for (i, s) in types.iter().enumerate() {
+        for (j, t) in types.iter().enumerate() {
+            let same = key_of_pair(alloc, s, t)? == key_of_pair(alloc, t, s)?;
+            assert_eq!(rt; same, i == j);
+        }
+        let marked = key_of_mark(alloc, s, true)?;
+        assert!(rt; marked != key_of_mark(alloc, s, false)?);
     }
     Ok(())
 }

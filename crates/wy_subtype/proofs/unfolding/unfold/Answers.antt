@@ -2,7 +2,7 @@ use Rattle.std.proofs.Common.{◌∙◌, ap, map, rules}
 use Rattle.std.proofs.lemmas.Result.{IfOk-weaker}
 use Rattle.wy_types.specs.Program.{program_of}
 use Rattle.wy_types.specs.Types.{signature}
-use Rattle.wy_subtype.proofs.Arities.{few_parameters}
+use Rattle.wy_types.proofs.Arities.{few_parameters}
 use Rattle.wy_subtype.proofs.Asking.{is_unfolded}
 use Rattle.wy_subtype.proofs.unfolding.unfold.Goals as goal
 

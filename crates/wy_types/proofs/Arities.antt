@@ -15,7 +15,7 @@ use Rattle.wy_types.specs.Types.{signature, substituted, annotated, erased, decl
 use Rattle.wy_types.specs.Core.{IsCore}
 use Rattle.wy_types.proofs.Finite.{read}
 use Rattle.wy_types.proofs.Kept.{core_signatures_fit}
-use Rattle.wy_subtype.specs.InRange.{IsInRange}
+use Rattle.wy_types.specs.InRange.{IsInRange}
 
 abbrev FewParams : List (Signature TypeRef) → Type 0
 FewParams ms = (m : Signature TypeRef) → In m ms → length m.params ≤ 16
