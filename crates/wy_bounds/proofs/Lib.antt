@@ -1,0 +1,4 @@
+pub mod Lacks
+pub mod Meeting
+pub mod Unions
+pub mod Working

@@ -1,0 +1,7 @@
+use Rattle.std.proofs.Common.{◌≡◌, drop, map}
+use Rattle.wy_types.specs.Types.{signature}
+use Rattle.wy_bounds.specs.Gathering.{lack_of_methods}
+use Rattle.wy_bounds.proofs.least.with_methods.Given as goal
+
+abbrev pub invariant-loop-m : goal.invariant-loop-m
+invariant-loop-m l = lack_of_methods l.set l.at (map signature (drop l.m-index l.methods)) l.least ≡ lack_of_methods l.set l.at (map signature l.methods) l.fn.lack

@@ -1,0 +1,4 @@
+pub mod Gathering
+pub mod Safety
+pub mod Table
+pub mod Worklist

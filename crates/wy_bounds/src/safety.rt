@@ -1,0 +1,89 @@
+ghost use Rattle.std.specs.Prelude.{◌≡◌, ◌↔◌, IfOk, true, false};
+ghost use Rattle.wy_types.specs.Program.{program_of};
+ghost use Rattle.wy_types.specs.Types.{methods_of};
+ghost use Rattle.wy_types.specs.Fitting.{IsTypeOf};
+ghost use Rattle.wy_types.specs.InRange.{IsInRange};
+ghost use Rattle.wy_types.specs.Paths.{IsSafe};
+ghost use Rattle.wy_bounds.specs.Safety.{IsAnswer, IsYes};
+
+use crate::least::least_lack;
+use crate::reaching::{all_reached, path_to};
+use std::alloc::Global;
+use wy_effects::atom::Atom;
+use wy_effects::set::EffSet;
+use wy_text::text::Memory;
+pub use wy_types::path::{Part, Path, Step};
+use wy_types::resolved::Core;
+use wy_types::types::TypeRef;
+
+/// What the tests of safety answer.
+#[derive(Debug, Drop, PartialEq, Eq)]
+pub enum Safety {
+    Yes,
+    /// The path leads from the type to one that has a method whose effect lacks the atom, the least
+    /// one of the set that any such method lacks.
+    No { path: Path, atom: Atom },
+}
+
+/// Whether the set is in the effect of each method of what the type reaches at a polarity.
+fn is_safe(
+    alloc: Global,
+    core: &Core,
+    scope: u16,
+    t: &TypeRef,
+    e: &EffSet,
+    positive: bool,
+) -> Result<Safety, Memory>
+    requires core { IsInRange (program_of core.now) }
+    requires typ { IsTypeOf (program_of core.now) scope t.now }
+    ensures { IfOk result (λ v. IsAnswer (program_of core.now) scope t.now positive e.now v) }
+{
+    e.is_set();
+    let table = all_reached(alloc, core, scope, t)?;
+    match least_lack(alloc, core, scope, table.as_slice(), positive, e)? {
+        None => Ok(Safety::Yes),
+        Some(lack) => {
+            let path = path_to(alloc, table.as_slice(), lack.at)?;
+            Ok(Safety::No {
+                path,
+                atom: lack.atom,
+            })
+        }
+    }
+}
+
+/// Whether the set is in the effect of every method of the types that the type reaches by a path
+/// through an even number of parameters, itself among them (docs/LANGUAGE.md, "Effects and types").
+/// A base type is safe. `No` comes exactly where it is not so; its path passes an even number of
+/// parameters and leads to a type that has a method which lacks the atom, and the atom is the least
+/// one of the set that any such method lacks. The conditions are those of `effects`.
+pub fn safe(
+    alloc: Global,
+    core: &Core,
+    scope: u16,
+    t: &TypeRef,
+    e: &EffSet,
+) -> Result<Safety, Memory>
+    requires core { IsInRange (program_of core.now) }
+    requires typ { IsTypeOf (program_of core.now) scope t.now }
+    ensures exact { IfOk result (λ v. IsYes v ↔ IsSafe TypeRef (methods_of (program_of core.now) scope) t.now true e.now) }
+    ensures answer { IfOk result (λ v. IsAnswer (program_of core.now) scope t.now true e.now v) }
+{
+    is_safe(alloc, core, scope, t, e, true)
+}
+
+/// As `safe`, for the types that the type reaches by a path through an odd number of parameters.
+pub fn ho_safe(
+    alloc: Global,
+    core: &Core,
+    scope: u16,
+    t: &TypeRef,
+    e: &EffSet,
+) -> Result<Safety, Memory>
+    requires core { IsInRange (program_of core.now) }
+    requires typ { IsTypeOf (program_of core.now) scope t.now }
+    ensures exact { IfOk result (λ v. IsYes v ↔ IsSafe TypeRef (methods_of (program_of core.now) scope) t.now false e.now) }
+    ensures answer { IfOk result (λ v. IsAnswer (program_of core.now) scope t.now false e.now v) }
+{
+    is_safe(alloc, core, scope, t, e, false)
+}
