@@ -3,9 +3,9 @@ use Rattle.std.proofs.Common.{◌≡◌, ℕ, suc, ◌+◌, ◌<◌, ◌≤◌, 
 use Rattle.std.specs.Prelude.{slice_get}
 use Rattle.std.specs.Option.{IfSome, IfNone}
 use Rattle.wy_effects.specs.declared.atom.Atom.{Atom}
-use Rattle.wy_effects.specs.EffSet.{without}
+use Rattle.wy_effects.specs.EffSet.{IsSet, without}
 use Rattle.wy_effects.proofs.Closure.{in_decided}
-use Rattle.wy_effects.proofs.SetLaws.{cases_equal, without-from, In-without}
+use Rattle.wy_effects.proofs.SetLaws.{cases_equal, IsSetFrom-without, at_least, without-from, In-without}
 use Rattle.wy_effects.proofs.Walks.{drop_none}
 use Rattle.wy_effects.specs.Members.{In, Within}
 use Rattle.wy_effects.proofs.Lists.{In-left, In-right, In-cases, In-map, In-unmap, In-slice_get}
@@ -23,7 +23,7 @@ use Rattle.wy_subtype.specs.declared.verdict.Cause.TheVariants.{MissingMethod, A
 use Rattle.wy_subtype.specs.declared.unfolding.UnfoldedPair.{UnfoldedPair}
 use Rattle.wy_subtype.specs.declared.unfolding.Unfolding.{Unfolding}
 use Rattle.wy_subtype.specs.declared.unfolding.Unfolding.TheVariants.{Fails, Closed}
-use Rattle.wy_subtype.specs.Verdict.{Pair, Includes, AreObjects, FailsBy}
+use Rattle.wy_subtype.specs.Verdict.{Pair, Includes, IsLeastMissing, AreObjects, FailsBy}
 use Rattle.wy_subtype.specs.Unfolding.{sides, Asks, IsUnfolded, param_pairs, method_pairs, found_pairs, all_pairs, IsMet, FaultOf, AreMet}
 
 -- one method of the right side more
@@ -42,12 +42,26 @@ all_end lefts rights i out whole le inv =
     sym (append-nil out) ∙ subst P (drop_none rights i le) inv
 
 -- the least atom that is in one effect and not in the other
-pub lacking_some : (xs ys : List ℕ) (atoms : List Atom) (o : Option Atom) → map (λ (a : Atom). a.0) atoms ≡ without xs ys → o ≡ slice_get atoms 0 → IfSome o (λ a. In a.0 xs × (In a.0 ys → ⊥))
-lacking_some xs ys atoms None e is = tt
-lacking_some xs ys atoms (Some a) e is =
-    let i : In a.0 (map (λ (b : Atom). b.0) atoms) = In-map (λ (b : Atom). b.0) a atoms (In-slice_get atoms 0 a (sym is)) in
-    let P : List ℕ → Type 0 = λ l. In a.0 l in
-    without-from a.0 xs ys (subst P e i)
+pub lacking_some : (xs ys : List ℕ) (atoms : List Atom) (o : Option Atom) → IsSet 512 xs → map (λ (a : Atom). a.0) atoms ≡ without xs ys → o ≡ slice_get atoms 0 → IfSome o (λ a. IsLeastMissing a.0 xs ys)
+lacking_some xs ys atoms None s e is = tt
+lacking_some xs ys [] (Some a) s e is = absurd (cc)
+lacking_some xs ys (x ∷ atoms) (Some a) s e is =
+    let P : List ℕ → Type 0 = λ l. In x.0 l in
+    let Q : List ℕ → Type 0 = λ l. IsSet 512 l in
+    let L : Atom → Type 0 = λ v. IsLeastMissing v.0 xs ys in
+    let there = without-from x.0 xs ys (subst P e (inl refl)) in
+    let order : IsSet 512 (x.0 ∷ map (λ (b : Atom). b.0) atoms) = subst Q (sym e) (IsSetFrom-without 0 512 xs ys s) in
+    let same : x ≡ a = cc in
+    subst L same (
+      there.0,
+      there.1,
+      λ b i n.
+          let R : List ℕ → Type 0 = λ l. In b l in
+          elim (subst R (sym e) (In-without b xs ys i n)) [
+            | inl f ↦ omega (arith, f)
+            | inr j ↦ (let h : x.0 + 1 ≤ b = at_least (x.0 + 1) 512 (map (λ (c : Atom). c.0) atoms) b order.2 j in omega arith)
+          ],
+    )
 
 pub lacking_none : (xs ys : List ℕ) (atoms : List Atom) (o : Option Atom) → map (λ (a : Atom). a.0) atoms ≡ without xs ys → o ≡ slice_get atoms 0 → IfNone o (Within xs ys)
 lacking_none xs ys [] None e is = λ x i.
@@ -155,7 +169,7 @@ module _ (p : Program) (scope : ℕ) (mode : Mode) where
   fault q n both i (Some m) e Base f = absurd f
   fault q n both i (Some m) e (MissingMethod name) f = absurd f
   fault q n both i (Some m) e (Arity name) f = (both, (n, i, f.0, (m, sym e, f.1)))
-  fault q n both i (Some m) e (Effect name a) f = (f.0, (both, (n, i, f.1, (m, sym e, f.2, f.3))))
+  fault q n both i (Some m) e (Effect name a) f = (f.0, (both, (n, i, f.1, (m, sym e, f.2))))
 
   pub is_unfolded : (s t : TypeRef) → IsObject s → IsObject t → (lefts rights : List (Signature TypeRef)) → lefts ≡ methods_of p scope s → rights ≡ methods_of p scope t →
       (u : Unfolding) → AreMet mode lefts rights u → IsUnfolded p scope mode (s, t) u

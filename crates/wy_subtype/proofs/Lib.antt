@@ -1,3 +1,4 @@
 pub mod Asking
+pub mod Meeting
 pub mod Ranging
 pub mod Working

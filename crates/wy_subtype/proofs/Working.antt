@@ -25,11 +25,12 @@ use Rattle.wy_subtype.specs.declared.verdict.Cause.TheVariants.{MissingMethod, A
 use Rattle.wy_subtype.specs.declared.verdict.Verdict.{Verdict}
 use Rattle.wy_subtype.specs.declared.verdict.Verdict.TheVariants.{Yes, No}
 use Rattle.wy_subtype.specs.declared.unfolding.UnfoldedPair.{UnfoldedPair}
-use Rattle.wy_subtype.specs.declared.subtype.Entry.{Entry}
+use Rattle.wy_subtype.specs.declared.entry.Entry.{Entry}
 use Rattle.wy_types.specs.InRange.{IsInRange}
 use Rattle.wy_subtype.specs.Verdict.{Pair, Includes, IsSubtypeIn, Closes, StepsTo, LeadsTo, AreObjects, FailsBy, FailsAt, IsVerdict, IsYes}
 use Rattle.wy_subtype.specs.Unfolding.{sides, Asks}
-use Rattle.wy_subtype.specs.Worklist.{entry_pair, pairs, entry_of, IsAdded, AreAdded, IsLinked, IsSeen, Extends, Advances, EntryFails, BeginsWith, IsWork, Traces, GoesBack}
+use Rattle.wy_subtype.specs.Met.{entry_pair, pairs, entry_of, IsAdded, AreAdded}
+use Rattle.wy_subtype.specs.Worklist.{IsLinked, IsSeen, Extends, Advances, EntryFails, BeginsWith, IsWork, Traces, GoesBack}
 
 slice_get-left : {X : Type 0} (xs ys : List X) (k : ℕ) (x : X) → slice_get xs k ≡ Some x → slice_get (xs ++ ys) k ≡ Some x
 slice_get-left [] ys k x e = absurd (cc)
@@ -297,7 +298,7 @@ fails_open program scope mode ps p (Effect name a) f closed =
     let cover : Covers TypeRef (methods_of program scope) IsObject (Includes mode) ps m.0 fault.1.0 = subst P m.1 (objects_only program scope mode ps p fault.0 closed fault.1.0 fault.1.1) in
     let Q : Mode → Type 0 = λ v. Includes v m.0.effect fault.1.0.effect in
     let within : Within m.0.effect fault.1.0.effect = subst Q f.0 cover.effect in
-    m.3 (within a.0 m.2)
+    m.2.1 (within a.0 m.2.0)
 
 -- a failing path refutes
 pub refutes : (program : Program) (scope : ℕ) (mode : Mode) (p : Pair) (path : List Step) (c : Cause) → FailsAt program scope mode p path c → IsSubtypeIn program scope mode p.0 p.1 → ⊥
@@ -324,8 +325,11 @@ one_seen program scope mode e es eq l r =
     single zero f pos g = omega arith
     single (suc k) f pos g = cc
 
-pub begins_one : (e : Entry) (s t : TypeRef) (es olds : List Entry) → es ≡ olds ++ e ∷ [] → olds ≡ [] → e.left ≡ s → e.right ≡ t → BeginsWith (s, t) es
-begins_one e s t es olds h none l r =
+pub begins_one : (c : UnfoldedPair) (es : List Entry) → IsAdded [] c 0 es → es ≡ entry_of c 0 ∷ []
+begins_one c es (inl h) = absurd h.0
+begins_one c es (inr h) = h.1
+
+pub begins_with : (e : Entry) (s t : TypeRef) (es : List Entry) → es ≡ e ∷ [] → e.left ≡ s → e.right ≡ t → BeginsWith (s, t) es
+begins_with e s t es same l r =
     let P : List Entry → Type 0 = λ v. slice_get v 0 ≡ Some e in
-    let same : es ≡ e ∷ [] = h ∙ ap (λ (v : List Entry). v ++ e ∷ []) none in
     (e, subst P (sym same) refl, ap (λ v. (v, e.right)) l ∙ ap (λ v. (s, v)) r)

@@ -1,3 +1,4 @@
+pub mod Met
 pub mod Unfolding
 pub mod Verdict
 pub mod Worklist

@@ -12,7 +12,7 @@ use Rattle.wy_subtype.specs.declared.verdict.Cause.TheVariants.{MissingMethod, A
 use Rattle.wy_subtype.specs.declared.unfolding.UnfoldedPair.{UnfoldedPair}
 use Rattle.wy_subtype.specs.declared.unfolding.Unfolding.{Unfolding}
 use Rattle.wy_subtype.specs.declared.unfolding.Unfolding.TheVariants.{Fails, Closed}
-use Rattle.wy_subtype.specs.Verdict.{Pair, Includes, Closes, StepsTo, FailsBy}
+use Rattle.wy_subtype.specs.Verdict.{Pair, Includes, Closes, StepsTo, IsLeastMissing, FailsBy}
 
 abbrev pub sides : UnfoldedPair → Pair
 sides c = (c.left, c.right)
@@ -62,7 +62,7 @@ abbrev pub CauseOf : Mode → Signature TypeRef → Signature TypeRef → Cause 
 CauseOf mode m n Base = ⊥
 CauseOf mode m n (MissingMethod name) = ⊥
 CauseOf mode m n (Arity name) = (n.name ≡ name) × (length m.params ≡ length n.params → ⊥)
-CauseOf mode m n (Effect name a) = (mode ≡ Annotated) × (n.name ≡ name) × In a.0 m.effect × (In a.0 n.effect → ⊥)
+CauseOf mode m n (Effect name a) = (mode ≡ Annotated) × (n.name ≡ name) × IsLeastMissing a.0 m.effect n.effect
 
 -- what is at fault with what is found by the name
 abbrev pub FaultOf : Mode → Option (Signature TypeRef) → Signature TypeRef → Cause → Type 0

@@ -1,5 +1,5 @@
 -- What the test of subtyping answers: yes, or a path to a pair that fails by itself, with the cause.
-use Rattle.std.specs.Prelude.{◌≡◌, ℕ, List, Option, Some, None, length}
+use Rattle.std.specs.Prelude.{◌≡◌, ℕ, ◌≤◌, List, Option, Some, None, length}
 use Rattle.wy_effects.specs.Members.{In, Within}
 use Rattle.wy_types.specs.declared.types.TypeRef.{TypeRef}
 use Rattle.wy_types.specs.declared.path.Step.{Step}
@@ -59,9 +59,13 @@ IsMissing found n = found ≡ None
 abbrev pub HasOtherArity : Option (Signature TypeRef) → Signature TypeRef → Type 0
 HasOtherArity found n = (m : Signature TypeRef) × (found ≡ Some m) × (length m.params ≡ length n.params → ⊥)
 
--- the atom is in the effect of the method of the name, and not in the other's
+-- the least atom that is in the first effect and not in the second
+abbrev pub IsLeastMissing : ℕ → List ℕ → List ℕ → Type 0
+IsLeastMissing a e f = In a e × (In a f → ⊥) × ((b : ℕ) → In b e → (In b f → ⊥) → a ≤ b)
+
+-- the atom is the least one in the effect of the method of the name that is not in the other's
 abbrev pub HasAtom : ℕ → Option (Signature TypeRef) → Signature TypeRef → Type 0
-HasAtom a found n = (m : Signature TypeRef) × (found ≡ Some m) × In a m.effect × (In a n.effect → ⊥)
+HasAtom a found n = (m : Signature TypeRef) × (found ≡ Some m) × IsLeastMissing a m.effect n.effect
 
 -- the pair's own test fails by the cause; by an effect in annotated subtyping alone
 abbrev pub FailsBy : Program → ℕ → Mode → Pair → Cause → Type 0

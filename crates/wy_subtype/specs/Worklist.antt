@@ -1,34 +1,14 @@
 -- What the list of pairs keeps while they are tested one by one.
-use Rattle.std.specs.Prelude.{◌≡◌, ℕ, ◌<◌, ◌≤◌, List, [], ◌∷◌, ◌++◌, ◌⊎◌, Some, map, length, slice_get}
+use Rattle.std.specs.Prelude.{◌≡◌, ℕ, ◌<◌, ◌≤◌, List, [], ◌∷◌, ◌++◌, Some, length, slice_get}
 use Rattle.wy_effects.specs.Members.{In, Apart}
 use Rattle.wy_types.specs.declared.path.Step.{Step}
 use Rattle.wy_types.specs.Program.{Program}
 use Rattle.wy_types.specs.Fitting.{IsTypeOf}
 use Rattle.wy_subtype.specs.declared.verdict.Mode.{Mode}
 use Rattle.wy_subtype.specs.declared.verdict.Cause.{Cause}
-use Rattle.wy_subtype.specs.declared.unfolding.UnfoldedPair.{UnfoldedPair}
-use Rattle.wy_subtype.specs.declared.subtype.Entry.{Entry}
+use Rattle.wy_subtype.specs.declared.entry.Entry.{Entry}
 use Rattle.wy_subtype.specs.Verdict.{Pair, Closes, StepsTo, FailsBy}
-use Rattle.wy_subtype.specs.Unfolding.{sides}
-
-abbrev pub entry_pair : Entry → Pair
-entry_pair e = (e.left, e.right)
-
-abbrev pub pairs : List Entry → List Pair
-pairs es = map entry_pair es
-
-abbrev pub entry_of : UnfoldedPair → ℕ → Entry
-entry_of c parent = record { left = c.left; right = c.right; parent = parent; step = c.step }
-
--- the pair is there, or comes last
-abbrev pub IsAdded : List Entry → UnfoldedPair → ℕ → List Entry → Type 0
-IsAdded old c parent new =
-    (In (sides c) (pairs old) × (new ≡ old)) ⊎ ((In (sides c) (pairs old) → ⊥) × (new ≡ old ++ entry_of c parent ∷ []))
-
--- one pair after another
-abbrev pub AreAdded : List Entry → List UnfoldedPair → ℕ → List Entry → Type 0
-AreAdded old [] parent new = new ≡ old
-AreAdded old (c ∷ cs) parent new = (mid : List Entry) × IsAdded old c parent mid × AreAdded mid cs parent new
+use Rattle.wy_subtype.specs.Met.{entry_pair, pairs}
 
 -- an entry comes by a step from an earlier one
 pub record IsLinked (p : Program) (scope : ℕ) (mode : Mode) (es : List Entry) (k : ℕ) (e : Entry) : Type 0 where

@@ -2,9 +2,11 @@
 //! fails where it is not.
 #![tactic(auto)]
 
+mod entry;
 #[cfg(test)]
 mod ranges;
 pub mod subtype;
+mod table;
 #[cfg(test)]
 mod tests;
 pub mod unfolding;

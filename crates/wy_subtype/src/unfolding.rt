@@ -7,7 +7,7 @@ ghost use Rattle.wy_types.specs.Program.{program_of};
 ghost use Rattle.wy_types.specs.Types.{signature};
 ghost use Rattle.wy_types.specs.Signature.{find_method};
 ghost use Rattle.wy_types.specs.InRange.{IsInRange};
-ghost use Rattle.wy_subtype.specs.Verdict.{Includes};
+ghost use Rattle.wy_subtype.specs.Verdict.{Includes, IsLeastMissing};
 ghost use Rattle.wy_subtype.specs.Unfolding.{param_pairs, method_pairs, found_pairs, CauseOf, FaultOf, IsMet, AreMet, IsUnfolded};
 
 use crate::verdict::{Cause, Mode};
@@ -48,11 +48,12 @@ fn find<'a>(methods: &'a [Method], name: &Text) -> Option<&'a Method>
     None
 }
 
-/// An atom of the left effect that the right one lacks.
+/// The least atom of the left effect that the right one lacks.
 fn lacking(left: &EffSet, right: &EffSet) -> Result<Option<Atom>, Memory>
     ensures none { IfOk result (λ o. IfNone o (Within left.now right.now)) }
-    ensures some { IfOk result (λ o. IfSome o (λ a. In a.0 left.now × (In a.0 right.now → ⊥))) }
+    ensures some { IfOk result (λ o. IfSome o (λ a. IsLeastMissing a.0 left.now right.now)) }
 {
+    left.is_set();
     if right.includes(left) {
         return Ok(None);
     }
@@ -60,10 +61,10 @@ fn lacking(left: &EffSet, right: &EffSet) -> Result<Option<Atom>, Memory>
     Ok(atoms.first().copied())
 }
 
-/// An atom that the right effect should have and lacks.
+/// The least atom that the right effect should have and lacks.
 fn effect_fault(left: &EffSet, right: &EffSet, mode: Mode) -> Result<Option<Atom>, Memory>
     ensures none { IfOk result (λ o. IfNone o (Includes mode left.now right.now)) }
-    ensures some { IfOk result (λ o. IfSome o (λ a. (mode ≡ Mode.Annotated) × In a.0 left.now × (In a.0 right.now → ⊥))) }
+    ensures some { IfOk result (λ o. IfSome o (λ a. (mode ≡ Mode.Annotated) × IsLeastMissing a.0 left.now right.now)) }
 {
     match mode {
         Mode::Plain => Ok(None),

@@ -20,7 +20,8 @@ pub enum Cause {
     Arity(Text),
     /// Two different base types, or a base type and an object type.
     Base,
-    /// The atom is in the effect of the left side's method of this name, and not in the right side's.
+    /// The atom is the least one that is in the effect of the left side's method of this name, and not
+    /// in the right side's.
     Effect { method: Text, atom: Atom },
 }
 

@@ -11,4 +11,4 @@ returns-clause-none c =
 
 pub returns-clause-some : goal.returns-clause-some
 returns-clause-some c =
-    lacking_some c.args.left.now c.args.right.now c.deref.result.now c.copied.result (ap (map (λ a. a.0)) c.deref.ensures.value ∙ c.in_ok-atoms.ensures ∙ c.in_ok-without.ensures) (c.copied.ensures ∙ c.first.ensures.value)
+    lacking_some c.args.left.now c.args.right.now c.deref.result.now c.copied.result c.is_set.ensures (ap (map (λ a. a.0)) c.deref.ensures.value ∙ c.in_ok-atoms.ensures ∙ c.in_ok-without.ensures) (c.copied.ensures ∙ c.first.ensures.value)
