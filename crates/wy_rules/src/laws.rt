@@ -1,0 +1,50 @@
+//! Laws of subtyping, paths and annotation (docs/LANGUAGE.md, "Subtyping" and "Effects and types").
+
+ghost use Rattle.wy_types.specs.Order.{IsReflexive, IsTransitive};
+ghost use Rattle.wy_rules.specs.Tables.{ReflexiveOverTables, TransitiveOverTables, KeptUnderReplacement, ReplacedTablesAgree};
+ghost use Rattle.wy_rules.specs.Polarity.{Annotation, DualAnnotation};
+
+/// Each type in range is a subtype of itself, with effects and without.
+pub fn subtyping_is_reflexive()
+    ensures { IsReflexive }
+{}
+
+/// A subtype of a subtype is a subtype, with effects and without.
+pub fn subtyping_is_transitive()
+    ensures { IsTransitive }
+{}
+
+/// Over any table of methods: each type of a list is a subtype of itself, where the list has what its
+/// types' methods name, and a type's methods have names that differ.
+pub fn subtyping_is_reflexive_over_tables()
+    ensures { ReflexiveOverTables }
+{}
+
+/// Over any table of methods a subtype of a subtype is a subtype.
+pub fn subtyping_is_transitive_over_tables()
+    ensures { TransitiveOverTables }
+{}
+
+/// Subtyping is kept when atoms are replaced by sets, over any two tables of methods that agree under
+/// the replacement.
+pub fn subtyping_is_kept_under_replacement()
+    ensures { KeptUnderReplacement }
+{}
+
+/// The methods of a scope's types agree under a replacement with those after it, where an own type
+/// stands for its methods with the sets put in.
+pub fn replaced_tables_agree()
+    ensures { ReplacedTablesAgree }
+{}
+
+/// The law of annotation: a type's effects are in a set that is higher-order safe for it exactly where
+/// it is a subtype of its erasure annotated at the set.
+pub fn annotation()
+    ensures { Annotation }
+{}
+
+/// The dual: a set is safe for a type and has its higher-order effects exactly where the type's erasure
+/// annotated at the set is a subtype of it.
+pub fn dual_annotation()
+    ensures { DualAnnotation }
+{}
