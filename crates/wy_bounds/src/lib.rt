@@ -5,6 +5,8 @@
 pub mod effects;
 mod entry;
 mod least;
+#[cfg(test)]
+mod ranges;
 mod reaching;
 pub mod safety;
 mod table;
