@@ -1,29 +1,27 @@
 -- The least atom that a method of the table's entries lacks.
-use Rattle.std.proofs.Common.{◌≡◌, ℕ, zero, suc, ◌+◌, ◌<◌, ◌≤◌, List, [], ◌∷◌, map, reverse, ◌⊎◌, inl, inr, length, refl, sym, ap, ◌∙◌, subst, arith, Option, Some, None, Bool as Truth, true, false, add-zero, zero-add}
+use Rattle.std.proofs.Common.{◌≡◌, ℕ, suc, ◌+◌, ◌<◌, ◌≤◌, List, [], ◌∷◌, reverse, ◌⊎◌, inl, inr, length, refl, sym, ◌∙◌, subst, arith, Option, Some, None, Bool as Truth, true, false, add-zero, zero-add}
 use Rattle.std.specs.Prelude.{◌↔◌, slice_get, nat_lt, if◌then◌else◌}
-use Rattle.std.proofs.lemmas.Bool.{cases_lt}
 use Rattle.std.proofs.lemmas.Bool.Decides.{nat_tests}
 use Rattle.std.proofs.lemmas.Option.{slice_get_within}
 use Rattle.wy_effects.specs.declared.atom.Atom.{Atom}
-use Rattle.wy_effects.specs.Members.{In, Within}
+use Rattle.wy_effects.specs.Members.{In}
 use Rattle.wy_effects.specs.EffSet.{IsSet, without}
 use Rattle.wy_effects.proofs.Closure.{in_decided}
-use Rattle.wy_effects.proofs.Lists.{In-at, In-slice_get}
 use Rattle.wy_effects.proofs.SetLaws.{cases_equal, IsSetFrom-without, at_least, without-from, In-without}
 use Rattle.wy_types.specs.declared.types.TypeRef.{TypeRef}
 use Rattle.wy_types.specs.declared.path.Step.{Step}
 use Rattle.wy_types.specs.Program.{Program}
 use Rattle.wy_types.specs.Signature.{Signature}
 use Rattle.wy_types.specs.Types.{methods_of}
-use Rattle.wy_types.specs.Paths.{is_positive, Walks, Reaches, IsSafe}
+use Rattle.wy_types.specs.Paths.{is_positive, Walks, IsSafe}
 use Rattle.wy_bounds.specs.declared.entry.Entry.{Entry}
 use Rattle.wy_bounds.specs.declared.least.Lack.{Lack}
 use Rattle.wy_bounds.specs.declared.safety.Safety.{Safety}
 use Rattle.wy_bounds.specs.declared.safety.Safety.TheVariants.{Yes, No}
 use Rattle.wy_bounds.specs.Gathering.{methods_at, first_atom, lesser, lack_of_methods, lack_of_entries}
-use Rattle.wy_bounds.specs.Safety.{Lacks, IsMissing, Refutes, IsAnswer, IsYes}
+use Rattle.wy_bounds.specs.Safety.{IsMissing, Refutes, IsAnswer, IsYes}
 use Rattle.wy_bounds.specs.Worklist.{IsWhole, Traces}
-use Rattle.wy_bounds.proofs.Unions.{methods_at-from, In-methods_at, entry_of, reached_at}
+use Rattle.wy_bounds.proofs.Unions.{methods_at-from, In-methods_at, entry_of}
 use Rattle.wy_bounds.proofs.Working.{traces_lead}
 
 -- the set has the atom, and a method lacks it

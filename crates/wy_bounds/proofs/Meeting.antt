@@ -1,5 +1,5 @@
 -- An entry is put into the table exactly where its key is new.
-use Rattle.std.proofs.Common.{◌≡◌, List, [], ◌∷◌, ◌++◌, ℕ, map, inl, inr, refl, sym, ap, ◌∙◌, subst, Bool as Truth, true, false}
+use Rattle.std.proofs.Common.{◌≡◌, List, [], ◌∷◌, ◌++◌, ℕ, map, inl, inr, refl, ap, ◌∙◌, subst, Bool as Truth, true, false}
 use Rattle.std.specs.Prelude.{not}
 use Rattle.std.specs.List.{list_any}
 use Rattle.wy_types.specs.Keys.{mark_key}

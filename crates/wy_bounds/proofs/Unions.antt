@@ -1,5 +1,5 @@
 -- What is gathered along the table: the methods of an entry, and the effects of all of them.
-use Rattle.std.proofs.Common.{◌≡◌, ℕ, List, [], ◌∷◌, map, ◌⊎◌, inl, inr, refl, sym, ap, ◌∙◌, subst, Bool as Truth, true, false}
+use Rattle.std.proofs.Common.{◌≡◌, ℕ, List, [], ◌∷◌, ◌⊎◌, inl, inr, refl, sym, ap, subst, Bool as Truth, true, false}
 use Rattle.std.specs.Prelude.{◌↔◌, if◌then◌else◌}
 use Rattle.wy_effects.specs.Members.{In}
 use Rattle.wy_effects.specs.EffSet.{union}
@@ -11,7 +11,7 @@ use Rattle.wy_types.specs.Signature.{Signature}
 use Rattle.wy_types.specs.Types.{methods_of}
 use Rattle.wy_types.specs.Paths.{Reaches, IsEffect}
 use Rattle.wy_bounds.specs.declared.entry.Entry.{Entry}
-use Rattle.wy_bounds.specs.Table.{Mark, mark_of, marks}
+use Rattle.wy_bounds.specs.Table.{Mark, mark_of}
 use Rattle.wy_bounds.specs.Gathering.{same, methods_at, with_methods, with_entries}
 use Rattle.wy_bounds.specs.Worklist.{IsWhole}
 

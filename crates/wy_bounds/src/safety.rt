@@ -1,4 +1,4 @@
-ghost use Rattle.std.specs.Prelude.{◌≡◌, ◌↔◌, IfOk, true, false};
+ghost use Rattle.std.specs.Prelude.{◌↔◌, IfOk, true, false};
 ghost use Rattle.wy_types.specs.Program.{program_of};
 ghost use Rattle.wy_types.specs.Types.{methods_of};
 ghost use Rattle.wy_types.specs.Fitting.{IsTypeOf};

@@ -7,9 +7,8 @@ use Rattle.wy_effects.proofs.Lists.{In-map, In-unmap}
 use Rattle.wy_effects.proofs.Replacing.{Within-replace, replace-replace}
 use Rattle.wy_types.specs.declared.types.TypeRef.{TypeRef}
 use Rattle.wy_types.specs.declared.types.TypeRef.TheVariants.{Int, Bool, Text, Unit as Nothing, Named, At, Own}
-use Rattle.wy_types.specs.Program.{Program}
 use Rattle.wy_types.specs.Signature.{Signature, mapped_signature}
-use Rattle.wy_types.specs.Types.{IsObject, substituted, annotated, erased, declared_methods, named_methods, scope_is_plain, methods_of}
+use Rattle.wy_types.specs.Types.{IsObject, substituted, annotated, erased, declared_methods, named_methods, scope_is_plain}
 use Rattle.wy_types.specs.Subtyping.{ParamsIn, HasCover, IsClosed, IsSubtype, AnyEffect, IsAnnotatedSubtype}
 use Rattle.wy_types.proofs.Annotating.{annotation, dual_annotation, annotated-erased}
 use Rattle.wy_types.proofs.Closing.{subtype_read}
@@ -17,7 +16,7 @@ use Rattle.wy_types.proofs.Composing.{transitive}
 use Rattle.wy_types.proofs.Deciding.{decide_type}
 use Rattle.wy_types.proofs.Reflecting.{find_once}
 use Rattle.wy_rules.specs.Polarity.{Annotation, DualAnnotation}
-use Rattle.wy_rules.specs.Tables.{Methods, IsClosedUnder, ReflexiveOverTables, TransitiveOverTables, KeptUnderReplacement, replaced_methods, ReplacedTablesAgree}
+use Rattle.wy_rules.specs.Tables.{Methods, IsClosedUnder, ReflexiveOverTables, TransitiveOverTables, KeptUnderReplacement, ReplacedTablesAgree}
 
 object_cases : (t : TypeRef) → IsObject t ⊎ (IsObject t → ⊥)
 object_cases Int = inr (λ h. h)

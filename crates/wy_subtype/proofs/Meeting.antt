@@ -9,7 +9,7 @@ use Rattle.wy_subtype.specs.declared.unfolding.UnfoldedPair.{UnfoldedPair}
 use Rattle.wy_subtype.specs.declared.entry.Entry.{Entry}
 use Rattle.wy_subtype.specs.Verdict.{Pair}
 use Rattle.wy_subtype.specs.Unfolding.{sides}
-use Rattle.wy_subtype.specs.Met.{entry_pair, pairs, entry_key, entry_of, IsAdded}
+use Rattle.wy_subtype.specs.Met.{pairs, entry_key, entry_of, IsAdded}
 
 abbrev key_of : Pair → List ℕ
 key_of q = pair_key q.0 q.1

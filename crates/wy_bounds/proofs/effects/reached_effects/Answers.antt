@@ -1,4 +1,4 @@
-use Rattle.std.proofs.Common.{◌≡◌, ◌∙◌, ◌≤◌, ◌<◌, [], List, ℕ, drop, sym, ap, arith, length}
+use Rattle.std.proofs.Common.{◌≡◌, ◌∙◌, [], List, ℕ, drop, sym, ap}
 use Rattle.wy_effects.proofs.Walks.{drop_none}
 use Rattle.wy_types.specs.Program.{program_of}
 use Rattle.wy_bounds.specs.declared.entry.Entry.{Entry}

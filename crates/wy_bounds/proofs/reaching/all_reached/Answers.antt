@@ -1,4 +1,4 @@
-use Rattle.std.proofs.Common.{◌≡◌, ◌<◌, ◌≤◌, List, true, refl, subst, arith, length}
+use Rattle.std.proofs.Common.{◌<◌, ◌≤◌, List, true, refl, subst, arith, length}
 use Rattle.wy_types.specs.declared.path.Part.TheVariants.{Result}
 use Rattle.wy_types.specs.Program.{program_of}
 use Rattle.wy_types.proofs.Finite.{marked_bound}

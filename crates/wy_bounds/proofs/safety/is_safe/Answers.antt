@@ -1,4 +1,4 @@
-use Rattle.std.proofs.Common.{◌≡◌, ◌<◌, ◌∙◌, List, None, Some, sym, ap, subst, length}
+use Rattle.std.proofs.Common.{◌<◌, ◌∙◌, List, None, sym, ap, subst, length}
 use Rattle.wy_types.specs.Program.{program_of}
 use Rattle.wy_bounds.specs.declared.entry.Entry.{Entry}
 use Rattle.wy_bounds.specs.Gathering.{lack_of_entries}

@@ -1,4 +1,4 @@
-use Rattle.std.proofs.Common.{◌≡◌, ◌++◌, ◌∷◌, [], List, ◌∙◌, ap, subst}
+use Rattle.std.proofs.Common.{◌++◌, ◌∷◌, [], List, ◌∙◌, ap, subst}
 use Rattle.wy_bounds.specs.declared.entry.Entry.{Entry}
 use Rattle.wy_bounds.specs.Table.{IsAdded}
 use Rattle.wy_bounds.proofs.Meeting.{added_last, added_before}

@@ -1,4 +1,4 @@
-use Rattle.std.proofs.Common.{◌≡◌, ◌++◌, ◌∷◌, [], List, ◌∙◌, ap, subst}
+use Rattle.std.proofs.Common.{◌++◌, ◌∷◌, [], List, ◌∙◌, ap, subst}
 use Rattle.wy_subtype.specs.declared.entry.Entry.{Entry}
 use Rattle.wy_subtype.specs.Met.{entry_of, IsAdded}
 use Rattle.wy_subtype.proofs.Meeting.{added_last, added_before}
