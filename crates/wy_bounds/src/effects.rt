@@ -46,10 +46,10 @@ fn reached_effects(
     Ok(out)
 }
 
-/// The effects of all methods of the types that the type reaches by a path through an even number of
-/// parameters, itself among them (docs/LANGUAGE.md, "Effects and types"). A base type has none. The
-/// core's signatures are in range, as those of every resolved program are, and so are the numbers in
-/// the type; a declared type has a set for each abstract member, or is bare.
+/// A type's effects: those of all methods of the types that it reaches positively, itself among them
+/// (docs/LANGUAGE.md, "Paths and polarity"). A base type has none. The core's signatures are in range,
+/// as those of every resolved program are, and so are the numbers in the type; a declared type has a
+/// set for each abstract member, or is bare.
 pub fn effects(alloc: Global, core: &Core, scope: u16, t: &TypeRef) -> Result<EffSet, Memory>
     requires core { IsInRange (program_of core.now) }
     requires typ { IsTypeOf (program_of core.now) scope t.now }
@@ -58,8 +58,8 @@ pub fn effects(alloc: Global, core: &Core, scope: u16, t: &TypeRef) -> Result<Ef
     reached_effects(alloc, core, scope, t, true)
 }
 
-/// The effects of all methods of the types that the type reaches by a path through an odd number of
-/// parameters. The conditions are those of `effects`.
+/// A type's higher-order effects: those of all methods of the types that it reaches negatively
+/// (docs/LANGUAGE.md, "Paths and polarity"). The conditions are those of `effects`.
 pub fn ho_effects(alloc: Global, core: &Core, scope: u16, t: &TypeRef) -> Result<EffSet, Memory>
     requires core { IsInRange (program_of core.now) }
     requires typ { IsTypeOf (program_of core.now) scope t.now }

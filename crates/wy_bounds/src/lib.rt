@@ -1,5 +1,5 @@
-//! Which effects a type's methods may have, and which sets every one of them allows: along the paths
-//! that pass an even number of parameters, and along those that pass an odd number.
+//! The effects and the higher-order effects of types, and the sets for which types are safe and
+//! higher-order safe.
 #![tactic(auto)]
 
 pub mod effects;

@@ -52,11 +52,11 @@ fn is_safe(
     }
 }
 
-/// Whether the set is in the effect of every method of the types that the type reaches by a path
-/// through an even number of parameters, itself among them (docs/LANGUAGE.md, "Effects and types").
-/// A base type is safe. `No` comes exactly where it is not so; its path passes an even number of
-/// parameters and leads to a type that has a method which lacks the atom, and the atom is the least
-/// one of the set that any such method lacks. The conditions are those of `effects`.
+/// Whether a type is safe for a set: whether the set is in the effect of every method of the types
+/// that it reaches positively, itself among them (docs/LANGUAGE.md, "Paths and polarity"). A base type
+/// is safe. `No` comes exactly where the type is not; its path is positive and leads to a type that has
+/// a method which lacks the atom, the least one of the set that any such method lacks. The conditions
+/// are those of `effects`.
 pub fn safe(
     alloc: Global,
     core: &Core,
@@ -72,7 +72,8 @@ pub fn safe(
     is_safe(alloc, core, scope, t, e, true)
 }
 
-/// As `safe`, for the types that the type reaches by a path through an odd number of parameters.
+/// Whether a type is higher-order safe for a set: as `safe`, over what it reaches negatively, and by a
+/// negative path.
 pub fn ho_safe(
     alloc: Global,
     core: &Core,

@@ -1,4 +1,4 @@
-//! Laws of subtyping, paths and annotation (docs/LANGUAGE.md, "Subtyping" and "Effects and types").
+//! Laws of subtyping, paths and annotation (docs/LANGUAGE.md, "Subtyping" to "Annotation and erasure").
 
 ghost use Rattle.wy_types.specs.Order.{IsReflexive, IsTransitive};
 ghost use Rattle.wy_rules.specs.Tables.{ReflexiveOverTables, TransitiveOverTables, KeptUnderReplacement, ReplacedTablesAgree};
