@@ -1,5 +1,5 @@
 /// Files with the text that prints their tree.
-pub static ACCEPTED: [(&str, &str); 81] = [
+pub static ACCEPTED: [(&str, &str); 85] = [
     ("", ""),
     ("type T\n", "type T\n"),
     ("type T", "type T\n"),
@@ -103,6 +103,22 @@ pub static ACCEPTED: [(&str, &str); 81] = [
     (
         "program\n  run: {} = (1 * 2) + 3\n",
         "program\n  run: {} = 1 * 2 + 3\n",
+    ),
+    (
+        "program\n  run: {} = 1 - 2 - 3\n",
+        "program\n  run: {} = 1 - 2 - 3\n",
+    ),
+    (
+        "program\n  run: {} = 1 / 2 * 3\n",
+        "program\n  run: {} = 1 / 2 * 3\n",
+    ),
+    (
+        "program\n  run: {} = a || b || c\n",
+        "program\n  run: {} = a || b || c\n",
+    ),
+    (
+        "program\n  run: {} = a && b && c\n",
+        "program\n  run: {} = a && b && c\n",
     ),
     (
         "program\n  run: {} = (1 - 2) - 3\n",
