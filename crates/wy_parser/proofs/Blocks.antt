@@ -1,8 +1,7 @@
 -- Parts in a row, the last of which isn't of a kind that must go on.
-use Rattle.std.proofs.Common.{◌≡◌, ℕ, zero, suc, ◌+◌, ◌-◌, ◌<◌, ◌≤◌, Bool, true, false, cond, ◌||◌, ◌&&◌, not, ◌==◌, List, [], ◌∷◌, ◌++◌, length, refl, sym, ap, subst, ◌∙◌, append-nil, arith, inl, inr, ◌⊎◌}
-use Rattle.wy_syntax.specs.Tokens.{member}
-use Rattle.wy_parser.specs.Reading.{Out, Yes, No, Deep, Reader, and_then, ◌>>=◌, ret, starts, choose, next, blocks}
-use Rattle.wy_parser.proofs.Exact.{Begins, Stops, Exact, Taken, Stuck, Clean, Spelled, Seq, Sets, Is, Mapped, Choice, subset, apart, fit_of, exact-bind, exact-map, exact-iff, exact-ret, exact-choose}
+use Rattle.std.proofs.Common.{◌≡◌, ℕ, zero, suc, ◌-◌, ◌≤◌, Bool, true, false, cond, List, [], ◌∷◌, ◌++◌, refl, sym, ap, subst, ◌∙◌, append-nil, arith, inl, inr, ◌⊎◌}
+use Rattle.wy_parser.specs.Reading.{Reader, ◌>>=◌, ret, choose, next, blocks}
+use Rattle.wy_parser.proofs.Exact.{Begins, Exact, Spelled, Seq, Is, Mapped, subset, apart, fit_of, exact-bind, exact-map, exact-iff, exact-ret, exact-choose}
 
 module _ (T : Type 0) (code : T → ℕ) (stop : ℕ) where
   abbrev pub Blocks : {A : Type 0} → (A → Bool) → (A → List T → Type 0) → List A → List T → Type 0

@@ -1,7 +1,7 @@
 -- One level of depth.
-use Rattle.std.proofs.Common.{◌≡◌, ℕ, zero, suc, ◌+◌, ◌-◌, ◌<◌, ◌≤◌, Bool, List, [], ◌∷◌, refl, ap, arith}
+use Rattle.std.proofs.Common.{◌≡◌, ℕ, suc, ◌-◌, ◌<◌, Bool, List, [], ◌∷◌, refl, ap, arith}
 use Rattle.wy_syntax.specs.Tokens.{Tok, code}
-use Rattle.wy_parser.specs.Reading.{Out, Deep, choose}
+use Rattle.wy_parser.specs.Reading.{Deep, choose}
 use Rattle.wy_parser.specs.ExprParsing.{p_unary, p_expr, p_arg, unary_at, disj_at, choice_of}
 use Rattle.wy_parser.specs.StmtParsing.{p_rhs, p_block, rhs_at, stmt_at, block_of}
 

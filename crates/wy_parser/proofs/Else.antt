@@ -1,8 +1,7 @@
 -- A choice whose second side is only for lists that don't begin in the first side's set.
-use Rattle.std.proofs.Common.{◌≡◌, ℕ, zero, suc, ◌+◌, ◌<◌, ◌≤◌, Bool, true, false, cond, ◌||◌, ◌&&◌, not, ◌==◌, List, [], ◌∷◌, ◌++◌, length, refl, sym, ap, subst, ◌∙◌, arith, inl, inr, ◌⊎◌}
-use Rattle.wy_syntax.specs.Tokens.{member}
-use Rattle.wy_parser.specs.Reading.{Out, Yes, No, Deep, Reader, starts, choose}
-use Rattle.wy_parser.proofs.Exact.{SameFront, Begins, Stops, Exact, Taken, Stuck, Clean, subset, in_subset, stops_less, starts_same, cond_true, cond_false, cond_cases}
+use Rattle.std.proofs.Common.{◌≡◌, ℕ, ◌<◌, ◌≤◌, true, false, List, [], ◌∷◌, ◌++◌, length, refl, sym, ap, ◌∙◌, inl, inr, ◌⊎◌}
+use Rattle.wy_parser.specs.Reading.{Yes, No, Deep, Reader, starts, choose}
+use Rattle.wy_parser.proofs.Exact.{Begins, Stops, Exact, Taken, Stuck, Clean, subset, in_subset, stops_less, starts_same, cond_true, cond_false, cond_cases}
 
 module _ (T : Type 0) (code : T → ℕ) (stop : ℕ) where
   abbrev pub Outside : List ℕ → List T → Type 0

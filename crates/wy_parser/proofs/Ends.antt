@@ -1,10 +1,8 @@
 -- What the end of the whole reader says of the code's tokens.
-use Rattle.std.proofs.Common.{◌≡◌, ℕ, zero, suc, ◌+◌, ◌<◌, ◌≤◌, true, List, [], ◌∷◌, length, get_or, refl, sym, ap, subst, ◌∙◌, arith}
+use Rattle.std.proofs.Common.{◌≡◌, ◌+◌, ◌<◌, ◌≤◌, List, [], ◌∷◌, length, get_or, sym, subst, arith}
 use Rattle.std.proofs.lemmas.List.{length-map}
-use Rattle.std.specs.Prelude.{Result, Ok, Err}
-use Rattle.std.specs.Borrow.{Bor}
 use Rattle.wy_text.specs.declared.token.Token.{Token}
-use Rattle.wy_syntax.specs.Tokens.{Tok, tok_of, toks, code}
+use Rattle.wy_syntax.specs.Tokens.{Tok, tok_of, toks}
 use Rattle.wy_syntax.specs.Trees.{ItemTree}
 use Rattle.wy_syntax.specs.Grammar.{Spells}
 use Rattle.wy_parser.specs.declared.stop.Stop.{Stop}

@@ -1,7 +1,7 @@
 -- Worked examples: token lists of small files, and the trees that they spell.
-use Rattle.std.proofs.Common.{◌≡◌, ℕ, ◌+◌, ◌<◌, ◌≤◌, List, [], ◌∷◌, ◌++◌, length, refl, sym, ap, subst, ◌∙◌, arith, lit<}
+use Rattle.std.proofs.Common.{◌≡◌, ℕ, ◌+◌, List, [], ◌∷◌, ◌++◌, length, refl, subst, arith, lit<}
 use Rattle.std.proofs.lemmas.Fmt.{decimal-digits_of}
-use Rattle.std.specs.Prelude.{ℤ, pos, negsuc, codes, decimal, Option, None, Some}
+use Rattle.std.specs.Prelude.{pos, negsuc, codes, decimal, None, Some}
 use Rattle.wy_text.specs.declared.fault.Place.{Place}
 use Rattle.wy_text.specs.declared.token.TokenKind.{TokenKind}
 use Rattle.wy_text.specs.declared.token.TokenKind.TheVariants as kind

@@ -1,28 +1,25 @@
 -- Expressions: each reader is exact.
-use Rattle.std.proofs.Common.{◌≡◌, ℕ, zero, suc, ◌+◌, ◌-◌, ◌<◌, ◌≤◌, Bool, true, false, cond, ◌||◌, ◌&&◌, not, ◌==◌, List, [], ◌∷◌, ◌++◌, length, refl, sym, ap, subst, ◌∙◌, arith, inl, inr, ◌⊎◌, append_assoc, append-nil}
+use Rattle.std.proofs.Common.{◌≡◌, ℕ, zero, suc, ◌-◌, ◌≤◌, Bool, true, false, cond, ◌&&◌, not, List, [], ◌∷◌, ◌++◌, refl, sym, ap, subst, ◌∙◌, arith, inl, inr, ◌⊎◌, append_assoc}
 use Rattle.std.specs.Prelude.{ℤ, pos, negsuc}
-use Rattle.std.proofs.lemmas.Bool.{cases_lt}
 use Rattle.wy_text.specs.declared.fault.Place.{Place}
-use Rattle.wy_text.specs.declared.token.TokenKind.{TokenKind}
 use Rattle.wy_text.specs.declared.token.TokenKind.TheVariants as kind
 use Rattle.wy_syntax.specs.declared.types.Name.{Name}
-use Rattle.wy_syntax.specs.declared.types.TypeUse.{TypeUse}
 use Rattle.wy_syntax.specs.declared.expressions.Operator.{Operator}
 use Rattle.wy_syntax.specs.declared.expressions.Operator.TheVariants as op
 use Rattle.wy_syntax.specs.Tokens.{Tok, code, code_of, member}
 use Rattle.wy_syntax.specs.Tokens as tokens
 use Rattle.wy_syntax.specs.Trees.{ExprTree, ExprTrees, number, text, yes, no, this, name, unit, negate, invert, binary, call, size, part, byte_at, byte, show, ascribe, choice, none, more, exprs_of}
-use Rattle.wy_syntax.specs.Languages.{Lang, Sign, Mark, Word, Then, Each, Commas, Commas1}
+use Rattle.wy_syntax.specs.Languages.{Sign, Mark, Word, Then, Each, Commas}
 use Rattle.wy_syntax.specs.TypeGrammar.{SpellsType}
-use Rattle.wy_syntax.specs.ExprGrammar.{symbol_of, level_of_op, left_level_of, right_level_of, Within, edge, SpellsNumber, Wrapped, Placed, Unnumbered, Bare, Arguments, MoreArguments, SpellsExpr}
-use Rattle.wy_parser.specs.Reading.{Reader, ◌>>=◌, ret, choose, starts}
-use Rattle.wy_parser.specs.Parsing.{R, tok, mark, word, commas, text_of_kind, value_of_kind, type_use}
-use Rattle.wy_parser.specs.ExprParsing.{expr_first, arg_first, digits, minus_of, operator_at, number_alone, text_alone, alone, name_alone, argument_at, one_argument, built1, built2, built3, is_choice, closing_unit, ascription, closing_expr, after_arg, enclosed, parens, built, atomic, call_part, add_call, post, minus_digits, minus_edge, negated, minus, bang, unary, operator_part, add_binary, level, product, sum, compare_set, compare, conj, disj, chain, choice_rest, choice_of, p_unary, p_expr, p_arg}
-use Rattle.wy_parser.proofs.KindNumbers.{kind_at, number_is, text_is}
+use Rattle.wy_syntax.specs.ExprGrammar.{level_of_op, edge, SpellsNumber, Wrapped, Bare, Arguments, MoreArguments, SpellsExpr}
+use Rattle.wy_parser.specs.Reading.{choose, starts}
+use Rattle.wy_parser.specs.Parsing.{R, text_of_kind, value_of_kind}
+use Rattle.wy_parser.specs.ExprParsing.{expr_first, arg_first, minus_of, argument_at, one_argument, built1, built2, built3, is_choice, ascription, closing_expr, parens, built, atomic, call_part, add_call, post, minus, bang, unary, operator_part, add_binary, product, sum, compare_set, compare, conj, disj, chain, choice_rest, choice_of, p_unary, p_expr, p_arg}
+use Rattle.wy_parser.proofs.KindNumbers.{number_is, text_is}
 use Rattle.wy_parser.proofs.Exact.{Last, Spelled}
 use Rattle.wy_parser.proofs.Else.{Other}
-use Rattle.wy_parser.proofs.Made.{Made, SeqOf, MapOf, IsOf, OneOf, Or, Elsewhere, LeftOf, seq, behind, map_to, give, alt, otherwise, made_never, become, nullable, less, here, token_at, made_tok, made_mark, made_word, made_commas, made_left, left_fits, is_member, member_is, pass, unpass, unpass_as, all_of, alone_of, map_of, sign, unsign, sub, off}
-use Rattle.wy_parser.proofs.Levels.{bare, lower, lower_wrapped, lower_placed, no_choice, raise_arg, IsLevel, level1, level2, level3, level4, level5, Tail, join, split}
+use Rattle.wy_parser.proofs.Made.{Made, SeqOf, MapOf, OneOf, Or, Elsewhere, LeftOf, seq, behind, map_to, give, alt, otherwise, made_never, become, less, here, token_at, made_tok, made_mark, made_word, made_commas, made_left, is_member, member_is, pass, unpass, unpass_as, all_of, alone_of, map_of, sign, unsign}
+use Rattle.wy_parser.proofs.Levels.{bare, lower_wrapped, lower_placed, no_choice, raise_arg, IsLevel, level1, level2, level3, level4, level5, Tail, join, split}
 use Rattle.wy_parser.proofs.TypeReaders.{made_type}
 
 -- the kinds that may go on behind an expression of each level

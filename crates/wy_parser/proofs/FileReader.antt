@@ -1,19 +1,18 @@
 -- A whole file: the tree that its tokens spell, or the first token that fits nothing.
-use Rattle.std.proofs.Common.{◌≡◌, ℕ, zero, suc, ◌+◌, ◌-◌, ◌<◌, ◌≤◌, Bool, true, false, cond, ◌||◌, ◌==◌, List, [], ◌∷◌, ◌++◌, length, refl, sym, ap, subst, ◌∙◌, append_assoc, append-nil, arith, inl, inr, ◌⊎◌}
+use Rattle.std.proofs.Common.{◌≡◌, ℕ, suc, ◌+◌, ◌<◌, ◌≤◌, Bool, true, false, cond, List, [], ◌∷◌, ◌++◌, length, refl, sym, ap, subst, ◌∙◌, append_assoc, append-nil, arith}
 use Rattle.std.proofs.lemmas.List.{length-append, append_cancel_right}
-use Rattle.wy_text.specs.declared.fault.Place.{Place}
 use Rattle.wy_text.specs.declared.token.TokenKind.{TokenKind}
 use Rattle.wy_text.specs.declared.token.TokenKind.TheVariants as kind
 use Rattle.wy_syntax.specs.Tokens.{Tok, code, code_of, member}
 use Rattle.wy_syntax.specs.Trees.{ItemTree}
-use Rattle.wy_syntax.specs.Languages.{Sign, Then, Each}
+use Rattle.wy_syntax.specs.Languages.{Each}
 use Rattle.wy_syntax.specs.Grammar.{SpellsItem, Spells}
-use Rattle.wy_parser.specs.Reading.{Out, Yes, No, Deep, Reader, and_then, one_of}
+use Rattle.wy_parser.specs.Reading.{Out, Yes, No, Deep, and_then, one_of}
 use Rattle.wy_parser.specs.ItemParsing.{item_first, items, p_file}
 use Rattle.wy_parser.specs.Refusals.{NoEnd, EndsOnce, IsFirstBad}
 use Rattle.wy_parser.proofs.KindNumbers.{kind_is, kind_at, is_fixed}
-use Rattle.wy_parser.proofs.Exact.{Clean, Exact, Taken, Stuck}
-use Rattle.wy_parser.proofs.Made.{Made, is_member, token_at}
+use Rattle.wy_parser.proofs.Exact.{Clean}
+use Rattle.wy_parser.proofs.Made.{is_member, token_at}
 use Rattle.wy_parser.proofs.ItemReaders.{made_items}
 
 abbrev Items : List ItemTree → List Tok → Type 0

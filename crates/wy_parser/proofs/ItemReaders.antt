@@ -1,12 +1,10 @@
 -- Items and files: each reader is exact.
-use Rattle.std.proofs.Common.{◌≡◌, ℕ, zero, suc, ◌+◌, ◌-◌, ◌<◌, ◌≤◌, Bool, true, false, cond, ◌||◌, ◌&&◌, not, ◌==◌, List, [], ◌∷◌, ◌++◌, length, refl, sym, ap, subst, ◌∙◌, arith, inl, inr, ◌⊎◌, append_assoc, append-nil}
+use Rattle.std.proofs.Common.{◌≡◌, ℕ, ◌-◌, ◌≤◌, Bool, true, false, List, [], ◌∷◌, ◌++◌, refl, sym, ap, subst, ◌∙◌, arith, inl, inr, append_assoc}
 use Rattle.std.specs.Prelude.{Option, None, Some}
 use Rattle.wy_text.specs.declared.fault.Place.{Place}
 use Rattle.wy_text.specs.declared.token.TokenKind.TheVariants as kind
 use Rattle.wy_syntax.specs.declared.types.Name.{Name}
 use Rattle.wy_syntax.specs.declared.types.AtomUse.{AtomUse}
-use Rattle.wy_syntax.specs.declared.types.Param.{Param}
-use Rattle.wy_syntax.specs.declared.types.Signature.{Signature}
 use Rattle.wy_syntax.specs.declared.items.Member.{Member}
 use Rattle.wy_syntax.specs.declared.items.Member.TheVariants as members
 use Rattle.wy_syntax.specs.declared.items.Line.{Line}
@@ -14,21 +12,19 @@ use Rattle.wy_syntax.specs.declared.items.Line.TheVariants as lines
 use Rattle.wy_syntax.specs.declared.items.Define.{Define}
 use Rattle.wy_syntax.specs.declared.items.Init.{Init}
 use Rattle.wy_syntax.specs.declared.items.Grant.{Grant}
-use Rattle.wy_syntax.specs.declared.items.TypeDecl.{TypeDecl}
-use Rattle.wy_syntax.specs.Tokens.{Tok, code}
-use Rattle.wy_syntax.specs.Trees.{PartTree, PartTrees, no_parts, parts_of, TailTree, InsideTree, ItemTree, type_item, pure_item, resource_item, plain_item, program_item}
-use Rattle.wy_syntax.specs.Languages.{Lang, Sign, Mark, Word, Then, Each, Commas, Indented, Lines, InParens, ◌⨟◌}
+use Rattle.wy_syntax.specs.Tokens.{Tok}
+use Rattle.wy_syntax.specs.Trees.{PartTree, PartTrees, no_parts, parts_of, InsideTree, ItemTree, type_item, pure_item, resource_item, plain_item, program_item}
+use Rattle.wy_syntax.specs.Languages.{Mark, Word, Each, Commas, Indented, InParens, ◌⨟◌}
 use Rattle.wy_syntax.specs.TypeGrammar.{SpellsSet, SpellsModuleParam, SpellsSignature}
 use Rattle.wy_syntax.specs.StmtGrammar.{SpellsPart, SpellsParts, SpellsTail}
-use Rattle.wy_syntax.specs.Grammar.{SpellsMember, SpellsUse, SpellsLine, SpellsDefine, SpellsInit, SpellsGrant, nothing_inside, SpellsInside, SpellsItem, Spells}
-use Rattle.wy_parser.specs.Reading.{Out, Yes, No, Deep, Reader, ◌>>=◌, ret, one_of, choose}
-use Rattle.wy_parser.specs.Parsing.{R, tok, mark, word, each, commas, set, signature, module_param}
-use Rattle.wy_parser.specs.StmtParsing.{part_first, part_at, tail_at, parts_inside}
-use Rattle.wy_parser.specs.ItemParsing.{defined_member, abstract_member, effect_member, method_member, member_of, member_first, members_inside, use_of, arguments, instance_of, import_of, line_of, line_first, define_of, init_line, init_of, grant_of, inside_lines, inside_of, type_of, pure_of, params_of, resource_of, plain_of, program_of, item_first, item, items, p_file}
-use Rattle.wy_parser.proofs.KindNumbers.{kind_at}
-use Rattle.wy_parser.proofs.Made.{Made, SeqOf, MapOf, IsOf, OneOf, Or, seq, behind, map_to, give, alt, become, nullable, less, token_at, made_mark, made_word, made_each, made_commas, pass, unpass, all_of, alone_of, map_of, sign, unsign, sub, off}
+use Rattle.wy_syntax.specs.Grammar.{SpellsMember, SpellsUse, SpellsLine, SpellsDefine, SpellsInit, SpellsGrant, nothing_inside, SpellsInside, SpellsItem}
+use Rattle.wy_parser.specs.Reading.{◌>>=◌, ret}
+use Rattle.wy_parser.specs.Parsing.{mark, each}
+use Rattle.wy_parser.specs.StmtParsing.{part_first, part_at}
+use Rattle.wy_parser.specs.ItemParsing.{effect_member, method_member, member_of, member_first, members_inside, use_of, arguments, instance_of, import_of, line_of, line_first, define_of, init_of, grant_of, inside_lines, inside_of, type_of, pure_of, params_of, resource_of, plain_of, program_of, item_first, item, items}
+use Rattle.wy_parser.proofs.Made.{Made, SeqOf, MapOf, IsOf, Or, seq, map_to, give, alt, become, made_mark, made_word, made_each, made_commas, pass, unpass, map_of, sign, unsign}
 use Rattle.wy_parser.proofs.TypeReaders.{made_set, made_signature, made_module_param}
-use Rattle.wy_parser.proofs.StmtReaders.{listed_parts, parts_back, parts_to, parts_from, made_parts_inside, AllStmts, all_stmts, made_part_at, made_tail_at}
+use Rattle.wy_parser.proofs.StmtReaders.{listed_parts, parts_back, parts_to, parts_from, made_parts_inside, all_stmts, made_part_at, made_tail_at}
 
 -- ---- members of a type
 

@@ -1,10 +1,9 @@
 -- Kinds of tokens by their numbers.
-use Rattle.std.proofs.Common.{◌≡◌, ℕ, zero, suc, Bool, true, false, cond, ◌||◌, ◌==◌, List, [], ◌∷◌, refl, sym, ap, subst, ◌∙◌, arith}
-use Rattle.std.specs.Prelude.{ℤ, pos, negsuc, nat_lt}
-use Rattle.wy_text.specs.declared.fault.Place.{Place}
+use Rattle.std.proofs.Common.{◌≡◌, ℕ, Bool, true, cond, ◌||◌, ◌==◌, [], refl, arith}
+use Rattle.std.specs.Prelude.{pos, negsuc, nat_lt}
 use Rattle.wy_text.specs.declared.token.TokenKind.{TokenKind}
 use Rattle.wy_text.specs.declared.token.TokenKind.TheVariants as kind
-use Rattle.wy_syntax.specs.Tokens.{Tok, code_of, code}
+use Rattle.wy_syntax.specs.Tokens.{code_of}
 use Rattle.wy_parser.specs.Parsing.{text_of_kind, value_of_kind}
 
 -- some kind of each number

@@ -1,26 +1,18 @@
 -- Levels: which place an expression fits, and what an operator's symbol says of it.
-use Rattle.std.proofs.Common.{◌≡◌, ℕ, zero, suc, ◌+◌, ◌-◌, ◌<◌, ◌≤◌, Bool, true, false, cond, ◌||◌, ◌&&◌, not, ◌==◌, List, [], ◌∷◌, ◌++◌, length, refl, sym, ap, subst, ◌∙◌, arith, inl, inr, ◌⊎◌, append_assoc, append-nil}
+use Rattle.std.proofs.Common.{◌≡◌, ℕ, zero, suc, ◌<◌, ◌≤◌, Bool, true, false, ◌||◌, ◌&&◌, ◌==◌, List, [], ◌∷◌, ◌++◌, refl, sym, ap, subst, ◌∙◌, arith, inl, inr, ◌⊎◌}
 use Rattle.std.specs.Prelude.{ℤ, pos, negsuc}
 use Rattle.std.proofs.lemmas.Bool.{cases_lt}
 use Rattle.wy_text.specs.declared.fault.Place.{Place}
 use Rattle.wy_text.specs.declared.token.TokenKind.{TokenKind}
-use Rattle.wy_text.specs.declared.token.TokenKind.TheVariants as kind
-use Rattle.wy_syntax.specs.declared.types.Name.{Name}
-use Rattle.wy_syntax.specs.declared.types.TypeUse.{TypeUse}
 use Rattle.wy_syntax.specs.declared.expressions.Operator.{Operator}
 use Rattle.wy_syntax.specs.declared.expressions.Operator.TheVariants as op
 use Rattle.wy_syntax.specs.Tokens.{Tok, code, code_of, member}
-use Rattle.wy_syntax.specs.Tokens as tokens
-use Rattle.wy_syntax.specs.Trees.{ExprTree, ExprTrees, number, text, yes, no, this, name, unit, negate, invert, binary, call, size, part, byte_at, byte, show, ascribe, choice, none, more, exprs_of}
-use Rattle.wy_syntax.specs.Languages.{Lang, Sign, Mark, Word, Then, Each, Commas, Commas1}
-use Rattle.wy_syntax.specs.TypeGrammar.{SpellsType}
-use Rattle.wy_syntax.specs.ExprGrammar.{symbol_of, level_of_op, left_level_of, right_level_of, Within, edge, SpellsNumber, Wrapped, Placed, Unnumbered, Bare, Arguments, MoreArguments, SpellsExpr}
-use Rattle.wy_parser.specs.Reading.{Reader, ◌>>=◌, ret, choose}
-use Rattle.wy_parser.specs.Parsing.{R}
+use Rattle.wy_syntax.specs.Trees.{ExprTree, number, text, yes, no, this, name, unit, negate, invert, binary, call, size, part, byte_at, byte, show, ascribe, choice}
+use Rattle.wy_syntax.specs.ExprGrammar.{symbol_of, level_of_op, left_level_of, right_level_of, SpellsNumber, Wrapped, Bare, SpellsExpr}
 use Rattle.wy_parser.specs.ExprParsing.{operator_at, add_binary, is_choice}
 use Rattle.wy_parser.proofs.KindNumbers.{kind_at, is_fixed, kind_is}
 use Rattle.wy_parser.proofs.Exact.{Last}
-use Rattle.wy_parser.proofs.Made.{Made, SeqOf, MapOf, OneOf, LeftOf, sub, eq_is}
+use Rattle.wy_parser.proofs.Made.{SeqOf, MapOf, OneOf, eq_is}
 
 -- without parentheses round it
 pub bare : (plain : Bool) (k : ℕ) (e : ExprTree) (u : List Tok) → Bare plain e k u → SpellsExpr plain k e u

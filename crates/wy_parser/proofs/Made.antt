@@ -1,16 +1,16 @@
 -- Readers that are exact, put together with everything left out that can be found.
-use Rattle.std.proofs.Common.{◌≡◌, ℕ, zero, suc, ◌+◌, ◌-◌, ◌<◌, ◌≤◌, Bool, true, false, cond, ◌||◌, ◌&&◌, not, ◌==◌, List, [], ◌∷◌, ◌++◌, length, refl, sym, ap, subst, ◌∙◌, arith, inl, inr, ◌⊎◌, append_assoc, append-nil}
+use Rattle.std.proofs.Common.{◌≡◌, ℕ, ◌+◌, ◌-◌, ◌≤◌, Bool, true, false, ◌||◌, ◌&&◌, not, ◌==◌, List, [], ◌∷◌, ◌++◌, refl, sym, ap, subst, ◌∙◌, arith, inl, inr, ◌⊎◌, append_assoc, append-nil}
 use Rattle.wy_text.specs.declared.fault.Place.{Place}
 use Rattle.wy_text.specs.declared.token.TokenKind.TheVariants as kind
 use Rattle.wy_syntax.specs.declared.types.Name.{Name}
 use Rattle.wy_syntax.specs.Tokens.{Tok, code, code_of, member}
-use Rattle.wy_syntax.specs.Languages.{Lang, Sign, Mark, Word, Then, Each, Commas, Commas1}
-use Rattle.wy_parser.specs.Reading.{Out, Yes, No, Deep, Reader, and_then, ◌>>=◌, ret, starts, choose, one_of, fold_many}
+use Rattle.wy_syntax.specs.Languages.{Sign, Mark, Word, Then, Each, Commas, Commas1}
+use Rattle.wy_parser.specs.Reading.{Deep, ◌>>=◌, ret, starts, choose, fold_many}
 use Rattle.wy_parser.specs.Parsing.{R, tok, mark, word, name_at, text_of_kind, snoc, each, comma_part, commas1, commas}
 use Rattle.wy_parser.proofs.Exact as exact
 use Rattle.wy_parser.proofs.Exact.{Begins, Stops, Exact, Taken, Stuck, Clean, Spelled, Seq, Fit, Sets, Is, One, Mapped, Choice, Many, Folds, folded, Loop, subset, apart, in_subset, not_in, fit_of, exact-bind, exact-map, exact-iff, exact-ret, exact-one_of, exact-choose, exact-fold}
 use Rattle.wy_parser.proofs.Exact.{IsLeft, exact-left}
-use Rattle.wy_parser.proofs.Else.{Outside, Else, Other, exact-else}
+use Rattle.wy_parser.proofs.Else.{Other, exact-else}
 use Rattle.wy_parser.proofs.KindNumbers.{kind_at, is_fixed, kind_is, name_is}
 
 abbrev pub Says : Type 0 → Type 1

@@ -1,6 +1,6 @@
 -- One turn of a loop over parts the last of which must not go on, and how such a loop ends.
-use Rattle.std.proofs.Common.{◌≡◌, ℕ, zero, suc, ◌+◌, ◌-◌, ◌<◌, ◌≤◌, Bool, true, false, cond, ◌||◌, List, [], ◌∷◌, ◌++◌, refl, sym, ap, subst, ◌∙◌, arith, append_assoc}
-use Rattle.wy_syntax.specs.Tokens.{Tok, toks, code}
+use Rattle.std.proofs.Common.{◌≡◌, ℕ, zero, suc, ◌<◌, Bool, true, false, cond, ◌||◌, List, [], ◌∷◌, ◌++◌, refl, sym, ap, ◌∙◌, arith, append_assoc}
+use Rattle.wy_syntax.specs.Tokens.{Tok, code}
 use Rattle.wy_parser.specs.declared.stop.Stop.{Stop}
 use Rattle.wy_parser.specs.declared.stop.Stop.TheVariants as stops
 use Rattle.wy_parser.specs.Reading.{Out, Yes, No, Deep, Reader, and_then, ret, ◌>>=◌, starts, choose, next, blocks}

@@ -1,30 +1,27 @@
 -- Right sides, statements, parts and bodies: each reader is exact.
-use Rattle.std.proofs.Common.{◌≡◌, ℕ, zero, suc, ◌+◌, ◌-◌, ◌<◌, ◌≤◌, Bool, true, false, cond, ◌||◌, ◌&&◌, not, ◌==◌, List, [], ◌∷◌, ◌++◌, length, refl, sym, ap, subst, ◌∙◌, arith, inl, inr, ◌⊎◌, append_assoc, append-nil}
-use Rattle.std.specs.Prelude.{Option, None, Some}
+use Rattle.std.proofs.Common.{◌≡◌, ℕ, zero, suc, ◌+◌, ◌-◌, ◌≤◌, Bool, true, false, cond, ◌&&◌, List, [], ◌∷◌, ◌++◌, length, refl, sym, ap, subst, ◌∙◌, arith, inl, inr, append_assoc}
+use Rattle.std.specs.Prelude.{None, Some}
 use Rattle.std.proofs.lemmas.List.{length-append}
 use Rattle.wy_text.specs.declared.fault.Place.{Place}
 use Rattle.wy_text.specs.declared.token.TokenKind.{TokenKind}
 use Rattle.wy_text.specs.declared.token.TokenKind.TheVariants as kind
 use Rattle.wy_syntax.specs.declared.types.Name.{Name}
-use Rattle.wy_syntax.specs.declared.types.TypeUse.{TypeUse}
-use Rattle.wy_syntax.specs.declared.types.Signature.{Signature}
-use Rattle.wy_syntax.specs.declared.statements.FieldKind.{FieldKind}
 use Rattle.wy_syntax.specs.declared.statements.FieldKind.TheVariants as fields
 use Rattle.wy_syntax.specs.Tokens.{Tok, code, code_of, member}
-use Rattle.wy_syntax.specs.Trees.{ExprTree, name, choice, RhsTree, literal, branch, value, StmtTree, StmtTrees, val, assign, run, no_stmts, more_stmts, stmts_of, PartTree, PartTrees, field, method, no_parts, more_parts, parts_of, TailTree, short, long}
-use Rattle.wy_syntax.specs.Languages.{Lang, Sign, Mark, Word, Then, Each, Indented, Lines}
+use Rattle.wy_syntax.specs.Trees.{ExprTree, name, RhsTree, literal, branch, value, StmtTree, StmtTrees, val, assign, run, no_stmts, more_stmts, stmts_of, PartTree, PartTrees, field, method, no_parts, more_parts, parts_of, TailTree, short, long}
+use Rattle.wy_syntax.specs.Languages.{Mark, Word, Then, Each, Indented, Lines}
 use Rattle.wy_syntax.specs.TypeGrammar.{SpellsType, SpellsSignature}
 use Rattle.wy_syntax.specs.ExprGrammar.{SpellsExpr}
-use Rattle.wy_syntax.specs.StmtGrammar.{field_word, is_val, SpellsRhs, SpellsStmt, SpellsBlock, SpellsPart, SpellsParts, SpellsTail}
-use Rattle.wy_parser.specs.Reading.{Out, Yes, No, Deep, Reader, and_then, ◌>>=◌, ret, choose, choose2, starts, starts2, one_of, blocks}
-use Rattle.wy_parser.specs.Parsing.{R, tok, mark, word, name_at, each, type_use, signature}
-use Rattle.wy_parser.specs.ExprParsing.{expr_first, arg_first, choice_rest, p_expr, p_arg}
-use Rattle.wy_parser.specs.StmtParsing.{rhs_first, stmt_first, part_first, parts_inside, literal_of, indented_block, branch_rest, choice_line, if_of, expr_line, rhs, untyped_rhs, typed_val, untyped_val, val_of, assign_of, run_of, stmt, block_of, short_tail, long_tail, tail, field_of, method_of, part, p_rhs, p_block, part_at, rhs_at, untyped_at, stmt_at, tail_at}
-use Rattle.wy_parser.proofs.KindNumbers.{kind_at, name_is}
-use Rattle.wy_parser.proofs.Exact.{Begins, Stops, Spelled, begins_more, stops_less}
-use Rattle.wy_parser.proofs.Two.{Ahead, exact-choose2}
-use Rattle.wy_parser.proofs.Blocks.{Blocks, Ending, Row, exact-blocks}
-use Rattle.wy_parser.proofs.Made.{Made, SeqOf, MapOf, IsOf, OneOf, Or, seq, behind, map_to, give, alt, become, nullable, less, made_never, here, token_at, made_mark, made_word, made_each, is_member, pass, unpass, all_of, alone_of, map_of, sign, unsign, sub, off, sub_self}
+use Rattle.wy_syntax.specs.StmtGrammar.{is_val, SpellsRhs, SpellsStmt, SpellsBlock, SpellsPart, SpellsParts, SpellsTail}
+use Rattle.wy_parser.specs.Reading.{Out, Yes, No, Deep, and_then, ◌>>=◌, ret, choose2, starts2, blocks}
+use Rattle.wy_parser.specs.Parsing.{R, mark, name_at, each}
+use Rattle.wy_parser.specs.ExprParsing.{expr_first, arg_first, p_expr, p_arg}
+use Rattle.wy_parser.specs.StmtParsing.{rhs_first, stmt_first, part_first, parts_inside, literal_of, indented_block, branch_rest, if_of, expr_line, rhs, untyped_rhs, typed_val, untyped_val, val_of, assign_of, run_of, stmt, block_of, tail, field_of, method_of, part, p_rhs, p_block, part_at, untyped_at, stmt_at, tail_at}
+use Rattle.wy_parser.proofs.KindNumbers.{name_is}
+use Rattle.wy_parser.proofs.Exact.{Stops, begins_more}
+use Rattle.wy_parser.proofs.Two.{exact-choose2}
+use Rattle.wy_parser.proofs.Blocks.{Blocks, Ending, exact-blocks}
+use Rattle.wy_parser.proofs.Made.{Made, SeqOf, MapOf, Or, seq, behind, map_to, give, alt, become, less, made_never, token_at, made_mark, made_word, made_each, is_member, pass, unpass, map_of, sign, unsign}
 use Rattle.wy_parser.proofs.Levels.{bare, lower_placed}
 use Rattle.wy_parser.proofs.TypeReaders.{made_type, made_signature}
 use Rattle.wy_parser.proofs.ExprReaders.{expr_behind, arg_behind, ChoiceRest, Choices, choice_to, arg_from, made_choice_rest, AllExprs, all_exprs}

@@ -1,13 +1,13 @@
 -- One turn of a loop that reads parts, and how such a loop ends.
-use Rattle.std.proofs.Common.{◌≡◌, ℕ, zero, suc, ◌+◌, ◌-◌, ◌<◌, ◌≤◌, Bool, true, false, cond, List, [], ◌∷◌, ◌++◌, refl, sym, ap, subst, ◌∙◌, arith}
-use Rattle.std.specs.Prelude.{Result, Ok, Err}
+use Rattle.std.proofs.Common.{◌≡◌, ℕ, zero, suc, ◌-◌, ◌<◌, Bool, true, false, cond, List, [], ◌∷◌, refl, sym, ap, subst, ◌∙◌, arith}
+use Rattle.std.specs.Prelude.{Result, Err}
 use Rattle.std.specs.Borrow.{Bor}
 use Rattle.wy_text.specs.declared.token.Token.{Token}
-use Rattle.wy_syntax.specs.Tokens.{Tok, toks, code, member}
+use Rattle.wy_syntax.specs.Tokens.{Tok, code, member}
 use Rattle.wy_syntax.specs.Trees.{ExprTree}
 use Rattle.wy_parser.specs.declared.stop.Stop.{Stop}
 use Rattle.wy_parser.specs.declared.stop.Stop.TheVariants as stops
-use Rattle.wy_parser.specs.Reading.{Out, Yes, No, Deep, Reader, and_then, starts, one_of, fold_many}
+use Rattle.wy_parser.specs.Reading.{Out, Yes, No, Reader, and_then, starts, one_of, fold_many}
 use Rattle.wy_parser.specs.ExprParsing.{operator_part, add_binary}
 use Rattle.wy_parser.specs.Sorts.{Halts, Gives}
 

@@ -1,5 +1,5 @@
 -- A choice by the next two symbols.
-use Rattle.std.proofs.Common.{◌≡◌, ℕ, zero, suc, ◌+◌, ◌<◌, ◌≤◌, Bool, true, false, cond, ◌||◌, ◌&&◌, not, ◌==◌, List, [], ◌∷◌, ◌++◌, length, refl, sym, ap, subst, ◌∙◌, arith, inl, inr, ◌⊎◌}
+use Rattle.std.proofs.Common.{◌≡◌, ℕ, ◌<◌, ◌≤◌, Bool, true, false, ◌&&◌, List, [], ◌∷◌, ◌++◌, length, refl, sym, ap, subst, ◌∙◌, inl, inr, ◌⊎◌}
 use Rattle.wy_parser.specs.Reading.{Out, Yes, No, Deep, Reader, starts2, choose2}
 use Rattle.wy_syntax.specs.Tokens.{member}
 use Rattle.wy_parser.proofs.Exact.{SameFront, Begins, Stops, Exact, Taken, Stuck, Clean, cond_true, cond_false, cond_cases}

@@ -1,5 +1,5 @@
 -- Sets, types and signatures: each reader is exact.
-use Rattle.std.proofs.Common.{◌≡◌, ℕ, zero, suc, ◌+◌, ◌-◌, ◌<◌, ◌≤◌, Bool, true, false, cond, ◌||◌, ◌&&◌, not, ◌==◌, List, [], ◌∷◌, ◌++◌, length, refl, sym, ap, subst, ◌∙◌, arith, inl, inr, ◌⊎◌, append_assoc, append-nil}
+use Rattle.std.proofs.Common.{ℕ, ◌≤◌, Bool, true, false, List, [], ◌∷◌, refl, sym, subst, inl, inr}
 use Rattle.std.specs.Prelude.{Option, None, Some}
 use Rattle.wy_text.specs.declared.fault.Place.{Place}
 use Rattle.wy_text.specs.declared.token.TokenKind.TheVariants as kind
@@ -10,12 +10,11 @@ use Rattle.wy_syntax.specs.declared.types.TypeUse.{TypeUse}
 use Rattle.wy_syntax.specs.declared.types.TypeUse.TheVariants as types
 use Rattle.wy_syntax.specs.declared.types.Param.{Param}
 use Rattle.wy_syntax.specs.declared.types.Signature.{Signature}
-use Rattle.wy_syntax.specs.Tokens.{Tok, code}
-use Rattle.wy_syntax.specs.Languages.{Lang, Sign, Mark, Word, Then, Each, Commas, Commas1}
+use Rattle.wy_syntax.specs.Tokens.{Tok}
+use Rattle.wy_syntax.specs.Languages.{Mark, Word, Commas1}
 use Rattle.wy_syntax.specs.TypeGrammar.{OwnedName, SpellsAtom, SpellsSet, SpellsMemberSet, SpellsObject, SpellsType, SpellsParam, SpellsModuleParam, SpellsEffect, SpellsSignature}
-use Rattle.wy_parser.specs.Reading.{Reader, ◌>>=◌, ret, choose}
-use Rattle.wy_parser.specs.Parsing.{R, mark, word, member_alone, owned, atom, set, member_set, with_sets, at_set, object_rest, object, base, type_use, param, module_param, effect, signature}
-use Rattle.wy_parser.proofs.Made.{Made, SeqOf, MapOf, IsOf, Or, seq, behind, map_to, give, alt, become, nullable, less, made_mark, made_word, made_commas, made_commas1, pass, unpass, all_of, alone_of, map_of, sign, unsign}
+use Rattle.wy_parser.specs.Parsing.{member_alone, atom, set, member_set, object_rest, object, type_use, param, module_param, effect, signature}
+use Rattle.wy_parser.proofs.Made.{Made, SeqOf, MapOf, IsOf, Or, seq, map_to, give, alt, become, nullable, made_mark, made_word, made_commas, made_commas1, pass, unpass, all_of, alone_of, map_of, sign, unsign}
 
 abbrev owned_by : Name → Name → AtomUse
 owned_by n w = record { owner = Some n; member = w }

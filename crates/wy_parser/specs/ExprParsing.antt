@@ -1,13 +1,13 @@
 -- Expressions, read from left to right.
-use Rattle.std.specs.Prelude.{ℕ, zero, suc, ℤ, pos, negsuc, Bool, true, false, cond, ◌==◌, List, [], ◌∷◌, ◌++◌}
+use Rattle.std.specs.Prelude.{ℕ, zero, suc, ℤ, pos, negsuc, Bool, true, false, cond, ◌==◌, List, [], ◌∷◌}
 use Rattle.wy_text.specs.declared.fault.Place.{Place}
 use Rattle.wy_syntax.specs.declared.types.Name.{Name}
 use Rattle.wy_syntax.specs.declared.expressions.Operator.{Operator}
 use Rattle.wy_syntax.specs.declared.expressions.Operator.TheVariants as op
 use Rattle.wy_syntax.specs.Tokens.{Tok, code}
-use Rattle.wy_syntax.specs.Trees.{ExprTree, ExprTrees, number, text, yes, no, this, name, unit, negate, invert, binary, call, size, part, byte_at, byte, show, ascribe, choice, exprs_of}
+use Rattle.wy_syntax.specs.Trees.{ExprTree, number, text, yes, no, this, name, unit, negate, invert, binary, call, size, part, byte_at, byte, show, ascribe, choice, exprs_of}
 use Rattle.wy_syntax.specs.ExprGrammar.{edge}
-use Rattle.wy_parser.specs.Reading.{Out, Yes, No, Deep, Reader, ◌>>=◌, ret, one_of, choose, fold_many}
+use Rattle.wy_parser.specs.Reading.{Deep, ◌>>=◌, ret, choose, fold_many}
 use Rattle.wy_parser.specs.Parsing.{R, tok, mark, word, commas, text_of_kind, value_of_kind, type_use}
 
 -- the kinds that an Expr begins with, and an Arg

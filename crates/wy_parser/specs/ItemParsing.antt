@@ -1,6 +1,5 @@
 -- Items and files, read from left to right.
-use Rattle.std.specs.Prelude.{ℕ, zero, suc, Bool, true, false, List, [], ◌∷◌, ◌++◌, Option, None, Some}
-use Rattle.wy_text.specs.declared.fault.Place.{Place}
+use Rattle.std.specs.Prelude.{ℕ, Bool, true, false, List, [], ◌∷◌, Option, None, Some}
 use Rattle.wy_syntax.specs.declared.types.Name.{Name}
 use Rattle.wy_syntax.specs.declared.types.Param.{Param}
 use Rattle.wy_syntax.specs.declared.items.Member.{Member}
@@ -10,12 +9,11 @@ use Rattle.wy_syntax.specs.declared.items.Line.TheVariants as lines
 use Rattle.wy_syntax.specs.declared.items.Define.{Define}
 use Rattle.wy_syntax.specs.declared.items.Init.{Init}
 use Rattle.wy_syntax.specs.declared.items.Grant.{Grant}
-use Rattle.wy_syntax.specs.declared.items.TypeDecl.{TypeDecl}
-use Rattle.wy_syntax.specs.Tokens.{Tok, code}
-use Rattle.wy_syntax.specs.Trees.{PartTree, PartTrees, no_parts, parts_of, TailTree, InsideTree, ItemTree, type_item, pure_item, resource_item, plain_item, program_item}
+use Rattle.wy_syntax.specs.Tokens.{code}
+use Rattle.wy_syntax.specs.Trees.{parts_of, InsideTree, ItemTree, type_item, pure_item, resource_item, plain_item, program_item}
 use Rattle.wy_syntax.specs.Grammar.{nothing_inside}
-use Rattle.wy_parser.specs.Reading.{Out, Yes, No, Deep, Reader, ◌>>=◌, ret, one_of, choose}
-use Rattle.wy_parser.specs.Parsing.{R, tok, mark, word, each, commas, set, signature, module_param}
+use Rattle.wy_parser.specs.Reading.{◌>>=◌, ret, choose}
+use Rattle.wy_parser.specs.Parsing.{R, mark, word, each, commas, set, signature, module_param}
 use Rattle.wy_parser.specs.StmtParsing.{part_first, part_at, tail_at, parts_inside}
 
 -- ---- members of a type

@@ -1,5 +1,5 @@
 -- What is read from left to right, in readers: words, sets, types and signatures.
-use Rattle.std.specs.Prelude.{ℕ, zero, suc, ℤ, pos, negsuc, Bool, true, false, List, [], ◌∷◌, ◌++◌, Option, None, Some}
+use Rattle.std.specs.Prelude.{ℕ, ℤ, pos, negsuc, Bool, true, false, List, [], ◌∷◌, ◌++◌, Option, None, Some}
 use Rattle.wy_text.specs.declared.fault.Place.{Place}
 use Rattle.wy_text.specs.declared.token.TokenKind.{TokenKind}
 use Rattle.wy_text.specs.declared.token.TokenKind.TheVariants as kind
@@ -11,7 +11,7 @@ use Rattle.wy_syntax.specs.declared.types.TypeUse.TheVariants as types
 use Rattle.wy_syntax.specs.declared.types.Param.{Param}
 use Rattle.wy_syntax.specs.declared.types.Signature.{Signature}
 use Rattle.wy_syntax.specs.Tokens.{Tok, code}
-use Rattle.wy_parser.specs.Reading.{Out, Yes, No, Deep, Reader, ◌>>=◌, ret, one_of, choose, fold_many}
+use Rattle.wy_parser.specs.Reading.{Reader, ◌>>=◌, ret, one_of, choose, fold_many}
 
 abbrev pub R : Type 0 → Type 0
 R A = Reader Tok A

@@ -1,5 +1,5 @@
 -- Readers: functions from a list of symbols to a value and what is left, or to where they stop.
-use Rattle.std.specs.Prelude.{◌≡◌, ℕ, zero, suc, Bool, true, false, cond, ◌||◌, ◌&&◌, ◌==◌, List, [], ◌∷◌, ◌++◌}
+use Rattle.std.specs.Prelude.{ℕ, zero, suc, Bool, false, cond, ◌&&◌, List, [], ◌∷◌}
 use Rattle.wy_syntax.specs.Tokens.{member}
 
 pub data Out (T A : Type 0) : Type 0 where

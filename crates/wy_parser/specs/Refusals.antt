@@ -1,5 +1,5 @@
 -- What it says that there is no tree, and where.
-use Rattle.std.specs.Prelude.{◌≡◌, ℕ, List, [], ◌∷◌, ◌++◌}
+use Rattle.std.specs.Prelude.{◌≡◌, List, [], ◌∷◌, ◌++◌}
 use Rattle.wy_text.specs.declared.token.TokenKind.TheVariants as kind
 use Rattle.wy_syntax.specs.Tokens.{Tok}
 use Rattle.wy_syntax.specs.Trees.{ItemTree}

@@ -1,5 +1,5 @@
 -- The numbers of kinds, and what a function of the parser gives.
-use Rattle.std.specs.Prelude.{◌≡◌, ℕ, List, [], ◌∷◌, Result, Ok, Err, map}
+use Rattle.std.specs.Prelude.{◌≡◌, ℕ, List, Result, Ok, Err, map}
 use Rattle.std.specs.Borrow.{Bor}
 use Rattle.wy_text.specs.declared.token.Token.{Token}
 use Rattle.wy_syntax.specs.Tokens.{Tok, toks}

@@ -1,15 +1,15 @@
 -- Right sides, statements, parts and bodies, read from left to right.
-use Rattle.std.specs.Prelude.{ℕ, zero, suc, Bool, true, false, cond, ◌&&◌, List, [], ◌∷◌, ◌++◌, Option, None, Some}
+use Rattle.std.specs.Prelude.{ℕ, zero, suc, Bool, List, [], ◌∷◌, None, Some}
 use Rattle.wy_text.specs.declared.fault.Place.{Place}
 use Rattle.wy_syntax.specs.declared.types.Name.{Name}
 use Rattle.wy_syntax.specs.declared.statements.FieldKind.{FieldKind}
 use Rattle.wy_syntax.specs.declared.statements.FieldKind.TheVariants as fields
-use Rattle.wy_syntax.specs.Tokens.{Tok, code, member}
-use Rattle.wy_syntax.specs.Trees.{ExprTree, choice, RhsTree, literal, branch, value, StmtTree, StmtTrees, val, assign, run, stmts_of, PartTree, PartTrees, field, method, no_parts, parts_of, TailTree, short, long}
+use Rattle.wy_syntax.specs.Tokens.{code}
+use Rattle.wy_syntax.specs.Trees.{ExprTree, RhsTree, literal, branch, value, StmtTree, StmtTrees, val, assign, run, stmts_of, PartTree, PartTrees, field, method, no_parts, parts_of, TailTree, short, long}
 use Rattle.wy_syntax.specs.StmtGrammar.{is_val}
-use Rattle.wy_parser.specs.Reading.{Out, Yes, No, Deep, Reader, ◌>>=◌, ret, one_of, choose, choose2, blocks}
-use Rattle.wy_parser.specs.Parsing.{R, tok, mark, word, each, type_use, signature}
-use Rattle.wy_parser.specs.ExprParsing.{expr_first, arg_first, choice_rest, p_expr, p_arg}
+use Rattle.wy_parser.specs.Reading.{Deep, ◌>>=◌, ret, choose, choose2, blocks}
+use Rattle.wy_parser.specs.Parsing.{R, mark, word, each, type_use, signature}
+use Rattle.wy_parser.specs.ExprParsing.{arg_first, choice_rest, p_expr, p_arg}
 
 abbrev pub rhs_first : List ℕ
 rhs_first = 21 ∷ arg_first

@@ -10,4 +10,6 @@ pub mod parsing;
 mod sort;
 mod statements;
 mod stop;
+#[cfg(test)]
+mod tests;
 mod types;

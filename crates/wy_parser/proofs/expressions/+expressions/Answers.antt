@@ -1,11 +1,11 @@
-use Rattle.std.proofs.Common.{◌≡◌, ℕ, ◌+◌, ◌-◌, ◌<◌, ◌≤◌, [], ◌∷◌, arith, sym, ◌∙◌, refl, ap, subst, map}
+use Rattle.std.proofs.Common.{◌+◌, ◌-◌, [], ◌∷◌, arith, sym, ◌∙◌, ap, subst, map}
 use Rattle.std.proofs.lemmas.List.{map-append}
 use Rattle.std.proofs.lemmas.Result.{err_from_is_err_and}
 use Rattle.wy_syntax.specs.Tokens.{tok_of, toks}
 use Rattle.wy_syntax.specs.Views.{expr_tree}
 use Rattle.wy_parser.specs.declared.stop.Stop.{Stop}
 use Rattle.wy_parser.specs.Parsing.{commas, comma_part, snoc}
-use Rattle.wy_parser.specs.ExprParsing.{arg_first, add_binary, operator_part, call_part, add_call, unary_at, product_at, compare_at, conj_at, p_arg}
+use Rattle.wy_parser.specs.ExprParsing.{arg_first, call_part, add_call, unary_at, product_at, compare_at, conj_at, p_arg}
 use Rattle.wy_parser.specs.Sorts.{Halts}
 use Rattle.wy_parser.proofs.Turns.{level_turn, part_turn, part_halts, fold_ends, gives_err}
 use Rattle.wy_parser.proofs.expressions.+expressions.Goals as goal

@@ -1,4 +1,4 @@
-use Rattle.std.proofs.Common.{◌≡◌, ℕ, ◌+◌, ◌-◌, ◌<◌, ◌≤◌, [], ◌∷◌, arith, sym, ◌∙◌, refl, ap, subst, map}
+use Rattle.std.proofs.Common.{◌+◌, ◌-◌, [], ◌∷◌, arith, sym, ◌∙◌, ap, subst, map}
 use Rattle.std.proofs.lemmas.List.{map-append}
 use Rattle.std.proofs.lemmas.Result.{err_from_is_err_and}
 use Rattle.wy_syntax.specs.Tokens.{toks}

@@ -1,7 +1,7 @@
-use Rattle.std.proofs.Common.{◌≡◌, ◌+◌, ◌-◌, [], ◌∷◌, arith, sym, ◌∙◌}
+use Rattle.std.proofs.Common.{◌+◌, ◌-◌, [], ◌∷◌, arith, sym, ◌∙◌}
 use Rattle.wy_syntax.specs.Tokens.{toks}
 use Rattle.wy_parser.specs.ItemParsing.{define_of}
-use Rattle.wy_parser.specs.Parsing.{each, snoc}
+use Rattle.wy_parser.specs.Parsing.{snoc}
 use Rattle.wy_parser.proofs.Turns.{part_turn}
 use Rattle.wy_parser.proofs.lines.defines.Goals as goal
 

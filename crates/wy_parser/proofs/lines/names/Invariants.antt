@@ -1,4 +1,4 @@
-use Rattle.std.proofs.Common.{◌≡◌, ◌-◌, List, [], ◌∷◌}
+use Rattle.std.proofs.Common.{◌≡◌, ◌-◌, [], ◌∷◌}
 use Rattle.wy_syntax.specs.Tokens.{code, toks}
 use Rattle.wy_parser.specs.Reading.{fold_many}
 use Rattle.wy_parser.specs.Parsing.{word, commas, comma_part, snoc}

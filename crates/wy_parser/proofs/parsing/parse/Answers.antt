@@ -1,4 +1,4 @@
-use Rattle.std.proofs.Common.{◌≡◌, ◌<◌, sym, subst, arith, map}
+use Rattle.std.proofs.Common.{sym, subst, map}
 use Rattle.wy_syntax.specs.Tokens.{toks}
 use Rattle.wy_syntax.specs.Views.{item_tree}
 use Rattle.wy_text.specs.declared.token.TokenKind.{TokenKind}

@@ -1,4 +1,4 @@
-use Rattle.std.proofs.Common.{◌≡◌, ℕ, ◌+◌, ◌-◌, ◌*◌, List, [], ◌∷◌, map}
+use Rattle.std.proofs.Common.{◌≡◌, ◌+◌, ◌-◌, ◌*◌, map}
 use Rattle.wy_syntax.specs.Tokens.{code, toks}
 use Rattle.wy_syntax.specs.Views.{part_tree, stmt_tree}
 use Rattle.wy_syntax.specs.StmtGrammar.{is_val}

@@ -1,6 +1,6 @@
-use Rattle.std.proofs.Common.{◌≡◌, ◌+◌, ◌-◌, [], ◌∷◌, arith, sym, ◌∙◌}
+use Rattle.std.proofs.Common.{◌+◌, ◌-◌, [], ◌∷◌, arith, sym, ◌∙◌}
 use Rattle.wy_syntax.specs.Tokens.{toks}
-use Rattle.wy_parser.specs.Parsing.{module_param, commas, comma_part, snoc}
+use Rattle.wy_parser.specs.Parsing.{module_param, comma_part, snoc}
 use Rattle.wy_parser.proofs.Turns.{part_turn}
 use Rattle.wy_parser.proofs.types.module_params.Goals as goal
 
