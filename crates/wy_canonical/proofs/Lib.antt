@@ -1,0 +1,15 @@
+pub mod Forgetting
+pub mod PrintedNames
+pub mod PrintedWords
+pub mod Reading
+pub mod LineReading
+pub mod Source
+pub mod Printing
+pub mod Types
+pub mod Levels
+pub mod Expressions
+pub mod Turning
+pub mod Statements
+pub mod Items
+pub mod Files
+pub mod Examples

@@ -1,0 +1,27 @@
+//! The law on printed texts (docs/LANGUAGE.md, "Canonical form"). No function here does anything: what it says is its
+//! clause.
+#![tactic(auto)]
+
+ghost use Rattle.wy_canonical.specs.Printed.{PrintedAgain, PrintedOrLimited, PrintedTrees, TokensWithinLimits};
+
+/// The canonical form of a file's tree has tokens that spell the same tree but for places, or it passes a limit of
+/// layout: nothing else is wrong in it.
+pub fn printed_or_limited()
+    ensures { PrintedOrLimited }
+{}
+
+/// The canonical form of a file's tree, where it passes no limit of layout, has tokens, and they spell the same tree
+/// but for places.
+pub fn printed_trees()
+    ensures { PrintedTrees }
+{}
+
+/// The canonical form reads no place: trees that are the same but for places have one canonical form.
+pub fn printed_again()
+    ensures { PrintedAgain }
+{}
+
+/// A text that has tokens passes no limit of layout.
+pub fn tokens_within_limits()
+    ensures { TokensWithinLimits }
+{}
