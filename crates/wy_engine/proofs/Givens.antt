@@ -1,18 +1,28 @@
--- The texts that a shelf tells, and those that were read from it.
-use Rattle.std.proofs.Common.{◌≡◌, ◌≢◌, ◌≤◌, ℕ, List, [], ◌∷◌, Option, Some, None, refl, sym, ◌∙◌, ap, subst, arith, length, take, map, min, ◌+◌}
+-- The texts that a shelf tells, and those that were read from it: reading no more than one byte past the limit on a
+-- file's bytes changes nothing of what the texts say.
+use Rattle.std.proofs.Common.{◌≡◌, inl, inr, ◌<◌, ◌≤◌, ℕ, suc, List, [], ◌∷◌, Option, Some, None, refl, sym, ap, subst, arith, length, take, map, min, ◌+◌}
 use Rattle.std.specs.Option.{option_and_then, option_map}
 use Rattle.std.proofs.lemmas.List.{length-take, take_all}
 use Rattle.wy_text.specs.Shelf.{GivesFile, ShelfState, file_named}
 use Rattle.wy_text.specs.declared.shelf.NamedText.{NamedText}
-use Rattle.wy_engine.specs.Judgement.{ReadsAs}
-use Rattle.wy_engine.specs.LiteralForm.{Spells, source}
+use Rattle.wy_layout.specs.Counts.{most_file_bytes}
+use Rattle.wy_syntax.specs.Trees.{ItemTree}
+use Rattle.wy_canonical.specs.Printed.{HasTree}
+use Rattle.wy_engine.specs.FileTrees.{FirstNoTree, HasNoTree, HaveTrees}
+use Rattle.wy_engine.specs.Judgement.{IsAccepted, ReadsAs, Stops}
 use Rattle.wy_engine.specs.Reading.{GivesFiles}
-use Rattle.wy_engine.specs.TopCall.{IsGiven, TopCall, settings_of, texts_of}
+use Rattle.wy_engine.specs.TopCall.{texts_of}
 use Rattle.wy_engine.specs.declared.literal_form.Program.{Program}
+use Rattle.wy_engine.specs.declared.settings.Command.{Command}
+use Rattle.wy_engine.specs.declared.status.Status.{Status}
+use Rattle.wy_engine.proofs.OneAnswer.{StopsBy, refusal, stops_by, stops_of, treeless, unbuilt}
+use Rattle.wy_engine.proofs.OneTree.{IsWhy, Why, large, none_of, reason_of, unexpected, wrong}
 
 -- what is read of a text
 abbrev pub cut : List ℕ → List ℕ
 cut text = take 1048577 text
+
+-- ---- which texts were read
 
 -- the rest of the texts, where the first is found
 record TextsSplit (rest : Option (List (List ℕ))) (text : List ℕ) (texts : List (List ℕ)) : Type 0 where
@@ -26,7 +36,7 @@ texts_split None rest text texts all one = absurd (cc)
 texts_split (Some t) None text texts all one = absurd (cc)
 texts_split (Some t) (Some more) text texts all one = record { more = more; rest_is = refl; texts_are = let q : t ≡ text = cc in cc }
 
-cut_texts : (shelf : ShelfState) (files : List NamedText) (names read texts : List (List ℕ)) → shelf.files ≡ Some files → GivesFiles shelf names read
+pub cut_texts : (shelf : ShelfState) (files : List NamedText) (names read texts : List (List ℕ)) → shelf.files ≡ Some files → GivesFiles shelf names read
     → texts_of files names ≡ Some texts → read ≡ map cut texts
 cut_texts shelf files [] [] texts told given found = let q : texts ≡ [] = cc in rw q refl
 cut_texts shelf files [] (t ∷ ts) texts told given found = absurd given
@@ -39,33 +49,70 @@ cut_texts shelf files (n ∷ ns) (t ∷ ts) texts told given found =
     let whole : map cut texts ≡ cut one.0 ∷ map cut split.more = ap (λ x. map cut x) split.texts_are in
     cc
 
-pub read_of_given : (call : TopCall) (names read texts : List (List ℕ)) → settings_of call.words ≡ Some names → GivesFiles call.shelf names read → IsGiven call texts → read ≡ map cut texts
-read_of_given call names read texts words given told =
-    let same : told.names ≡ names = let q : Some told.names ≡ Some names = sym told.words ∙ words in cc in
-    cut_texts call.shelf told.files names read texts told.told given (subst (λ x. texts_of told.files x ≡ Some texts) same told.found)
+-- ---- what is read of a text says the same as the text
 
 -- a text that is within the limit is read whole
-cut_whole : (most : ℕ) (text bytes : List ℕ) → bytes ≡ take (most + 1) text → length bytes ≤ most → bytes ≡ text
-cut_whole most text bytes is small =
-    let size : length bytes ≡ min (most + 1) (length text) = ap length is ∙ length-take (most + 1) text in
-    is ∙ take_all (most + 1) text (omega arith)
+whole_where : (most : ℕ) (text : List ℕ) → length (take (most + 1) text) ≤ most → take (most + 1) text ≡ text
+whole_where most text small = let size : length (take (most + 1) text) ≡ min (most + 1) (length text) = length-take (most + 1) text in take_all (most + 1) text (omega arith)
 
-one_text : (bytes : List ℕ) (texts : List (List ℕ)) → bytes ∷ [] ≡ map cut texts → (text : List ℕ) × (texts ≡ text ∷ []) × (bytes ≡ cut text)
-one_text bytes [] is = absurd (cc)
-one_text bytes (t ∷ []) is = (t, refl, cc)
-one_text bytes (t ∷ u ∷ ts) is = absurd (cc)
+cut_whole : (text : List ℕ) → length (cut text) ≤ most_file_bytes → cut text ≡ text
+cut_whole text small = whole_where 1048576 text small
 
-pub spells_of : (texts : List (List ℕ)) (bytes : List ℕ) (program : Program) → bytes ∷ [] ≡ map cut texts → ReadsAs texts program → Spells bytes program
-spells_of texts bytes program is reads =
-    let all : map cut texts ≡ cut (source program) ∷ [] = ap (λ x. map cut x) reads.spelled in
-    let size = reads.valid.size in
-    let whole : cut (source program) ≡ source program = take_all 1048577 (source program) (omega arith) in
-    record { text = cc; valid = reads.valid }
+all_read : (text : List ℕ) → length text ≤ most_file_bytes → cut text ≡ text
+all_read text small = take_all 1048577 text (omega arith)
 
-pub reads_as : (texts : List (List ℕ)) (bytes : List ℕ) (program : Program) → bytes ∷ [] ≡ map cut texts → Spells bytes program → ReadsAs texts program
-reads_as texts bytes program is spells =
-    let one = one_text bytes texts is in
-    let size = spells.valid.size in
-    let small : length bytes ≤ 1048576 = rw spells.text size in
-    let whole : bytes ≡ one.0 = cut_whole 1048576 one.0 bytes one.2 small in
-    record { spelled = one.1 ∙ ap (λ x. x ∷ []) (sym whole ∙ spells.text); valid = spells.valid }
+tree_of_cut : (file : ℕ) (text : List ℕ) (tree : List ItemTree) → HasTree file (cut text) tree → HasTree file text tree
+tree_of_cut file text tree has = subst (λ (x : List ℕ). HasTree file x tree) (cut_whole text has.lexed.short) has
+
+tree_cut : (file : ℕ) (text : List ℕ) (tree : List ItemTree) → HasTree file text tree → HasTree file (cut text) tree
+tree_cut file text tree has = subst (λ (x : List ℕ). HasTree file x tree) (sym (all_read text has.lexed.short)) has
+
+larger : (most : ℕ) (text : List ℕ) → most < length (take (most + 1) text) → most < length text
+larger most text more = let size : length (take (most + 1) text) ≡ min (most + 1) (length text) = length-take (most + 1) text in omega arith
+
+why_of_cut : (file : ℕ) (text : List ℕ) (why : Why) → IsWhy file (cut text) why → IsWhy file text why
+why_of_cut file text (wrong f place) is = subst (λ (x : List ℕ). IsWhy file x (wrong f place)) (cut_whole text is.short) is
+why_of_cut file text large is = larger 1048576 text is
+why_of_cut file text (unexpected place) is = subst (λ (x : List ℕ). IsWhy file x (unexpected place)) (cut_whole text is.lexed.short) is
+
+none_of_cut : (file : ℕ) (text : List ℕ) (end : Status) → HasNoTree file (cut text) end → HasNoTree file text end
+none_of_cut file text end none =
+    let w = reason_of file (cut text) end none in
+    none_of file text end w.why (why_of_cut file text w.why w.is) w.named
+
+trees_of_cut : (file : ℕ) (texts : List (List ℕ)) (trees : List (List ItemTree)) → HaveTrees file (map cut texts) trees → HaveTrees file texts trees
+trees_of_cut file [] [] have = have
+trees_of_cut file [] (t ∷ ts) have = have
+trees_of_cut file (x ∷ xs) [] have = have
+trees_of_cut file (x ∷ xs) (t ∷ ts) have = (tree_of_cut file x t have.0, trees_of_cut (suc file) xs ts have.1)
+
+trees_cut : (file : ℕ) (texts : List (List ℕ)) (trees : List (List ItemTree)) → HaveTrees file texts trees → HaveTrees file (map cut texts) trees
+trees_cut file [] [] have = have
+trees_cut file [] (t ∷ ts) have = have
+trees_cut file (x ∷ xs) [] have = have
+trees_cut file (x ∷ xs) (t ∷ ts) have = (tree_cut file x t have.0, trees_cut (suc file) xs ts have.1)
+
+first_of_cut : (file : ℕ) (texts : List (List ℕ)) (end : Status) → FirstNoTree file (map cut texts) end → FirstNoTree file texts end
+first_of_cut file [] end first = first
+first_of_cut file (x ∷ xs) end (inl here) = inl (none_of_cut file x end here)
+first_of_cut file (x ∷ xs) end (inr later) = inr (later.0, tree_of_cut file x later.0 later.1, first_of_cut (suc file) xs end later.2)
+
+reads_of_cut : (texts : List (List ℕ)) (program : Program) → ReadsAs (map cut texts) program → ReadsAs texts program
+reads_of_cut texts program reads = record { tree = reads.tree; trees = trees_of_cut 1 texts (reads.tree ∷ []) reads.trees; form = reads.form }
+
+reads_cut : (texts : List (List ℕ)) (program : Program) → ReadsAs texts program → ReadsAs (map cut texts) program
+reads_cut texts program reads = record { tree = reads.tree; trees = trees_cut 1 texts (reads.tree ∷ []) reads.trees; form = reads.form }
+
+stop_of_cut : (asked : Command) (texts : List (List ℕ)) (end : Status) → StopsBy asked (map cut texts) end → StopsBy asked texts end
+stop_of_cut asked texts end (treeless first) = treeless (first_of_cut 1 texts end first)
+stop_of_cut asked texts end (refusal run fault is named) = refusal run fault (record { program = is.program; read = reads_of_cut texts is.program is.read; lacks = is.lacks; named = is.named }) named
+stop_of_cut asked texts end (unbuilt run is named) = unbuilt run (record { trees = is.trees; have = trees_of_cut 1 texts is.trees is.have; formless = λ program reads. is.formless program (reads_cut texts program reads) }) named
+
+pub stops_of_cut : (asked : Command) (texts : List (List ℕ)) (end : Status) → Stops asked (map cut texts) end → Stops asked texts end
+stops_of_cut asked texts end stops = stops_of asked texts end (stop_of_cut asked texts end (stops_by asked (map cut texts) end stops))
+
+pub accepted_of_cut : (texts : List (List ℕ)) (program : Program) → IsAccepted (map cut texts) program → IsAccepted texts program
+accepted_of_cut texts program is = record { read = reads_of_cut texts program is.read; allowed = is.allowed }
+
+pub tree_of_cuts : (texts : List (List ℕ)) (tree : List ItemTree) → HaveTrees 1 (map cut texts) (tree ∷ []) → HaveTrees 1 texts (tree ∷ [])
+tree_of_cuts texts tree have = trees_of_cut 1 texts (tree ∷ []) have

@@ -1,13 +1,16 @@
 -- What a run came to, by how far it got.
-use Rattle.std.proofs.Common.{◌≡◌, ◌⊎◌, ◌<◌, ℕ, List, [], false, refl, inl, inr, subst, arith, length}
+use Rattle.std.proofs.Common.{◌≡◌, ◌⊎◌, ◌<◌, ℕ, List, [], Some, false, refl, inl, inr, subst, arith, length}
 use Rattle.wy_text.specs.Outside.{Rose, SinkState}
 use Rattle.wy_text.specs.Writing.{StopsShort, WritesUpTo}
 use Rattle.wy_text.proofs.Gains.{wrote_nothing}
 use Rattle.wy_device.specs.Devices.{DevicesState}
+use Rattle.wy_syntax.specs.Trees.{ItemTree}
+use Rattle.wy_engine.specs.Answering.{RunsTree, Wrote, refused}
+use Rattle.wy_engine.specs.Answering as answering
 use Rattle.wy_engine.specs.Judgement.{authority_of, fault_of}
-use Rattle.wy_engine.specs.LiteralForm.{Spells}
+use Rattle.wy_engine.specs.LiteralForm.{program_of}
 use Rattle.wy_engine.specs.Report.{report_text}
-use Rattle.wy_engine.specs.Running.{OnlyConsole, Performs, Ran, RunsText, declined, performed, refused, starved, stopped}
+use Rattle.wy_engine.specs.Running.{OnlyConsole, Performs, Ran, performed, stopped}
 use Rattle.wy_engine.specs.declared.literal_form.Program.{Program}
 use Rattle.wy_engine.specs.declared.status.Status.{Status}
 use Rattle.wy_engine.specs.declared.status.Status.TheVariants as status
@@ -33,8 +36,10 @@ pub ran_on : (program : Program) (text : List ℕ) (report report' : SinkState) 
     → Ran program report report' devices devices' end
 ran_on program text report report' devices devices' end is written performs only = performed (subst (λ x. WritesUpTo x [] report report') is written) performs only
 
-pub runs_refused : (bytes : List ℕ) (program : Program) (report : SinkState) (devices : DevicesState) (end : Status)
-    → Spells bytes program × ((other : Program) → Spells bytes other → other ≡ program) → program.allowed ≡ false
-    → (end ≡ status.Memory) ⊎ (end ≡ status.Refused (fault_of program)) → RunsText bytes report report devices devices end
-runs_refused bytes program report devices end spells lacks (inl is) = declined (starved is) refl refl
-runs_refused bytes program report devices end spells lacks (inr is) = declined (refused program spells.0 spells.1 lacks is) refl refl
+pub runs_refused : (tree : List ItemTree) (program : Program) (report : SinkState) (devices : DevicesState) (end : Status)
+    → program_of tree ≡ Some program → program.allowed ≡ false → (end ≡ status.Memory) ⊎ (end ≡ status.Refused (fault_of program)) → RunsTree tree report report devices devices end
+runs_refused tree program report devices end reads lacks (inl is) = answering.stopped refl refl is
+runs_refused tree program report devices end reads lacks (inr is) = refused refl refl program reads lacks is
+
+pub wrote_part : (text : List ℕ) (out out' : SinkState) → StopsShort text out out' → Wrote text out out' status.Memory
+wrote_part text out out' short = answering.starved short.rest short.written refl

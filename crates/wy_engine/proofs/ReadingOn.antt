@@ -1,6 +1,6 @@
 -- Files are read one after the other.
-use Rattle.std.proofs.Common.{◌≡◌, ◌≤◌, ◌<◌, ◌+◌, ◌++◌, ℕ, List, [], ◌∷◌, true, false, refl, sym, ◌∙◌, ap, subst, arith, length, take, drop, map, get_or, add-one}
-use Rattle.std.proofs.lemmas.List.{length-map, map-append}
+use Rattle.std.proofs.Common.{◌≡◌, ◌≤◌, ◌<◌, ◌+◌, ◌++◌, ℕ, suc, min, List, [], ◌∷◌, true, false, refl, sym, ◌∙◌, ap, subst, arith, length, take, drop, map, get_or, add-one}
+use Rattle.std.proofs.lemmas.List.{length-map, length-take, map-append}
 use Rattle.std.proofs.Math.ListN.{get_or-map}
 use Rattle.std.proofs.Math.Seq.{take-suc, drop-cons}
 use Rattle.wy_text.specs.Outside.{gained, Rose}
@@ -77,14 +77,15 @@ stops_at names well name before mid after texts stands so reads counted rose = r
   counted = rose_later before.faults mid.faults after.faults so.counted rose counted;
 }
 
-one_item : (texts : List (List ℕ)) (text : List ℕ) → 1 ≤ length texts → length texts < 2 → text ≡ get_or texts 0 text → texts ≡ text ∷ []
-one_item [] text some few is = absurd (omega arith)
-one_item (t ∷ []) text some few is = ap (λ x. x ∷ []) (sym is)
-one_item (t ∷ u ∷ ts) text some few is = absurd (omega arith)
+gives_many : (shelf : ShelfState) (names texts : List (List ℕ)) → GivesFiles shelf names texts → length texts ≡ length names
+gives_many shelf [] [] given = refl
+gives_many shelf [] (t ∷ ts) given = absurd given
+gives_many shelf (n ∷ ns) [] given = absurd given
+gives_many shelf (n ∷ ns) (t ∷ ts) given = ap suc (gives_many shelf ns ts given.1)
 
--- all files were read, and there is one
-pub reads_one : (names : List (List ℕ)) (well : ℕ) (before after : ShelfState) (texts : List (List ℕ)) (text : List ℕ) → ReadsWell names well before after texts → well ≡ length names
-    → 1 ≤ length texts → length texts < 2 → text ≡ get_or texts 0 text → ReadsWell names (length names) before after (text ∷ [])
-reads_one names well before after texts text so all some few is =
-    let one : texts ≡ text ∷ [] = one_item texts text some few is in
-    subst (λ n. ReadsWell names n before after (text ∷ [])) all (subst (λ ts. ReadsWell names well before after ts) one so)
+-- where all files were read, there are as many texts
+pub reads_many : (names : List (List ℕ)) (count : ℕ) (before after : ShelfState) (texts : List (List ℕ)) → ReadsWell names count before after texts → length texts ≤ count
+reads_many names count before after texts so =
+    let same : length texts ≡ length (take count names) = gives_many before (take count names) texts so.gives in
+    let most : length (take count names) ≡ min count (length names) = length-take count names in
+    omega arith

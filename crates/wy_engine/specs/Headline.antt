@@ -1,8 +1,7 @@
--- What a call of the top function promises: which texts it accepts, what it prints, which operations it does, that
--- they are within the authority that it printed, and how it ends.
-use Rattle.std.specs.Prelude.{◌≡◌, ◌≢◌, ◌⊎◌, ◌<◌, ◌≤◌, ℕ, List, [], ◌++◌, Option, Some, None, length}
+-- What a call of the top function promises: which texts it accepts, what it prints and writes, which operations it
+-- does, that they are within the authority that it printed, and how it ends.
+use Rattle.std.specs.Prelude.{◌≡◌, ◌≢◌, ◌⊎◌, ◌<◌, ◌≤◌, ℕ, List, [], ◌++◌, length}
 use Rattle.wy_text.specs.Outside.{gained, Rose, SinkState}
-use Rattle.wy_text.specs.declared.fault.Fault.{Fault}
 use Rattle.wy_device.specs.Devices.{device_of}
 use Rattle.wy_device.specs.Events.{DidExactly, TellsDeeds, deeds_of}
 use Rattle.wy_device.specs.Operation.{kind_named}
@@ -12,24 +11,32 @@ use Rattle.wy_device.specs.declared.operation.Kind.{Kind}
 use Rattle.wy_device.specs.declared.operation.OpName.{OpName}
 use Rattle.wy_meaning.specs.Bounds.{Bounded}
 use Rattle.wy_meaning.specs.Meaning.{Meaning}
-use Rattle.wy_engine.specs.Judgement.{IsAccepted, IsRefused, IsUnbuilt, authority_of, meaning_of}
+use Rattle.wy_syntax.specs.Canonical.{canonical_form}
+use Rattle.wy_syntax.specs.Trees.{ItemTree}
+use Rattle.wy_engine.specs.Judgement.{Asks, Did, Stops, authority_of, formatted, meaning_of, nothing, ran}
 use Rattle.wy_engine.specs.LastLine.{last_line}
 use Rattle.wy_engine.specs.Report.{allowed_by, report_text}
-use Rattle.wy_engine.specs.Status.{IsOfRun, status_of}
-use Rattle.wy_engine.specs.TopCall.{IsGiven, IsQuiet, ReadsFiles, TopCall, file_words}
+use Rattle.wy_engine.specs.Status.{IsOfOut, IsOfRun, IsOfTexts, status_of}
+use Rattle.wy_engine.specs.TopCall.{IsGiven, IsQuiet, IsSet, ReadsFiles, TopCall, file_words}
 use Rattle.wy_engine.specs.declared.literal_form.Program.{Program}
+use Rattle.wy_engine.specs.declared.settings.Command.{Command}
+use Rattle.wy_engine.specs.declared.settings.Command.TheVariants as command
 use Rattle.wy_engine.specs.declared.status.Status.{Status}
 use Rattle.wy_engine.specs.declared.status.Status.TheVariants as status
 
--- Texts that the shelf tells and that were all read: which of them are accepted, and which are refused and how.
--- Only want of memory may come in the place of these answers.
-pub record Accepts (call : TopCall) (ran : Option Program) (texts : List (List ℕ)) : Type 0 where
-  pub accepted : (program : Program) → ran ≡ Some program → IsAccepted texts program
-  pub accepts : (program : Program) → IsAccepted texts program → call.status ≢ status.Memory → ran ≡ Some program
-  pub refused : (fault : Fault) → call.status ≡ status.Refused fault → IsRefused texts fault
-  pub refuses : (fault : Fault) → IsRefused texts fault → call.status ≢ status.Memory → call.status ≡ status.Refused fault
-  pub unbuilt : call.status ≡ status.Unbuilt → IsUnbuilt texts
-  pub unbuilds : IsUnbuilt texts → call.status ≢ status.Memory → call.status ≡ status.Unbuilt
+-- Texts that the shelf tells and that were all read. A status that texts have by themselves is theirs, and comes
+-- wherever it is; and so with the program that was run and the file whose canonical form was written. Only want of
+-- memory may come in the place of these answers.
+pub record Accepts (call : TopCall) (command : Command) (did : Did) (texts : List (List ℕ)) : Type 0 where
+  pub stopped : IsOfTexts call.status → Stops command texts call.status
+  pub stops : (end : Status) → Stops command texts end → call.status ≢ status.Memory → call.status ≡ end
+  pub done : (did ≡ nothing) ⊎ Asks command texts did
+  pub does : (other : Did) → Asks command texts other → call.status ≢ status.Memory → did ≡ other
+
+-- the words of a call name the command
+pub record HasCommand (call : TopCall) (command : Command) : Type 0 where
+  pub files : List (List ℕ)
+  pub set : IsSet call (record { command = command; files = files })
 
 -- The report stands on its sink, whole, before anything is done. Where it could not be written whole, a part of it
 -- stands there and nothing was done.
@@ -55,7 +62,9 @@ DidFirst kind call deeds = (later : List Deed) × (deeds ≡ new_deeds_of kind c
 --   over any tapes that begin with these answers, the deeds that were done are the first of the meaning's;
 --   and the status is the one that the meaning's end gives, unless memory was wanting or the report was not written.
 pub record Runs (call : TopCall) (program : Program) : Type 0 where
+  pub asked : HasCommand call command.Run
   pub reached : IsOfRun call.status
+  pub out : call.out_after ≡ call.out
   pub printed : PrintsReport call (report_text (authority_of program))
   pub operations : TellsDeeds call.devices → DidExactly call.devices call.devices_after (meaning_in call program).events
   pub prefix : TellsDeeds call.devices → (kind : Kind) (more : Tapes) → DidFirst kind call (deeds_of kind (meaning_of program (spliced (tapes_between call.devices call.devices_after) more)).events)
@@ -63,14 +72,29 @@ pub record Runs (call : TopCall) (program : Program) : Type 0 where
   pub ends : TellsDeeds call.devices → call.status ≢ status.Memory → call.status ≢ status.Unwritten → call.status ≡ status_of (meaning_in call program).end
   pub failed : (grant : List ℕ) (op : OpName) → call.status ≡ status.DeviceFailed grant op → Rose (device_of call.devices (kind_named op)).faults (device_of call.devices_after (kind_named op)).faults
 
--- All that a call promises before its last line is written. Where no program was run, nothing was printed or done.
+-- The canonical form of a file was written to `out`, and nothing else was done. Where it could not be written whole, a
+-- part of it stands there.
+pub record Formats (call : TopCall) (tree : List ItemTree) : Type 0 where
+  pub asked : HasCommand call command.Format
+  pub reached : IsOfOut call.status
+  pub front : List ℕ
+  pub rest : List ℕ
+  pub split : canonical_form tree ≡ front ++ rest
+  pub taken : call.out_after.taken ≡ gained call.out.taken front
+  pub whole : call.status ≡ status.Ended → rest ≡ []
+  pub proper : call.status ≡ status.Unwritten → (0 < length rest) × Rose call.out.faults call.out_after.faults
+  pub report : call.report_after ≡ call.report
+  pub devices : call.devices_after ≡ call.devices
+
+-- All that a call promises before its last line is written. Where nothing was done, nothing was printed or written.
 pub record Settles (call : TopCall) : Type 0 where
   pub reads : ReadsFiles call
-  pub ran : Option Program
-  pub accepts : (texts : List (List ℕ)) → IsGiven call texts → ((file : ℕ) → call.status ≢ status.Unread file) → Accepts call ran texts
-  pub quiet : ran ≡ None → IsQuiet call
-  pub idle : ran ≡ None → call.status ≢ status.Memory → ¬ IsOfRun call.status
-  pub runs : (program : Program) → ran ≡ Some program → Runs call program
+  pub did : Did
+  pub accepts : (command : Command) (texts : List (List ℕ)) → IsGiven call command texts → ((file : ℕ) → call.status ≢ status.Unread file) → Accepts call command did texts
+  pub quiet : did ≡ nothing → IsQuiet call
+  pub idle : did ≡ nothing → call.status ≢ status.Memory → ¬ IsOfRun call.status
+  pub runs : (program : Program) → did ≡ ran program → Runs call program
+  pub formats : (tree : List ItemTree) → did ≡ formatted tree → Formats call tree
   pub counted : call.report.faults ≤ call.report_after.faults
 
 -- The last line of a settled status was written, whole unless the sink counted a fault; a fault changes no status.
@@ -93,4 +117,3 @@ pub record Headline (call : TopCall) : Type 0 where
   pub report : SinkState
   pub settles : Settles (before_last_line call settled report)
   pub closes : Closes (file_words call) settled call.status report call.report_after
-  pub out : call.out_after ≡ call.out

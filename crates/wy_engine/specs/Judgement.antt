@@ -7,32 +7,34 @@ use Rattle.wy_text.specs.declared.fault.RuleName.TheVariants.{TBody}
 use Rattle.wy_device.specs.Tapes.{Tapes}
 use Rattle.wy_meaning.specs.Literals.{literal_meaning}
 use Rattle.wy_meaning.specs.Meaning.{Meaning}
-use Rattle.wy_engine.specs.LiteralForm.{IsProgram, source}
+use Rattle.wy_syntax.specs.Trees.{ItemTree}
+use Rattle.wy_engine.specs.FileTrees.{FirstNoTree, HaveTrees}
+use Rattle.wy_engine.specs.LiteralForm.{program_of}
 use Rattle.wy_engine.specs.Report.{InstanceRow}
 use Rattle.wy_engine.specs.declared.literal_form.Program.{Program}
+use Rattle.wy_engine.specs.declared.settings.Command.{Command}
+use Rattle.wy_engine.specs.declared.settings.Command.TheVariants as command
+use Rattle.wy_engine.specs.declared.status.Status.{Status}
+use Rattle.wy_engine.specs.declared.status.Status.TheVariants as status
 
--- the texts are those of the program
+-- the trees of the texts are those of a program
 pub record ReadsAs (texts : List (List ℕ)) (program : Program) : Type 0 where
-  pub spelled : texts ≡ source program ∷ []
-  pub valid : IsProgram program
-
--- the one effect of a program that writes to its console
-abbrev pub write_atom : List ℕ → AtomName
-write_atom grant = record { owner = grant; member = codes "Out" }
+  pub tree : List ItemTree
+  pub trees : HaveTrees 1 texts (tree ∷ [])
+  pub form : program_of tree ≡ Some program
 
 -- the texts are those of a program whose declared effect has the effect of its writes
 pub record IsAccepted (texts : List (List ℕ)) (program : Program) : Type 0 where
   pub read : ReadsAs texts program
   pub allowed : program.allowed ≡ true
 
+-- the one effect of a program that writes to its console
+abbrev pub write_atom : List ℕ → AtomName
+write_atom grant = record { owner = grant; member = codes "Out" }
+
 -- the refusal of a program whose declared effect lacks the effect of its writes, at the word `run`
 abbrev pub fault_of : Program → Fault
-fault_of program = record {
-  place = record { file = 1; line = 3; column = 3 };
-  rule = TBody;
-  premise = 2;
-  atom = Some (write_atom program.grant);
-}
+fault_of program = record { place = program.run; rule = TBody; premise = 2; atom = Some (write_atom program.grant) }
 
 pub record IsRefused (texts : List (List ℕ)) (fault : Fault) : Type 0 where
   pub program : Program
@@ -40,9 +42,32 @@ pub record IsRefused (texts : List (List ℕ)) (fault : Fault) : Type 0 where
   pub lacks : program.allowed ≡ false
   pub named : fault ≡ fault_of program
 
--- the texts are of no form that is built
-abbrev pub IsUnbuilt : List (List ℕ) → Type 0
-IsUnbuilt texts = (program : Program) → ¬ ReadsAs texts program
+-- the texts have trees, which are of no form that is built
+pub record IsUnbuilt (texts : List (List ℕ)) : Type 0 where
+  pub trees : List (List ItemTree)
+  pub have : HaveTrees 1 texts trees
+  pub formless : (program : Program) → ¬ ReadsAs texts program
+
+-- the status with which texts end a call before anything is run or written to `out`: some file has no tree, or a
+-- program that is to run is refused or of no form that is built
+abbrev pub Stops : Command → List (List ℕ) → Status → Type 0
+Stops command texts (status.Syntax place kind) = FirstNoTree 1 texts (status.Syntax place kind)
+Stops command texts (status.Limit name) = FirstNoTree 1 texts (status.Limit name)
+Stops command.Run texts (status.Refused fault) = IsRefused texts fault
+Stops command.Run texts status.Unbuilt = IsUnbuilt texts
+Stops command texts other = ⊥
+
+-- what a call did: nothing, or it ran a program, or it wrote the canonical form of a file
+pub data Did : Type 0 where
+  nothing : Did
+  ran : Program → Did
+  formatted : List ItemTree → Did
+
+-- what a command does with texts that do not stop it
+abbrev pub Asks : Command → List (List ℕ) → Did → Type 0
+Asks command.Run texts (ran program) = IsAccepted texts program
+Asks command.Format texts (formatted tree) = HaveTrees 1 texts (tree ∷ [])
+Asks command texts other = ⊥
 
 -- what a program means over tapes
 abbrev pub meaning_of : Program → Tapes → Meaning

@@ -1,14 +1,18 @@
 -- The last line of a call, by its status.
 use Rattle.std.specs.Prelude.{codes, ℕ, ◌-◌, List, [], ◌++◌, Option, Some, None, slice_get, unwrap_or}
 use Rattle.std.specs.Fmt.{decimal}
+use Rattle.wy_text.specs.LimitName.{limit_number, limit_text}
 use Rattle.wy_text.specs.RuleName.{rule_text}
 use Rattle.wy_text.specs.declared.fault.AtomName.{AtomName}
 use Rattle.wy_text.specs.declared.fault.Fault.{Fault}
 use Rattle.wy_text.specs.declared.fault.Place.{Place}
+use Rattle.wy_text.specs.declared.limit.LimitName.{LimitName}
 use Rattle.wy_device.specs.Operation.{method_text}
 use Rattle.wy_engine.specs.Report.{atom_text}
 use Rattle.wy_engine.specs.declared.status.Status.{Status}
 use Rattle.wy_engine.specs.declared.status.Status.TheVariants as status
+use Rattle.wy_engine.specs.declared.status.SyntaxKind.{SyntaxKind}
+use Rattle.wy_engine.specs.declared.status.SyntaxKind.TheVariants as syntax
 
 -- the file word of a number, which counts from 1
 abbrev pub file_word : List (List ℕ) → ℕ → List ℕ
@@ -25,6 +29,21 @@ lacks_text (Some atom) = codes " lacks " ++ atom_text atom
 abbrev pub fault_text : Fault → List ℕ
 fault_text fault = rule_text fault.rule ++ (codes " premise " ++ (decimal fault.premise ++ lacks_text fault.atom))
 
+-- what is wrong in a text that has no tokens or no tree
+abbrev pub syntax_text : SyntaxKind → List ℕ
+syntax_text syntax.NotUtf8 = codes "NotUtf8"
+syntax_text syntax.TabIndent = codes "TabIndent"
+syntax_text syntax.BadDedent = codes "BadDedent"
+syntax_text syntax.BadCharacter = codes "BadCharacter"
+syntax_text syntax.OpenText = codes "OpenText"
+syntax_text syntax.BadEscape = codes "BadEscape"
+syntax_text syntax.NumberTooLarge = codes "NumberTooLarge"
+syntax_text syntax.Unexpected = codes "Unexpected"
+
+-- a limit and its number
+abbrev pub limit_line : LimitName → List ℕ
+limit_line name = codes "limit: " ++ (limit_text name ++ (codes " " ++ (decimal (limit_number name) ++ codes "\n")))
+
 abbrev pub usage_line : List ℕ
 usage_line = codes "usage: wyvern COMMAND [--steps N] [--depth N] FILE...\n"
 
@@ -33,7 +52,9 @@ abbrev pub last_line : List (List ℕ) → Status → List ℕ
 last_line names status.Ended = []
 last_line names status.Usage = usage_line
 last_line names (status.Unread file) = file_word names file ++ codes ": unread\n"
+last_line names (status.Syntax place kind) = place_text names place ++ (codes ": syntax: " ++ (syntax_text kind ++ codes "\n"))
 last_line names (status.Refused fault) = place_text names fault.place ++ (codes ": refused: " ++ (fault_text fault ++ codes "\n"))
+last_line names (status.Limit name) = limit_line name
 last_line names (status.DeviceFailed grant op) = grant ++ (codes "." ++ (method_text op ++ codes ": failed\n"))
 last_line names status.Unwritten = codes "unwritten\n"
 last_line names status.Memory = codes "no memory\n"

@@ -1,9 +1,15 @@
+pub mod Answering
+pub mod FileTrees
+pub mod FormatAgain
 pub mod Headline
 pub mod Judgement
 pub mod LastLine
 pub mod LiteralForm
+pub mod Parsed
+pub mod ReadForm
 pub mod Reading
 pub mod Report
 pub mod Running
+pub mod Settings
 pub mod Status
 pub mod TopCall

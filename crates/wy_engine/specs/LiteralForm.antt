@@ -1,83 +1,102 @@
--- The form of program that is built: one program block that writes literals to the console of its one grant.
-use Rattle.std.specs.Prelude.{codes, ◌≡◌, ◌≢◌, ◌<◌, ◌≤◌, ◌⊎◌, ◌==◌, ℕ, List, [], ◌∷◌, ◌++◌, Bool, true, false, if◌then◌else◌, bytes_eq, length, All}
-use Rattle.std.specs.List.{list_any}
+-- The form of program that runs today, as a tree: one program block that writes literals to the console of its one
+-- grant. The places in the tree are any.
+use Rattle.std.specs.Prelude.{codes, ℕ, ◌==◌, ◌&&◌, ◌||◌, nat_le, not, Bool, true, false, if◌then◌else◌, List, [], ◌∷◌, Option, Some, None, bytes_eq, length}
+use Rattle.std.specs.List.{list_all}
+use Rattle.std.specs.Option.{option_and_then, option_map}
+use Rattle.wy_text.specs.declared.fault.Place.{Place}
+use Rattle.wy_syntax.specs.Trees.{ExprTree, ExprTrees, call, name, more, none, text, value, StmtTree, StmtTrees, run, no_stmts, more_stmts, TailTree, short, long, ItemTree, program_item}
+use Rattle.wy_syntax.specs.declared.items.Grant.{Grant}
+use Rattle.wy_syntax.specs.declared.types.AtomUse.{AtomUse}
+use Rattle.wy_syntax.specs.declared.types.Name.{Name}
 use Rattle.wy_engine.specs.declared.literal_form.Program.{Program}
 
--- a byte that a literal may stand for: a newline, or one that prints and is neither a quote nor a backslash
-abbrev pub IsTextByte : ℕ → Type 0
-IsTextByte byte = (byte ≡ 10) ⊎ ((32 ≤ byte) × (byte ≤ 126) × (byte ≢ 34) × (byte ≢ 92))
-
--- a byte of a text as it is written between quotes
-abbrev pub written : ℕ → List ℕ
-written byte = if byte == 10 then 92 ∷ 110 ∷ [] else byte ∷ []
-
-abbrev pub literal : List ℕ → List ℕ
-literal [] = []
-literal (byte ∷ bytes) = written byte ++ literal bytes
-
--- some text is written so between quotes
-pub record IsReadable (raw : List ℕ) : Type 0 where
-  pub text : List ℕ
-  pub bytes : All IsTextByte text
-  pub spelled : raw ≡ literal text
-
--- one statement of the block: its head, up to the quote, and the rest
-abbrev pub statement_head : List ℕ → List ℕ
-statement_head grant = codes "    " ++ (grant ++ codes ".write(\"")
-
-abbrev pub statement : List ℕ → List ℕ → List ℕ
-statement head text = head ++ (literal text ++ (34 ∷ codes ")\n"))
-
-abbrev pub statements : List ℕ → List (List ℕ) → List ℕ
-statements head [] = []
-statements head (text ∷ texts) = statement head text ++ statements head texts
-
--- the declared effect, which has the one effect of the writes or none
-abbrev pub effect_set : List ℕ → Bool → List ℕ
-effect_set grant true = 123 ∷ (grant ++ codes ".Out}\n")
-effect_set grant false = codes "{}\n"
-
--- the text up to the declared effect, and then the rest
-abbrev pub opening : List ℕ → List ℕ → List ℕ
-opening grant rest = codes "program\n  grant " ++ (grant ++ (58 ∷ (codes " Console\n  run: " ++ rest)))
-
--- the text of a program
-abbrev pub source : Program → List ℕ
-source program = opening program.grant (effect_set program.grant program.allowed ++ statements (statement_head program.grant) program.texts)
-
--- these bytes are the statements of a block with these texts
-pub record IsBlock (head bytes : List ℕ) (texts : List (List ℕ)) : Type 0 where
-  pub few : length texts ≤ 1000
-  pub valid : All (All IsTextByte) texts
-  pub spelled : bytes ≡ statements head texts
-
--- the reserved words that have small letters alone
-abbrev pub reserved : List (List ℕ)
-reserved = codes "type" ∷ codes "effect" ∷ codes "def" ∷ codes "module" ∷ codes "resource" ∷ codes "plain" ∷ codes "program" ∷ codes "grant" ∷ codes "use" ∷ codes "instance" ∷ codes "import" ∷ codes "at" ∷ codes "init" ∷ codes "val" ∷ codes "var" ∷ codes "run" ∷ codes "new" ∷ codes "if" ∷ codes "then" ∷ codes "else" ∷ codes "this" ∷ codes "true" ∷ codes "false" ∷ codes "main" ∷ []
-
-abbrev pub is_reserved : List ℕ → Bool
-is_reserved word = list_any (λ r. bytes_eq r word) reserved
-
 -- a small letter
-abbrev pub IsSmall : ℕ → Type 0
-IsSmall byte = (97 ≤ byte) × (byte ≤ 122)
+abbrev pub is_small : ℕ → Bool
+is_small byte = nat_le 97 byte && nat_le byte 122
 
--- a name that the grant may have
-pub record IsName (name : List ℕ) : Type 0 where
-  pub some : 0 < length name
-  pub short : length name ≤ 64
-  pub small : All IsSmall name
-  pub free : is_reserved name ≡ false
+-- a byte that a literal may stand for: a newline, or one that prints and is neither a quote nor a backslash
+abbrev pub is_text_byte : ℕ → Bool
+is_text_byte byte = (byte == 10) || (nat_le 32 byte && (nat_le byte 126 && (not (byte == 34) && not (byte == 92))))
 
--- a program of the form
-pub record IsProgram (program : Program) : Type 0 where
-  pub named : IsName program.grant
-  pub some : 0 < length program.texts
-  pub few : length program.texts ≤ 1000
-  pub bytes : All (All IsTextByte) program.texts
-  pub size : length (source program) ≤ 1048576
+-- the name that an expression is
+abbrev pub name_alone : ExprTree → Option (List ℕ)
+name_alone (name n) = Some n.text
+name_alone other = None
 
--- the text spells the program
-pub record Spells (bytes : List ℕ) (program : Program) : Type 0 where
-  pub text : bytes ≡ source program
-  pub valid : IsProgram program
+-- the literal that an expression is
+abbrev pub text_alone : ExprTree → Option (List ℕ)
+text_alone (text t place) = Some t
+text_alone other = None
+
+-- the literal that is the one argument
+abbrev pub one_text : ExprTrees → Option (List ℕ)
+one_text none = None
+one_text (more e none) = text_alone e
+one_text (more e (more other es)) = None
+
+-- the text, where the method `write` of the grant is called with it, and it has the form's bytes alone
+abbrev pub write_text : List ℕ → List ℕ → List ℕ → List ℕ → Option (List ℕ)
+write_text grant receiver method t = if bytes_eq receiver grant && (bytes_eq method (codes "write") && list_all is_text_byte t) then Some t else None
+
+-- the text that an expression writes to the grant's console; none where it does anything else
+abbrev pub text_written : List ℕ → ExprTree → Option (List ℕ)
+text_written grant (call e method es) = option_and_then (λ receiver. option_and_then (λ t. write_text grant receiver method.text t) (one_text es)) (name_alone e)
+text_written grant other = None
+
+-- the text that a statement writes
+abbrev pub statement_text : List ℕ → StmtTree → Option (List ℕ)
+statement_text grant (run (value e)) = text_written grant e
+statement_text grant other = None
+
+-- the texts that a block writes, where each statement writes one
+abbrev pub block_texts : List ℕ → StmtTrees → Option (List (List ℕ))
+block_texts grant no_stmts = Some []
+block_texts grant (more_stmts s ss) = option_and_then (λ t. option_map (λ ts. t ∷ ts) (block_texts grant ss)) (statement_text grant s)
+
+abbrev pub is_owned : List ℕ → Option Name → Bool
+is_owned grant None = false
+is_owned grant (Some owner) = bytes_eq owner.text grant
+
+-- whether the declared effect has the effect of the writes; none where it is neither that alone nor nothing
+abbrev pub effect_allows : List ℕ → List AtomUse → Option Bool
+effect_allows grant [] = Some false
+effect_allows grant (atom ∷ []) = if is_owned grant atom.owner && bytes_eq atom.member.text (codes "Out") then Some true else None
+effect_allows grant (atom ∷ other ∷ atoms) = None
+
+-- a grant of a console, whose name has small letters alone
+abbrev pub is_console : Grant → Bool
+is_console grant = bytes_eq grant.kind.text (codes "Console") && list_all is_small grant.name.text
+
+abbrev pub may_be_texts : List (List ℕ) → Bool
+may_be_texts texts = nat_le 1 (length texts) && nat_le (length texts) 1000
+
+-- the program of a block with one grant; none where it is not of the form
+abbrev pub block_program : Grant → Place → List AtomUse → StmtTrees → Option Program
+block_program grant started effect block =
+    if is_console grant
+    then option_and_then (λ allowed. option_and_then (λ texts.
+    if may_be_texts texts then Some (record { grant = grant.name.text; allowed = allowed; texts = texts; run = started }) else None)
+    (block_texts grant.name.text block)) (effect_allows grant.name.text effect)
+    else None
+
+-- the one grant of a list
+abbrev pub one_grant : List Grant → Option Grant
+one_grant [] = None
+one_grant (grant ∷ []) = Some grant
+one_grant (grant ∷ other ∷ grants) = None
+
+-- the block that a body is
+abbrev pub body_block : TailTree → Option StmtTrees
+body_block (short rhs) = None
+body_block (long block) = Some block
+
+-- the program of an item; none where it is not of the form
+abbrev pub item_program : ItemTree → Option Program
+item_program (program_item place grants [] [] started effect body) = option_and_then (λ grant. option_and_then (λ block. block_program grant started effect block) (body_block body)) (one_grant grants)
+item_program other = None
+
+-- the program of a file; none where the file is not of the form
+abbrev pub program_of : List ItemTree → Option Program
+program_of [] = None
+program_of (item ∷ []) = item_program item
+program_of (item ∷ other ∷ items) = None

@@ -1,5 +1,5 @@
--- What running a program does, step by step, before it is known which words named its text.
-use Rattle.std.specs.Prelude.{◌≡◌, ◌⊎◌, ◌≤◌, ℕ, List, [], Option, true, false}
+-- What running a program does, step by step.
+use Rattle.std.specs.Prelude.{◌≡◌, ◌⊎◌, ◌≤◌, ℕ, List, [], Option}
 use Rattle.wy_text.specs.Outside.{gained, Rose, SinkState}
 use Rattle.wy_text.specs.Writing.{StopsShort, WritesUpTo}
 use Rattle.wy_device.specs.Device.{DeviceState}
@@ -11,8 +11,7 @@ use Rattle.wy_device.specs.declared.operation.Kind.TheVariants.{Console}
 use Rattle.wy_device.specs.declared.operation.OpName.{OpName}
 use Rattle.wy_device.specs.declared.operation.OpName.TheVariants.{ConsoleWrite}
 use Rattle.wy_meaning.specs.Literals.{writes}
-use Rattle.wy_engine.specs.Judgement.{authority_of, fault_of}
-use Rattle.wy_engine.specs.LiteralForm.{Spells}
+use Rattle.wy_engine.specs.Judgement.{authority_of}
 use Rattle.wy_engine.specs.Report.{report_text}
 use Rattle.wy_engine.specs.Status.{status_of}
 use Rattle.wy_engine.specs.declared.literal_form.Program.{Program}
@@ -41,16 +40,3 @@ pub data Ran (program : Program) (report report' : SinkState) (devices devices' 
       → (end ≡ status.Memory) ⊎ ((end ≡ status.Unwritten) × Rose report.faults report'.faults) → Ran program report report' devices devices' end
   performed : WritesUpTo (report_text (authority_of program)) [] report report' → Performs program.grant program.texts devices.console devices'.console end
       → OnlyConsole devices devices' → Ran program report report' devices devices' end
-
--- no program was run: memory was wanting, the text is of no form that is built, or its program is refused
-pub data Declines (bytes : List ℕ) (end : Status) : Type 0 where
-  starved : end ≡ status.Memory → Declines bytes end
-  unbuilt : end ≡ status.Unbuilt → ((program : Program) → ¬ Spells bytes program) → Declines bytes end
-  refused : (program : Program) → Spells bytes program → ((other : Program) → Spells bytes other → other ≡ program) → program.allowed ≡ false
-      → end ≡ status.Refused (fault_of program) → Declines bytes end
-
--- what running a text did
-pub data RunsText (bytes : List ℕ) (report report' : SinkState) (devices devices' : DevicesState) (end : Status) : Type 0 where
-  declined : Declines bytes end → report' ≡ report → devices' ≡ devices → RunsText bytes report report' devices devices' end
-  ran : (program : Program) → Spells bytes program → ((other : Program) → Spells bytes other → other ≡ program) → program.allowed ≡ true
-      → Ran program report report' devices devices' end → RunsText bytes report report' devices devices' end

@@ -1,13 +1,20 @@
 -- A call of the top function: what it was given, what it left, and what it read.
-use Rattle.std.specs.Prelude.{codes, ◌≡◌, ◌≢◌, ◌<◌, ◌+◌, ◌&&◌, ℕ, List, [], ◌∷◌, ◌++◌, Option, Some, None, Bool, true, false, not, if◌then◌else◌, length, take, drop, map, bytes_eq, unwrap_or}
+use Rattle.std.specs.Prelude.{◌≡◌, ◌≢◌, ◌<◌, ◌≤◌, ◌+◌, ℕ, List, [], ◌∷◌, ◌++◌, Option, Some, None, Bool, true, false, length, take, drop, map}
 use Rattle.std.specs.Option.{option_and_then, option_map}
+use Rattle.wy_text.specs.LimitName.{limit_number}
 use Rattle.wy_text.specs.Outside.{gained, Rose, SinkState}
 use Rattle.wy_text.specs.Shelf.{ShelfState, file_named}
+use Rattle.wy_text.specs.declared.limit.LimitName.TheVariants as limit
 use Rattle.wy_text.specs.declared.shelf.NamedText.{NamedText}
 use Rattle.wy_text.specs.declared.shelf.ReadDone.{ReadDone}
 use Rattle.wy_device.specs.Devices.{DevicesState}
+use Rattle.wy_engine.specs.Settings.{Settings, settings_of}
+use Rattle.wy_engine.specs.declared.settings.Command.{Command}
 use Rattle.wy_engine.specs.declared.status.Status.{Status}
 use Rattle.wy_engine.specs.declared.status.Status.TheVariants as status
+
+abbrev pub most_files : ℕ
+most_files = limit_number limit.Files
 
 -- the words, what each part of the outside meant before and after the call, and the status
 pub record TopCall : Type 0 where
@@ -22,30 +29,28 @@ pub record TopCall : Type 0 where
   pub devices_after : DevicesState
   pub status : Status
 
-abbrev pub begins_with_dash : List ℕ → Bool
-begins_with_dash [] = false
-begins_with_dash (byte ∷ bytes) = bytes_eq (byte ∷ []) (codes "-")
+-- the settings of a call are these
+abbrev pub IsSet : TopCall → Settings → Type 0
+IsSet call settings = settings_of call.words ≡ Some settings
 
--- the settings that words give, which are the file words: they are `run` and one file word, which begins with no dash
-abbrev pub settings_of : List (List ℕ) → Option (List (List ℕ))
-settings_of [] = None
-settings_of (command ∷ []) = None
-settings_of (command ∷ name ∷ []) = if bytes_eq command (codes "run") && not (begins_with_dash name) then Some (name ∷ []) else None
-settings_of (command ∷ name ∷ other ∷ words) = None
+abbrev pub files_of : Option Settings → List (List ℕ)
+files_of None = []
+files_of (Some settings) = settings.files
 
 -- the file words, and none where the words give no settings
 abbrev pub file_words : TopCall → List (List ℕ)
-file_words call = unwrap_or (settings_of call.words) []
+file_words call = files_of (settings_of call.words)
 
 -- the texts of files of these names
 abbrev pub texts_of : List NamedText → List (List ℕ) → Option (List (List ℕ))
 texts_of files [] = Some []
 texts_of files (name ∷ names) = option_and_then (λ text. option_map (λ texts. text ∷ texts) (texts_of files names)) (file_named name files)
 
--- these are the texts that the shelf tells for the file words
-pub record IsGiven (call : TopCall) (texts : List (List ℕ)) : Type 0 where
+-- a call of the command, which has no more files than the limit; and these are the texts that the shelf tells for them
+pub record IsGiven (call : TopCall) (command : Command) (texts : List (List ℕ)) : Type 0 where
   pub names : List (List ℕ)
-  pub words : settings_of call.words ≡ Some names
+  pub set : IsSet call (record { command = command; files = names })
+  pub few : length names ≤ most_files
   pub files : List NamedText
   pub told : call.shelf.files ≡ Some files
   pub found : texts_of files names ≡ Some texts
@@ -64,14 +69,18 @@ pub record ReadsInOrder (call : TopCall) (names : List (List ℕ)) : Type 0 wher
   pub others : ((file : ℕ) → call.status ≢ status.Unread file) → badly ≡ []
   pub all : call.status ≢ status.Memory → ((file : ℕ) → call.status ≢ status.Unread file) → well ≡ length names
 
--- which calls are refused for their words, and which reads were made
+-- Which calls end by their words, and which reads were made. The shelf is asked for nothing where the words give no
+-- settings, or more files than the limit.
 pub record ReadsFiles (call : TopCall) : Type 0 where
   pub usage : call.status ≡ status.Usage → settings_of call.words ≡ None
   pub faulty : settings_of call.words ≡ None → (call.status ≡ status.Usage) × (call.shelf_after ≡ call.shelf)
-  pub reads : (names : List (List ℕ)) → settings_of call.words ≡ Some names → ReadsInOrder call names
+  pub crowd : call.status ≡ status.Limit limit.Files → (settings : Settings) → IsSet call settings → most_files < length settings.files
+  pub crowded : (settings : Settings) → IsSet call settings → most_files < length settings.files → (call.status ≡ status.Limit limit.Files) × (call.shelf_after ≡ call.shelf)
+  pub reads : (settings : Settings) → IsSet call settings → length settings.files ≤ most_files → ReadsInOrder call settings.files
   pub counted : (file : ℕ) → call.status ≡ status.Unread file → Rose call.shelf.faults call.shelf_after.faults
 
--- neither the report nor a device was touched
+-- neither sink was written to, and no device was touched
 pub record IsQuiet (call : TopCall) : Type 0 where
+  pub out : call.out_after ≡ call.out
   pub report : call.report_after ≡ call.report
   pub devices : call.devices_after ≡ call.devices

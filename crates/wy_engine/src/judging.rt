@@ -1,17 +1,18 @@
-ghost use Rattle.std.specs.Prelude.{◌≡◌, ◌⊎◌};
+ghost use Rattle.std.specs.Prelude.{◌≡◌, ◌⊎◌, map};
 ghost use Rattle.wy_device.specs.Devices.{states};
+ghost use Rattle.wy_syntax.specs.Views.{file_tree};
+ghost use Rattle.wy_engine.specs.Answering.{RunsTree, RunsTrees};
 ghost use Rattle.wy_engine.specs.Judgement.{fault_of};
-ghost use Rattle.wy_engine.specs.Running.{RunsText};
 
-use crate::literal_form::Program;
-use crate::literal_form::reading::read_program;
+use crate::literal_form::{Program, program_of};
 use crate::running::run_program;
 use crate::status::Status;
 use std::alloc::Global;
 use wy_device::device::Device;
 use wy_device::devices::Devices;
 use wy_device::operation::Kind;
-use wy_text::fault::{AtomName, Fault, Place, RuleName};
+use wy_syntax::items::Tree;
+use wy_text::fault::{AtomName, Fault, RuleName};
 use wy_text::sink::Sink;
 use wy_text::text::from_bytes;
 
@@ -26,28 +27,24 @@ fn refusal(alloc: Global, program: &Program) -> Status
         return Status::Memory;
     };
     Status::Refused(Fault {
-        place: Place {
-            file: 1,
-            line: 3,
-            column: 3,
-        },
+        place: program.run,
         rule: RuleName::TBody,
         premise: 2,
         atom: Some(AtomName { owner, member }),
     })
 }
 
-/// Judges a text, and runs it where it is accepted.
-pub fn run_text<E: Sink, D: Device>(
+/// Judges a file's tree, and runs its program where it is accepted.
+fn run_tree<E: Sink, D: Device>(
     alloc: Global,
-    bytes: &[u8],
+    tree: &Tree,
     report: &mut E,
     devices: &mut Devices<D>,
 ) -> Status
     requires { (D.state devices.old.console).kind ≡ Kind.Console }
-    ensures { RunsText bytes.now (E.state report.old) (E.state report.new) (states D.state devices.old) (states D.state devices.new) result }
+    ensures { RunsTree (file_tree tree.now) (E.state report.old) (E.state report.new) (states D.state devices.old) (states D.state devices.new) result }
 {
-    match read_program(alloc, bytes) {
+    match program_of(alloc, tree) {
         Err(_) => Status::Memory,
         Ok(None) => Status::Unbuilt,
         Ok(Some(program)) => {
@@ -57,5 +54,21 @@ pub fn run_text<E: Sink, D: Device>(
                 refusal(alloc, &program)
             }
         }
+    }
+}
+
+/// Judges the trees of texts, and runs their program where it is accepted.
+pub fn run_trees<E: Sink, D: Device>(
+    alloc: Global,
+    trees: &[Tree],
+    report: &mut E,
+    devices: &mut Devices<D>,
+) -> Status
+    requires { (D.state devices.old.console).kind ≡ Kind.Console }
+    ensures { RunsTrees (map file_tree trees.now) (E.state report.old) (E.state report.new) (states D.state devices.old) (states D.state devices.new) result }
+{
+    match trees {
+        [tree] => run_tree(alloc, tree, report, devices),
+        _ => Status::Unbuilt,
     }
 }

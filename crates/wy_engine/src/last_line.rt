@@ -1,11 +1,12 @@
 ghost use Rattle.std.specs.Prelude.{◌≡◌, ◌++◌, map, string_bytes, IfOk, OnOk};
 ghost use Rattle.std.specs.Fmt.{decimal};
-ghost use Rattle.wy_engine.specs.LastLine.{fault_text, file_word, lacks_text, last_line, place_text};
+ghost use Rattle.wy_engine.specs.LastLine.{fault_text, file_word, lacks_text, last_line, limit_line, place_text, syntax_text};
 ghost use Rattle.wy_engine.specs.Report.{atom_text};
 
-use crate::status::Status;
+use crate::status::{Status, SyntaxKind};
 use std::alloc::Global;
 use wy_text::fault::{AtomName, Fault, Place};
+use wy_text::limit::LimitName;
 use wy_text::text::Memory;
 
 /// The file word of a number, which counts from 1; the empty text where there is none.
@@ -62,6 +63,34 @@ fn push_fault(alloc: Global, line: &mut Vec<u8>, fault: &Fault) -> Result<(), Me
     push_lack(line, &fault.atom)
 }
 
+/// The word for what is wrong in a file.
+fn syntax_word(kind: SyntaxKind) -> &'static str
+    ensures { result.now ≡ syntax_text kind }
+{
+    match kind {
+        SyntaxKind::NotUtf8 => "NotUtf8",
+        SyntaxKind::TabIndent => "TabIndent",
+        SyntaxKind::BadDedent => "BadDedent",
+        SyntaxKind::BadCharacter => "BadCharacter",
+        SyntaxKind::OpenText => "OpenText",
+        SyntaxKind::BadEscape => "BadEscape",
+        SyntaxKind::NumberTooLarge => "NumberTooLarge",
+        SyntaxKind::Unexpected => "Unexpected",
+    }
+}
+
+fn push_limit(alloc: Global, line: &mut Vec<u8>, name: LimitName) -> Result<(), Memory>
+    ensures { OnOk result (line.new.items ≡ line.old.items ++ limit_line name) }
+{
+    line.extend_from_slice(b"limit: ")?;
+    line.extend_from_slice(name.name().as_bytes())?;
+    line.extend_from_slice(b" ")?;
+    let digits = format!(in alloc; "{}", name.number())?;
+    line.extend_from_slice(digits.as_bytes())?;
+    line.extend_from_slice(b"\n")?;
+    Ok(())
+}
+
 /// Adds the last line of a status to a line.
 fn push_last_line(
     alloc: Global,
@@ -80,12 +109,19 @@ fn push_last_line(
             line.extend_from_slice(word_of(names, *file).as_bytes())?;
             line.extend_from_slice(b": unread\n")?;
         }
+        Status::Syntax { place, kind } => {
+            push_place(alloc, line, names, *place)?;
+            line.extend_from_slice(b": syntax: ")?;
+            line.extend_from_slice(syntax_word(*kind).as_bytes())?;
+            line.extend_from_slice(b"\n")?;
+        }
         Status::Refused(fault) => {
             push_place(alloc, line, names, fault.place)?;
             line.extend_from_slice(b": refused: ")?;
             push_fault(alloc, line, fault)?;
             line.extend_from_slice(b"\n")?;
         }
+        Status::Limit(name) => push_limit(alloc, line, *name)?,
         Status::DeviceFailed { grant, op } => {
             line.extend_from_slice(grant.as_bytes())?;
             line.extend_from_slice(b".")?;

@@ -1,10 +1,14 @@
 //! The top call: it reads the files that the words name, judges them, prints the authority of what it
-//! accepts, and runs it on the devices that were handed in.
+//! accepts, and runs it on the devices that were handed in; or it writes a file's canonical form.
 #![tactic(auto)]
 
+pub mod answering;
+pub mod formatting;
 pub mod judging;
 pub mod last_line;
+pub mod laws;
 pub mod literal_form;
+pub mod parsing;
 pub mod reading;
 pub mod running;
 pub mod settings;

@@ -5,7 +5,6 @@ ghost use Rattle.wy_device.specs.Devices.{states};
 ghost use Rattle.wy_device.specs.Operation.{kind_of};
 ghost use Rattle.wy_meaning.specs.Literals.{write_deed};
 ghost use Rattle.wy_engine.specs.Judgement.{authority_of};
-ghost use Rattle.wy_engine.specs.LiteralForm.{IsProgram};
 ghost use Rattle.wy_engine.specs.Report.{report_text};
 ghost use Rattle.wy_engine.specs.Running.{OnlyConsole, Performs, Ran};
 

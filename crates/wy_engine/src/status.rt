@@ -1,21 +1,40 @@
 use wy_device::operation::OpName;
-use wy_text::fault::Fault;
+use wy_text::fault::{Fault, Place};
+use wy_text::limit::LimitName;
 use wy_text::text::Text;
+
+/// What is wrong in a file that has no tokens or no tree (docs/LANGUAGE.md, "What is refused in a file" and
+/// "Grammar").
+#[derive(Clone, Copy, Debug, PartialEq, Eq)]
+pub enum SyntaxKind {
+    NotUtf8,
+    TabIndent,
+    BadDedent,
+    BadCharacter,
+    OpenText,
+    BadEscape,
+    NumberTooLarge,
+    Unexpected,
+}
 
 /// How a call of the program ended (docs/LANGUAGE.md, "Statuses").
 #[derive(Debug, Drop, PartialEq, Eq)]
 pub enum Status {
-    /// The program came to its end.
+    /// The command was done, and the program that was run came to its end.
     Ended,
     /// The words are no command line of the program.
     Usage,
     /// A file was not read. Its number among the file words counts from 1.
     Unread(u16),
+    /// A file has no tokens or no tree. It is the first such file, and the place is the first in it.
+    Syntax { place: Place, kind: SyntaxKind },
     /// The texts are refused.
     Refused(Fault),
+    /// A limit is passed.
+    Limit(LimitName),
     /// An operation on a grant failed.
     DeviceFailed { grant: Text, op: OpName },
-    /// The report was not written whole, so nothing was run.
+    /// The report, or what the command writes, was not written whole.
     Unwritten,
     /// Memory was wanting.
     Memory,
@@ -35,7 +54,9 @@ impl Status {
             Status::Ended => 0,
             Status::Usage => 1,
             Status::Unread(_) => 2,
+            Status::Syntax { .. } => 3,
             Status::Refused(_) => 4,
+            Status::Limit(_) => 5,
             Status::DeviceFailed { .. } => 9,
             Status::Unwritten => 10,
             Status::Memory => 11,

@@ -1,7 +1,11 @@
 //! Whole calls, with the outside in memory. The expected reports, lines and statuses are those of
 //! docs/LANGUAGE.md.
 
+mod canonical_table;
+mod files;
 mod literals;
 mod outside;
 mod support;
+mod syntax;
+mod syntax_table;
 mod words;

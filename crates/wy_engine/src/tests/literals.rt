@@ -78,7 +78,12 @@ fn a_refused_program_names_its_place_and_does_nothing(rt: HostRuntime) -> Result
 #[test]
 fn a_thousand_writes_run_and_one_more_is_unbuilt(rt: HostRuntime) -> Result<(), Fail> {
     let alloc = rt.alloc();
-    for (count, number, done) in [(1000, 0, 1000), (1001, 63, 0), (0, 63, 0)] {
+    let cases = [
+        (1000, 0, 1000, REPORT),
+        (1001, 63, 0, "unbuilt\n"),
+        (0, 3, 0, "b.wy:4:1: syntax: Unexpected\n"),
+    ];
+    for (count, number, done, line) in cases {
         let mut all = devices_with!(alloc, Items::new(alloc));
         let mut report = MemSink::new(alloc, Items::new(alloc))?;
         let source = writes(alloc, b"x", count)?;
@@ -91,7 +96,6 @@ fn a_thousand_writes_run_and_one_more_is_unbuilt(rt: HostRuntime) -> Result<(), 
         )?;
         assert_eq!(rt; status.number(), number);
         assert_eq!(rt; all.deeds(Kind::Console).ok_or("told")?.len(), done);
-        let line = if number == 0 { REPORT } else { "unbuilt\n" };
         assert_eq!(rt; report.bytes(), line.as_bytes());
     }
     Ok(())
@@ -102,20 +106,20 @@ fn a_text_has_exactly_the_bytes_of_the_form(rt: HostRuntime) -> Result<(), Fail>
     let alloc = rt.alloc();
     let cases: [(&[u8], u8); 19] = [
         (b"", 0),
-        (b"\x00", 63),
-        (b"\n", 63),
-        (b"\x1f", 63),
+        (b"\x00", 3),
+        (b"\n", 3),
+        (b"\x1f", 3),
         (b" ", 0),
         (b"!", 0),
-        (b"\"", 63),
+        (b"\"", 3),
         (b"#", 0),
         (b"[", 0),
-        (b"\\", 63),
+        (b"\\", 3),
         (b"]", 0),
         (b"~", 0),
-        (b"\x7f", 63),
-        (b"\x80", 63),
-        (b"\xff", 63),
+        (b"\x7f", 3),
+        (b"\x80", 3),
+        (b"\xff", 3),
         (b"\\n", 0),
         (b"a\\nb", 0),
         (b"\\\\", 63),

@@ -19,10 +19,10 @@ const FOUR_WRITES: &[u8] =
 
 /// A sink that takes a few bytes at a time, and no more than so many in all.
 #[derive(Drop)]
-struct Trickle {
-    taken: Vec<u8>,
-    room: usize,
-    faults: u64,
+pub struct Trickle {
+    pub taken: Vec<u8>,
+    pub room: usize,
+    pub faults: u64,
 }
 
 impl Sink for Trickle {

@@ -1,69 +1,22 @@
 ghost use Rattle.wy_device.specs.Devices.{IsInOrder, states};
 
+use crate::handing_in::devices;
 use crate::status::Status;
 use crate::top::wyvern;
 use std::alloc::{AllocError, Global};
 use std::test::Fail;
 use wy_device::device::Device;
 use wy_device::devices::Devices;
+use wy_device::handed::Handed;
+use wy_device::mem_console::MemConsole;
+use wy_device::operation::Kind;
+use wy_device::shut::Shut;
 use wy_text::list::Items;
 use wy_text::mem_shelf::MemShelf;
 use wy_text::mem_sink::MemSink;
 use wy_text::shelf::NamedText;
 use wy_text::sink::Sink;
 use wy_text::text::{Memory, from_bytes};
-
-/// A shelf with one file.
-fn shelf(alloc: Global, name: &str, text: &[u8]) -> Result<MemShelf, Memory> {
-    let name = from_bytes(alloc, name.as_bytes())?;
-    let text = from_bytes(alloc, text)?;
-    let mut files = Items::new(alloc);
-    files.push(NamedText { name, text })?;
-    MemShelf::new(alloc, files, Items::new(alloc))
-}
-
-fn strings(alloc: Global, words: &[&str]) -> Result<Vec<String>, AllocError> {
-    let mut strings = Vec::new(alloc);
-    for word in words {
-        strings.push(String::from_str(alloc, word)?)?;
-    }
-    Ok(strings)
-}
-
-/// The list of one call that is to fail.
-pub fn failing_at(alloc: Global, call: u64) -> Result<Items<u64>, Memory> {
-    let mut fails = Items::new(alloc);
-    fails.push(call)?;
-    Ok(fails)
-}
-
-/// Calls with these words, and a shelf that has the text as `b.wy`. Nothing may come to `out`.
-pub fn call<E: Sink, D: Device>(
-    alloc: Global,
-    words: &[&str],
-    text: &[u8],
-    report: &mut E,
-    devices: &mut Devices<D>,
-) -> Result<Status, Fail>
-    requires { IsInOrder (states D.state devices.old) }
-{
-    let mut shelf = shelf(alloc, "b.wy", text)?;
-    let mut out = MemSink::new(alloc, Items::new(alloc))?;
-    let words = strings(alloc, words)?;
-    let status = wyvern(
-        alloc,
-        words.as_slice(),
-        &mut shelf,
-        &mut out,
-        report,
-        devices,
-    );
-    if out.bytes().is_empty() {
-        Ok(status)
-    } else {
-        Err("bytes on out")?
-    }
-}
 
 /// The four devices of a test: a console in memory that fails at the listed calls, and three that are shut.
 macro_rules! devices_with {
@@ -83,3 +36,98 @@ macro_rules! devices_with {
 }
 
 pub(crate) use devices_with;
+
+/// A shelf with these files.
+fn shelf(alloc: Global, files: &[(&str, &[u8])]) -> Result<MemShelf, Memory> {
+    let mut list = Items::new(alloc);
+    for (name, text) in files {
+        let name = from_bytes(alloc, name.as_bytes())?;
+        let text = from_bytes(alloc, text)?;
+        list.push(NamedText { name, text })?;
+    }
+    MemShelf::new(alloc, list, Items::new(alloc))
+}
+
+fn strings(alloc: Global, words: &[&str]) -> Result<Vec<String>, AllocError> {
+    let mut strings = Vec::new(alloc);
+    for word in words {
+        strings.push(String::from_str(alloc, word)?)?;
+    }
+    Ok(strings)
+}
+
+/// The list of one call that is to fail.
+pub fn failing_at(alloc: Global, call: u64) -> Result<Items<u64>, Memory> {
+    let mut fails = Items::new(alloc);
+    fails.push(call)?;
+    Ok(fails)
+}
+
+/// Calls with these words, and a shelf that has these files.
+pub fn call_with<O: Sink, E: Sink, D: Device>(
+    alloc: Global,
+    words: &[&str],
+    files: &[(&str, &[u8])],
+    out: &mut O,
+    report: &mut E,
+    devices: &mut Devices<D>,
+) -> Result<Status, Fail>
+    requires { IsInOrder (states D.state devices.old) }
+{
+    let mut shelf = shelf(alloc, files)?;
+    let words = strings(alloc, words)?;
+    Ok(wyvern(alloc, words.as_slice(), &mut shelf, out, report, devices))
+}
+
+/// Calls with these words, and a shelf that has the text as `b.wy`. Nothing may come to `out`.
+pub fn call<E: Sink, D: Device>(
+    alloc: Global,
+    words: &[&str],
+    text: &[u8],
+    report: &mut E,
+    devices: &mut Devices<D>,
+) -> Result<Status, Fail>
+    requires { IsInOrder (states D.state devices.old) }
+{
+    let mut out = MemSink::new(alloc, Items::new(alloc))?;
+    let status = call_with(alloc, words, &[("b.wy", text)], &mut out, report, devices)?;
+    if out.bytes().is_empty() {
+        Ok(status)
+    } else {
+        Err("bytes on out")?
+    }
+}
+
+/// What came of a call that touches no device: its status's number, and what it wrote to `out` and `report`.
+#[derive(Drop)]
+pub struct Outcome {
+    pub number: u8,
+    pub out: MemSink,
+    pub report: MemSink,
+}
+
+/// Calls with these words and files, and with devices that are shut.
+pub fn written(alloc: Global, words: &[&str], files: &[(&str, &[u8])]) -> Result<Outcome, Fail> {
+    let mut all = devices_with!(alloc, Items::new(alloc));
+    let mut out = MemSink::new(alloc, Items::new(alloc))?;
+    let mut report = MemSink::new(alloc, Items::new(alloc))?;
+    let status = call_with(alloc, words, files, &mut out, &mut report, &mut all)?;
+    if all.deeds(Kind::Console).ok_or("told")?.is_empty() {
+        Ok(Outcome {
+            number: status.number(),
+            out,
+            report,
+        })
+    } else {
+        Err("a deed")?
+    }
+}
+
+/// The piece, so many times.
+pub fn repeated(alloc: Global, piece: &[u8], count: u32) -> Result<Vec<u8>, AllocError> {
+    let mut text = Vec::new(alloc);
+    for _ in 0..count {
+        text.extend_from_slice(piece)?;
+    }
+    Ok(text)
+}

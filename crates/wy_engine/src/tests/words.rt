@@ -14,12 +14,15 @@ use wy_text::text::from_bytes;
 #[test]
 fn words_that_are_no_command_line_get_the_usage_line(rt: HostRuntime) -> Result<(), Fail> {
     let alloc = rt.alloc();
-    let cases: [&[&str]; 7] = [
+    let cases: [&[&str]; 10] = [
         &[],
         &["run"],
         &["b.wy"],
         &["walk", "b.wy"],
-        &["run", "b.wy", "b.wy"],
+        &["format"],
+        &["format", "b.wy", "b.wy"],
+        &["format", "-b.wy"],
+        &["run", "b.wy", "-c.wy"],
         &["run", "-b.wy"],
         &["--help", "b.wy"],
     ];

@@ -1,14 +1,23 @@
-use Rattle.std.proofs.Common.{rules, refl, length, map, string_bytes}
+use Rattle.std.proofs.Common.{rules, arith, ◌≤◌, refl, length, map, string_bytes}
 use Rattle.std.proofs.lemmas.List.{length-map}
-use Rattle.wy_engine.proofs.ReadingOn.{reads_one}
-use Rattle.wy_engine.proofs.Settling.{settles_text, settles_unread}
+use Rattle.wy_engine.proofs.ReadingOn.{reads_many}
+use Rattle.wy_engine.proofs.Settling.{settles_answered, settles_starved, settles_unread}
 use Rattle.wy_engine.proofs.top.settle.Goals as goal
 
-pub returns-in-Err-Unread : goal.returns-in-Err-Unread
-returns-in-Err-Unread g c = λ out. settles_unread _ (map string_bytes c.in-Some.names.now) c.in-Err-Unread.file (search rules) (search rules) refl refl (search rules)
+pub answer-requires-clause-few : goal.answer-requires-clause-few
+answer-requires-clause-few g c =
+    let read : length c.in-Ok.texts ≤ length c.in-Some.line.files.now = reads_many (map string_bytes c.in-Some.line.files.now) (length c.in-Some.line.files.now) _ _ c.in-Ok.texts c.in-Ok.ensures.all in
+    rw c.as_slice.ensures (omega arith)
 
-pub returns-in-len1 : goal.returns-in-len1
-returns-in-len1 g c = λ out. settles_text _ (map string_bytes c.in-Some.names.now) c.as_bytes.result.now (search rules)
-    (reads_one (map string_bytes c.in-Some.names.now) (length c.in-Some.names.now) (g.S.Shelf.state c.args.shelf.now) (g.S.Shelf.state c.read_all.new.shelf) c.in-Ok.texts c.as_bytes.result.now
-    (search rules) (rw length-map) (search rules) (search rules) (search rules))
-    c.run_text.ensures
+pub returns-in-Err-Unread : goal.returns-in-Err-Unread
+returns-in-Err-Unread g c =
+    settles_unread _ (record { command = c.in-Some.line.command; files = map string_bytes c.in-Some.line.files.now }) c.in-Err-Unread.file (search rules) (rw length-map (search rules)) (search rules) refl refl refl (search rules)
+
+pub returns-in-Err-Memory : goal.returns-in-Err-Memory
+returns-in-Err-Memory g c =
+    settles_starved _ (record { command = c.in-Some.line.command; files = map string_bytes c.in-Some.line.files.now }) (search rules) (rw length-map (search rules)) (search rules) refl refl refl (search rules)
+
+pub returns-in-Ok : goal.returns-in-Ok
+returns-in-Ok g c =
+    settles_answered _ (record { command = c.in-Some.line.command; files = map string_bytes c.in-Some.line.files.now }) c.in-Ok.texts (search rules) (rw length-map (search rules)) (rw length-map c.in-Ok.ensures.all)
+    (rw c.as_slice.ensures at c.answer.ensures)

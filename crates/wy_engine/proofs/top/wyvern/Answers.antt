@@ -1,11 +1,9 @@
-use Rattle.std.proofs.Common.{refl}
 use Rattle.wy_engine.proofs.top.wyvern.Goals as goal
 
 pub returns : goal.returns
 returns g c = record {
   settled = c.settle-settled.result;
   report = g.E.Sink.state c.settle-settled.new.report;
-  settles = c.settle-settled.ensures (g.O.Sink.state c.args.out.now);
-  closes = rw c.file_words_or_none.ensures at c.close.ensures;
-  out = refl;
+  settles = c.settle-settled.ensures;
+  closes = rw c.files_or_none.ensures at c.close.ensures;
 }

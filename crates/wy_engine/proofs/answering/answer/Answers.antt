@@ -1,0 +1,26 @@
+use Rattle.std.proofs.Common.{arith, map, length, ◌≡◌, ◌∙◌, sym}
+use Rattle.std.proofs.lemmas.List.{length-map}
+use Rattle.wy_syntax.specs.Views.{file_tree}
+use Rattle.wy_engine.proofs.Doing.{as_many, did_format, did_none, did_run}
+use Rattle.wy_engine.proofs.OneItem.{one_mapped}
+use Rattle.wy_engine.proofs.answering.answer.Goals as goal
+
+pub returns-in-Err : goal.returns-in-Err
+returns-in-Err g c = did_none _ _ _ _ _ _ c.in-Err.ensures.none
+
+pub returns-in-Run : goal.returns-in-Run
+returns-in-Run g c = did_run _ _ (map file_tree c.in-Ok.trees.items) _ _ _ _ _ _ c.in-Run.is c.in-Ok.ensures.trees (rw (← c.as_slice.ensures.value) c.run_trees.ensures)
+
+pub index-requires : goal.index-requires
+index-requires g c =
+    let one : length c.args.texts.now ≡ 1 = c.requires.one c.in-Format.is in
+    let many : length c.in-Ok.trees.items ≡ length c.args.texts.now = sym (length-map c.in-Ok.trees.items file_tree) ∙ as_many 1 c.args.texts.now (map file_tree c.in-Ok.trees.items) c.in-Ok.ensures.trees in
+    omega arith
+
+pub returns : goal.returns
+returns g c =
+    let one : length c.args.texts.now ≡ 1 = c.requires.one c.in-Format.is in
+    let many : length c.in-Ok.trees.items ≡ length c.args.texts.now = sym (length-map c.in-Ok.trees.items file_tree) ∙ as_many 1 c.args.texts.now (map file_tree c.in-Ok.trees.items) c.in-Ok.ensures.trees in
+    did_format _ _ (map file_tree c.in-Ok.trees.items) (file_tree c.index.result.now) _ _ _ _ _ c.in-Format.is c.in-Ok.ensures.trees
+    (one_mapped file_tree c.in-Ok.trees.items c.index.result.now (omega arith) (omega arith) c.index.ensures)
+    c.write_form.ensures

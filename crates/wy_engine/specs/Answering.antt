@@ -1,0 +1,47 @@
+-- What answering texts does, before it is known which words named them.
+use Rattle.std.specs.Prelude.{◌≡◌, ◌⊎◌, ℕ, List, [], ◌∷◌, Some, None, true, false}
+use Rattle.wy_text.specs.Outside.{Rose, SinkState}
+use Rattle.wy_text.specs.Writing.{StopsShort, WritesUpTo}
+use Rattle.wy_device.specs.Devices.{DevicesState}
+use Rattle.wy_syntax.specs.Canonical.{canonical_form}
+use Rattle.wy_syntax.specs.Trees.{ItemTree}
+use Rattle.wy_engine.specs.FileTrees.{HaveTrees}
+use Rattle.wy_engine.specs.Judgement.{IsAccepted, Stops, fault_of}
+use Rattle.wy_engine.specs.LiteralForm.{program_of}
+use Rattle.wy_engine.specs.Running.{Ran}
+use Rattle.wy_engine.specs.declared.literal_form.Program.{Program}
+use Rattle.wy_engine.specs.declared.settings.Command.{Command}
+use Rattle.wy_engine.specs.declared.settings.Command.TheVariants as command
+use Rattle.wy_engine.specs.declared.status.Status.{Status}
+use Rattle.wy_engine.specs.declared.status.Status.TheVariants as status
+
+-- a text was written to `out`, whole or in part
+pub data Wrote (text : List ℕ) (out out' : SinkState) (end : Status) : Type 0 where
+  whole : WritesUpTo text [] out out' → end ≡ status.Ended → Wrote text out out' end
+  cut : StopsShort text out out' → Rose out.faults out'.faults → end ≡ status.Unwritten → Wrote text out out' end
+  starved : (rest : List ℕ) → WritesUpTo text rest out out' → end ≡ status.Memory → Wrote text out out' end
+
+-- what judging a file's tree did: nothing, since memory was wanting, the tree is of no form that is built, or its
+-- program is refused; or the program was run
+pub data RunsTree (tree : List ItemTree) (report report' : SinkState) (devices devices' : DevicesState) (end : Status) : Type 0 where
+  stopped : report' ≡ report → devices' ≡ devices → end ≡ status.Memory → RunsTree tree report report' devices devices' end
+  formless : report' ≡ report → devices' ≡ devices → program_of tree ≡ None → end ≡ status.Unbuilt → RunsTree tree report report' devices devices' end
+  refused : report' ≡ report → devices' ≡ devices → (program : Program) → program_of tree ≡ Some program → program.allowed ≡ false → end ≡ status.Refused (fault_of program)
+      → RunsTree tree report report' devices devices' end
+  ran_tree : (program : Program) → program_of tree ≡ Some program → program.allowed ≡ true → Ran program report report' devices devices' end
+      → RunsTree tree report report' devices devices' end
+
+-- and with the trees of several files, of which no more than one is of a form that is built
+pub data RunsTrees (trees : List (List ItemTree)) (report report' : SinkState) (devices devices' : DevicesState) (end : Status) : Type 0 where
+  alone : (tree : List ItemTree) → trees ≡ tree ∷ [] → RunsTree tree report report' devices devices' end → RunsTrees trees report report' devices devices' end
+  several : ((tree : List ItemTree) → trees ≡ tree ∷ [] → ⊥) → report' ≡ report → devices' ≡ devices → end ≡ status.Unbuilt → RunsTrees trees report report' devices devices' end
+
+-- what was done with texts: nothing, since memory was wanting or they stop the call; a program was run; or the
+-- canonical form of a file was written
+pub data Answered (asked : Command) (texts : List (List ℕ)) (out out' report report' : SinkState) (devices devices' : DevicesState) (end : Status) : Type 0 where
+  declined : (end ≡ status.Memory) ⊎ Stops asked texts end → out' ≡ out → report' ≡ report → devices' ≡ devices
+      → Answered asked texts out out' report report' devices devices' end
+  ran : (program : Program) → asked ≡ command.Run → IsAccepted texts program → Ran program report report' devices devices' end → out' ≡ out
+      → Answered asked texts out out' report report' devices devices' end
+  formatted : (tree : List ItemTree) → asked ≡ command.Format → HaveTrees 1 texts (tree ∷ []) → Wrote (canonical_form tree) out out' end → report' ≡ report → devices' ≡ devices
+      → Answered asked texts out out' report report' devices devices' end
