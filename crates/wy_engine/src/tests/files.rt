@@ -1,6 +1,7 @@
 use crate::handing_in::devices;
 use crate::tests::outside::Trickle;
 use crate::tests::support::{call_with, devices_with, failing_at, written};
+use std::alloc::Global;
 use std::test::Fail;
 use wy_device::device::Device;
 use wy_device::handed::Handed;
@@ -15,58 +16,71 @@ const SPACED: &[u8] = b"program   // x\n     run:{}\n         ( ( 1 + 2 ) : Int 
 
 const PRINTED: &[u8] = b"program\n  run: {}\n    (1 + 2 : Int)\n";
 
+/// Words, the number of the status, and the last line.
+static ORDERS: [(&[&str], u8, &str); 7] = [
+    (&["run", "a.wy", "a.wy"], 63, "unbuilt\n"),
+    (&["run", "a.wy"], 63, "unbuilt\n"),
+    (
+        &["run", "a.wy", "b.wy"],
+        3,
+        "b.wy:1:5: syntax: Unexpected\n",
+    ),
+    (
+        &["run", "b.wy", "c.wy"],
+        3,
+        "b.wy:1:5: syntax: Unexpected\n",
+    ),
+    (&["run", "b.wy", "no.wy"], 2, "no.wy: unread\n"),
+    (
+        &["run", "c.wy", "b.wy"],
+        3,
+        "c.wy:1:1: syntax: BadCharacter\n",
+    ),
+    (&["format", "no.wy"], 2, "no.wy: unread\n"),
+];
+
+/// Whether a call with these words ends so: `a.wy` is a file, `b.wy` lacks a name, and `c.wy` has no tokens.
+fn ends_so(alloc: Global, words: &[&str], number: u8, line: &str) -> Result<bool, Fail> {
+    let files: [(&str, &[u8]); 3] = [("a.wy", b"type T\n"), ("b.wy", b"type\n"), ("c.wy", b"#")];
+    let done = written(alloc, words, &files)?;
+    Ok(
+        done.number == number
+            && done.report.bytes() == line.as_bytes()
+            && done.out.bytes().is_empty(),
+    )
+}
+
+/// The number of the first case that ends otherwise.
+fn first_otherwise(alloc: Global, cases: &[(&[&str], u8, &str)]) -> Result<Option<usize>, Fail> {
+    for (at, (words, number, line)) in cases.iter().enumerate() {
+        if !ends_so(alloc, words, *number, line)? {
+            return Ok(Some(at));
+        }
+    }
+    Ok(None)
+}
+
 #[test]
 fn files_are_read_and_parsed_in_the_order_of_their_words(rt: HostRuntime) -> Result<(), Fail> {
-    let alloc = rt.alloc();
-    let good: &[u8] = b"type T\n";
-    let bad: &[u8] = b"type\n";
-    let cases: [(&[&str], u8, &str); 7] = [
-        (&["run", "a.wy", "a.wy"], 63, "unbuilt\n"),
-        (&["run", "a.wy"], 63, "unbuilt\n"),
-        (
-            &["run", "a.wy", "b.wy"],
-            3,
-            "b.wy:1:5: syntax: Unexpected\n",
-        ),
-        (
-            &["run", "b.wy", "c.wy"],
-            3,
-            "b.wy:1:5: syntax: Unexpected\n",
-        ),
-        (&["run", "b.wy", "no.wy"], 2, "no.wy: unread\n"),
-        (
-            &["run", "c.wy", "b.wy"],
-            3,
-            "c.wy:1:1: syntax: BadCharacter\n",
-        ),
-        (&["format", "no.wy"], 2, "no.wy: unread\n"),
-    ];
-    for (words, number, line) in cases {
-        let done = written(
-            alloc,
-            words,
-            &[("a.wy", good), ("b.wy", bad), ("c.wy", b"#")],
-        )?;
-        assert_eq!(rt; done.report.bytes(), line.as_bytes());
-        assert_eq!(rt; done.number, number);
-        assert!(rt; done.out.bytes().is_empty());
-    }
+    assert_eq!(rt; first_otherwise(rt.alloc(), &ORDERS)?, None);
     Ok(())
+}
+
+/// Whether a call of `run` with so many files ends so.
+fn many_end_so(alloc: Global, count: u32, number: u8, line: &str) -> Result<bool, Fail> {
+    let mut words = Vec::new(alloc);
+    words.push("run")?;
+    for _ in 0..count {
+        words.push("a.wy")?;
+    }
+    ends_so(alloc, words.as_slice(), number, line)
 }
 
 #[test]
 fn sixty_four_files_are_read_and_one_more_passes_the_limit(rt: HostRuntime) -> Result<(), Fail> {
     let alloc = rt.alloc();
-    for (count, number, line) in [(64, 63, "unbuilt\n"), (65, 5, "limit: files 64\n")] {
-        let mut words = Vec::new(alloc);
-        words.push("run")?;
-        for _ in 0..count {
-            words.push("a.wy")?;
-        }
-        let done = written(alloc, words.as_slice(), &[("a.wy", b"")])?;
-        assert_eq!(rt; done.report.bytes(), line.as_bytes());
-        assert_eq!(rt; done.number, number);
-    }
+    assert!(rt; many_end_so(alloc, 64, 63, "unbuilt\n")?);
+    assert!(rt; many_end_so(alloc, 65, 5, "limit: files 64\n")?);
     Ok(())
 }
 
@@ -97,36 +111,38 @@ fn the_program_may_be_laid_out_in_any_way(rt: HostRuntime) -> Result<(), Fail> {
     Ok(())
 }
 
+/// Whether `format`, where `out` has room for so many bytes, writes these first ones and ends so.
+fn is_cut(alloc: Global, room: usize, number: u8, line: &str) -> Result<bool, Fail> {
+    let mut all = devices_with!(alloc, failing_at(alloc, 1)?);
+    let mut out = Trickle {
+        taken: Vec::new(alloc),
+        room,
+        faults: 0,
+    };
+    let mut report = MemSink::new(alloc, Items::new(alloc))?;
+    let files: [(&str, &[u8]); 1] = [("f.wy", SPACED)];
+    let status = call_with(
+        alloc,
+        &["format", "f.wy"],
+        &files,
+        &mut out,
+        &mut report,
+        &mut all,
+    )?;
+    Ok(
+        status.number() == number
+            && PRINTED.starts_with(out.taken.as_slice())
+            && out.taken.len() == room
+            && report.bytes() == line.as_bytes(),
+    )
+}
+
 #[test]
 fn a_form_that_is_not_written_whole_is_a_prefix(rt: HostRuntime) -> Result<(), Fail> {
     let alloc = rt.alloc();
-    let files: [(&str, &[u8]); 1] = [("f.wy", SPACED)];
-    for (room, number) in [
-        (0, 10),
-        (20, 10),
-        (PRINTED.len() - 1, 10),
-        (PRINTED.len(), 0),
-    ] {
-        let mut all = devices_with!(alloc, failing_at(alloc, 1)?);
-        let mut out = Trickle {
-            taken: Vec::new(alloc),
-            room,
-            faults: 0,
-        };
-        let mut report = MemSink::new(alloc, Items::new(alloc))?;
-        let status = call_with(
-            alloc,
-            &["format", "f.wy"],
-            &files,
-            &mut out,
-            &mut report,
-            &mut all,
-        )?;
-        assert_eq!(rt; status.number(), number, "with room for {room}");
-        assert!(rt; PRINTED.starts_with(out.taken.as_slice()));
-        assert_eq!(rt; out.taken.len(), room);
-        let line = if number == 0 { "" } else { "unwritten\n" };
-        assert_eq!(rt; report.bytes(), line.as_bytes());
-    }
+    assert!(rt; is_cut(alloc, 0, 10, "unwritten\n")?);
+    assert!(rt; is_cut(alloc, 20, 10, "unwritten\n")?);
+    assert!(rt; is_cut(alloc, 35, 10, "unwritten\n")?);
+    assert!(rt; is_cut(alloc, 36, 0, "")?);
     Ok(())
 }

@@ -122,12 +122,3 @@ pub fn written(alloc: Global, words: &[&str], files: &[(&str, &[u8])]) -> Result
         Err("a deed")?
     }
 }
-
-/// The piece, so many times.
-pub fn repeated(alloc: Global, piece: &[u8], count: u32) -> Result<Vec<u8>, AllocError> {
-    let mut text = Vec::new(alloc);
-    for _ in 0..count {
-        text.extend_from_slice(piece)?;
-    }
-    Ok(text)
-}

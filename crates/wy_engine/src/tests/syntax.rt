@@ -1,32 +1,52 @@
 use crate::tests::canonical_table::ACCEPTED;
-use crate::tests::support::{repeated, written};
+use crate::tests::support::written;
 use crate::tests::syntax_table::REFUSED;
+use std::alloc::Global;
 use std::test::Fail;
+use wy_text::mem_sink::MemSink;
+
+/// Whether `format` writes the form for the text, and nothing else.
+fn is_printed(alloc: Global, text: &str, form: &str) -> Result<bool, Fail> {
+    let done = written(alloc, &["format", "b.wy"], &[("b.wy", text.as_bytes())])?;
+    Ok(done.number == 0 && done.out.bytes() == form.as_bytes() && done.report.bytes().is_empty())
+}
+
+/// The number of the first text that is not printed as its form, or whose form is not printed as itself.
+fn first_not_printed(alloc: Global, cases: &[(&str, &str)]) -> Result<Option<usize>, Fail> {
+    for (at, (text, form)) in cases.iter().enumerate() {
+        if !is_printed(alloc, text, form)? || !is_printed(alloc, form, form)? {
+            return Ok(Some(at));
+        }
+    }
+    Ok(None)
+}
 
 #[test]
 fn each_file_is_printed_in_canonical_form_and_that_form_again(rt: HostRuntime) -> Result<(), Fail> {
-    let alloc = rt.alloc();
-    for (text, form) in &ACCEPTED {
-        for text in [*text, *form] {
-            let done = written(alloc, &["format", "b.wy"], &[("b.wy", text.as_bytes())])?;
-            assert_eq!(rt; done.out.bytes(), form.as_bytes(), "of {text}");
-            assert!(rt; done.report.bytes().is_empty(), "of {text}");
-            assert_eq!(rt; done.number, 0);
+    assert_eq!(rt; first_not_printed(rt.alloc(), &ACCEPTED)?, None);
+    Ok(())
+}
+
+/// Whether the text has the status Syntax, with this last line.
+fn is_refused(alloc: Global, text: &[u8], line: &str) -> Result<bool, Fail> {
+    let done = written(alloc, &["run", "b.wy"], &[("b.wy", text)])?;
+    Ok(done.number == 3 && done.report.bytes() == line.as_bytes() && done.out.bytes().is_empty())
+}
+
+/// The number of the first text whose first unexpected token is not at the place.
+fn first_not_named(alloc: Global, cases: &[(&str, u32, u32, &str)]) -> Result<Option<usize>, Fail> {
+    for (at, (text, line, column, _)) in cases.iter().enumerate() {
+        let last = format!(in alloc; "b.wy:{line}:{column}: syntax: Unexpected\n")?;
+        if !is_refused(alloc, text.as_bytes(), last.as_str())? {
+            return Ok(Some(at));
         }
     }
-    Ok(())
+    Ok(None)
 }
 
 #[test]
 fn the_first_token_that_fits_nothing_is_named_by_its_place(rt: HostRuntime) -> Result<(), Fail> {
-    let alloc = rt.alloc();
-    for (text, line, column, kind) in &REFUSED {
-        let done = written(alloc, &["run", "b.wy"], &[("b.wy", text.as_bytes())])?;
-        let last = format!(in alloc; "b.wy:{line}:{column}: syntax: Unexpected\n")?;
-        assert_eq!(rt; done.report.bytes(), last.as_bytes(), "at {kind} of {text}");
-        assert!(rt; done.out.bytes().is_empty());
-        assert_eq!(rt; done.number, 3);
-    }
+    assert_eq!(rt; first_not_named(rt.alloc(), &REFUSED)?, None);
     Ok(())
 }
 
@@ -70,63 +90,87 @@ static LEXICAL: [(&[u8], &str); 30] = [
     (b"a\r\n  b ~\r\n", "2:5: syntax: BadCharacter"),
 ];
 
+/// The number of the first text of which something else is said.
+fn first_not_said(alloc: Global, cases: &[(&[u8], &str)]) -> Result<Option<usize>, Fail> {
+    for (at, (text, line)) in cases.iter().enumerate() {
+        let last = format!(in alloc; "b.wy:{line}\n")?;
+        if !is_refused(alloc, text, last.as_str())? {
+            return Ok(Some(at));
+        }
+    }
+    Ok(None)
+}
+
 #[test]
 fn what_is_wrong_in_a_text_is_named_with_its_place(rt: HostRuntime) -> Result<(), Fail> {
-    let alloc = rt.alloc();
-    for (text, line) in &LEXICAL {
-        let done = written(alloc, &["format", "b.wy"], &[("b.wy", text)])?;
-        let last = format!(in alloc; "b.wy:{line}\n")?;
-        assert_eq!(rt; done.report.bytes(), last.as_bytes());
-        assert!(rt; done.out.bytes().is_empty());
-        assert_eq!(rt; done.number, 3);
-    }
+    assert_eq!(rt; first_not_said(rt.alloc(), &LEXICAL)?, None);
     Ok(())
+}
+
+/// What is said of a text that has a piece so many times behind a front.
+fn said_of(alloc: Global, front: &[u8], piece: &[u8], count: u32) -> Result<MemSink, Fail> {
+    let mut text = Vec::from_slice(alloc, front)?;
+    for _ in 0..count {
+        text.extend_from_slice(piece)?;
+    }
+    let done = written(alloc, &["run", "b.wy"], &[("b.wy", text.as_slice())])?;
+    Ok(done.report)
+}
+
+/// A piece so many times behind a front is within a limit, and once more passes it.
+static LIMITS: [(&[u8], &[u8], u32, &str); 4] = [
+    (b"", b"x", 64, "limit: name bytes 64\n"),
+    (b"", b".", 128, "limit: marks 128\n"),
+    (b"x ", b"\n", 1_048_574, "limit: file bytes 1048576\n"),
+    (b"", b"x\n", 131_071, "limit: tokens 262144\n"),
+];
+
+/// The number of the first case in which the limit comes too early or too late.
+fn first_not_limited(
+    alloc: Global,
+    cases: &[(&[u8], &[u8], u32, &str)],
+) -> Result<Option<usize>, Fail> {
+    for (at, (front, piece, most, line)) in cases.iter().enumerate() {
+        let within = said_of(alloc, front, piece, *most)?;
+        let past = said_of(alloc, front, piece, most.saturating_add(1))?;
+        if within.bytes() != b"b.wy:1:1: syntax: Unexpected\n".as_slice()
+            || past.bytes() != line.as_bytes()
+        {
+            return Ok(Some(at));
+        }
+    }
+    Ok(None)
 }
 
 #[test]
 fn a_limit_is_passed_by_one_more(rt: HostRuntime) -> Result<(), Fail> {
-    let alloc = rt.alloc();
-    let cases: [(&[u8], &[u8], u32, &str); 5] = [
-        (b"", b"x", 64, "limit: name bytes 64\n"),
-        (b"", b".", 128, "limit: marks 128\n"),
-        (b"x ", b"\n", 1_048_574, "limit: file bytes 1048576\n"),
-        (b"//", b"\xff", 1_048_575, "limit: file bytes 1048576\n"),
-        (b"", b"x\n", 131_071, "limit: tokens 262144\n"),
-    ];
-    for (front, piece, most, line) in cases {
-        for count in [most, most + 1] {
-            let mut text = Vec::from_slice(alloc, front)?;
-            text.extend_from_slice(repeated(alloc, piece, count)?.as_slice())?;
-            let done = written(alloc, &["run", "b.wy"], &[("b.wy", text.as_slice())])?;
-            if count > most {
-                assert_eq!(rt; done.report.bytes(), line.as_bytes());
-                assert_eq!(rt; done.number, 5);
-            } else if piece != b"\xff".as_slice() {
-                assert_eq!(rt;
-                    done.report.bytes(),
-                    b"b.wy:1:1: syntax: Unexpected\n".as_slice(),
-                    "{line}"
-                );
-            }
-        }
-    }
+    assert_eq!(rt; first_not_limited(rt.alloc(), &LIMITS)?, None);
     Ok(())
+}
+
+/// What is said of a file whose lines go in one by one, up to so many spaces.
+fn said_of_indents(alloc: Global, deepest: u32) -> Result<MemSink, Fail> {
+    let mut text = Vec::new(alloc);
+    for width in 0..=deepest {
+        for _ in 0..width {
+            text.extend_from_slice(b" ")?;
+        }
+        text.extend_from_slice(b"x\n")?;
+    }
+    let done = written(alloc, &["run", "b.wy"], &[("b.wy", text.as_slice())])?;
+    Ok(done.report)
 }
 
 #[test]
 fn indents_go_to_sixty_four(rt: HostRuntime) -> Result<(), Fail> {
     let alloc = rt.alloc();
-    for (deepest, last) in [
-        (64, "b.wy:1:1: syntax: Unexpected\n"),
-        (65, "limit: indents 64\n"),
-    ] {
-        let mut text = Vec::new(alloc);
-        for width in 0..=deepest {
-            text.extend_from_slice(repeated(alloc, b" ", width)?.as_slice())?;
-            text.extend_from_slice(b"x\n")?;
-        }
-        let done = written(alloc, &["run", "b.wy"], &[("b.wy", text.as_slice())])?;
-        assert_eq!(rt; done.report.bytes(), last.as_bytes());
-    }
+    assert_eq!(rt;
+        said_of_indents(alloc, 64)?.bytes(),
+        b"b.wy:1:1: syntax: Unexpected\n".as_slice()
+    );
+    assert_eq!(rt;
+        said_of_indents(alloc, 65)?.bytes(),
+        b"limit: indents 64\n".as_slice()
+    );
     Ok(())
 }
