@@ -1,6 +1,6 @@
 use crate::handing_in::devices;
 use crate::tests::outside::Trickle;
-use crate::tests::support::{call_with, devices_with, failing_at, written};
+use crate::tests::support::{call_with, devices_with, failing_at, outcome_of};
 use std::alloc::Global;
 use std::test::Fail;
 use wy_device::device::Device;
@@ -42,7 +42,7 @@ static ORDERS: [(&[&str], u8, &str); 7] = [
 /// Whether a call with these words ends so: `a.wy` is a file, `b.wy` lacks a name, and `c.wy` has no tokens.
 fn ends_so(alloc: Global, words: &[&str], number: u8, line: &str) -> Result<bool, Fail> {
     let files: [(&str, &[u8]); 3] = [("a.wy", b"type T\n"), ("b.wy", b"type\n"), ("c.wy", b"#")];
-    let done = written(alloc, words, &files)?;
+    let done = outcome_of(alloc, words, &files)?;
     Ok(
         done.number == number
             && done.report.bytes() == line.as_bytes()

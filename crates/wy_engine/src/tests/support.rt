@@ -98,27 +98,26 @@ pub fn call<E: Sink, D: Device>(
     }
 }
 
-/// What came of a call that touches no device: its status's number, and what it wrote to `out` and `report`.
+/// What came of a call: its status's number, how many operations the console was asked for, and what was written
+/// to `out` and `report`.
 #[derive(Drop)]
 pub struct Outcome {
     pub number: u8,
+    pub deeds: usize,
     pub out: MemSink,
     pub report: MemSink,
 }
 
-/// Calls with these words and files, and with devices that are shut.
-pub fn written(alloc: Global, words: &[&str], files: &[(&str, &[u8])]) -> Result<Outcome, Fail> {
+/// Calls with these words and files, a console in memory, and other devices that are shut.
+pub fn outcome_of(alloc: Global, words: &[&str], files: &[(&str, &[u8])]) -> Result<Outcome, Fail> {
     let mut all = devices_with!(alloc, Items::new(alloc));
     let mut out = MemSink::new(alloc, Items::new(alloc))?;
     let mut report = MemSink::new(alloc, Items::new(alloc))?;
     let status = call_with(alloc, words, files, &mut out, &mut report, &mut all)?;
-    if all.deeds(Kind::Console).ok_or("told")?.is_empty() {
-        Ok(Outcome {
-            number: status.number(),
-            out,
-            report,
-        })
-    } else {
-        Err("a deed")?
-    }
+    Ok(Outcome {
+        number: status.number(),
+        deeds: all.deeds(Kind::Console).ok_or("told")?.len(),
+        out,
+        report,
+    })
 }

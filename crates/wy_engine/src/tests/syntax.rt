@@ -1,5 +1,5 @@
 use crate::tests::canonical_table::ACCEPTED;
-use crate::tests::support::written;
+use crate::tests::support::outcome_of;
 use crate::tests::syntax_table::REFUSED;
 use std::alloc::Global;
 use std::test::Fail;
@@ -7,7 +7,7 @@ use wy_text::mem_sink::MemSink;
 
 /// Whether `format` writes the form for the text, and nothing else.
 fn is_printed(alloc: Global, text: &str, form: &str) -> Result<bool, Fail> {
-    let done = written(alloc, &["format", "b.wy"], &[("b.wy", text.as_bytes())])?;
+    let done = outcome_of(alloc, &["format", "b.wy"], &[("b.wy", text.as_bytes())])?;
     Ok(done.number == 0 && done.out.bytes() == form.as_bytes() && done.report.bytes().is_empty())
 }
 
@@ -29,8 +29,13 @@ fn each_file_is_printed_in_canonical_form_and_that_form_again(rt: HostRuntime) -
 
 /// Whether the text has the status Syntax, with this last line.
 fn is_refused(alloc: Global, text: &[u8], line: &str) -> Result<bool, Fail> {
-    let done = written(alloc, &["run", "b.wy"], &[("b.wy", text)])?;
-    Ok(done.number == 3 && done.report.bytes() == line.as_bytes() && done.out.bytes().is_empty())
+    let done = outcome_of(alloc, &["run", "b.wy"], &[("b.wy", text)])?;
+    Ok(
+        done.number == 3
+            && done.deeds == 0
+            && done.report.bytes() == line.as_bytes()
+            && done.out.bytes().is_empty(),
+    )
 }
 
 /// The number of the first text whose first unexpected token is not at the place.
@@ -113,7 +118,7 @@ fn said_of(alloc: Global, front: &[u8], piece: &[u8], count: u32) -> Result<MemS
     for _ in 0..count {
         text.extend_from_slice(piece)?;
     }
-    let done = written(alloc, &["run", "b.wy"], &[("b.wy", text.as_slice())])?;
+    let done = outcome_of(alloc, &["run", "b.wy"], &[("b.wy", text.as_slice())])?;
     Ok(done.report)
 }
 
@@ -157,7 +162,7 @@ fn said_of_indents(alloc: Global, deepest: u32) -> Result<MemSink, Fail> {
         }
         text.extend_from_slice(b"x\n")?;
     }
-    let done = written(alloc, &["run", "b.wy"], &[("b.wy", text.as_slice())])?;
+    let done = outcome_of(alloc, &["run", "b.wy"], &[("b.wy", text.as_slice())])?;
     Ok(done.report)
 }
 

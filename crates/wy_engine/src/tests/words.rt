@@ -1,52 +1,52 @@
-use crate::handing_in::devices;
-use crate::status::Status;
-use crate::tests::support::{call, devices_with};
+use crate::tests::support::outcome_of;
+use std::alloc::Global;
 use std::test::Fail;
-use wy_device::device::Device;
-use wy_device::handed::Handed;
-use wy_device::mem_console::MemConsole;
-use wy_device::operation::Kind;
-use wy_device::shut::Shut;
-use wy_text::list::Items;
-use wy_text::mem_sink::MemSink;
-use wy_text::text::from_bytes;
+
+/// Words that are no command line.
+static FAULTY: [&[&str]; 10] = [
+    &[],
+    &["run"],
+    &["b.wy"],
+    &["walk", "b.wy"],
+    &["format"],
+    &["format", "b.wy", "b.wy"],
+    &["format", "-b.wy"],
+    &["run", "b.wy", "-c.wy"],
+    &["run", "-b.wy"],
+    &["--help", "b.wy"],
+];
+
+/// Whether a call with these words, over a shelf with an empty `b.wy`, ends with the status of the number and the
+/// line, and does nothing else.
+fn ends_with(alloc: Global, words: &[&str], number: u8, line: &str) -> Result<bool, Fail> {
+    let done = outcome_of(alloc, words, &[("b.wy", b"")])?;
+    Ok(
+        done.number == number
+            && done.deeds == 0
+            && done.report.bytes() == line.as_bytes()
+            && done.out.bytes().is_empty(),
+    )
+}
+
+/// The number of the first words that do not get the usage line.
+fn first_other(alloc: Global, cases: &[&[&str]]) -> Result<Option<usize>, Fail> {
+    let usage = "usage: wyvern COMMAND [--steps N] [--depth N] FILE...\n";
+    for (at, words) in cases.iter().enumerate() {
+        if !ends_with(alloc, words, 1, usage)? {
+            return Ok(Some(at));
+        }
+    }
+    Ok(None)
+}
 
 #[test]
 fn words_that_are_no_command_line_get_the_usage_line(rt: HostRuntime) -> Result<(), Fail> {
-    let alloc = rt.alloc();
-    let cases: [&[&str]; 10] = [
-        &[],
-        &["run"],
-        &["b.wy"],
-        &["walk", "b.wy"],
-        &["format"],
-        &["format", "b.wy", "b.wy"],
-        &["format", "-b.wy"],
-        &["run", "b.wy", "-c.wy"],
-        &["run", "-b.wy"],
-        &["--help", "b.wy"],
-    ];
-    for words in cases {
-        let mut all = devices_with!(alloc, Items::new(alloc));
-        let mut report = MemSink::new(alloc, Items::new(alloc))?;
-        let status = call(alloc, words, b"", &mut report, &mut all)?;
-        assert_eq!(rt; status, Status::Usage);
-        assert_eq!(rt;
-            report.bytes(),
-            b"usage: wyvern COMMAND [--steps N] [--depth N] FILE...\n".as_slice()
-        );
-    }
+    assert_eq!(rt; first_other(rt.alloc(), &FAULTY)?, None);
     Ok(())
 }
 
 #[test]
 fn a_missing_file_is_named(rt: HostRuntime) -> Result<(), Fail> {
-    let alloc = rt.alloc();
-    let mut all = devices_with!(alloc, Items::new(alloc));
-    let mut report = MemSink::new(alloc, Items::new(alloc))?;
-    let status = call(alloc, &["run", "nope.wy"], b"", &mut report, &mut all)?;
-    assert_eq!(rt; status, Status::Unread(1));
-    assert_eq!(rt; status.number(), 2);
-    assert_eq!(rt; report.bytes(), b"nope.wy: unread\n".as_slice());
+    assert!(rt; ends_with(rt.alloc(), &["run", "nope.wy"], 2, "nope.wy: unread\n")?);
     Ok(())
 }
