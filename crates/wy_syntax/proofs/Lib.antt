@@ -1,0 +1,5 @@
+mod Arguments
+mod Indentation
+mod Layers
+mod Numbers
+mod Sums

@@ -1,7 +1,11 @@
-//! Trees of a file's items, what spells them, and how they are printed.
+//! Trees of a file's items, what spells them, how they are printed, and how their nodes are counted.
 #![tactic(auto)]
 
+pub mod counting;
 pub mod expressions;
 pub mod items;
+pub mod printing;
 pub mod statements;
+#[cfg(test)]
+mod tests;
 pub mod types;

@@ -1,0 +1,280 @@
+//! Expressions, with parentheses exactly where an operand's level is lower than its place asks for.
+ghost use Rattle.std.specs.Prelude.{◌≡◌, ◌++◌, codes, map, not, nat_le, OnOk};
+ghost use Rattle.std.specs.Fmt.{signed_decimal};
+ghost use Rattle.wy_text.specs.Quoted.{quoted_form};
+ghost use Rattle.wy_text.specs.Spelling.{spelling_of};
+ghost use Rattle.wy_syntax.specs.ExprGrammar.{left_level_of, level_of_op, right_level_of, symbol_of};
+ghost use Rattle.wy_syntax.specs.Views.{expr_tree, expr_trees};
+ghost use Rattle.wy_syntax.specs.Printing.{worded_text};
+ghost use Rattle.wy_syntax.specs.Canonical.{arguments_text, enclosed, expr_text, is_numbered, level_of, type_text};
+
+use crate::expressions::{Expr, Operator};
+use crate::printing::pieces::{Printed, push};
+use crate::printing::types::push_type;
+use wy_text::text::{Memory, Text};
+
+/// The level that the condition of an `if` asks for.
+pub const CONDITION: u8 = 1;
+/// The level that the operand of a prefix asks for.
+const UNARY: u8 = 6;
+/// The level that a call's receiver asks for.
+const POST: u8 = 7;
+/// The level of what stands alone.
+const ATOMIC: u8 = 8;
+
+/// An operator's symbol.
+fn symbol(operator: Operator) -> &'static str
+    ensures { result.now ≡ spelling_of (symbol_of operator) }
+{
+    match operator {
+        Operator::Or => "||",
+        Operator::And => "&&",
+        Operator::Equal => "==",
+        Operator::NotEqual => "!=",
+        Operator::Less => "<",
+        Operator::LessEqual => "<=",
+        Operator::Greater => ">",
+        Operator::GreaterEqual => ">=",
+        Operator::Plus => "+",
+        Operator::Minus => "-",
+        Operator::Join => "++",
+        Operator::Times => "*",
+        Operator::Divide => "/",
+        Operator::Remainder => "%",
+    }
+}
+
+/// The level of what an operator makes.
+fn operator_level(operator: Operator) -> u8
+    ensures { result ≡ level_of_op operator }
+{
+    match operator {
+        Operator::Or => 1,
+        Operator::And => 2,
+        Operator::Equal
+        | Operator::NotEqual
+        | Operator::Less
+        | Operator::LessEqual
+        | Operator::Greater
+        | Operator::GreaterEqual => 3,
+        Operator::Plus | Operator::Minus | Operator::Join => 4,
+        Operator::Times | Operator::Divide | Operator::Remainder => 5,
+    }
+}
+
+/// The level that an operator's left operand must have: comparisons do not group.
+fn left_level(operator: Operator) -> u8
+    ensures { result ≡ left_level_of operator }
+{
+    match operator {
+        Operator::Or => 1,
+        Operator::And => 2,
+        Operator::Equal
+        | Operator::NotEqual
+        | Operator::Less
+        | Operator::LessEqual
+        | Operator::Greater
+        | Operator::GreaterEqual
+        | Operator::Plus
+        | Operator::Minus
+        | Operator::Join => 4,
+        Operator::Times | Operator::Divide | Operator::Remainder => 5,
+    }
+}
+
+/// The level that an operator's right operand must have.
+fn right_level(operator: Operator) -> u8
+    ensures { result ≡ right_level_of operator }
+{
+    match operator {
+        Operator::Or => 2,
+        Operator::And => 3,
+        Operator::Equal
+        | Operator::NotEqual
+        | Operator::Less
+        | Operator::LessEqual
+        | Operator::Greater
+        | Operator::GreaterEqual => 4,
+        Operator::Plus | Operator::Minus | Operator::Join => 5,
+        Operator::Times | Operator::Divide | Operator::Remainder => 6,
+    }
+}
+
+/// The level of an expression as it is printed.
+#[tactic(auto, using(crate::proofs::Numbers::number_rules))]
+fn level(e: &Expr) -> u8
+    ensures { result ≡ level_of (expr_tree e.now) }
+{
+    match e {
+        Expr::Number(value, _) if *value < 0 => UNARY,
+        Expr::Negate(_, _) | Expr::Not(_, _) => UNARY,
+        Expr::Binary(operator, _, _, _) => operator_level(*operator),
+        Expr::Call(_, _, _) => POST,
+        Expr::Choice(_, _, _, _) => 0,
+        _ => ATOMIC,
+    }
+}
+
+/// Whether the level of an expression is lower than its place asks for.
+pub fn is_lower(e: &Expr, asked: u8) -> bool
+    ensures { result ≡ not (nat_le asked (level_of (expr_tree e.now))) }
+{
+    level(e) < asked
+}
+
+/// Whether the first token of a prefix's operand is a number.
+#[tactic(auto, using(crate::proofs::Numbers::number_rules))]
+fn is_numbered(e: &Expr) -> bool
+    ensures { result ≡ is_numbered (expr_tree e.now) }
+{
+    match e {
+        Expr::Number(value, _) => *value >= 0,
+        Expr::Call(receiver, _, _) => !is_lower(receiver, POST) && is_numbered(receiver),
+        _ => false,
+    }
+}
+
+fn push_number(out: &mut Vec<u8>, number: i64) -> Result<(), Memory>
+    ensures { OnOk result (out.new.items ≡ out.old.items ++ signed_decimal number) }
+{
+    let digits = format!(in *out.allocator(); "{number}")?;
+    push(out, digits.as_bytes())
+}
+
+fn push_quoted(out: &mut Vec<u8>, text: &Text) -> Result<(), Memory>
+    ensures { OnOk result (out.new.items ≡ out.old.items ++ quoted_form text.now) }
+{
+    let quoted = text.quoted()?;
+    push(out, quoted.as_bytes())
+}
+
+/// Adds an operator's symbol with a space on each side.
+fn push_operator(out: &mut Vec<u8>, operator: Operator) -> Result<(), Memory>
+    ensures { OnOk result (out.new.items ≡ out.old.items ++ (codes " " ++ spelling_of (symbol_of operator) ++ codes " ")) }
+{
+    push(out, b" ")?;
+    push(out, symbol(operator).as_bytes())?;
+    push(out, b" ")
+}
+
+/// Adds an expression.
+#[cycle(printing)]
+pub fn push_expr(out: &mut Vec<u8>, e: &Expr) -> Result<(), Memory>
+    ensures { OnOk result (out.new.items ≡ out.old.items ++ expr_text (expr_tree e.now)) }
+{
+    match e {
+        Expr::Number(value, _) => push_number(out, *value),
+        Expr::Text(text, _) => push_quoted(out, text),
+        Expr::True(_) => push(out, b"true"),
+        Expr::False(_) => push(out, b"false"),
+        Expr::This(_) => push(out, b"this"),
+        Expr::Name(name) => name.push_to(out),
+        Expr::Unit(_) => push(out, b"()"),
+        Expr::Negate(e, _) => {
+            push(out, b"-")?;
+            push_enclosed(out, e, is_lower(e, UNARY) || is_numbered(e))
+        }
+        Expr::Not(e, _) => {
+            push(out, b"!")?;
+            push_enclosed(out, e, is_lower(e, UNARY))
+        }
+        Expr::Binary(operator, left, right, _) => {
+            push_enclosed(out, left, is_lower(left, left_level(*operator)))?;
+            push_operator(out, *operator)?;
+            push_enclosed(out, right, is_lower(right, right_level(*operator)))
+        }
+        Expr::Call(receiver, name, arguments) => {
+            push_enclosed(out, receiver, is_lower(receiver, POST))?;
+            push(out, b".")?;
+            name.push_to(out)?;
+            push(out, b"(")?;
+            push_arguments(out, arguments)?;
+            push(out, b")")
+        }
+        Expr::TextSize(_, _)
+        | Expr::TextPart(_, _, _, _)
+        | Expr::TextCode(_, _, _)
+        | Expr::TextByte(_, _)
+        | Expr::TextShow(_, _)
+        | Expr::Ascribe(_, _, _)
+        | Expr::Choice(_, _, _, _) => push_worded(out, e),
+    }
+}
+
+/// Adds an expression, in parentheses where that is asked for.
+#[cycle(printing)]
+pub fn push_enclosed(out: &mut Vec<u8>, e: &Expr, enclose: bool) -> Result<(), Memory>
+    ensures { OnOk result (out.new.items ≡ out.old.items ++ enclosed enclose (expr_text (expr_tree e.now))) }
+{
+    if enclose {
+        push(out, b"(")?;
+        push_expr(out, e)?;
+        push(out, b")")
+    } else {
+        push_expr(out, e)
+    }
+}
+
+/// Adds a call's arguments with commas between.
+#[cycle(printing)]
+fn push_arguments(out: &mut Vec<u8>, arguments: &[Expr]) -> Result<(), Memory>
+    ensures { OnOk result (out.new.items ≡ out.old.items ++ arguments_text (expr_trees arguments.now)) }
+{
+    for (i, argument) in arguments.iter().enumerate() {
+        if i > 0 {
+            push(out, b", ")?;
+        }
+        push_expr(out, argument)?;
+    }
+    Ok(())
+}
+
+/// Adds an expression whose operands stand behind words and signs of its own; nothing for another one.
+#[cycle(printing)]
+fn push_worded(out: &mut Vec<u8>, e: &Expr) -> Result<(), Memory>
+    ensures { OnOk result (out.new.items ≡ out.old.items ++ worded_text (expr_tree e.now)) }
+{
+    match e {
+        Expr::TextSize(e, _) => push_last(out, b"text_size(", e),
+        Expr::TextPart(e, from, to, _) => {
+            push(out, b"text_part(")?;
+            push_expr(out, e)?;
+            push(out, b", ")?;
+            push_expr(out, from)?;
+            push_last(out, b", ", to)
+        }
+        Expr::TextCode(e, at, _) => {
+            push(out, b"text_code(")?;
+            push_expr(out, e)?;
+            push_last(out, b", ", at)
+        }
+        Expr::TextByte(e, _) => push_last(out, b"text_byte(", e),
+        Expr::TextShow(e, _) => push_last(out, b"text_show(", e),
+        Expr::Ascribe(e, type_use, _) => {
+            push(out, b"(")?;
+            push_expr(out, e)?;
+            push(out, b" : ")?;
+            push_type(out, type_use)?;
+            push(out, b")")
+        }
+        Expr::Choice(condition, first, second, _) => {
+            push(out, b"if ")?;
+            push_enclosed(out, condition, is_lower(condition, CONDITION))?;
+            push(out, b" then ")?;
+            push_expr(out, first)?;
+            push(out, b" else ")?;
+            push_expr(out, second)
+        }
+        _ => Ok(()),
+    }
+}
+
+/// Adds an operand behind what is before it, and a closing parenthesis.
+#[cycle(printing)]
+fn push_last(out: &mut Vec<u8>, before: &[u8], e: &Expr) -> Result<(), Memory>
+    ensures { OnOk result (out.new.items ≡ out.old.items ++ (before.now ++ expr_text (expr_tree e.now) ++ codes ")")) }
+{
+    push(out, before)?;
+    push_expr(out, e)?;
+    push(out, b")")
+}

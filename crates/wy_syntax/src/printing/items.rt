@@ -1,0 +1,240 @@
+//! Items and the lines inside them, which have one indentation.
+ghost use Rattle.std.specs.Prelude.{◌≡◌, ◌++◌, codes, map, OnOk};
+ghost use Rattle.wy_syntax.specs.Views.{inside_tree, item_tree};
+ghost use Rattle.wy_syntax.specs.Canonical.{after_blank, canonical_form, define_text, grant_text, in_order, init_text, inside_text, item_text, line_text, member_text, name_text, newline, param_text, use_text, with_commas};
+
+use crate::items::{
+    Define, Grant, Init, Inside, Item, Line, Member, PlainModule, Program, PureModule,
+    ResourceModule, TypeDecl,
+};
+use crate::printing::pieces::{Printed, push, push_each, push_with_commas};
+use crate::printing::statements::{push_parts, push_tail};
+use crate::printing::types::{push_set, push_signature};
+use crate::types::{Name, Param};
+use wy_text::text::Memory;
+
+/// What stands between two items.
+const BLANK_LINE: [u8; 1] = [b'\n'];
+
+impl Printed for Member {
+    ghost text = { member_text };
+
+    fn push_to(&self, out: &mut Vec<u8>) -> Result<(), Memory> {
+        match self {
+            Member::Abstract(name) => {
+                push(out, b"  effect ")?;
+                name.push_to(out)?;
+            }
+            Member::Defined(name, set) => {
+                push(out, b"  effect ")?;
+                name.push_to(out)?;
+                push(out, b" = ")?;
+                push_set(out, set)?;
+            }
+            Member::Method(signature) => {
+                push(out, b"  ")?;
+                push_signature(out, signature)?;
+            }
+        }
+        push(out, b"\n")
+    }
+}
+
+/// Adds what a line makes: its name, its module and the arguments.
+fn push_made(
+    out: &mut Vec<u8>,
+    name: &Name,
+    module: &Name,
+    arguments: &[Name],
+) -> Result<(), Memory>
+    ensures { OnOk result (out.new.items ≡ out.old.items ++ (name.now.text ++ codes " = " ++ module.now.text ++ codes "(" ++ with_commas name_text arguments.now ++ codes ")")) }
+{
+    name.push_to(out)?;
+    push(out, b" = ")?;
+    module.push_to(out)?;
+    push(out, b"(")?;
+    push_with_commas(out, arguments)?;
+    push(out, b")")
+}
+
+impl Printed for Line {
+    ghost text = { line_text };
+
+    fn push_to(&self, out: &mut Vec<u8>) -> Result<(), Memory> {
+        match self {
+            Line::Instance(name, module, arguments) => {
+                push(out, b"  instance ")?;
+                push_made(out, name, module, arguments.as_slice())?;
+                push(out, b"\n")
+            }
+            Line::Import(name, module, arguments, bound) => {
+                push(out, b"  import ")?;
+                push_made(out, name, module, arguments.as_slice())?;
+                push(out, b" at ")?;
+                push_set(out, bound)?;
+                push(out, b"\n")
+            }
+        }
+    }
+}
+
+impl Printed for Define {
+    ghost text = { define_text };
+
+    fn push_to(&self, out: &mut Vec<u8>) -> Result<(), Memory> {
+        push(out, b"  effect ")?;
+        self.name.push_to(out)?;
+        push(out, b" = ")?;
+        push_set(out, &self.effect)?;
+        push(out, b"\n")
+    }
+}
+
+impl Printed for Grant {
+    ghost text = { grant_text };
+
+    fn push_to(&self, out: &mut Vec<u8>) -> Result<(), Memory> {
+        push(out, b"  grant ")?;
+        self.name.push_to(out)?;
+        push(out, b": ")?;
+        self.kind.push_to(out)?;
+        push(out, b"\n")
+    }
+}
+
+/// Adds a line for each used module.
+fn push_uses(out: &mut Vec<u8>, uses: &[Name]) -> Result<(), Memory>
+    ensures { OnOk result (out.new.items ≡ out.old.items ++ in_order use_text uses.now) }
+{
+    for name in uses {
+        push(out, b"  use ")?;
+        name.push_to(out)?;
+        push(out, b"\n")?;
+    }
+    Ok(())
+}
+
+/// Adds the line of `init`, where there is one.
+fn push_init(out: &mut Vec<u8>, init: &Option<Init>) -> Result<(), Memory>
+    ensures { OnOk result (out.new.items ≡ out.old.items ++ init_text init.now) }
+{
+    if let Some(init) = init {
+        push(out, b"  init: ")?;
+        push_set(out, &init.effect)?;
+        push(out, b"\n")?;
+    }
+    Ok(())
+}
+
+/// Adds what stands inside a pure or a resource module.
+fn push_inside(out: &mut Vec<u8>, inside: &Inside) -> Result<(), Memory>
+    ensures { OnOk result (out.new.items ≡ out.old.items ++ inside_text (inside_tree inside.now)) }
+{
+    push_uses(out, inside.uses.as_slice())?;
+    push_each(out, inside.lines.as_slice())?;
+    push_each(out, inside.defines.as_slice())?;
+    push_init(out, &inside.init)?;
+    push_parts(out, &inside.parts, 1)
+}
+
+fn push_type_decl(out: &mut Vec<u8>, decl: &TypeDecl) -> Result<(), Memory>
+    ensures { OnOk result (out.new.items ≡ out.old.items ++ item_text (item_tree (Item.Type decl.now))) }
+{
+    push(out, b"type ")?;
+    decl.name.push_to(out)?;
+    push(out, b"\n")?;
+    push_each(out, decl.members.as_slice())
+}
+
+fn push_pure(out: &mut Vec<u8>, module: &PureModule) -> Result<(), Memory>
+    ensures { OnOk result (out.new.items ≡ out.old.items ++ item_text (item_tree (Item.Pure module.now))) }
+{
+    push(out, b"module ")?;
+    module.name.push_to(out)?;
+    push(out, b": ")?;
+    module.sealed.push_to(out)?;
+    push(out, b"\n")?;
+    push_inside(out, &module.inside)
+}
+
+/// Adds the rest of the heading of a module with parameters, from its name on.
+fn push_heading(
+    out: &mut Vec<u8>,
+    name: &Name,
+    params: &[Param],
+    sealed: &Name,
+) -> Result<(), Memory>
+    ensures { OnOk result (out.new.items ≡ out.old.items ++ (name.now.text ++ codes "(" ++ with_commas param_text params.now ++ codes "): " ++ sealed.now.text ++ newline)) }
+{
+    name.push_to(out)?;
+    push(out, b"(")?;
+    push_with_commas(out, params)?;
+    push(out, b"): ")?;
+    sealed.push_to(out)?;
+    push(out, b"\n")
+}
+
+fn push_resource(out: &mut Vec<u8>, module: &ResourceModule) -> Result<(), Memory>
+    ensures { OnOk result (out.new.items ≡ out.old.items ++ item_text (item_tree (Item.Resource module.now))) }
+{
+    push(out, b"resource module ")?;
+    push_heading(out, &module.name, module.params.as_slice(), &module.sealed)?;
+    push_inside(out, &module.inside)
+}
+
+fn push_plain(out: &mut Vec<u8>, module: &PlainModule) -> Result<(), Memory>
+    ensures { OnOk result (out.new.items ≡ out.old.items ++ item_text (item_tree (Item.Plain module.now))) }
+{
+    push(out, b"plain module ")?;
+    push_heading(out, &module.name, module.params.as_slice(), &module.sealed)?;
+    push_parts(out, &module.parts, 1)
+}
+
+fn push_program(out: &mut Vec<u8>, program: &Program) -> Result<(), Memory>
+    ensures { OnOk result (out.new.items ≡ out.old.items ++ item_text (item_tree (Item.Program program.now))) }
+{
+    push(out, b"program\n")?;
+    push_each(out, program.grants.as_slice())?;
+    push_uses(out, program.uses.as_slice())?;
+    push_each(out, program.lines.as_slice())?;
+    push(out, b"  run: ")?;
+    push_set(out, &program.effect)?;
+    push_tail(out, &program.body, 1)
+}
+
+/// Adds an item.
+fn push_item(out: &mut Vec<u8>, item: &Item) -> Result<(), Memory>
+    ensures { OnOk result (out.new.items ≡ out.old.items ++ item_text (item_tree item.now)) }
+{
+    match item {
+        Item::Type(decl) => push_type_decl(out, decl),
+        Item::Pure(module) => push_pure(out, module),
+        Item::Resource(module) => push_resource(out, module),
+        Item::Plain(module) => push_plain(out, module),
+        Item::Program(program) => push_program(out, program),
+    }
+}
+
+/// Adds items, each behind a blank line.
+fn push_after_blanks(out: &mut Vec<u8>, items: &[Item]) -> Result<(), Memory>
+    ensures { OnOk result (out.new.items ≡ out.old.items ++ in_order after_blank (map item_tree items.now)) }
+{
+    for item in items {
+        push(out, &BLANK_LINE)?;
+        push_item(out, item)?;
+    }
+    Ok(())
+}
+
+/// Adds items with one blank line between.
+pub fn push_items(out: &mut Vec<u8>, items: &[Item]) -> Result<(), Memory>
+    ensures { OnOk result (out.new.items ≡ out.old.items ++ canonical_form (map item_tree items.now)) }
+{
+    match items {
+        [] => Ok(()),
+        [first, others @ ..] => {
+            push_item(out, first)?;
+            push_after_blanks(out, others)
+        }
+    }
+}

@@ -1,0 +1,153 @@
+//! Right sides, statements, parts and bodies, in lines with some indentations.
+ghost use Rattle.std.specs.Prelude.{◌≡◌, ◌++◌, codes, suc, IfOk, OnOk};
+ghost use Rattle.wy_syntax.specs.Views.{part_tree, part_trees, rhs_tree, stmt_tree, stmt_trees, tail_tree};
+ghost use Rattle.wy_syntax.specs.Canonical.{block_text, field_text, part_text, parts_text, rhs_text, stmt_text, tail_text, written_type_text};
+
+use crate::printing::expressions::{CONDITION, is_lower, push_enclosed, push_expr};
+use crate::printing::pieces::{Printed, push, push_indentation};
+use crate::printing::types::{push_signature, push_type};
+use crate::statements::{FieldKind, Part, Rhs, Stmt, Tail};
+use crate::types::TypeUse;
+use wy_text::text::Memory;
+
+/// Adds the word that begins a field.
+fn push_field_word(out: &mut Vec<u8>, kind: FieldKind) -> Result<(), Memory>
+    ensures { OnOk result (out.new.items ≡ out.old.items ++ field_text kind) }
+{
+    match kind {
+        FieldKind::Val => push(out, b"val "),
+        FieldKind::Var => push(out, b"var "),
+    }
+}
+
+/// Adds a colon and a type, where one is written.
+fn push_written_type(out: &mut Vec<u8>, type_use: &Option<TypeUse>) -> Result<(), Memory>
+    ensures { OnOk result (out.new.items ≡ out.old.items ++ written_type_text type_use.now) }
+{
+    if let Some(type_use) = type_use {
+        push(out, b": ")?;
+        push_type(out, type_use)?;
+    }
+    Ok(())
+}
+
+/// One indentation more; no memory has room for lines that pass the greatest number.
+fn deeper(indents: usize) -> Result<usize, Memory>
+    ensures { IfOk result (λ inside. inside ≡ suc indents) }
+{
+    indents.checked_add(1).ok_or(Memory)
+}
+
+/// Adds what stands behind an equals sign or alone, up to the end of its last line.
+#[cycle(printing)]
+fn push_rhs(out: &mut Vec<u8>, rhs: &Rhs, indents: usize) -> Result<(), Memory>
+    ensures { OnOk result (out.new.items ≡ out.old.items ++ rhs_text indents (rhs_tree rhs.now)) }
+{
+    match rhs {
+        Rhs::New(_, parts) => {
+            push(out, b"new\n")?;
+            push_parts(out, parts, deeper(indents)?)
+        }
+        Rhs::Branch(_, condition, first, second) => {
+            let inside = deeper(indents)?;
+            push(out, b"if ")?;
+            push_enclosed(out, condition, is_lower(condition, CONDITION))?;
+            push(out, b"\n")?;
+            push_block(out, first, inside)?;
+            push_indentation(out, indents)?;
+            push(out, b"else\n")?;
+            push_block(out, second, inside)
+        }
+        Rhs::Value(e) => {
+            push_expr(out, e)?;
+            push(out, b"\n")
+        }
+    }
+}
+
+/// Adds an equals sign and what stands behind it.
+#[cycle(printing)]
+fn push_assigned(out: &mut Vec<u8>, rhs: &Rhs, indents: usize) -> Result<(), Memory>
+    ensures { OnOk result (out.new.items ≡ out.old.items ++ (codes " = " ++ rhs_text indents (rhs_tree rhs.now))) }
+{
+    push(out, b" = ")?;
+    push_rhs(out, rhs, indents)
+}
+
+/// Adds a statement.
+#[cycle(printing)]
+fn push_stmt(out: &mut Vec<u8>, stmt: &Stmt, indents: usize) -> Result<(), Memory>
+    ensures { OnOk result (out.new.items ≡ out.old.items ++ stmt_text indents (stmt_tree stmt.now)) }
+{
+    match stmt {
+        Stmt::Val(name, type_use, rhs) => {
+            push(out, b"val ")?;
+            name.push_to(out)?;
+            push_written_type(out, type_use)?;
+            push_assigned(out, rhs, indents)
+        }
+        Stmt::Assign(name, rhs) => {
+            name.push_to(out)?;
+            push_assigned(out, rhs, indents)
+        }
+        Stmt::Run(rhs) => push_rhs(out, rhs, indents),
+    }
+}
+
+/// Adds statements, each in lines of its own.
+#[cycle(printing)]
+fn push_block(out: &mut Vec<u8>, block: &[Stmt], indents: usize) -> Result<(), Memory>
+    ensures { OnOk result (out.new.items ≡ out.old.items ++ block_text indents (stmt_trees block.now)) }
+{
+    for stmt in block {
+        push_indentation(out, indents)?;
+        push_stmt(out, stmt, indents)?;
+    }
+    Ok(())
+}
+
+/// Adds a field or a method.
+#[cycle(printing)]
+fn push_part(out: &mut Vec<u8>, part: &Part, indents: usize) -> Result<(), Memory>
+    ensures { OnOk result (out.new.items ≡ out.old.items ++ part_text indents (part_tree part.now)) }
+{
+    match part {
+        Part::Field(kind, name, type_use, rhs) => {
+            push_field_word(out, *kind)?;
+            name.push_to(out)?;
+            push(out, b": ")?;
+            push_type(out, type_use)?;
+            push_assigned(out, rhs, indents)
+        }
+        Part::Method(signature, body) => {
+            push_signature(out, signature)?;
+            push_tail(out, body, indents)
+        }
+    }
+}
+
+/// Adds fields and methods, each in lines of its own.
+#[cycle(printing)]
+pub fn push_parts(out: &mut Vec<u8>, parts: &[Part], indents: usize) -> Result<(), Memory>
+    ensures { OnOk result (out.new.items ≡ out.old.items ++ parts_text indents (part_trees parts.now)) }
+{
+    for part in parts {
+        push_indentation(out, indents)?;
+        push_part(out, part, indents)?;
+    }
+    Ok(())
+}
+
+/// Adds a body in the form in which it was written.
+#[cycle(printing)]
+pub fn push_tail(out: &mut Vec<u8>, tail: &Tail, indents: usize) -> Result<(), Memory>
+    ensures { OnOk result (out.new.items ≡ out.old.items ++ tail_text indents (tail_tree tail.now)) }
+{
+    match tail {
+        Tail::Short(rhs) => push_assigned(out, rhs, indents),
+        Tail::Long(block) => {
+            push(out, b"\n")?;
+            push_block(out, block, deeper(indents)?)
+        }
+    }
+}
