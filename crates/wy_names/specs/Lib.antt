@@ -1,0 +1,12 @@
+pub mod Atoms
+pub mod Bodies
+pub mod BodyRefusals
+pub mod Counts
+pub mod Cycles
+pub mod Declarations
+pub mod Least
+pub mod Lines
+pub mod Names
+pub mod Scopes
+pub mod Sight
+pub mod TypeUses

@@ -1,0 +1,6 @@
+//! Resolving names: what each name and each effect of a program's files stands for, and the refusals of
+//! names.
+#![tactic(auto)]
+
+pub mod refusal;
+pub mod scoping;
