@@ -1,0 +1,5 @@
+mod ExamplesCycles
+mod ExamplesPrograms
+mod ExamplesRefusals
+mod ExamplesValues
+mod Sources
