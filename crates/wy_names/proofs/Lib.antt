@@ -2,4 +2,5 @@ mod ExamplesCycles
 mod ExamplesPrograms
 mod ExamplesRefusals
 mod ExamplesValues
+mod Leasts
 mod Sources

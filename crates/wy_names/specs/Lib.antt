@@ -5,6 +5,7 @@ pub mod Counts
 pub mod Cycles
 pub mod Declarations
 pub mod Least
+pub mod Lent
 pub mod Lines
 pub mod Names
 pub mod Scopes

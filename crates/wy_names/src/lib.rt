@@ -2,5 +2,7 @@
 //! names.
 #![tactic(auto)]
 
+pub mod gathering;
+pub mod noting;
 pub mod refusal;
 pub mod scoping;
