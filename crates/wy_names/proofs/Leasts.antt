@@ -1,9 +1,8 @@
 -- The least refusal of a list.
-use Rattle.std.proofs.Common.{◌≡◌, ℕ, List, [], ◌∷◌, ◌++◌, Bool, true, false, refl, sym, ap, ◌∙◌, Option, Some, None, inl, inr, ◌⊎◌, subst, arith, rules, if◌then◌else◌}
+use Rattle.std.proofs.Common.{◌≡◌, ℕ, List, [], ◌∷◌, ◌++◌, Bool, true, false, refl, sym, ap, ◌∙◌, Option, Some, None, inl, inr, ◌⊎◌, arith, if◌then◌else◌}
 use Rattle.std.specs.Prelude.{◌||◌, ◌&&◌, nat_lt, ◌==◌}
 use Rattle.std.proofs.lemmas.Grind.{common_steps}
 use Rattle.wy_effects.specs.Members.{In}
-use Rattle.wy_syntax.specs.Nodes.{is_before}
 use Rattle.wy_names.specs.declared.refusal.Refusal.{Refusal}
 use Rattle.wy_names.specs.Least.{comes_before, lesser, noted, cause_number, IsLeast}
 

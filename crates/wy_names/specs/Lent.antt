@@ -1,5 +1,4 @@
 -- Declarations that are lent from the trees of the files.
-use Rattle.std.specs.Prelude.{ℕ, List, [], ◌∷◌, map}
 use Rattle.std.specs.Option.{option_copied}
 use Rattle.std.proofs.Common.{Bor}
 use Rattle.wy_syntax.specs.declared.types.Name.{Name}

@@ -6,3 +6,4 @@ pub mod gathering;
 pub mod noting;
 pub mod refusal;
 pub mod scoping;
+pub mod tables;
