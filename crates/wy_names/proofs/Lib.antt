@@ -4,5 +4,6 @@ mod ExamplesRefusals
 mod ExamplesValues
 mod Firsts
 mod Leasts
+mod Mosts
 mod Sources
 mod Turns

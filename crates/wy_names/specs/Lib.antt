@@ -7,6 +7,7 @@ pub mod Declarations
 pub mod Least
 pub mod Lent
 pub mod Lines
+pub mod Most
 pub mod Names
 pub mod Scopes
 pub mod Sight

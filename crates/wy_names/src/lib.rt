@@ -2,6 +2,7 @@
 //! names.
 #![tactic(auto)]
 
+mod counts;
 pub mod gathering;
 pub mod noting;
 pub mod refusal;
