@@ -13,7 +13,7 @@ use Rattle.wy_types.specs.Types.{is_plain}
 use Rattle.wy_names.specs.declared.scoping.Opening.{Opening}
 use Rattle.wy_names.specs.declared.scoping.Opening.TheVariants.{Members, Nothing, Missing}
 use Rattle.wy_names.specs.declared.scoping.Owner.{Owner}
-use Rattle.wy_names.specs.Declarations.{ModuleTree, ProgramTree, types_of, modules_of, programs_of}
+use Rattle.wy_names.specs.Declarations.{ModuleTree, ProgramTree, Declared, declared}
 use Rattle.wy_names.specs.Atoms.{all_names, params_owners, grant_owner, use_owner, line_owner}
 
 ------------------------------------------------------------
@@ -56,8 +56,8 @@ abbrev pub program_parts : List ProgramTree → List t.PartTrees
 program_parts [] = []
 program_parts (g ∷ gs) = tail_literals g.body ++ program_parts gs
 
-abbrev pub all_parts : List t.ItemTree → List t.PartTrees
-all_parts items = module_parts (modules_of items) ++ program_parts (programs_of items)
+abbrev pub all_parts : Declared → List t.PartTrees
+all_parts d = module_parts d.modules ++ program_parts d.programs
 
 abbrev pub field_count : t.PartTrees → ℕ
 field_count t.no_parts = 0
@@ -136,35 +136,35 @@ module _ (names : List (List ℕ)) (modules : List ModuleTree) where
 ------------------------------------------------------------
 -- What each limit counts
 
-abbrev pub counts_of : LimitName → List t.ItemTree → List ℕ
-counts_of limit.Types items = length (types_of items) ∷ []
-counts_of limit.Modules items = length (modules_of items) ∷ []
-counts_of limit.Grants items = map (λ (g : ProgramTree). length g.grants) (programs_of items)
-counts_of limit.Methods items = map (λ (d : TypeDecl). signature_count d.members) (types_of items) ++ map method_count (all_parts items)
-counts_of limit.Fields items = map field_count (all_parts items)
-counts_of limit.Parameters items =
-    types_params (types_of items) ++ (map (λ (m : ModuleTree). length m.params) (modules_of items) ++ parts_params (all_parts items))
-counts_of limit.Atoms items =
-    map (λ (d : TypeDecl). abstract_count d.members) (types_of items) ++
-    (map (module_count (all_names (types_of items)) (modules_of items) (type_counts (types_of items))) (modules_of items) ++
-    map (program_count (all_names (types_of items)) (modules_of items) (type_counts (types_of items))) (programs_of items))
-counts_of other items = []
+abbrev pub counts_of : LimitName → Declared → List ℕ
+counts_of limit.Types d = length d.types ∷ []
+counts_of limit.Modules d = length d.modules ∷ []
+counts_of limit.Grants d = map (λ (g : ProgramTree). length g.grants) d.programs
+counts_of limit.Methods d = map (λ (c : TypeDecl). signature_count c.members) d.types ++ map method_count (all_parts d)
+counts_of limit.Fields d = map field_count (all_parts d)
+counts_of limit.Parameters d =
+    types_params d.types ++ (map (λ (m : ModuleTree). length m.params) d.modules ++ parts_params (all_parts d))
+counts_of limit.Atoms d =
+    map (λ (c : TypeDecl). abstract_count c.members) d.types ++
+    (map (module_count (all_names d.types) d.modules (type_counts d.types)) d.modules ++
+    map (program_count (all_names d.types) d.modules (type_counts d.types)) d.programs)
+counts_of other d = []
 
 abbrev pub some_above : ℕ → List ℕ → Bool
 some_above most [] = false
 some_above most (n ∷ ns) = nat_lt most n || some_above most ns
 
 -- some count of the limit passes its number
-abbrev pub passes : LimitName → List t.ItemTree → Bool
-passes l items = some_above (limit_number l) (counts_of l items)
+abbrev pub passes : LimitName → Declared → Bool
+passes l d = some_above (limit_number l) (counts_of l d)
 
 -- the limits of this stage, in the order in which they are tried
 abbrev pub limits : List LimitName
 limits = limit.Types ∷ limit.Modules ∷ limit.Grants ∷ limit.Methods ∷ limit.Fields ∷ limit.Parameters ∷ limit.Atoms ∷ []
 
-abbrev pub first_passed : List LimitName → List t.ItemTree → Option LimitName
-first_passed [] items = None
-first_passed (l ∷ ls) items = if passes l items then Some l else first_passed ls items
+abbrev pub first_passed : List LimitName → Declared → Option LimitName
+first_passed [] d = None
+first_passed (l ∷ ls) d = if passes l d then Some l else first_passed ls d
 
 abbrev pub limit_of : List t.ItemTree → Option LimitName
-limit_of items = first_passed limits items
+limit_of items = first_passed limits (declared items)

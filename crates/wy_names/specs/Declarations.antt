@@ -113,6 +113,15 @@ modules_of items = gathered item_modules items
 abbrev pub programs_of : List ItemTree → List ProgramTree
 programs_of items = gathered item_programs items
 
+-- the declarations of a program, each kind by itself
+pub record Declared : Type 0 where
+  pub types : List TypeDecl
+  pub modules : List ModuleTree
+  pub programs : List ProgramTree
+
+abbrev pub declared : List ItemTree → Declared
+declared items = record { types = types_of items; modules = modules_of items; programs = programs_of items }
+
 ------------------------------------------------------------
 -- Names in lists
 

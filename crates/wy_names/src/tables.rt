@@ -10,6 +10,7 @@ use crate::noting::note;
 use crate::refusal::{Cause, Refusal};
 use indexmap::IndexMap;
 use std::alloc::Global;
+use std::marker::Model;
 use wy_syntax::types::Name;
 use wy_text::text::{Memory, Text};
 
@@ -72,4 +73,40 @@ pub fn note_repeated(
         }
     }
     Ok(())
+}
+
+/// Names in their order, and the number of the first of each.
+#[derive(Drop)]
+pub struct Table {
+    names: Vec<Text>,
+    numbers: IndexMap<Text, usize>,
+}
+
+impl Model for Table {
+    ghost use Rattle.std.specs.Prelude.{◌≡◌, ℕ, List};
+    ghost use Rattle.indexmap.specs.IndexMap.{get};
+    ghost use Rattle.wy_names.specs.Declarations.{same_name, first_from};
+
+    ghost Value = { List (List ℕ) };
+
+    ghost view = { λ t. t.names.items };
+
+    ghost invariant = { λ t. (x : List ℕ) → get same_name t.numbers x ≡ first_from 0 t.names.items x };
+}
+
+impl Table {
+    /// The table of these names.
+    pub fn new(alloc: Global, names: Vec<Text>) -> Result<Table, Memory>
+        ensures { IfOk result (λ t. t ≡ names.items) }
+    {
+        let numbers = first_numbers(alloc, &names)?;
+        Ok(Table { names, numbers })
+    }
+
+    /// The number of the first of a name. It takes no memory.
+    pub fn number(&self, name: &Text) -> Option<usize>
+        ensures { result ≡ first_from 0 self.now name.now }
+    {
+        self.numbers.get(name).copied()
+    }
 }
