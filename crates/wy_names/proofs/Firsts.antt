@@ -1,6 +1,6 @@
 -- The first of a name, and the names before.
 use Rattle.std.proofs.Common.{◌≡◌, ℕ, zero, suc, ◌+◌, ◌<◌, List, [], ◌∷◌, ◌++◌, length, take, get_or, Bool, true, false, cond, refl, sym, ap, ◌∙◌, subst, Option, Some, None, is_some, arith, rules, if◌then◌else◌}
-use Rattle.std.specs.Prelude.{◌||◌}
+use Rattle.std.specs.Prelude.{◌||◌, IfSome}
 use Rattle.wy_names.specs.Declarations.{same_name, has_name, first_from}
 
 pub same_exact : (a b : List ℕ) → same_name a b ≡ true → b ≡ a
@@ -78,3 +78,19 @@ either_order false b c = refl
 pub has_more : (ns : List (List ℕ)) (n x : List ℕ) → has_name x ns || same_name n x ≡ has_name x (ns ++ n ∷ [])
 has_more [] n x = (let P : Bool → Type 0 = λ b. b ≡ b || false in elim (same_name n x) as P [ true ↦ refl | false ↦ refl ])
 has_more (m ∷ ns) n x = either_order (same_name m x) (has_name x ns) (same_name n x) ∙ ap (λ b. same_name m x || b) (has_more ns n x)
+
+first_below : (k : ℕ) (ns : List (List ℕ)) (x : List ℕ) → IfSome (first_from k ns x) (λ r. r < k + length ns)
+first_below k [] x = tt
+first_below k (n ∷ ns) x =
+    let P : Bool → Type 0 = λ b. IfSome (if b then Some k else first_from (k + 1) ns x) (λ r. r < k + suc (length ns)) in
+    let below : k < k + suc (length ns) = omega arith in
+    let same : (k + 1) + length ns ≡ k + suc (length ns) = omega arith in
+    let Q : ℕ → Type 0 = λ m. IfSome (first_from (k + 1) ns x) (λ r. r < m) in
+    elim (same_name n x) as P [ true ↦ below | false ↦ subst Q same (first_below (k + 1) ns x) ]
+
+-- a name's number is below their number
+pub number_below : (ns : List (List ℕ)) (x : List ℕ) → IfSome (first_from 0 ns x) (λ r. r < length ns)
+number_below ns x =
+    let start : 0 + length ns ≡ length ns = omega arith in
+    let Q : ℕ → Type 0 = λ m. IfSome (first_from 0 ns x) (λ r. r < m) in
+    subst Q start (first_below 0 ns x)

@@ -1,11 +1,15 @@
 -- The greatest counts of a walk are those of the lists of counts.
-use Rattle.std.proofs.Common.{◌≡◌, ℕ, List, [], ◌∷◌, ◌++◌, map, refl, sym, ap, ◌∙◌, Bool, true, false, arith}
+use Rattle.std.proofs.Common.{◌≡◌, ℕ, List, [], ◌∷◌, ◌++◌, map, length, refl, sym, ap, ◌∙◌, Bool, true, false, arith, append_assoc, Option, Some, if◌then◌else◌}
+use Rattle.wy_text.specs.declared.limit.LimitName.{LimitName}
+use Rattle.wy_text.specs.declared.limit.LimitName.TheVariants as limit
+use Rattle.wy_syntax.specs.declared.items.TypeDecl.{TypeDecl}
+use Rattle.wy_names.specs.Declarations.{ModuleTree, ProgramTree, Declared}
 use Rattle.std.specs.Prelude.{max, nat_lt, ◌||◌}
 use Rattle.std.proofs.lemmas.Grind.{common_steps}
 use Rattle.wy_syntax.specs.Trees as t
 use Rattle.wy_names.specs.declared.counts.Most.{Most}
-use Rattle.wy_names.specs.Counts.{rhs_literals, stmt_literals, stmts_literals, part_literals, parts_literals, tail_literals, method_count, field_count, part_params, parts_params, some_above}
-use Rattle.wy_names.specs.Most.{greatest, with_parts, rhs_most, stmt_most, stmts_most, part_most, parts_most, tail_most, all_most}
+use Rattle.wy_names.specs.Counts.{rhs_literals, stmt_literals, stmts_literals, part_literals, parts_literals, tail_literals, method_count, field_count, part_params, parts_params, some_above, signature_count, member_params, types_params, module_parts, program_parts, all_parts, counts_of, passes, first_passed, early_limits}
+use Rattle.wy_names.specs.Most.{greatest, with_parts, rhs_most, stmt_most, stmts_most, part_most, parts_most, tail_most, all_most, with_members, types_most, module_params, modules_most, programs_most, with_parameters, no_counts, declared_most, grant_counts, first_over}
 
 pub greatest-append : (most : ℕ) (ms ns : List ℕ) → greatest most (ms ++ ns) ≡ greatest (greatest most ms) ns
 greatest-append most [] ns = refl
@@ -80,3 +84,105 @@ greatest_some n ns = greatest_above n 0 ns ∙ ap (λ b. b || some_above n ns) (
   where
     none_above : (k : ℕ) → nat_lt k 0 ≡ false
     none_above k = grind (arith, common_steps)
+
+------------------------------------------------------------
+-- Over all declarations
+
+types_methods : (most : Most) (ds : List TypeDecl) → (types_most most ds).methods ≡ greatest most.methods (map (λ (d : TypeDecl). signature_count d.members) ds)
+types_methods most [] = refl
+types_methods most (d ∷ ds) = types_methods (with_members most d.members) ds
+
+types_fields : (most : Most) (ds : List TypeDecl) → (types_most most ds).fields ≡ most.fields
+types_fields most [] = refl
+types_fields most (d ∷ ds) = types_fields (with_members most d.members) ds
+
+types_parameters : (most : Most) (ds : List TypeDecl) → (types_most most ds).parameters ≡ greatest most.parameters (types_params ds)
+types_parameters most [] = refl
+types_parameters most (d ∷ ds) =
+    types_parameters (with_members most d.members) ds ∙ sym (greatest-append most.parameters (member_params d.members) (types_params ds))
+
+modules_all : (most : Most) (ms : List ModuleTree) → modules_most most ms ≡ all_most most (module_parts ms)
+modules_all most [] = refl
+modules_all most (m ∷ ms) =
+    modules_all (parts_most (with_parts most m.parts) m.parts) ms
+    ∙ ap (λ k. all_most k (module_parts ms)) (parts_all (with_parts most m.parts) m.parts)
+    ∙ sym (all_most-append (with_parts most m.parts) (parts_literals m.parts) (module_parts ms))
+
+programs_all : (most : Most) (gs : List ProgramTree) → programs_most most gs ≡ all_most most (program_parts gs)
+programs_all most [] = refl
+programs_all most (g ∷ gs) =
+    programs_all (tail_most most g.body) gs ∙ ap (λ k. all_most k (program_parts gs)) (tail_all most g.body)
+    ∙ sym (all_most-append most (tail_literals g.body) (program_parts gs))
+
+both_all : (most : Most) (ms : List ModuleTree) (gs : List ProgramTree) → programs_most (modules_most most ms) gs ≡ all_most most (module_parts ms ++ program_parts gs)
+both_all most ms gs =
+    programs_all (modules_most most ms) gs ∙ ap (λ k. all_most k (program_parts gs)) (modules_all most ms)
+    ∙ sym (all_most-append most (module_parts ms) (program_parts gs))
+
+module _ (d : Declared) where
+  heads_most : Most
+  heads_most = with_parameters (types_most no_counts d.types) (greatest ((types_most no_counts d.types).parameters) (module_params d.modules))
+
+  most_methods : nat_lt 128 ((declared_most d).methods) ≡ passes limit.Methods d
+  unfolding heads_most
+  most_methods =
+      ap (λ (m : Most). nat_lt 128 m.methods) (both_all heads_most d.modules d.programs)
+      ∙ ap (nat_lt 128) (all_methods heads_most (all_parts d))
+      ∙ ap (λ n. nat_lt 128 (greatest n (map method_count (all_parts d)))) (types_methods no_counts d.types)
+      ∙ ap (nat_lt 128) (sym (greatest-append 0 (map (λ (c : TypeDecl). signature_count c.members) d.types) (map method_count (all_parts d))))
+      ∙ greatest_some 128 (counts_of limit.Methods d)
+
+  most_fields : nat_lt 128 ((declared_most d).fields) ≡ passes limit.Fields d
+  unfolding heads_most
+  most_fields =
+      ap (λ (m : Most). nat_lt 128 m.fields) (both_all heads_most d.modules d.programs)
+      ∙ ap (nat_lt 128) (all_fields heads_most (all_parts d))
+      ∙ ap (λ n. nat_lt 128 (greatest n (map field_count (all_parts d)))) (types_fields no_counts d.types)
+      ∙ greatest_some 128 (counts_of limit.Fields d)
+
+  most_parameters : nat_lt 16 ((declared_most d).parameters) ≡ passes limit.Parameters d
+  unfolding heads_most
+  most_parameters =
+      ap (λ (m : Most). nat_lt 16 m.parameters) (both_all heads_most d.modules d.programs)
+      ∙ ap (nat_lt 16) (all_parameters heads_most (all_parts d))
+      ∙ ap (λ n. nat_lt 16 (greatest (greatest n (module_params d.modules)) (parts_params (all_parts d)))) (types_parameters no_counts d.types)
+      ∙ ap (λ n. nat_lt 16 (greatest n (parts_params (all_parts d)))) (sym (greatest-append 0 (types_params d.types) (module_params d.modules)))
+      ∙ ap (nat_lt 16) (sym (greatest-append 0 (types_params d.types ++ module_params d.modules) (parts_params (all_parts d))))
+      ∙ ap (λ l. nat_lt 16 (greatest 0 l)) (append_assoc (types_params d.types) (module_params d.modules) (parts_params (all_parts d)))
+      ∙ greatest_some 16 (counts_of limit.Parameters d)
+
+  most_grants : nat_lt 64 (greatest 0 (grant_counts d.programs)) ≡ passes limit.Grants d
+  most_grants = greatest_some 64 (counts_of limit.Grants d)
+
+  one_above : (n m : ℕ) → nat_lt n m ≡ some_above n (m ∷ [])
+  one_above n m = (let P : Bool → Type 0 = λ b. b ≡ b || false in elim (nat_lt n m) as P [ true ↦ refl | false ↦ refl ])
+
+  tried : (l : LimitName) (b c : Bool) (r s : Option LimitName) → b ≡ c → r ≡ s → (if b then Some l else r) ≡ (if c then Some l else s)
+  tried l b c r s e f = ap (λ x. if x then Some l else r) e ∙ ap (λ y. if c then Some l else y) f
+
+  -- the limits in their order, by one count for each
+  abbrev pub greatest_counts : List (LimitName × ℕ)
+  greatest_counts =
+      (limit.Types, length d.types) ∷ (limit.Modules, length d.modules) ∷ (limit.Grants, greatest 0 (grant_counts d.programs)) ∷
+      (limit.Methods, (declared_most d).methods) ∷ (limit.Fields, (declared_most d).fields) ∷ (limit.Parameters, (declared_most d).parameters) ∷ []
+
+  pub first_limit : first_over greatest_counts ≡ first_passed early_limits d
+  first_limit =
+      tried limit.Types _ _ _ _ (one_above 1024 (length d.types))
+      (tried limit.Modules _ _ _ _ (one_above 256 (length d.modules))
+      (tried limit.Grants _ _ _ _ most_grants
+      (tried limit.Methods _ _ _ _ most_methods
+      (tried limit.Fields _ _ _ _ most_fields
+      (tried limit.Parameters _ _ _ _ most_parameters refl)))))
+
+  abbrev pub four_counts : ℕ → ℕ → ℕ → Most → List (LimitName × ℕ)
+  four_counts a b g m =
+      (limit.Types, a) ∷ (limit.Modules, b) ∷ (limit.Grants, g) ∷ (limit.Methods, m.methods) ∷ (limit.Fields, m.fields) ∷ (limit.Parameters, m.parameters) ∷ []
+
+  pub first_counted : (a b g : ℕ) (m : Most) → a ≡ length d.types → b ≡ length d.modules → g ≡ greatest 0 (grant_counts d.programs) → m ≡ declared_most d →
+      first_over (four_counts a b g m) ≡ first_passed early_limits d
+  first_counted a b g m e f h k =
+      ap (λ (x : ℕ). first_over (four_counts x b g m)) e ∙ ap (λ (x : ℕ). first_over (four_counts (length d.types) x g m)) f
+      ∙ ap (λ (x : ℕ). first_over (four_counts (length d.types) (length d.modules) x m)) h
+      ∙ ap (λ (x : Most). first_over (four_counts (length d.types) (length d.modules) (greatest 0 (grant_counts d.programs)) x)) k
+      ∙ first_limit

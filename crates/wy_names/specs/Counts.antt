@@ -159,8 +159,11 @@ abbrev pub passes : LimitName → Declared → Bool
 passes l d = some_above (limit_number l) (counts_of l d)
 
 -- the limits of this stage, in the order in which they are tried
+abbrev pub early_limits : List LimitName
+early_limits = limit.Types ∷ limit.Modules ∷ limit.Grants ∷ limit.Methods ∷ limit.Fields ∷ limit.Parameters ∷ []
+
 abbrev pub limits : List LimitName
-limits = limit.Types ∷ limit.Modules ∷ limit.Grants ∷ limit.Methods ∷ limit.Fields ∷ limit.Parameters ∷ limit.Atoms ∷ []
+limits = early_limits ++ limit.Atoms ∷ []
 
 abbrev pub first_passed : List LimitName → Declared → Option LimitName
 first_passed [] d = None

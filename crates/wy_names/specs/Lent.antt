@@ -1,4 +1,5 @@
 -- Declarations that are lent from the trees of the files.
+use Rattle.std.specs.Prelude.{List, map}
 use Rattle.std.specs.Option.{option_copied}
 use Rattle.std.proofs.Common.{Bor}
 use Rattle.wy_syntax.specs.declared.types.Name.{Name}
@@ -6,7 +7,7 @@ use Rattle.wy_syntax.specs.declared.items.TypeDecl.{TypeDecl}
 use Rattle.wy_syntax.specs.declared.items.Program as code
 use Rattle.wy_syntax.specs.Views.{part_trees, tail_tree}
 use Rattle.wy_names.specs.declared.gathering.ModuleView.{ModuleView}
-use Rattle.wy_names.specs.Declarations.{ModuleTree, ProgramTree}
+use Rattle.wy_names.specs.Declarations.{ModuleTree, ProgramTree, Declared}
 
 abbrev pub lent_type : Bor TypeDecl → TypeDecl
 lent_type d = d.now
@@ -34,3 +35,7 @@ module_tree m = record {
   init = option_copied m.init;
   parts = part_trees m.parts.now;
 }
+
+abbrev pub lent_declared : List (Bor TypeDecl) → List ModuleView → List (Bor code.Program) → Declared
+lent_declared types modules programs =
+    record { types = map lent_type types; modules = map module_tree modules; programs = map lent_program programs }

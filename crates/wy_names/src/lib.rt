@@ -2,9 +2,11 @@
 //! names.
 #![tactic(auto)]
 
-mod counts;
+pub mod counts;
 pub mod gathering;
+mod limits;
 pub mod noting;
+pub mod owners;
 pub mod refusal;
 pub mod scoping;
 pub mod tables;

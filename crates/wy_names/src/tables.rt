@@ -1,6 +1,6 @@
 //! Tables of names.
 
-ghost use Rattle.std.specs.Prelude.{◌≡◌, ◌||◌, ℕ, List, map, is_some, IfOk, OnOk};
+ghost use Rattle.std.specs.Prelude.{◌≡◌, ◌||◌, ◌<◌, ℕ, List, map, length, is_some, IfOk, OnOk, IfSome};
 ghost use Rattle.indexmap.specs.IndexMap.{get};
 ghost use Rattle.wy_names.specs.Least.{noted};
 ghost use Rattle.wy_names.specs.Declarations.{same_name, first_from, has_name, repeated};
@@ -105,7 +105,8 @@ impl Table {
 
     /// The number of the first of a name. It takes no memory.
     pub fn number(&self, name: &Text) -> Option<usize>
-        ensures { result ≡ first_from 0 self.now name.now }
+        ensures value { result ≡ first_from 0 self.now name.now }
+        ensures within { IfSome result (λ k. k < length self.now) }
     {
         self.numbers.get(name).copied()
     }
