@@ -111,8 +111,11 @@ types_params (d ∷ ds) = member_params d.members ++ types_params ds
 abbrev pub primitive_counts : List ℕ
 primitive_counts = map (λ (d : core.TypeDecl). length d.members) primitive_types
 
+abbrev pub abstract_counts : List TypeDecl → List ℕ
+abstract_counts types = map (λ (d : TypeDecl). abstract_count d.members) types
+
 abbrev pub type_counts : List TypeDecl → List ℕ
-type_counts types = primitive_counts ++ map (λ (d : TypeDecl). abstract_count d.members) types
+type_counts types = primitive_counts ++ abstract_counts types
 
 -- the atoms that an owner opens: an abstract member counts as often as it is written, an owner that opens nothing not at all
 abbrev pub opening_count : List ℕ → Opening → ℕ
@@ -127,11 +130,11 @@ owners_count counts (o ∷ os) = opening_count counts o.opening + owners_count c
 module _ (names : List (List ℕ)) (modules : List ModuleTree) where
   abbrev pub module_count : List ℕ → ModuleTree → ℕ
   module_count counts m =
-      owners_count counts (params_owners names (is_plain m.kind) m.params ++ (map (use_owner names modules) m.uses ++ map (line_owner names modules) m.lines))
+      owners_count counts ((params_owners names (is_plain m.kind) m.params ++ map (use_owner names modules) m.uses) ++ map (line_owner names modules) m.lines)
 
   abbrev pub program_count : List ℕ → ProgramTree → ℕ
   program_count counts g =
-      owners_count counts (map (grant_owner names) g.grants ++ (map (use_owner names modules) g.uses ++ map (line_owner names modules) g.lines))
+      owners_count counts ((map (grant_owner names) g.grants ++ map (use_owner names modules) g.uses) ++ map (line_owner names modules) g.lines)
 
 ------------------------------------------------------------
 -- What each limit counts
@@ -145,7 +148,7 @@ counts_of limit.Fields d = map field_count (all_parts d)
 counts_of limit.Parameters d =
     types_params d.types ++ (map (λ (m : ModuleTree). length m.params) d.modules ++ parts_params (all_parts d))
 counts_of limit.Atoms d =
-    map (λ (c : TypeDecl). abstract_count c.members) d.types ++
+    abstract_counts d.types ++
     (map (module_count (all_names d.types) d.modules (type_counts d.types)) d.modules ++
     map (program_count (all_names d.types) d.modules (type_counts d.types)) d.programs)
 counts_of other d = []

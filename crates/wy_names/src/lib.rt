@@ -2,10 +2,12 @@
 //! names.
 #![tactic(auto)]
 
+mod atom_counts;
 pub mod counts;
 pub mod gathering;
-mod limits;
+pub mod limits;
 pub mod noting;
+pub mod names_of;
 pub mod owners;
 pub mod refusal;
 pub mod scoping;

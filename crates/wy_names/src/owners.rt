@@ -3,15 +3,18 @@
 ghost use Rattle.std.specs.Prelude.{◌≡◌, ◌≤◌, ◌++◌, ◌∷◌, [], ℕ, List, map, length, IfOk, OnOk};
 ghost use Rattle.wy_names.specs.Declarations.{first_from, module_number, module_names, texts};
 ghost use Rattle.wy_names.specs.Atoms.{type_number, opened, primitive_opening, param_opening, params_owners, grant_owner, sealed_opening, module_at, module_opening, use_owner, line_owner};
+ghost use Rattle.wy_types.specs.Types.{is_plain};
 ghost use Rattle.wy_names.specs.Lent.{module_tree};
 
 use crate::gathering::ModuleView;
 use crate::scoping::{Opening, Owner};
 use crate::tables::Table;
-use wy_syntax::items::{Grant, Line};
+use std::alloc::Global;
+use wy_syntax::items::{Grant, Line, Program};
 use wy_syntax::types::{Name, Param, TypeUse};
 use wy_text::list::Items;
 use wy_text::text::{Memory, Text};
+use wy_types::resolved::ScopeKind;
 
 /// What a type's name opens: the members of that type.
 fn opened(types: &Table, name: &Text) -> Opening
@@ -174,4 +177,42 @@ pub fn add_lines(
         owners.push(line_owner(types, numbers, modules, line)?)?;
     }
     Ok(())
+}
+
+/// The owners of a module: its parameters, its used modules and its lines.
+pub fn module_owners(
+    alloc: Global,
+    types: &Table,
+    numbers: &Table,
+    modules: &[ModuleView],
+    view: &ModuleView,
+) -> Result<Items<Owner>, Memory>
+    requires few { length types.now ≤ 1028 }
+    requires numbered { numbers.now ≡ texts (module_names (map module_tree modules.now)) }
+    ensures { IfOk result (λ os. os ≡ (params_owners types.now (is_plain view.now.kind) view.now.params.now ++ map (use_owner types.now (map module_tree modules.now)) view.now.uses.now) ++ map (line_owner types.now (map module_tree modules.now)) view.now.lines.now) }
+{
+    let mut owners = Items::new(alloc);
+    add_params(&mut owners, types, view.kind == ScopeKind::Plain, view.params)?;
+    add_uses(&mut owners, types, numbers, modules, view.uses)?;
+    add_lines(&mut owners, types, numbers, modules, view.lines)?;
+    Ok(owners)
+}
+
+/// The owners of a program block: its grants, its used modules and its lines.
+pub fn program_owners(
+    alloc: Global,
+    types: &Table,
+    numbers: &Table,
+    modules: &[ModuleView],
+    program: &Program,
+) -> Result<Items<Owner>, Memory>
+    requires few { length types.now ≤ 1028 }
+    requires numbered { numbers.now ≡ texts (module_names (map module_tree modules.now)) }
+    ensures { IfOk result (λ os. os ≡ (map (grant_owner types.now) program.now.grants ++ map (use_owner types.now (map module_tree modules.now)) program.now.uses) ++ map (line_owner types.now (map module_tree modules.now)) program.now.lines) }
+{
+    let mut owners = Items::new(alloc);
+    add_grants(&mut owners, types, program.grants.as_slice())?;
+    add_uses(&mut owners, types, numbers, modules, program.uses.as_slice())?;
+    add_lines(&mut owners, types, numbers, modules, program.lines.as_slice())?;
+    Ok(owners)
 }
