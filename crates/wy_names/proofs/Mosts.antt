@@ -1,5 +1,5 @@
 -- The greatest counts of a walk are those of the lists of counts.
-use Rattle.std.proofs.Common.{◌≡◌, ℕ, List, [], ◌∷◌, ◌++◌, map, length, refl, sym, ap, ◌∙◌, Bool, true, false, arith, append_assoc, Option, Some, if◌then◌else◌}
+use Rattle.std.proofs.Common.{◌≤◌, ◌≡◌, ℕ, List, [], ◌∷◌, ◌++◌, map, length, refl, sym, ap, ◌∙◌, Bool, true, false, arith, append_assoc, Option, Some, if◌then◌else◌, None}
 use Rattle.wy_text.specs.declared.limit.LimitName.{LimitName}
 use Rattle.wy_text.specs.declared.limit.LimitName.TheVariants as limit
 use Rattle.wy_syntax.specs.declared.items.TypeDecl.{TypeDecl}
@@ -7,8 +7,9 @@ use Rattle.wy_names.specs.Declarations.{ModuleTree, ProgramTree, Declared}
 use Rattle.std.specs.Prelude.{max, nat_lt, ◌||◌}
 use Rattle.std.proofs.lemmas.Grind.{common_steps}
 use Rattle.wy_syntax.specs.Trees as t
+use Rattle.wy_names.specs.Atoms.{all_names}
 use Rattle.wy_names.specs.declared.counts.Most.{Most}
-use Rattle.wy_names.specs.Counts.{rhs_literals, stmt_literals, stmts_literals, part_literals, parts_literals, tail_literals, method_count, field_count, part_params, parts_params, some_above, signature_count, member_params, types_params, module_parts, program_parts, all_parts, counts_of, passes, first_passed, early_limits}
+use Rattle.wy_names.specs.Counts.{rhs_literals, stmt_literals, stmts_literals, part_literals, parts_literals, tail_literals, method_count, field_count, part_params, parts_params, some_above, signature_count, member_params, types_params, module_parts, program_parts, all_parts, counts_of, passes, first_passed, early_limits, limits, abstract_counts, type_counts, module_count, program_count}
 use Rattle.wy_names.specs.Most.{greatest, with_parts, rhs_most, stmt_most, stmts_most, part_most, parts_most, tail_most, all_most, with_members, types_most, module_params, modules_most, programs_most, with_parameters, no_counts, declared_most, grant_counts, first_over}
 
 pub greatest-append : (most : ℕ) (ms ns : List ℕ) → greatest most (ms ++ ns) ≡ greatest (greatest most ms) ns
@@ -186,3 +187,61 @@ module _ (d : Declared) where
       ∙ ap (λ (x : ℕ). first_over (four_counts (length d.types) (length d.modules) x m)) h
       ∙ ap (λ (x : Most). first_over (four_counts (length d.types) (length d.modules) (greatest 0 (grant_counts d.programs)) x)) k
       ∙ first_limit
+
+------------------------------------------------------------
+-- More limits behind others
+
+pub passed_early : (ls more : List LimitName) (d : Declared) (l : LimitName) → first_passed ls d ≡ Some l → first_passed (ls ++ more) d ≡ Some l
+passed_early [] more d l h = cc
+passed_early (k ∷ ls) more d l h =
+    let P : Bool → Type 0 = λ b. (if b then Some k else first_passed ls d) ≡ Some l → (if b then Some k else first_passed (ls ++ more) d) ≡ Some l in
+    (elim (passes k d) as P [ true ↦ λ g. g | false ↦ λ g. passed_early ls more d l g ]) h
+
+pub passed_late : (ls more : List LimitName) (d : Declared) → first_passed ls d ≡ None → first_passed (ls ++ more) d ≡ first_passed more d
+passed_late [] more d h = refl
+passed_late (k ∷ ls) more d h =
+    let P : Bool → Type 0 = λ b. (if b then Some k else first_passed ls d) ≡ None → (if b then Some k else first_passed (ls ++ more) d) ≡ first_passed more d in
+    (elim (passes k d) as P [ true ↦ λ g. cc | false ↦ λ g. passed_late ls more d g ]) h
+
+-- where no limit is passed none of them is
+first_is : (b : Bool) (k : LimitName) (r : Option LimitName) → (if b then Some k else r) ≡ None → b ≡ false
+first_is true k r h = cc
+first_is false k r h = refl
+
+pub few_types : (d : Declared) → first_passed early_limits d ≡ None → length d.types ≤ 1024
+few_types d h =
+    let none : nat_lt 1024 (length d.types) ≡ false = one_above d 1024 (length d.types) ∙ first_is (passes limit.Types d) limit.Types _ h in
+    grind (arith, common_steps, none)
+
+pub some_above-append : (n : ℕ) (xs ys : List ℕ) → some_above n (xs ++ ys) ≡ some_above n xs || some_above n ys
+some_above-append n [] ys = refl
+some_above-append n (x ∷ xs) ys =
+    ap (λ b. nat_lt n x || b) (some_above-append n xs ys) ∙ sym (either_order (nat_lt n x) (some_above n xs) (some_above n ys))
+
+-- the three kinds of counts of atoms
+pub atoms_above : (d : Declared) →
+    passes limit.Atoms d ≡
+    some_above 512 (abstract_counts d.types) ||
+    (some_above 512 (map (module_count (all_names d.types) d.modules (type_counts d.types)) d.modules) ||
+    some_above 512 (map (program_count (all_names d.types) d.modules (type_counts d.types)) d.programs))
+atoms_above d =
+    let ms = map (module_count (all_names d.types) d.modules (type_counts d.types)) d.modules in
+    let gs = map (program_count (all_names d.types) d.modules (type_counts d.types)) d.programs in
+    some_above-append 512 (abstract_counts d.types) (ms ++ gs) ∙ ap (λ b. some_above 512 (abstract_counts d.types) || b) (some_above-append 512 ms gs)
+
+-- by what each kind has been found to do
+pub atoms_found : (d : Declared) (names : List (List ℕ)) (counts : List ℕ) (a m g : Bool) → names ≡ all_names d.types → counts ≡ type_counts d.types →
+    a ≡ some_above 512 (abstract_counts d.types) → m ≡ some_above 512 (map (module_count names d.modules counts) d.modules) →
+    g ≡ some_above 512 (map (program_count names d.modules counts) d.programs) → a || (m || g) ≡ passes limit.Atoms d
+atoms_found d names counts a m g en ec ea em eg =
+    ap (λ (x : Bool). x || (m || g)) ea
+    ∙ ap (λ (x : Bool). some_above 512 (abstract_counts d.types) || (x || g)) (em
+    ∙ ap (λ (ns : List (List ℕ)). some_above 512 (map (module_count ns d.modules counts) d.modules)) en
+    ∙ ap (λ (cs : List ℕ). some_above 512 (map (module_count (all_names d.types) d.modules cs) d.modules)) ec)
+    ∙ ap (λ (x : Bool). some_above 512 (abstract_counts d.types) || (some_above 512 (map (module_count (all_names d.types) d.modules (type_counts d.types)) d.modules) || x)) (eg
+    ∙ ap (λ (ns : List (List ℕ)). some_above 512 (map (program_count ns d.modules counts) d.programs)) en
+    ∙ ap (λ (cs : List ℕ). some_above 512 (map (program_count (all_names d.types) d.modules cs) d.programs)) ec)
+    ∙ sym (atoms_above d)
+
+pub last_limit : (d : Declared) (b : Bool) → first_passed early_limits d ≡ None → passes limit.Atoms d ≡ b → first_passed limits d ≡ (if b then Some limit.Atoms else None)
+last_limit d b h e = passed_late early_limits (limit.Atoms ∷ []) d h ∙ ap (λ c. if c then Some limit.Atoms else None) e

@@ -1,16 +1,22 @@
 //! The limits of this stage (docs/LANGUAGE.md, "Limits").
 
-ghost use Rattle.std.specs.Prelude.{◌≡◌, ◌∷◌, [], ℕ, List, map, length, nat_lt, Some, None};
+ghost use Rattle.std.specs.Prelude.{◌≡◌, ◌∷◌, [], ℕ, List, map, length, ◌≤◌, IfOk, nat_lt, Some, None};
 ghost use Rattle.wy_text.specs.LimitName.{limit_number};
-ghost use Rattle.wy_names.specs.Declarations.{Declared};
-ghost use Rattle.wy_names.specs.Counts.{first_passed, early_limits};
+ghost use Rattle.wy_names.specs.Atoms.{all_names};
+ghost use Rattle.wy_names.specs.Declarations.{Declared, module_names, texts};
+ghost use Rattle.wy_names.specs.Counts.{first_passed, early_limits, limits, passes, type_counts};
 ghost use Rattle.wy_names.specs.Most.{greatest, types_most, module_params, modules_most, programs_most, grant_counts, first_over, declared_most};
 ghost use Rattle.wy_names.specs.Lent.{lent_type, lent_program, module_tree, lent_declared};
 
+use crate::atom_counts::{modules_pass, programs_pass, type_counts, types_pass};
 use crate::counts::{Most, module_most, tail_most, with_members};
 use crate::gathering::ModuleView;
+use crate::names_of::{module_table, type_table};
+use crate::tables::Table;
+use std::alloc::Global;
 use wy_syntax::items::{Program, TypeDecl};
 use wy_text::limit::LimitName;
+use wy_text::text::Memory;
 
 fn types_most(start: Most, types: &[&TypeDecl]) -> Most
     ensures { result ≡ types_most start (map lent_type types.now) }
@@ -110,4 +116,66 @@ pub fn early_limit(
         (LimitName::Fields, most.fields),
         (LimitName::Parameters, most.parameters),
     ])
+}
+
+/// Whether a type, a module or a program block has too many atoms.
+fn some_pass(
+    alloc: Global,
+    names: &Table,
+    numbers: &Table,
+    counts: &[usize],
+    types: &[&TypeDecl],
+    modules: &[ModuleView],
+    programs: &[&Program],
+) -> Result<bool, Memory>
+    requires few { length names.now ≤ 1028 }
+    requires named { names.now ≡ all_names (map lent_type types.now) }
+    requires numbered { numbers.now ≡ texts (module_names (map module_tree modules.now)) }
+    requires counted { counts.now ≡ type_counts (map lent_type types.now) }
+    ensures { IfOk result (λ b. b ≡ passes LimitName.Atoms (lent_declared types.now modules.now programs.now)) }
+{
+    if types_pass(types) {
+        return Ok(true);
+    }
+    if modules_pass(alloc, names, numbers, modules, counts)? {
+        return Ok(true);
+    }
+    programs_pass(alloc, names, numbers, modules, programs, counts)
+}
+
+/// Whether the number of atoms passes its limit somewhere.
+fn atoms_pass(
+    alloc: Global,
+    types: &[&TypeDecl],
+    modules: &[ModuleView],
+    programs: &[&Program],
+) -> Result<bool, Memory>
+    requires { length types.now ≤ 1024 }
+    ensures { IfOk result (λ b. b ≡ passes LimitName.Atoms (lent_declared types.now modules.now programs.now)) }
+{
+    let names = type_table(alloc, types)?;
+    let numbers = module_table(alloc, modules)?;
+    let counts = type_counts(alloc, types)?;
+    some_pass(alloc, &names, &numbers, &counts, types, modules, programs)
+}
+
+/// The first limit of this stage that is passed, where there is one (docs/LANGUAGE.md, "Limits").
+pub fn first_limit(
+    alloc: Global,
+    types: &[&TypeDecl],
+    modules: &[ModuleView],
+    programs: &[&Program],
+) -> Result<Option<LimitName>, Memory>
+    ensures { IfOk result (λ l. l ≡ first_passed limits (lent_declared types.now modules.now programs.now)) }
+{
+    match early_limit(types, modules, programs) {
+        Some(limit) => Ok(Some(limit)),
+        None => {
+            if atoms_pass(alloc, types, modules, programs)? {
+                Ok(Some(LimitName::Atoms))
+            } else {
+                Ok(None)
+            }
+        }
+    }
 }

@@ -192,7 +192,12 @@ pub fn module_owners(
     ensures { IfOk result (λ os. os ≡ (params_owners types.now (is_plain view.now.kind) view.now.params.now ++ map (use_owner types.now (map module_tree modules.now)) view.now.uses.now) ++ map (line_owner types.now (map module_tree modules.now)) view.now.lines.now) }
 {
     let mut owners = Items::new(alloc);
-    add_params(&mut owners, types, view.kind == ScopeKind::Plain, view.params)?;
+    add_params(
+        &mut owners,
+        types,
+        view.kind == ScopeKind::Plain,
+        view.params,
+    )?;
     add_uses(&mut owners, types, numbers, modules, view.uses)?;
     add_lines(&mut owners, types, numbers, modules, view.lines)?;
     Ok(owners)
@@ -212,7 +217,19 @@ pub fn program_owners(
 {
     let mut owners = Items::new(alloc);
     add_grants(&mut owners, types, program.grants.as_slice())?;
-    add_uses(&mut owners, types, numbers, modules, program.uses.as_slice())?;
-    add_lines(&mut owners, types, numbers, modules, program.lines.as_slice())?;
+    add_uses(
+        &mut owners,
+        types,
+        numbers,
+        modules,
+        program.uses.as_slice(),
+    )?;
+    add_lines(
+        &mut owners,
+        types,
+        numbers,
+        modules,
+        program.lines.as_slice(),
+    )?;
     Ok(owners)
 }
