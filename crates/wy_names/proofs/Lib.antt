@@ -1,3 +1,4 @@
+mod AtomsPut
 mod ExamplesCycles
 mod ExamplesPrograms
 mod ExamplesRefusals

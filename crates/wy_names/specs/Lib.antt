@@ -4,6 +4,7 @@ pub mod BodyRefusals
 pub mod Counts
 pub mod Cycles
 pub mod Declarations
+pub mod Leading
 pub mod Least
 pub mod Lent
 pub mod Lines

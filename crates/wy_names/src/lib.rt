@@ -3,6 +3,7 @@
 #![tactic(auto)]
 
 mod atom_counts;
+pub mod atoms;
 pub mod counts;
 pub mod gathering;
 pub mod limits;
