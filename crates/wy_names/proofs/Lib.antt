@@ -6,5 +6,6 @@ mod ExamplesValues
 mod Firsts
 mod Leasts
 mod Mosts
+mod Searching
 mod Sources
 mod Turns

@@ -1,5 +1,5 @@
 -- Which modules lead to which, by their numbers alone.
-use Rattle.std.specs.Prelude.{◌≡◌, ℕ, List, [], ◌∷◌, ◌++◌, map, slice_index_or, option_to_list}
+use Rattle.std.specs.Prelude.{◌≡◌, ℕ, ◌<◌, List, [], ◌∷◌, ◌++◌, map, length, slice_index_or, option_to_list}
 use Rattle.wy_syntax.specs.declared.types.Name.{Name}
 use Rattle.wy_effects.specs.Members.{In, Apart}
 use Rattle.wy_names.specs.Declarations.{ModuleTree, module_number}
@@ -32,3 +32,7 @@ pub record Adds (old others new : List ℕ) : Type 0 where
   pub all : (k : ℕ) → In k others → In k new
   pub only : (k : ℕ) → In k more → In k others
   pub apart : Apart old → Apart new
+
+-- no module leads out of their number
+abbrev pub LeadsInside : List (List ℕ) → Type 0
+LeadsInside edges = (k j : ℕ) → In j (next_from edges k) → j < length edges

@@ -5,6 +5,7 @@
 mod atom_counts;
 pub mod atoms;
 pub mod counts;
+mod cycles;
 pub mod gathering;
 pub mod limits;
 pub mod names_of;
