@@ -1,4 +1,5 @@
 mod AtomsPut
+mod Cycling
 mod ExamplesCycles
 mod ExamplesPrograms
 mod ExamplesRefusals

@@ -14,3 +14,5 @@ pub mod owners;
 pub mod refusal;
 pub mod scoping;
 pub mod tables;
+#[cfg(test)]
+mod tests;
