@@ -1,0 +1,12 @@
+mod AtomsPut
+mod Cycling
+mod ExamplesCycles
+mod ExamplesPrograms
+mod ExamplesRefusals
+mod ExamplesValues
+mod Firsts
+mod Leasts
+mod Mosts
+mod Searching
+mod Sources
+mod Turns

@@ -1,0 +1,15 @@
+pub mod Atoms
+pub mod Bodies
+pub mod BodyRefusals
+pub mod Counts
+pub mod Cycles
+pub mod Declarations
+pub mod Leading
+pub mod Least
+pub mod Lent
+pub mod Lines
+pub mod Most
+pub mod Names
+pub mod Scopes
+pub mod Sight
+pub mod TypeUses

@@ -1,0 +1,53 @@
+//! The names of types and modules as tables.
+
+ghost use Rattle.std.specs.Prelude.{◌≡◌, ◌++◌, ◌∷◌, [], List, map, IfOk, OnOk};
+ghost use Rattle.wy_names.specs.Declarations.{module_names, texts};
+ghost use Rattle.wy_names.specs.Atoms.{all_names, primitive_names};
+ghost use Rattle.wy_names.specs.Lent.{lent_type, module_tree};
+
+use crate::gathering::ModuleView;
+use crate::tables::Table;
+use std::alloc::Global;
+use wy_syntax::items::TypeDecl;
+use wy_text::text::{Memory, Text, from_bytes};
+
+fn add_name(alloc: Global, names: &mut Vec<Text>, name: &str) -> Result<(), Memory>
+    ensures { OnOk result (names.new.items ≡ names.old.items ++ name.now ∷ []) }
+{
+    names.push(from_bytes(alloc, name.as_bytes())?)?;
+    Ok(())
+}
+
+/// The names of the primitive types, in the order of their numbers.
+pub fn primitive_names(alloc: Global) -> Result<Vec<Text>, Memory>
+    ensures { IfOk result (λ ns. ns.items ≡ primitive_names) }
+{
+    let mut names = Vec::new(alloc);
+    add_name(alloc, &mut names, "Console")?;
+    add_name(alloc, &mut names, "Folder")?;
+    add_name(alloc, &mut names, "Clock")?;
+    add_name(alloc, &mut names, "Random")?;
+    Ok(names)
+}
+
+/// The names of all types, by their numbers.
+pub fn type_table(alloc: Global, types: &[&TypeDecl]) -> Result<Table, Memory>
+    ensures { IfOk result (λ t. t ≡ all_names (map lent_type types.now)) }
+{
+    let mut names = primitive_names(alloc)?;
+    for decl in types {
+        names.push(decl.name.text.copy()?)?;
+    }
+    Table::new(alloc, names)
+}
+
+/// The names of all modules, by their numbers.
+pub fn module_table(alloc: Global, modules: &[ModuleView]) -> Result<Table, Memory>
+    ensures { IfOk result (λ t. t ≡ texts (module_names (map module_tree modules.now))) }
+{
+    let mut names = Vec::new(alloc);
+    for view in modules {
+        names.push(view.name.text.copy()?)?;
+    }
+    Table::new(alloc, names)
+}

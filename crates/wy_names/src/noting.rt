@@ -1,0 +1,68 @@
+//! The refusal that comes first.
+
+ghost use Rattle.std.specs.Prelude.{◌≡◌, ◌↔◌, IsTrue, Some, map};
+ghost use Rattle.wy_syntax.specs.Nodes.{is_before};
+ghost use Rattle.wy_names.specs.Least.{cause_number, same_place, comes_before, lesser};
+
+use crate::refusal::{Cause, Refusal};
+use wy_text::fault::Place;
+
+/// Whether a place stands before another: files come in order, then lines, then columns.
+fn is_before(a: Place, b: Place) -> bool
+    ensures { result ≡ is_before a b }
+{
+    if a.file == b.file {
+        if a.line == b.line {
+            a.column < b.column
+        } else {
+            a.line < b.line
+        }
+    } else {
+        a.file < b.file
+    }
+}
+
+fn same_place(a: Place, b: Place) -> bool
+    ensures { result ≡ same_place a b }
+{
+    a.file == b.file && (a.line == b.line && a.column == b.column)
+}
+
+/// The order of causes at one place.
+fn cause_number(cause: Cause) -> u8
+    ensures { result ≡ cause_number cause }
+{
+    match cause {
+        Cause::Unknown => 1,
+        Cause::Twice => 2,
+        Cause::Cycle => 3,
+        Cause::TwoPrograms => 5,
+        Cause::MemberUndefined => 6,
+        Cause::MemberUnknown => 7,
+    }
+}
+
+/// Whether a refusal comes before another: at a lesser place, or at one place with a lesser number.
+/// It takes no memory.
+pub fn comes_before(a: Refusal, b: Refusal) -> bool
+    ensures { result ≡ comes_before a b }
+{
+    is_before(a.place, b.place)
+        || (same_place(a.place, b.place) && cause_number(a.cause) < cause_number(b.cause))
+}
+
+/// Keeps the refusal that comes first, of the one so far and another. It takes no memory.
+pub fn note(least: &mut Option<Refusal>, new: Refusal)
+    ensures { least.new ≡ Some (lesser least.old new) }
+{
+    *least = match *least {
+        None => Some(new),
+        Some(old) => {
+            if comes_before(new, old) {
+                Some(new)
+            } else {
+                Some(old)
+            }
+        }
+    };
+}

@@ -1,0 +1,43 @@
+use wy_effects::set::EffSet;
+use wy_text::list::Items;
+use wy_text::text::Text;
+use wy_types::code::Binding;
+
+/// A name that stands for a set of atoms: a member of a type, or what a module defines for one.
+#[derive(Debug, Drop)]
+pub struct Meaning {
+    pub name: Text,
+    /// Whether it is an abstract member, which stands for itself alone.
+    pub is_abstract: bool,
+    pub atoms: EffSet,
+}
+
+/// A type's name and its effect members, in their order. The atoms are its abstract members, by their numbers.
+#[derive(Debug, Drop)]
+pub struct Head {
+    pub name: Text,
+    pub members: Items<Meaning>,
+}
+
+/// What a scope's own name opens for effects: the members of the type of this number, nothing, or what
+/// is not known, where its type or its module is not declared.
+#[derive(Clone, Copy, Debug, PartialEq, Eq)]
+pub enum Opening {
+    Members { decl: u16 },
+    Nothing,
+    Missing,
+}
+
+/// One of a scope's own names, as the owner of effects.
+#[derive(Debug, Drop)]
+pub struct Owner {
+    pub name: Text,
+    pub opening: Opening,
+}
+
+/// A name in sight in a body, and what it stands for.
+#[derive(Debug, Drop)]
+pub struct Entry {
+    pub name: Text,
+    pub bound: Binding,
+}
