@@ -1,3 +1,10 @@
 pub mod Bounds
+pub mod Eval
 pub mod Literals
 pub mod Meaning
+pub mod Operating
+pub mod Performing
+pub mod Results
+pub mod Start
+pub mod Starts
+pub mod Values
