@@ -1,5 +1,5 @@
 -- The meaning of whole programs: their events, ends and counts.
-use Rattle.std.proofs.Common.{codes, ◌≡◌, ℕ, pos, List, [], ◌∷◌, ◌++◌, Option, Some, None, true, refl}
+use Rattle.std.proofs.Common.{codes, ◌≡◌, ℕ, pos, List, [], ◌∷◌, ◌++◌, Option, Some, None, true, false, refl}
 use Rattle.std.specs.Fmt.{digits}
 use Rattle.wy_types.specs.Program.{Program}
 use Rattle.wy_device.specs.Operators.{operate}
@@ -17,7 +17,7 @@ use Rattle.wy_meaning.specs.Results.{give, stop, node, tick, told, settle, added
 use Rattle.wy_meaning.specs.Start.{Course, fill_all, begin, meaning}
 use Rattle.wy_meaning.specs.Starts.{Started, starts_of}
 use Rattle.wy_meaning.proofs.Programs.{at, no_tapes, console_tape, folder_tape, entered, did, left}
-use Rattle.wy_meaning.proofs.Rows.{empty, hello, logger, logger_started, kept_callback, kept_callback_started, readonly, readonly_started, escaping_object, escaping_started, overflow, zero_divisor, least_remainder, deep, deep_started, receiver_first, receiver_first_started, three_files, three_files_started, counter, nested, nested_started, bad_name}
+use Rattle.wy_meaning.proofs.Rows.{empty, hello, logger, logger_started, kept_callback, kept_callback_started, readonly, readonly_started, escaping_object, escaping_started, overflow, zero_divisor, least_remainder, deep, deep_started, receiver_first, receiver_first_started, three_files, three_files_started, counter, nested, nested_started, bad_name, samples}
 
 abbrev means : Program → List Started → Tapes → Course
 means p started tapes = meaning 10 p (starts_of p started) tapes
@@ -208,3 +208,13 @@ nested_is = refl
 bad_name_is : means bad_name [] (folder_tape (Some (answer.Bytes []) ∷ [])) ≡ record { end = Trap BadName (at 4 18); events = entered (codes "main") (codes "run") ∷ []; nodes = 5; steps = 3 }
 unfolding give stop node tick told settle added bind whole eval eval_value eval_all eval_block open_calls perform operate fill_all begin meaning
 bad_name_is = refl
+
+samples_is : means (samples true) [] (console_tape (done ∷ done ∷ []))
+    ≡ record { end = Ended; events = entered (codes "main") (codes "run") ∷ wrote (codes "bcA98-3") ∷ wrote (codes "y") ∷ left ∷ []; nodes = 32; steps = 36 }
+unfolding digits give stop node tick told settle added bind whole eval eval_value eval_all eval_block open_calls perform operate fill_all begin meaning
+samples_is = refl
+
+samples_trap : means (samples false) [] (console_tape (done ∷ done ∷ []))
+    ≡ record { end = Trap ZeroDivisor (at 7 9); events = entered (codes "main") (codes "run") ∷ wrote (codes "bcA98-3") ∷ []; nodes = 33; steps = 30 }
+unfolding digits give stop node tick told settle added bind whole eval eval_value eval_all eval_block open_calls perform operate fill_all begin meaning
+samples_trap = refl

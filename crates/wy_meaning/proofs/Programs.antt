@@ -1,4 +1,4 @@
--- Words to write programs with. Types, effects and places that no run looks at are left out.
+-- Words to write programs with. Declared types, effects, and places that no run looks at are left out.
 use Rattle.std.proofs.Common.{ℕ, ℤ, Bool, false, List, [], ◌∷◌, Option, None, map}
 use Rattle.wy_text.specs.declared.fault.Place.{Place}
 use Rattle.wy_types.specs.declared.types.TypeRef.{TypeRef}
@@ -15,6 +15,7 @@ use Rattle.wy_types.specs.declared.resolved.ScopeKind.TheVariants as scope
 use Rattle.wy_types.specs.declared.linked.Actual.{Actual}
 use Rattle.wy_types.specs.declared.linked.Actual.TheVariants as actual
 use Rattle.wy_types.specs.Code.{Expr, Number, Quoted, Truth, Nothing, This, Name, Call, Plain, Values, none, more, Block, Last, Then, Val}
+use Rattle.wy_types.specs.Primitive.{primitive_types}
 use Rattle.wy_types.specs.Program.{Program, Scope, Body, Init, Run}
 use Rattle.wy_device.specs.Tapes.{Tapes}
 use Rattle.wy_device.specs.declared.operation.Answer.{Answer}
@@ -164,7 +165,7 @@ abbrev pub bare : Literal
 bare = literal [] []
 
 abbrev pub program : List Scope → Program
-program scopes = record { declarations = []; scopes = scopes }
+program scopes = record { declarations = primitive_types; scopes = scopes }
 
 abbrev pub started : List ℕ → ℕ → List Actual → Started
 started name scope actuals = record { name = name; scope = scope; actuals = actuals }

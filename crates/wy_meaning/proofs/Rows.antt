@@ -1,13 +1,15 @@
 -- Programs of the language, each with its instances in start order.
-use Rattle.std.proofs.Common.{codes, ℕ, ℤ, pos, negsuc, ◌-◌, ◌^◌, List, [], ◌∷◌}
-use Rattle.wy_types.specs.declared.code.BinaryOperator.TheVariants.{Divide, Remainder, Join, Equal}
-use Rattle.wy_types.specs.declared.code.TextOperator.TheVariants.{Size, Show}
+use Rattle.std.proofs.Common.{codes, ℕ, ℤ, pos, negsuc, ◌-◌, ◌^◌, Bool, false, List, [], ◌∷◌}
+use Rattle.wy_types.specs.declared.code.BinaryOperator.TheVariants.{Divide, Remainder, Join, Equal, And, Or}
+use Rattle.wy_types.specs.declared.code.TextOperator.TheVariants.{Size, Part, Code, Byte, Show}
 use Rattle.wy_types.specs.declared.code.Binding.TheVariants as to
 use Rattle.wy_types.specs.declared.code.Variable.TheVariants.{Parameter, Local}
-use Rattle.wy_types.specs.Code.{Expr, Binary, TextCall, New, Assign, Plain, If, none, Block, Last}
+use Rattle.wy_types.specs.Code.{Expr, Unary, Binary, TextCall, New, Ascribe, Assign, Plain, If, none, Block, Last}
+use Rattle.wy_types.specs.declared.types.TypeRef.TheVariants.{Unit as UnitType}
+use Rattle.wy_types.specs.declared.code.UnaryOperator.TheVariants.{Negate, Not}
 use Rattle.wy_types.specs.Program.{Program, Body}
 use Rattle.wy_meaning.specs.Starts.{Started}
-use Rattle.wy_meaning.proofs.Programs.{at, somewhere, number, quoted, nothing, this, own, field, parameter, local, values, call_at, call, last, then, val, method, one, two, literal, grant, formal, used, line, imported, unit, main, bare, program, started, handed_grant, handed_instance}
+use Rattle.wy_meaning.proofs.Programs.{at, somewhere, number, quoted, truth, nothing, this, own, field, parameter, local, values, call_at, call, last, then, val, method, one, two, literal, grant, formal, used, line, imported, unit, main, bare, program, started, handed_grant, handed_instance}
 
 ------------------------------------------------------------
 -- `()`, and one write
@@ -208,3 +210,30 @@ nested_started = started (codes "m") 0 (handed_grant 0 ∷ []) ∷ []
 -- a file is read by a name that is no file's
 abbrev pub bad_name : Program
 bad_name = program (main (grant (codes "disk") 1 ∷ []) (bare ∷ []) (val 0 (call_at (at 4 18) (own 0) (codes "read") (quoted (codes "../x") ∷ [])) (last nothing)) [] ∷ [])
+
+------------------------------------------------------------
+-- The operations on texts, and `&&`, `||`, `!`, a choice and an ascription
+
+abbrev pub show : Expr → Expr
+show e = TextCall somewhere Show (values (e ∷ []))
+
+-- `text_part("abcd", 1, 3) ++ text_byte(65) ++ text_show(text_code("ab", 1)) ++ text_show(-text_size("abc"))`
+abbrev pub text_sample : Expr
+text_sample =
+    join (join (join (TextCall somewhere Part (values (quoted (codes "abcd") ∷ number (pos 1) ∷ number (pos 3) ∷ [])))
+    (TextCall somewhere Byte (values (number (pos 65) ∷ []))))
+    (show (TextCall somewhere Code (values (quoted (codes "ab") ∷ number (pos 1) ∷ [])))))
+    (show (Unary somewhere Negate (TextCall somewhere Size (values (quoted (codes "abc") ∷ [])))))
+
+-- `if (b && !false) || 1 / 0 == 1 then "y" else "n"`, as the value of an ascription
+abbrev pub choice_sample : Bool → Expr
+choice_sample b =
+    Ascribe somewhere (If somewhere (Binary somewhere Or (Binary somewhere And (truth b) (Unary somewhere Not (truth false)))
+    (Binary somewhere Equal (Binary (at 7 9) Divide (number (pos 1)) (number (pos 0))) (number (pos 1))))
+    (last (quoted (codes "y"))) (last (quoted (codes "n")))) UnitType
+
+abbrev pub samples : Bool → Program
+samples b = program (main (grant (codes "console") 0 ∷ []) (bare ∷ []) (
+    val 0 text_sample (
+    then (call (own 0) (codes "write") (local 0 ∷ [])) (
+    last (call (own 0) (codes "write") (choice_sample b ∷ []))))) [] ∷ [])

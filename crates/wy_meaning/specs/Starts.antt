@@ -119,9 +119,16 @@ abbrev pub grant_of_kind : List ℕ → Option Kind → Option GrantIs
 grant_of_kind name None = None
 grant_of_kind name (Some kind) = Some (record { name = name; kind = kind })
 
+abbrev pub grant_from : Origin → OwnName → Option GrantIs
+grant_from origin.Grant n = grant_of_kind n.name (kind_of_type n.typ)
+grant_from (origin.Parameter bare) n = None
+grant_from (origin.Use m) n = None
+grant_from (origin.Instance m arguments) n = None
+grant_from (origin.Import m arguments bound) n = None
+
 abbrev pub grant_named : Option OwnName → Option GrantIs
 grant_named None = None
-grant_named (Some n) = grant_of_kind n.name (kind_of_type n.typ)
+grant_named (Some n) = grant_from n.origin n
 
 -- the grant of a number: grants are the first own names of the program
 abbrev pub grant_of : Program → ℕ → Option GrantIs

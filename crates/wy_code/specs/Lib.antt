@@ -1,0 +1,4 @@
+pub mod Machine
+pub mod Operations
+pub mod Running
+pub mod Stores

@@ -1,0 +1,2 @@
+mod ExamplesCode
+mod ExamplesRuns
