@@ -1,5 +1,7 @@
+pub mod Bounding
 mod Examples
 mod ExamplesForms
+mod ExamplesLines
 mod ExamplesRows
 pub mod Programs
 pub mod Rows

@@ -1,7 +1,10 @@
 pub mod Bounds
+pub mod EndLines
 pub mod Eval
+pub mod EventLines
 pub mod Literals
 pub mod Meaning
+pub mod OpenCalls
 pub mod Operating
 pub mod Performing
 pub mod Results
