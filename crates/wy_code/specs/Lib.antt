@@ -1,3 +1,4 @@
+pub mod Laws
 pub mod Machine
 pub mod Operations
 pub mod Running

@@ -4,3 +4,4 @@
 
 pub mod code;
 pub mod instruction;
+pub mod laws;

@@ -1,4 +1,8 @@
+pub mod Answering
 pub mod Bounding
+pub mod Costs
+pub mod Extending
+pub mod Longer
 mod Examples
 mod ExamplesForms
 mod ExamplesLines

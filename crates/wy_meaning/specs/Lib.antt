@@ -1,7 +1,9 @@
+pub mod Answers
 pub mod Bounds
 pub mod EndLines
 pub mod Eval
 pub mod EventLines
+pub mod Laws
 pub mod Literals
 pub mod Meaning
 pub mod OpenCalls
