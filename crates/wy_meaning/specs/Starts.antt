@@ -6,7 +6,8 @@ use Rattle.wy_device.specs.declared.operation.Kind.TheVariants as kind
 use Rattle.wy_types.specs.declared.types.TypeRef.{TypeRef}
 use Rattle.wy_types.specs.declared.types.TypeRef.TheVariants.{Int, Bool, Text, Unit as Nothing, Named, At, Own}
 use Rattle.wy_types.specs.declared.linked.Actual.{Actual}
-use Rattle.wy_types.specs.declared.linked.Actual.TheVariants.{Grant, Instance}
+use Rattle.wy_types.specs.declared.linked.Actual.TheVariants as actual
+use Rattle.wy_types.specs.declared.linked.Instance.{Instance}
 use Rattle.wy_types.specs.declared.resolved.Literal.{Literal}
 use Rattle.wy_types.specs.declared.resolved.OwnName.{OwnName}
 use Rattle.wy_types.specs.declared.resolved.Origin.{Origin}
@@ -39,11 +40,11 @@ numbered_from x name (s ∷ ss) = if bytes_eq s.name name then x else numbered_f
 -- an own name of the program: the grant of its number; the instance of a line, by its name; the instance of a used
 -- module, which is named `pure` and the module
 abbrev pub main_actual : List Started → ℕ → List ℕ → Origin → Actual
-main_actual started k name (origin.Parameter bare) = Grant k
-main_actual started k name origin.Grant = Grant k
-main_actual started k name (origin.Use m) = Instance (numbered_from 0 (codes "pure " ++ name) started)
-main_actual started k name (origin.Instance m arguments) = Instance (numbered_from 0 name started)
-main_actual started k name (origin.Import m arguments bound) = Instance (numbered_from 0 name started)
+main_actual started k name (origin.Parameter bare) = actual.Grant k
+main_actual started k name origin.Grant = actual.Grant k
+main_actual started k name (origin.Use m) = actual.Instance (numbered_from 0 (codes "pure " ++ name) started)
+main_actual started k name (origin.Instance m arguments) = actual.Instance (numbered_from 0 name started)
+main_actual started k name (origin.Import m arguments bound) = actual.Instance (numbered_from 0 name started)
 
 abbrev pub main_actuals : List Started → ℕ → List OwnName → List Actual
 main_actuals started k [] = []
@@ -68,6 +69,10 @@ starts_of p started = record {
     actuals = main_actuals started 0 (scope_names (slice_get p.scopes (last_scope p.scopes)));
   };
 }
+
+-- an instance of a start list that has ground sets too
+abbrev pub started_of : Instance → Started
+started_of i = record { name = i.name; scope = i.scope; actuals = i.arguments }
 
 ------------------------------------------------------------
 -- Looking up
