@@ -1,2 +1,3 @@
 pub mod Continuing
 mod Examples
+pub mod Spending

@@ -16,3 +16,6 @@ MoreStepsContinue code = (n k more : ℕ) (tapes : Tapes) → IsContinued (machi
 
 abbrev pub FewStepsAreTaken : Code → Type 0
 FewStepsAreTaken code = (n k : ℕ) (tapes : Tapes) → (machine code n k tapes).taken ≤ k
+
+abbrev pub SpentTakesAll : Code → Type 0
+SpentTakesAll code = (n k : ℕ) (tapes : Tapes) → (machine code n k tapes).end ≡ Spent → (machine code n k tapes).taken ≡ k
