@@ -7,7 +7,7 @@ use Rattle.wy_lower.specs.Lowering.{bodies_code, scopes_bodies, lowered}
 use Rattle.wy_lower.specs.Laws.{HasCountedBodies}
 
 module _ (p : Program) (starts : Starts) where
-  methods_counted : (s : Scope) (k : ℕ) (bs : List Body) → length (bodies_code p starts s k bs) ≡ length bs
+  pub methods_counted : (s : Scope) (k : ℕ) (bs : List Body) → length (bodies_code p starts s k bs) ≡ length bs
   methods_counted s k [] = refl
   methods_counted s k (b ∷ bs) = let rest = methods_counted s (k + 1) bs in omega arith
 
