@@ -4,4 +4,8 @@ pub mod Ends
 pub mod Events
 pub mod MemConsole
 pub mod Operation
+pub mod Operators
+pub mod Requests
+pub mod RunEnds
 pub mod Tapes
+pub mod Traps

@@ -1,2 +1,12 @@
+pub mod Answering
+pub mod Bounding
+pub mod Costs
+pub mod Extending
+pub mod Longer
 mod Examples
+mod ExamplesForms
+mod ExamplesLines
+mod ExamplesRows
+pub mod Programs
+pub mod Rows
 pub mod Tapings

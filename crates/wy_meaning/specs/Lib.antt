@@ -1,3 +1,15 @@
+pub mod Answers
 pub mod Bounds
+pub mod EndLines
+pub mod Eval
+pub mod EventLines
+pub mod Laws
 pub mod Literals
 pub mod Meaning
+pub mod OpenCalls
+pub mod Operating
+pub mod Performing
+pub mod Results
+pub mod Start
+pub mod Starts
+pub mod Values

@@ -1,9 +1,46 @@
 ghost use Rattle.std.specs.Prelude.{List, ℕ};
+ghost use Rattle.wy_text.specs.declared.fault.AtomName.{AtomName};
+ghost use Rattle.wy_device.specs.declared.deed.Event.{Event};
+ghost use Rattle.wy_device.specs.Tapes.{Tapes};
+ghost use Rattle.wy_types.specs.Program.{Program};
+ghost use Rattle.wy_meaning.specs.Answers.{TakesWhatFits};
+ghost use Rattle.wy_meaning.specs.Bounds.{Call};
+ghost use Rattle.wy_meaning.specs.Laws.{IsCheap, ExtendsOnly};
+ghost use Rattle.wy_meaning.specs.Start.{meaning};
+ghost use Rattle.wy_meaning.specs.Starts.{Starts};
 ghost use Rattle.wy_meaning.specs.Literals.{literal_meaning};
 ghost use Rattle.wy_meaning.specs.Meaning.{GoesOn};
+ghost use Rattle.wy_meaning.specs.OpenCalls.{IsSaidOfEachDeed, BoundsBeginnings};
 
 /// Longer tapes only continue what a program that writes literals does: over tapes that begin with some
 /// answers, its events begin with those over just these answers.
 pub fn longer_tapes_continue()
     ensures { (grant : List ℕ) (texts : List (List ℕ)) → GoesOn (literal_meaning grant texts) }
+{}
+
+/// Events are bounded by an authority exactly where each deed among them is in the authority of every
+/// call that is open at it.
+pub fn bounded_is_said_of_each_deed()
+    ensures { (authority : Call → List AtomName) (events : List Event) → IsSaidOfEachDeed authority events }
+{}
+
+/// What a run does up to some point is bounded where all that it does is.
+pub fn beginnings_are_bounded()
+    ensures { (authority : Call → List AtomName) → BoundsBeginnings authority }
+{}
+
+/// What a program means takes at most four instructions for each node that is evaluated.
+pub fn nodes_cost_four()
+    ensures { (n : ℕ) (p : Program) (s : Starts) (tapes : Tapes) → IsCheap (meaning n p s tapes) }
+{}
+
+/// Longer tapes only extend a meaning that waits: over tapes that begin with some answers, one that does
+/// not wait over just these answers is the same, and one that waits has the same events at first.
+pub fn answers_extend_only()
+    ensures { (n : ℕ) (p : Program) (s : Starts) → ExtendsOnly n p s }
+{}
+
+/// A run takes an answer exactly where a device may give it to the operation.
+pub fn fitting_answers_are_taken()
+    ensures { TakesWhatFits }
 {}

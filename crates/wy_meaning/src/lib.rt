@@ -1,5 +1,9 @@
 //! What a program means: its events over the answers of the devices, how it ends, and what it is to keep
-//! within an authority. The definitions are in specs/, and the laws about them in proofs/.
+//! within an authority. The definitions are in specs/, and the laws about them in proofs/. The line of
+//! an event is code too.
 #![tactic(auto)]
 
+pub mod event_lines;
 pub mod laws;
+#[cfg(test)]
+mod tests;

@@ -1,0 +1,3 @@
+pub mod Continuing
+mod Examples
+pub mod Spending

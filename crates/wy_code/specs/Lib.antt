@@ -1,0 +1,5 @@
+pub mod Laws
+pub mod Machine
+pub mod Operations
+pub mod Running
+pub mod Stores

@@ -1,0 +1,24 @@
+-- Laws of the meaning. (docs/LANGUAGE.md, "Counting")
+use Rattle.std.specs.Prelude.{◌≡◌, ◌≢◌, ◌≤◌, ◌*◌, ℕ, List, ◌++◌}
+use Rattle.wy_types.specs.Program.{Program}
+use Rattle.wy_device.specs.declared.deed.Event.{Event}
+use Rattle.wy_device.specs.RunEnds.{Waiting}
+use Rattle.wy_device.specs.Tapes.{Tapes, spliced}
+use Rattle.wy_meaning.specs.Start.{Course, meaning}
+use Rattle.wy_meaning.specs.Starts.{Starts}
+
+-- a node costs at most four instructions
+abbrev pub IsCheap : Course → Type 0
+IsCheap c = c.steps ≤ 4 * c.nodes
+
+-- the events of the second course begin with those of the first
+abbrev pub IsContinued : Course → Course → Type 0
+IsContinued c d = (later : List Event) × (d.events ≡ c.events ++ later)
+
+-- tapes with more answers behind those that they have: a course that waits goes on, and any other one stays as it is
+pub record IsExtended (c d : Course) : Type 0 where
+  pub waits : c.end ≡ Waiting → IsContinued c d
+  pub ends : c.end ≢ Waiting → d ≡ c
+
+abbrev pub ExtendsOnly : ℕ → Program → Starts → Type 0
+ExtendsOnly n p s = (tapes more : Tapes) → IsExtended (meaning n p s tapes) (meaning n p s (spliced tapes more))
