@@ -1,2 +1,9 @@
+pub mod Acceptance
+pub mod Derivations
+pub mod Failing
+pub mod Nodes
+pub mod Operators
 pub mod Polarity
+pub mod Readings
 pub mod Tables
+pub mod Typing

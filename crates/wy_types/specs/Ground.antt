@@ -122,22 +122,22 @@ abbrev pub instance_of : (name : List ℕ) (scope : ℕ) (arguments : List Actua
 instance_of name scope arguments bound ground = record { name = name; scope = scope; arguments = arguments; bound = bound; ground = ground }
 
 module _ (p : Program) where
-  -- a parameter's atom stands for the member of the argument's type: its set in the scope where the line stands, with that scope's ground sets put in
-  abbrev pub parameter_sets : List OwnName → List (List ℕ) → Origin → OwnName → ℕ → List (List ℕ)
-  parameter_sets outer sets (Parameter true) n a =
-      map (λ member. replace sets (set_or_empty (member_set p (type_of (slice_get outer a)) member))) (members_of p n.typ)
-  parameter_sets outer sets origin n a = []
+  -- a bare parameter's atoms stand for the members of the argument's type: their sets in the scope where the line stands, whose own names are given
+  abbrev pub argument_sets : List OwnName → Origin → OwnName → ℕ → List (List ℕ)
+  argument_sets outer (Parameter true) n a = map (λ member. set_or_empty (member_set p (type_of (slice_get outer a)) member)) (members_of p n.typ)
+  argument_sets outer origin n a = []
 
-  abbrev pub parameters_sets : List OwnName → List (List ℕ) → List OwnName → List ℕ → List (List ℕ)
-  parameters_sets outer sets (n ∷ ns) (a ∷ arguments) = parameter_sets outer sets n.origin n a ++ parameters_sets outer sets ns arguments
-  parameters_sets outer sets ns arguments = []
+  -- the same for all parameters, which stand first among a module's own names
+  abbrev pub arguments_sets : List OwnName → List OwnName → List ℕ → List (List ℕ)
+  arguments_sets outer (n ∷ ns) (a ∷ arguments) = argument_sets outer n.origin n a ++ arguments_sets outer ns arguments
+  arguments_sets outer ns arguments = []
 
   -- a module whose parameters are handed a line's arguments
   abbrev pub handed : List OwnName → Visited → ℕ → List ℕ → Visited
   handed outer v m arguments = record {
     started = v.started;
     actuals = map (λ a. slice_index_or v.actuals a (actual.Grant 0)) arguments;
-    sets = parameters_sets outer v.sets (names_of (slice_get p.scopes m)) arguments;
+    sets = map (replace v.sets) (arguments_sets outer (names_of (slice_get p.scopes m)) arguments);
   }
 
   -- what a module defines for the members of its type, with ground sets put in for its atoms
