@@ -191,13 +191,13 @@ names = (main_at bound).names
 abbrev handed_disk : Handed
 handed_disk = record { parameter = own (at 8 21) (codes "disk") folder (Parameter true); argument = 0 }
 
-app_line : LineHolds p 2 names (Instance 0 (0 ∷ []))
-app_line = record {
+pub app_line : (bound : List ℕ) → LineHolds (plug_program bound) 2 (main_at bound).names (Instance 0 (0 ∷ []))
+app_line bound = record {
   resource = (app, refl, refl);
   numbers = refl;
-  members = arguments_hold p 2 names (HasMembers p 2 names) 0 (0 ∷ []) (members_hold p 2 names handed_disk ((_, refl), ((_, refl), ((_, refl), ((_, refl), tt)))), tt);
-  types = arguments_hold p 2 names (IsArgument p 2 names ((0 ∷ []) ∷ (1 ∷ []) ∷ (2 ∷ []) ∷ (3 ∷ []) ∷ [])) 0 (0 ∷ [])
-      (annotated_subtype (methods_of p 2) ((folder, folder) ∷ (Text, Text) ∷ (Bool, Bool) ∷ (Nothing, Nothing) ∷ []) folder folder refl refl, tt);
+  members = arguments_hold (plug_program bound) 2 (main_at bound).names (HasMembers (plug_program bound) 2 (main_at bound).names) 0 (0 ∷ []) (members_hold (plug_program bound) 2 (main_at bound).names handed_disk ((_, refl), ((_, refl), ((_, refl), ((_, refl), tt)))), tt);
+  types = arguments_hold (plug_program bound) 2 (main_at bound).names (IsArgument (plug_program bound) 2 (main_at bound).names ((0 ∷ []) ∷ (1 ∷ []) ∷ (2 ∷ []) ∷ (3 ∷ []) ∷ [])) 0 (0 ∷ [])
+      (annotated_subtype (methods_of (plug_program bound) 2) ((folder, folder) ∷ (Text, Text) ∷ (Bool, Bool) ∷ (Nothing, Nothing) ∷ []) folder folder refl refl, tt);
 }
 
 abbrev handler : TypeRef
@@ -224,7 +224,7 @@ plug_accepted = record {
     record { pure = tt; bodies = app_derives; seal = app_sealed; lines = lines_hold p 0 app.names (tt, tt) },
     (
       record { pure = tt; bodies = plug_derives; seal = plug_sealed; lines = lines_hold p 1 plug.names (tt, tt) },
-      (record { pure = tt; bodies = main_derives; seal = tt; lines = lines_hold p 2 names (tt, (app_line, (plug_line, tt))) }, tt),
+      (record { pure = tt; bodies = main_derives; seal = tt; lines = lines_hold p 2 names (tt, (app_line bound, (plug_line, tt))) }, tt),
     ),
   );
 }
