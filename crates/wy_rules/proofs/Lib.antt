@@ -3,12 +3,17 @@ mod Closed
 mod Each
 mod ExamplesBodies
 mod ExamplesBounds
+mod ExamplesCalls
 mod ExamplesChoices
 mod ExamplesLogger
+mod ExamplesOperators
+mod ExamplesParts
 mod ExamplesPick
 mod ExamplesPlug
 mod Forms
 mod Least
+mod Laboratory
 mod Lawfulness
 mod Marks
+mod Needs
 mod Sources
