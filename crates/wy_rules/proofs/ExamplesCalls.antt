@@ -1,16 +1,16 @@
 -- Calls that are refused, by each premise of T-Call; and what becomes of an `if` where such a call leaves no type to expect.
-use Rattle.std.proofs.Common.{◌≡◌, ℕ, List, [], ◌∷◌, refl, sym, subst, inl, inr, Option, Some, None, length, arith}
+use Rattle.std.proofs.Common.{◌≡◌, ℕ, [], ◌∷◌, refl, sym, subst, inl, inr, Option, Some, None, length, arith}
 use Rattle.std.specs.Prelude.{codes}
 use Rattle.wy_text.specs.declared.fault.RuleName.TheVariants.{TCall}
 use Rattle.wy_types.specs.declared.types.TypeRef.{TypeRef}
-use Rattle.wy_types.specs.declared.types.TypeRef.TheVariants.{Int, Text, Unit as Nothing, Named}
+use Rattle.wy_types.specs.declared.types.TypeRef.TheVariants.{Int, Unit as Nothing, Named}
 use Rattle.wy_types.specs.Code as code
 use Rattle.wy_types.specs.Signature.{Signature, find_method}
 use Rattle.wy_types.specs.Types.{methods_of}
 use Rattle.wy_rules.specs.Readings.{annotated_reading}
 use Rattle.wy_rules.specs.Typing.{AllHaveAt}
-use Rattle.wy_rules.specs.Failing.{IsScopeFault, HasArguments, IsTarget}
-use Rattle.wy_rules.proofs.Laboratory.{lab, lab_program, x, n, i, t, c, fault, laws, in_body, x_least, n_least, i_least, c_has, t_not}
+use Rattle.wy_rules.specs.Failing.{IsScopeFault, IsTarget}
+use Rattle.wy_rules.proofs.Laboratory.{lab, lab_program, x, n, i, t, c, fault, laws, in_body, x_least, n_least, i_least, t_not}
 use Rattle.wy_rules.proofs.Needs.{call_needs, first_has, none_too_few}
 use Rattle.wy_rules.proofs.Sources.{at, one, last}
 
@@ -109,7 +109,7 @@ argument_refused =
     let s = lab text_argument Int in
     let l = n_least text_argument Int [] 5 in
     let wrong : AllHaveAt (annotated_reading (lab_program text_argument Int) 0) (lab text_argument Int) [] (Some 0) (one (t 9)) (Int ∷ []) → ⊥ = λ h.
-      t_not text_argument Int [] 9 Int (λ e. cc) (λ o. o) (first_has y w s [] (Some 0) _ _ Int [] h) in
+    t_not text_argument Int [] 9 Int (λ e. cc) (λ o. o) (first_has y w s [] (Some 0) _ _ Int [] h) in
     in_body text_argument Int [] (fault 7 TCall 4) (inl (record {
       expected = None;
       atom = None;
@@ -140,14 +140,16 @@ choice_refused : IsScopeFault (lab_program choice_argument Nothing) 0 (lab choic
 choice_refused =
     let l = x_least choice_argument Nothing [] 5 in
     in_body choice_argument Nothing [] (fault 7 TCall 2)
-    (inr (record { expected = None; spot = (Named 4 [], [], l, no_target); stands = tt; settles = tt },
-    inl (record {
-      expected = None;
-      atom = None;
-      spot = refl;
-      stands_not = λ h. (let k = call_needs (annotated_reading (lab_program choice_argument Nothing) 0) (laws choice_argument Nothing) (lab choice_argument Nothing) [] (Some 0) (at 10 7) (x 5) (codes "b") _ (Named 4 []) [] l h in no_b choice_argument k.method k.found);
-      premise = ((Named 4 [], [], l, inr (tt, inl (λ h. no_b choice_argument h.0 h.1, refl))), refl);
-      place = refl;
-      rule = refl;
-      lacks = refl;
-    })))
+    (inr (
+      record { expected = None; spot = (Named 4 [], [], l, no_target); stands = tt; settles = tt },
+      inl (record {
+        expected = None;
+        atom = None;
+        spot = refl;
+        stands_not = λ h. (let k = call_needs (annotated_reading (lab_program choice_argument Nothing) 0) (laws choice_argument Nothing) (lab choice_argument Nothing) [] (Some 0) (at 10 7) (x 5) (codes "b") _ (Named 4 []) [] l h in no_b choice_argument k.method k.found);
+        premise = ((Named 4 [], [], l, inr (tt, inl (λ h. no_b choice_argument h.0 h.1, refl))), refl);
+        place = refl;
+        rule = refl;
+        lacks = refl;
+      }),
+    ))

@@ -1,9 +1,9 @@
 -- Operations that are refused, by the operand whose type is wrong.
-use Rattle.std.proofs.Common.{◌≡◌, ℕ, List, [], ◌∷◌, refl, sym, subst, inl, inr, Some, None, map, take}
+use Rattle.std.proofs.Common.{ℕ, List, [], ◌∷◌, refl, sym, subst, inl, inr, Some, None, map, take}
 use Rattle.wy_text.specs.declared.fault.RuleName.TheVariants.{TOp}
 use Rattle.wy_effects.specs.Members.{In}
 use Rattle.wy_types.specs.declared.types.TypeRef.{TypeRef}
-use Rattle.wy_types.specs.declared.types.TypeRef.TheVariants.{Int, Bool, Text, Unit as Nothing}
+use Rattle.wy_types.specs.declared.types.TypeRef.TheVariants.{Int, Bool, Text}
 use Rattle.wy_types.specs.declared.code.BinaryOperator.TheVariants.{Add, Equal}
 use Rattle.wy_types.specs.declared.code.TextOperator.TheVariants.{Part}
 use Rattle.wy_types.specs.Code as code
@@ -21,7 +21,7 @@ Have b r xs ts = AllHaveAt (annotated_reading (lab_program b r) 0) (lab b r) [] 
 
 -- where no row of a table fits
 none_of : (P : Row → Type 0) (q : Row) → (P q → ⊥) → ((r : Row) × In r (q ∷ []) × P r) → ⊥
-none_of P q n h = elim h.1 [ | inl e ↦ n (subst P (sym e) h.2) | inr z ↦ z ]
+none_of P q n h = elim h.1 [ inl e ↦ n (subst P (sym e) h.2) | inr z ↦ z ]
 
 none_of_three : (P : Row → Type 0) (a b c : Row) → (P a → ⊥) → (P b → ⊥) → (P c → ⊥) → ((r : Row) × In r (a ∷ b ∷ c ∷ []) × P r) → ⊥
 none_of_three P a b c l m n h = elim h.1 [
@@ -76,7 +76,7 @@ second_operand_refused =
     let w = laws plus_text Int in
     let s = lab plus_text Int in
     let wrong : Have plus_text Int (pair (i 5) (t 9)) (Int ∷ Int ∷ []) → ⊥ = λ g.
-      t_not plus_text Int [] 9 Int (λ e. cc) (λ o. o) (first_has y w s [] (Some 0) _ _ Int [] (others_have y w s [] (Some 0) _ _ Int (Int ∷ []) g)) in
+    t_not plus_text Int [] 9 Int (λ e. cc) (λ o. o) (first_has y w s [] (Some 0) _ _ Int [] (others_have y w s [] (Some 0) _ _ Int (Int ∷ []) g)) in
     in_body plus_text Int [] (fault 7 TOp 2) (inl (record {
       expected = None;
       atom = None;
@@ -105,16 +105,20 @@ third_operand_refused =
     let whole : Row = row (Text ∷ Int ∷ Int ∷ []) Text in
     let xs : code.Values = code.more (code.Plain (t 15)) (pair (i 18) (t 21)) in
     let wrong : Have part_to_text Text (code.more (code.Plain (t 15)) (pair (i 18) (t 21))) (Text ∷ Int ∷ Int ∷ []) → ⊥ = λ g.
-      t_not part_to_text Text [] 21 Int (λ e. cc) (λ o. o)
-        (first_has y w s [] (Some 0) _ _ Int [] (others_have y w s [] (Some 0) _ _ Int (Int ∷ []) (others_have y w s [] (Some 0) _ _ Text (Int ∷ Int ∷ []) g))) in
+    t_not part_to_text Text [] 21 Int (λ e. cc) (λ o. o)
+    (first_has y w s [] (Some 0) _ _ Int [] (others_have y w s [] (Some 0) _ _ Int (Int ∷ []) (others_have y w s [] (Some 0) _ _ Text (Int ∷ Int ∷ []) g))) in
     in_body part_to_text Text [] (fault 5 TOp 3) (inl (record {
       expected = None;
       atom = None;
       spot = refl;
       stands_not = λ h. none_of (WholeHave part_to_text Text xs) whole wrong (text_needs y w s [] (Some 0) (at 10 5) Part xs h);
       premise = (
-        (2, refl, (whole, inl refl, all_at y w s [] (Some 0) _ _ Text _ (t_has part_to_text Text [] 15) (all_at y w s [] (Some 0) _ _ Int [] (i_has part_to_text Text [] 18) (none_at y w s [] (Some 0)))),
-          none_of (FirstHave part_to_text Text xs 3) whole wrong),
+        (
+          2,
+          refl,
+          (whole, inl refl, all_at y w s [] (Some 0) _ _ Text _ (t_has part_to_text Text [] 15) (all_at y w s [] (Some 0) _ _ Int [] (i_has part_to_text Text [] 18) (none_at y w s [] (Some 0)))),
+          none_of (FirstHave part_to_text Text xs 3) whole wrong,
+        ),
         refl,
       );
       place = refl;
@@ -134,21 +138,25 @@ other_type_refused =
     let w = laws number_is_text Bool in
     let s = lab number_is_text Bool in
     let numbers : Have number_is_text Bool (pair (i 5) (t 10)) (Int ∷ Int ∷ []) → ⊥ = λ g.
-      t_not number_is_text Bool [] 10 Int (λ e. cc) (λ o. o) (first_has y w s [] (Some 0) _ _ Int [] (others_have y w s [] (Some 0) _ _ Int (Int ∷ []) g)) in
+    t_not number_is_text Bool [] 10 Int (λ e. cc) (λ o. o) (first_has y w s [] (Some 0) _ _ Int [] (others_have y w s [] (Some 0) _ _ Int (Int ∷ []) g)) in
     let truths : Have number_is_text Bool (pair (i 5) (t 10)) (Bool ∷ Bool ∷ []) → ⊥ = λ g.
-      i_not number_is_text Bool [] 5 Bool (λ e. cc) (λ o. o) (first_has y w s [] (Some 0) _ _ Bool (Bool ∷ []) g) in
+    i_not number_is_text Bool [] 5 Bool (λ e. cc) (λ o. o) (first_has y w s [] (Some 0) _ _ Bool (Bool ∷ []) g) in
     let texts : Have number_is_text Bool (pair (i 5) (t 10)) (Text ∷ Text ∷ []) → ⊥ = λ g.
-      i_not number_is_text Bool [] 5 Text (λ e. cc) (λ o. o) (first_has y w s [] (Some 0) _ _ Text (Text ∷ []) g) in
+    i_not number_is_text Bool [] 5 Text (λ e. cc) (λ o. o) (first_has y w s [] (Some 0) _ _ Text (Text ∷ []) g) in
     in_body number_is_text Bool [] (fault 7 TOp 2) (inl (record {
       expected = None;
       atom = None;
       spot = refl;
       stands_not = λ h.
           none_of_three (WholeHave number_is_text Bool (pair (i 5) (t 10))) (two Int Bool) (two Bool Bool) (two Text Bool) numbers truths texts
-            (binary_needs y w s [] (Some 0) (at 10 7) Equal (i 5) (t 10) h);
+          (binary_needs y w s [] (Some 0) (at 10 7) Equal (i 5) (t 10) h);
       premise = (
-        (1, refl, (two Int Bool, inl refl, all_at y w s [] (Some 0) _ _ Int [] (i_has number_is_text Bool [] 5) (none_at y w s [] (Some 0))),
-          none_of_three (FirstHave number_is_text Bool (pair (i 5) (t 10)) 2) (two Int Bool) (two Bool Bool) (two Text Bool) numbers truths texts),
+        (
+          1,
+          refl,
+          (two Int Bool, inl refl, all_at y w s [] (Some 0) _ _ Int [] (i_has number_is_text Bool [] 5) (none_at y w s [] (Some 0))),
+          none_of_three (FirstHave number_is_text Bool (pair (i 5) (t 10)) 2) (two Int Bool) (two Bool Bool) (two Text Bool) numbers truths texts,
+        ),
         refl,
       );
       place = refl;
@@ -176,12 +184,16 @@ objects_refused =
       spot = refl;
       stands_not = λ h.
           none_of_three (WholeHave object_is_object Bool (pair (x 5) (x 10))) (two Int Bool) (two Bool Bool) (two Text Bool)
-            (λ g. number (first_has y w s [] (Some 0) _ _ Int _ g)) (λ g. truth (first_has y w s [] (Some 0) _ _ Bool _ g)) (λ g. text (first_has y w s [] (Some 0) _ _ Text _ g))
-            (binary_needs y w s [] (Some 0) (at 10 7) Equal (x 5) (x 10) h);
+          (λ g. number (first_has y w s [] (Some 0) _ _ Int _ g)) (λ g. truth (first_has y w s [] (Some 0) _ _ Bool _ g)) (λ g. text (first_has y w s [] (Some 0) _ _ Text _ g))
+          (binary_needs y w s [] (Some 0) (at 10 7) Equal (x 5) (x 10) h);
       premise = (
-        (0, refl, (two Int Bool, inl refl, none_at y w s [] (Some 0)),
+        (
+          0,
+          refl,
+          (two Int Bool, inl refl, none_at y w s [] (Some 0)),
           none_of_three (FirstHave object_is_object Bool (one (x 5)) 1) (two Int Bool) (two Bool Bool) (two Text Bool)
-            (λ g. number (first_has y w s [] (Some 0) _ _ Int _ g)) (λ g. truth (first_has y w s [] (Some 0) _ _ Bool _ g)) (λ g. text (first_has y w s [] (Some 0) _ _ Text _ g))),
+              (λ g. number (first_has y w s [] (Some 0) _ _ Int _ g)) (λ g. truth (first_has y w s [] (Some 0) _ _ Bool _ g)) (λ g. text (first_has y w s [] (Some 0) _ _ Text _ g)),
+        ),
         refl,
       );
       place = refl;

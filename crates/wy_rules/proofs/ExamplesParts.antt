@@ -1,22 +1,20 @@
 -- Other forms that are refused, by each premise of their rules.
-use Rattle.std.proofs.Common.{◌≡◌, ℕ, List, [], ◌∷◌, refl, sym, subst, inl, inr, Option, Some, None}
+use Rattle.std.proofs.Common.{◌≡◌, ℕ, [], ◌∷◌, refl, sym, subst, inl, inr, Option, Some, None}
 use Rattle.std.specs.Prelude.{codes}
 use Rattle.wy_text.specs.declared.fault.Fault.{Fault}
-use Rattle.wy_text.specs.declared.fault.RuleName.{RuleName}
 use Rattle.wy_text.specs.declared.fault.RuleName.TheVariants.{TNew, TIf, TSeq, TVal, TSet, TAsc, TBody}
-use Rattle.wy_types.specs.declared.types.TypeRef.{TypeRef}
 use Rattle.wy_types.specs.declared.types.TypeRef.TheVariants.{Int, Bool, Text, Unit as Nothing}
 use Rattle.wy_types.specs.declared.code.Binding.TheVariants as to
 use Rattle.wy_types.specs.declared.resolved.Field.{Field}
 use Rattle.wy_types.specs.Code as code
-use Rattle.wy_types.specs.Program.{Program}
 use Rattle.wy_rules.specs.Readings.{annotated_reading}
+use Rattle.wy_rules.specs.Derivations.{T-Var, T-Set}
 use Rattle.wy_rules.specs.Typing.{HasAt, AllHaveAt, BlockHasAt}
 use Rattle.wy_rules.specs.Failing.{IsScopeFault}
-use Rattle.wy_rules.proofs.Laboratory.{lab, lab_program, i, t, c, fault, laws, in_body, c_has, i_not, t_not}
+use Rattle.wy_rules.proofs.Laboratory.{lab, lab_program, i, t, c, fault, laws, in_body, i_least, c_has, i_not, t_not}
 use Rattle.wy_rules.proofs.Least.{choice_parts, last_has}
 use Rattle.wy_rules.proofs.Needs.{first_has, new_needs, ascription_needs, assignment_needs}
-use Rattle.wy_rules.proofs.Sources.{at, one, last, then, var_field as var}
+use Rattle.wy_rules.proofs.Sources.{at, local, one, last, then, var_field as var}
 
 ------------------------------------------------------------
 -- 10      new             the field `f` is a number
@@ -29,7 +27,7 @@ text_field_refused : IsScopeFault (lab_program text_field Nothing) 0 (lab text_f
 text_field_refused =
     let y = annotated_reading (lab_program text_field Nothing) 0 in
     let wrong : AllHaveAt (annotated_reading (lab_program text_field Nothing) 0) (lab text_field Nothing) [] (Some 0) (one (t 14)) (Int ∷ []) → ⊥ = λ h.
-      t_not text_field Nothing [] 14 Int (λ e. cc) (λ o. o) (first_has y (laws text_field Nothing) (lab text_field Nothing) [] (Some 0) _ _ Int [] h) in
+    t_not text_field Nothing [] 14 Int (λ e. cc) (λ o. o) (first_has y (laws text_field Nothing) (lab text_field Nothing) [] (Some 0) _ _ Int [] h) in
     in_body text_field Nothing [] (fault 5 TNew 1) (inl (record {
       expected = None;
       atom = None;
@@ -73,7 +71,7 @@ first_refused : IsScopeFault (lab_program first_text Int) 0 (lab first_text Int)
 first_refused =
     let y = annotated_reading (lab_program first_text Int) 0 in
     let wrong : BlockHasAt (annotated_reading (lab_program first_text Int) 0) (lab first_text Int) [] (Some 0) (last (t 15)) Int → ⊥ = λ h.
-      t_not first_text Int [] 15 Int (λ e. cc) (λ o. o) (last_has y (laws first_text Int) (lab first_text Int) [] (Some 0) _ Int h) in
+    t_not first_text Int [] 15 Int (λ e. cc) (λ o. o) (last_has y (laws first_text Int) (lab first_text Int) [] (Some 0) _ Int h) in
     in_body first_text Int [] (fault 5 TIf 2) (inl (record {
       expected = Some Int;
       atom = None;
@@ -171,9 +169,9 @@ assigned_text_refused =
       rule = refl;
       lacks = refl;
     }))
-      where
-        same_field : (a b : Field) → ◌≡◌ {A = Option Field} (Some a) (Some b) → a ≡ b
-        same_field a b e = cc
+  where
+    same_field : (a b : Field) → ◌≡◌ {A = Option Field} (Some a) (Some b) → a ≡ b
+    same_field a b e = cc
 
 ------------------------------------------------------------
 -- 10      (t : Int)       the text is no number
@@ -208,8 +206,8 @@ result_fault = record { place = at 9 3; rule = TBody; premise = 1; atom = None }
 result_refused : IsScopeFault (lab_program number_result Text) 0 (lab number_result Text) result_fault
 result_refused =
     let wrong : BlockHasAt (annotated_reading (lab_program number_result Text) 0) (lab number_result Text) [] (Some 0) (last (i 5)) Text → ⊥ = λ h.
-      i_not number_result Text [] 5 Text (λ e. cc) (λ o. o)
-        (last_has (annotated_reading (lab_program number_result Text) 0) (laws number_result Text) (lab number_result Text) [] (Some 0) _ Text h) in
+    i_not number_result Text [] 5 Text (λ e. cc) (λ o. o)
+    (last_has (annotated_reading (lab_program number_result Text) 0) (laws number_result Text) (lab number_result Text) [] (Some 0) _ Text h) in
     in_body number_result Text [] result_fault (inl (record {
       expected = None;
       atom = None;
@@ -220,3 +218,43 @@ result_refused =
       rule = refl;
       lacks = refl;
     }))
+
+------------------------------------------------------------
+-- 10      val z = i       `z` has the initialiser's type
+-- 11      v = z
+-- 12      k = z           the assignment after it is the first that fails
+
+abbrev after_val : code.Block
+after_val =
+    code.Val (at 10 9) 0 None (code.Plain (i 13))
+    (then (code.Assign (at 11 5) (to.Field 0) (code.Plain (local (at 11 9) 0))) (last (code.Assign (at 12 5) (to.Field 1) (code.Plain (local (at 12 9) 0)))))
+
+abbrev after_fault : Fault
+after_fault = record { place = at 12 5; rule = TSet; premise = 1; atom = None }
+
+z_has : HasAt (annotated_reading (lab_program after_val Nothing) 0) (lab after_val Nothing) (Int ∷ []) (Some 0) (code.Plain (code.Assign (at 11 5) (to.Field 0) (code.Plain (local (at 11 9) 0)))) Nothing
+z_has = record { effect = []; has = record { derivation = T-Set (at 11 5) (T-Var (at 11 9)); derives = (var (at 7 7) (codes "v") Int, refl, refl, (refl, refl, refl), refl) } }
+
+after_val_refused : IsScopeFault (lab_program after_val Nothing) 0 (lab after_val Nothing) after_fault
+after_val_refused =
+    let l = i_least after_val Nothing (Int ∷ []) 13 in
+    in_body after_val Nothing (Int ∷ []) after_fault
+    (inr (
+      record { expected = None; spot = refl; stands = record { typ = Int; effect = []; has = l.has }; settles = (Int, [], l, refl) },
+      inr (
+        record { expected = None; spot = refl; stands = record { typ = Nothing; effect = z_has.effect; has = z_has.has }; settles = tt },
+        inr (
+          record { expected = None; spot = refl; stands = z_has; settles = tt },
+          inl (record {
+            expected = None;
+            atom = None;
+            spot = refl;
+            stands_not = λ h. (let k = assignment_needs (annotated_reading (lab_program after_val Nothing) 0) (laws after_val Nothing) (lab after_val Nothing) (Int ∷ []) (Some 0) (at 12 5) (to.Field 1) _ h in no_var k.0 k.1);
+            premise = (inl (λ h. no_var h.0 h.1, refl), refl);
+            place = refl;
+            rule = refl;
+            lacks = refl;
+          }),
+        ),
+      ),
+    ))

@@ -12,9 +12,8 @@
 --     BLOCK
 --
 -- Its literal 1 is that of a `new` with one field of type Int.
-use Rattle.std.proofs.Common.{◌≡◌, ℕ, pos, List, [], ◌∷◌, ◌++◌, refl, inl, inr, Option, Some, None, Bool as Truth, true, false}
+use Rattle.std.proofs.Common.{◌≡◌, ℕ, pos, List, [], ◌∷◌, ◌++◌, refl, inr, Some, None}
 use Rattle.std.specs.Prelude.{codes}
-use Rattle.wy_text.specs.declared.fault.Place.{Place}
 use Rattle.wy_text.specs.declared.fault.Fault.{Fault}
 use Rattle.wy_text.specs.declared.fault.RuleName.{RuleName}
 use Rattle.wy_types.specs.declared.types.TypeRef.{TypeRef}
@@ -31,8 +30,8 @@ use Rattle.wy_rules.specs.Failing.{IsLeast, IsScopeFault, FirstFailing}
 use Rattle.wy_rules.proofs.Closed.{annotated_subtype}
 use Rattle.wy_rules.proofs.Forms.{Lawful}
 use Rattle.wy_rules.proofs.Lawfulness.{annotated_lawful}
-use Rattle.wy_rules.proofs.Least.{name_least, number_least, text_least, nothing_least, not_at, has_at}
-use Rattle.wy_rules.proofs.Needs.{not_below, all_at, none_at}
+use Rattle.wy_rules.proofs.Least.{name_least, nothing_least, not_at, has_at}
+use Rattle.wy_rules.proofs.Needs.{not_below}
 use Rattle.wy_rules.proofs.Sources.{at, parameter, method, declaration, val_field, var_field, object, body, head, module_of, idle, program}
 
 abbrev pub lab : code.Block → TypeRef → Scope

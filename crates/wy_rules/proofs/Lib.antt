@@ -5,11 +5,13 @@ mod ExamplesBodies
 mod ExamplesBounds
 mod ExamplesCalls
 mod ExamplesChoices
+mod ExamplesLines
 mod ExamplesLogger
 mod ExamplesOperators
 mod ExamplesParts
 mod ExamplesPick
 mod ExamplesPlug
+mod ExamplesSeals
 mod Forms
 mod Least
 mod Laboratory

@@ -1,5 +1,5 @@
 -- What a form that has a derivation tells of its parts at their least types: each premise of its rule.
-use Rattle.std.proofs.Common.{◌≡◌, ℕ, List, [], ◌∷◌, inl, inr, refl, sym, ◌∙◌, ap, subst, Option, Some, None, map}
+use Rattle.std.proofs.Common.{◌≡◌, ℕ, List, [], ◌∷◌, inl, inr, refl, sym, ap, subst, Option, Some, None, map}
 use Rattle.wy_effects.specs.Members.{In}
 use Rattle.wy_text.specs.declared.fault.Place.{Place}
 use Rattle.wy_types.specs.declared.types.TypeRef.{TypeRef}
@@ -8,15 +8,15 @@ use Rattle.wy_types.specs.declared.code.UnaryOperator.{UnaryOperator}
 use Rattle.wy_types.specs.declared.code.BinaryOperator.{BinaryOperator}
 use Rattle.wy_types.specs.declared.code.TextOperator.{TextOperator}
 use Rattle.wy_types.specs.declared.resolved.Field.{Field}
-use Rattle.wy_types.specs.Code.{Expr, Unary, Binary, TextCall, Call, New, Ascribe, Assign, Value, Plain, Values, none, more, Block, Last, Then}
+use Rattle.wy_types.specs.Code.{Expr, Unary, Binary, TextCall, Call, New, Ascribe, Assign, Value, Plain, Values, none, more}
 use Rattle.wy_types.specs.Program.{Scope}
 use Rattle.wy_types.specs.Signature.{Signature, find_method}
-use Rattle.wy_types.specs.Subtyping.{Covers, HasCover}
+use Rattle.wy_types.specs.Subtyping.{HasCover}
 use Rattle.wy_types.proofs.Closing.{find_in, find_named}
 use Rattle.wy_rules.specs.Readings.{Reading, IsBelow}
 use Rattle.wy_rules.specs.Operators.{Row, unary_rows, binary_rows, text_rows}
 use Rattle.wy_rules.specs.Derivations.{Derivations, none as no_derivations, more as one_more}
-use Rattle.wy_rules.specs.Typing.{field_types, var_field, DerivesAll, Has, HasAt, HasSome, AllHave, AllHaveAt}
+use Rattle.wy_rules.specs.Typing.{field_types, var_field, DerivesAll, HasAt, HasSome, AllHaveAt}
 use Rattle.wy_rules.specs.Failing.{IsLeast}
 use Rattle.wy_rules.proofs.Forms.{Lawful, bare}
 use Rattle.wy_rules.proofs.Least.{Under, split, all_raised}
@@ -44,7 +44,7 @@ module _ (y : Reading) (w : Lawful y) where
 
   -- base types that differ are no subtypes of each other
   pub not_below : (t u : y.Kind) → (t ≡ u → ⊥) → (y.IsObject u → ⊥) → IsBelow y t u → ⊥
-  not_below t u n o b = elim (b.closed (t, u) b.first) [ | inl base ↦ n base.0 | inr object ↦ o object.1 ]
+  not_below t u n o b = elim (b.closed (t, u) b.first) [ inl base ↦ n base.0 | inr object ↦ o object.1 ]
 
   module _ (s : Scope) (locals : List y.Kind) (owner : Option ℕ) where
     pub first_has : (x : Value) (xs : Values) (t : y.Kind) (ts : List y.Kind) → AllHaveAt y s locals owner (more x xs) (t ∷ ts) → HasAt y s locals owner x t
