@@ -1,10 +1,12 @@
 pub mod Agreeing
-mod Closed
-mod Each
+pub mod Carrying
+pub mod Closed
+pub mod Each
 mod ExamplesBodies
 mod ExamplesBounds
 mod ExamplesCalls
 mod ExamplesChoices
+mod ExamplesGround
 mod ExamplesLines
 mod ExamplesLogger
 mod ExamplesOperators
@@ -12,10 +14,11 @@ mod ExamplesParts
 mod ExamplesPick
 mod ExamplesPlug
 mod ExamplesSeals
-mod Forms
-mod Least
+pub mod Forms
+pub mod Least
 mod Laboratory
-mod Lawfulness
-mod Marks
-mod Needs
+pub mod Lawfulness
+pub mod Marks
+pub mod Needs
+pub mod Rereadings
 mod Sources

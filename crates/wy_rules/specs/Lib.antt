@@ -1,9 +1,11 @@
 pub mod Acceptance
 pub mod Derivations
 pub mod Failing
+pub mod GroundTypes
 pub mod Nodes
 pub mod Operators
 pub mod Polarity
 pub mod Readings
+pub mod Rereading
 pub mod Tables
 pub mod Typing

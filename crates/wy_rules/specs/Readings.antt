@@ -1,14 +1,14 @@
 -- How a scope's types are read where its bodies are typed: as they are written, with sets put in for the atoms, or with no
 -- regard to effects. One definition of typing serves them all (docs/LANGUAGE.md, "Typing of bodies").
-use Rattle.std.specs.Prelude.{ℕ, List}
+use Rattle.std.specs.Prelude.{ℕ, List, []}
 use Rattle.wy_effects.specs.Members.{Within}
 use Rattle.wy_effects.specs.EffSet.{replace}
 use Rattle.wy_types.specs.declared.types.TypeRef.{TypeRef}
 use Rattle.wy_types.specs.Program.{Program}
 use Rattle.wy_types.specs.Signature.{Signature}
-use Rattle.wy_types.specs.Types.{IsObject as IsObjectType, substituted, methods_of}
+use Rattle.wy_types.specs.Types.{IsObject as IsObjectType, substituted, annotated, erased, methods_of}
 use Rattle.wy_types.specs.Subtyping.{IsSubtype, AnyEffect}
-use Rattle.wy_rules.specs.Tables.{replaced_methods}
+use Rattle.wy_rules.specs.Tables.{replaced_methods, erased_methods, retyped_methods}
 
 pub record Reading : Type 1 where
   pub Kind : Type 0
@@ -36,3 +36,11 @@ plain_reading p scope = record { Kind = TypeRef; read = λ t. t; effect = λ e. 
 -- typing after a replacement of atoms by sets
 abbrev pub replaced_reading : Program → ℕ → List (List ℕ) → Reading
 replaced_reading p scope by = record { Kind = TypeRef; read = substituted by; effect = replace by; methods = replaced_methods p scope by; IsObject = IsObjectType; Includes = Within }
+
+-- typing of a scope without effects, whatever its kind
+abbrev pub erased_reading : Program → ℕ → Reading
+erased_reading p scope = record { Kind = TypeRef; read = erased; effect = λ e. []; methods = erased_methods p scope; IsObject = IsObjectType; Includes = AnyEffect }
+
+-- annotated typing of a plain module, with every declared type at a set and every effect that set
+abbrev pub retyped_reading : Program → ℕ → List ℕ → Reading
+retyped_reading p scope e = record { Kind = TypeRef; read = annotated e; effect = λ f. e; methods = retyped_methods p scope e; IsObject = IsObjectType; Includes = Within }

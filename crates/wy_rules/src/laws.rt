@@ -1,8 +1,10 @@
-//! Laws of subtyping, paths and annotation (docs/LANGUAGE.md, "Subtyping" to "Annotation and erasure").
+//! Laws of subtyping, paths and annotation (docs/LANGUAGE.md, "Subtyping" to "Annotation and erasure"), and of typing
+//! ("Typing of bodies").
 
 ghost use Rattle.wy_types.specs.Order.{IsReflexive, IsTransitive};
 ghost use Rattle.wy_rules.specs.Tables.{ReflexiveOverTables, TransitiveOverTables, KeptUnderReplacement, ReplacedTablesAgree};
 ghost use Rattle.wy_rules.specs.Polarity.{Annotation, DualAnnotation};
+ghost use Rattle.wy_rules.specs.Rereading.{Erasure, Substitution, Retyping};
 
 /// Each type in range is a subtype of itself, with effects and without.
 pub fn subtyping_is_reflexive()
@@ -47,4 +49,22 @@ pub fn annotation()
 /// annotated at the set is a subtype of it.
 pub fn dual_annotation()
     ensures { DualAnnotation }
+{}
+
+/// Erasure: the bodies of an annotated scope have derivations without effects, in which declared types are
+/// bare (docs/LANGUAGE.md, "Typing of bodies").
+pub fn erasure()
+    ensures { Erasure }
+{}
+
+/// Substitution: derivations of a scope's bodies stay derivations when its atoms are replaced by sets, in
+/// types and effects alike.
+pub fn substitution()
+    ensures { Substitution }
+{}
+
+/// Retyping: plain derivations of a module's bodies become annotated ones at every set, in which each
+/// declared type stands at the set and each method has it as its effect.
+pub fn retyping()
+    ensures { Retyping }
 {}
