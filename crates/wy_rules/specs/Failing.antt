@@ -1,5 +1,5 @@
 -- The first failing node: the first in the list that has no derivation, an `if` at the type that its place expects. Its premise is the
--- first false one, its parts being at their least types (docs/LANGUAGE.md, "What is refused").
+-- first false one, its parts being at their least types (docs/LANGUAGE.md, "First failing node").
 use Rattle.std.specs.Prelude.{◌≡◌, ℕ, zero, suc, ◌+◌, ◌≤◌, List, [], ◌∷◌, ◌⊎◌, Option, Some, None, map, take, slice_get, length, true, false}
 use Rattle.wy_text.specs.declared.fault.AtomName.{AtomName}
 use Rattle.wy_text.specs.declared.fault.Fault.{Fault}

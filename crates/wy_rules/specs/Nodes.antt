@@ -1,5 +1,5 @@
 -- The nodes of a scope in the order in which they are judged: in a body each after its parts, and these as they are evaluated.
--- A node knows what its place expects, which matters to an `if` alone (docs/LANGUAGE.md, "What is refused").
+-- A node knows what its place expects, which matters to an `if` alone (docs/LANGUAGE.md, "First failing node").
 use Rattle.std.specs.Prelude.{ℕ, List, [], ◌∷◌, ◌++◌, Option, Some, None, map, if◌then◌else◌}
 use Rattle.std.specs.List.{range_with_len}
 use Rattle.wy_text.specs.declared.fault.Place.{Place}
