@@ -1,22 +1,27 @@
 -- Least types and effects, form by form.
-use Rattle.std.proofs.Common.{◌≡◌, ℕ, ℤ, List, [], ◌∷◌, inl, inr, refl, sym, ◌∙◌, ap, subst, Option, Some, None}
+use Rattle.std.proofs.Common.{◌≡◌, ℕ, ℤ, List, [], ◌∷◌, inl, inr, refl, sym, ◌∙◌, ap, subst, Option, Some, None, map}
 use Rattle.wy_effects.specs.Members.{In}
 use Rattle.wy_effects.specs.EffSet.{union}
 use Rattle.wy_types.specs.declared.types.TypeRef.{TypeRef}
 use Rattle.wy_types.specs.declared.types.TypeRef.TheVariants.{Int, Bool, Text, Unit as Nothing, Own}
 use Rattle.wy_types.specs.declared.code.Binding.{Binding}
 use Rattle.wy_text.specs.declared.fault.Place.{Place}
-use Rattle.wy_types.specs.Code.{Expr, Number, Quoted, Truth, Nothing as NothingOf, This, Name, Call, Value, Plain, If, Values, none, more, Block, Last}
+use Rattle.wy_types.specs.Code.{Expr, Number, Quoted, Truth, Nothing as NothingOf, This, Name, Call, Value, Plain, If, Values, none, more, Block, Last, Unary, Binary, TextCall, New, Ascribe, Assign, Then, Val}
 use Rattle.wy_types.specs.Program.{Scope}
 use Rattle.wy_types.specs.Signature.{Signature, find_method}
 use Rattle.wy_types.specs.Subtyping.{ParamsIn, Covers, HasCover, IsClosed}
 use Rattle.wy_types.proofs.Closing.{find_in, find_named}
+use Rattle.std.specs.Prelude.{slice_get}
+use Rattle.wy_types.specs.declared.resolved.Field.{Field}
+use Rattle.wy_types.specs.declared.code.UnaryOperator.{UnaryOperator}
+use Rattle.wy_types.specs.declared.code.BinaryOperator.{BinaryOperator}
+use Rattle.wy_types.specs.declared.code.TextOperator.{TextOperator}
 use Rattle.wy_rules.specs.Readings.{Reading, IsBelow}
-use Rattle.wy_rules.specs.Operators.{literal_type}
-use Rattle.wy_rules.specs.Derivations.{expr_mark, T-Lit, T-Var, T-This, T-Call, T-Sub, Derivations, none as no_derivations, more as one_more, Result, Block-Sub, effects_of, mark, block_mark}
-use Rattle.wy_rules.specs.Typing.{binding_type, DerivesAll, Has, HasAt, AllHave, BlockHas, BlockHasAt}
+use Rattle.wy_rules.specs.Operators.{literal_type, Row, Operation, operation_of, unary_rows, binary_rows, text_rows}
+use Rattle.wy_rules.specs.Derivations.{expr_mark, T-Lit, T-Var, T-This, T-Call, T-Sub, Derivations, none as no_derivations, more as one_more, Result, Block-Sub, effects_of, mark, block_mark, T-New, T-If, T-Set, T-Op, T-Asc, T-Seq, T-Val}
+use Rattle.wy_rules.specs.Typing.{binding_type, DerivesAll, Has, HasAt, AllHave, BlockHas, BlockHasAt, field_types, var_field, IsValType}
 use Rattle.wy_rules.specs.Failing.{IsLeast, IsLeastAt, AreLeastAt}
-use Rattle.wy_rules.proofs.Forms.{Lawful, Above, Bare, bare, block_bare}
+use Rattle.wy_rules.proofs.Forms.{Lawful, Above, Bare, bare, block_bare, ExprFormed}
 
 module _ (y : Reading) (w : Lawful y) where
   ------------------------------------------------------------
@@ -253,3 +258,115 @@ module _ (y : Reading) (w : Lawful y) where
 
     pub has_at : (x : Value) (t : y.Kind) (f : List ℕ) → IsLeast y s locals owner x t f → HasAt y s locals owner x t
     has_at x t f l = record { effect = f; has = l.has }
+
+    ------------------------------------------------------------
+    -- Other forms
+
+    pub ascription_least : (q : Place) (x : Value) (t : TypeRef) (f : List ℕ) → LeastAt x (y.read t) f → IsBelow y (y.read t) (y.read t) → IsLeast y s locals owner (Plain (Ascribe q x t)) (y.read t) f
+    ascription_least q x t f l r = record {
+      has = record { derivation = T-Asc q l.has.derivation; derives = (refl, l.has.derives, refl) };
+      least = λ u g h.
+          let b = bare y w s locals owner (Plain (Ascribe q x t)) u g h in
+          (below_of (y.read t) b.typ u (sym b.formed.1) r b.above, w.within f b.effect g (l.least b.effect b.formed.0) b.within);
+    }
+
+    pub assignment_least : (q : Place) (name : Binding) (x : Value) (v : Field) (f : List ℕ) → var_field s owner name ≡ Some v → LeastAt x (y.read v.typ) f → IsBelow y (y.read Nothing) (y.read Nothing) →
+        IsLeast y s locals owner (Plain (Assign q name x)) (y.read Nothing) f
+    assignment_least q name x v f e l r = record {
+      has = record { derivation = T-Set q l.has.derivation; derives = (v, refl, e, l.has.derives, refl) };
+      least = λ u g h.
+          let b = bare y w s locals owner (Plain (Assign q name x)) u g h in
+          let same = same_field v b.formed.0 (sym e ∙ b.formed.1) in (
+            below_of (y.read Nothing) b.typ u (sym b.formed.3) r b.above,
+            w.within f b.effect g (l.least b.effect (subst (λ (k : Field). Has y s locals owner x (y.read k.typ) b.effect) (sym same) b.formed.2)) b.within,
+          );
+    }
+      where
+        same_field : (a b : Field) → ◌≡◌ {A = Option Field} (Some a) (Some b) → a ≡ b
+        same_field a b p = cc
+
+    pub new_least : (q : Place) (l : ℕ) (xs : Values) (f : List ℕ) → AreLeastAt y s locals owner xs (map y.read (field_types s l)) f → IsBelow y (y.read (Own l)) (y.read (Own l)) →
+        IsLeast y s locals owner (Plain (New q l xs)) (y.read (Own l)) f
+    new_least q l xs f a r = record {
+      has = record { derivation = T-New q a.have.derivations; derives = (refl, a.have.derives, refl, a.have.effects) };
+      least = λ u g h.
+          let b = bare y w s locals owner (Plain (New q l xs)) u g h in
+          (below_of (y.read (Own l)) b.typ u (sym b.formed.1) r b.above, w.within f b.effect g (a.least b.effect b.formed.0) b.within);
+    }
+
+    -- an operation whose operands fit one row of its table alone
+    abbrev pub OneRow : List Row → Values → Row → Type 0
+    OneRow rows xs k = In k rows × ((r : Row) (f : List ℕ) → In r rows → AllHave y s locals owner xs (map y.read r.operands) f → k ≡ r)
+
+    op_least : (x : Expr) (o : Operation) (k : Row) (f : List ℕ) → operation_of x ≡ Some o → OneRow o.rows o.operands k → AreLeastAt y s locals owner o.operands (map y.read k.operands) f →
+        ((t : y.Kind) (g : List ℕ) → ExprFormed y w s locals owner x t g → (r : Row) × In r o.rows × AllHave y s locals owner o.operands (map y.read r.operands) g × (t ≡ y.read r.result)) →
+        IsBelow y (y.read k.result) (y.read k.result) → IsLeast y s locals owner (Plain x) (y.read k.result) f
+    op_least x o k f e one a formed r = record {
+      has = record { derivation = T-Op (expr_mark x) k a.have.derivations; derives = (o, refl, e, one.0, a.have.derives, refl, a.have.effects) };
+      least = λ u g h.
+          let b = bare y w s locals owner (Plain x) u g h in
+          let c = formed b.typ b.effect b.formed in
+          let same = one.1 c.0 b.effect c.1 c.2 in (
+            below_of (y.read k.result) b.typ u (ap (λ (v : Row). y.read v.result) same ∙ sym c.3) r b.above,
+            w.within f b.effect g (a.least b.effect (subst (λ (v : Row). AllHave y s locals owner o.operands (map y.read v.operands) b.effect) (sym same) c.2)) b.within,
+          );
+    }
+
+    pub unary_least : (q : Place) (op : UnaryOperator) (x : Expr) (k : Row) (f : List ℕ) → OneRow (unary_rows op) (more (Plain x) none) k → AreLeastAt y s locals owner (more (Plain x) none) (map y.read k.operands) f →
+        IsBelow y (y.read k.result) (y.read k.result) → IsLeast y s locals owner (Plain (Unary q op x)) (y.read k.result) f
+    unary_least q op x k f one a r = op_least (Unary q op x) (record { rows = unary_rows op; operands = more (Plain x) none }) k f refl one a (λ t g h. h) r
+
+    pub binary_least : (q : Place) (op : BinaryOperator) (x z : Expr) (k : Row) (f : List ℕ) → OneRow (binary_rows op) (more (Plain x) (more (Plain z) none)) k →
+        AreLeastAt y s locals owner (more (Plain x) (more (Plain z) none)) (map y.read k.operands) f →
+        IsBelow y (y.read k.result) (y.read k.result) → IsLeast y s locals owner (Plain (Binary q op x z)) (y.read k.result) f
+    binary_least q op x z k f one a r = op_least (Binary q op x z) (record { rows = binary_rows op; operands = more (Plain x) (more (Plain z) none) }) k f refl one a (λ t g h. h) r
+
+    pub text_call_least : (q : Place) (op : TextOperator) (xs : Values) (k : Row) (f : List ℕ) → OneRow (text_rows op) xs k → AreLeastAt y s locals owner xs (map y.read k.operands) f →
+        IsBelow y (y.read k.result) (y.read k.result) → IsLeast y s locals owner (Plain (TextCall q op xs)) (y.read k.result) f
+    text_call_least q op xs k f one a r = op_least (TextCall q op xs) (record { rows = text_rows op; operands = xs }) k f refl one a (λ t g h. h) r
+
+    -- a choice and a block at a type
+    pub choice_least : (q : Place) (test : Expr) (first second : Block) (t : y.Kind) (e f g : List ℕ) → LeastAt (Plain test) (y.read Bool) e → IsLeastAt y s locals owner first t f → IsLeastAt y s locals owner second t g →
+        LeastAt (If q test first second) t (union e (union f g))
+    choice_least q test first second t e f g l m n = record {
+      has = record {
+        derivation = T-If q l.has.derivation e m.has.derivation f n.has.derivation g;
+        derives = (refl, l.has.derives, m.has.derives, n.has.derives, refl);
+      };
+      least = λ h d.
+          let b = bare y w s locals owner (If q test first second) t h d in
+          let c = b.formed in
+          w.within (union e (union f g)) b.effect h
+          (subst (λ v. y.Includes (union e (union f g)) v) (sym c.6)
+          (w.unions e (union f g) c.0 (union c.1 c.2) (l.least c.0 c.3)
+          (w.unions f g c.1 c.2 (m.least c.1 (raise_block first b.typ t c.1 b.above c.4)) (n.least c.2 (raise_block second b.typ t c.2 b.above c.5)))))
+          b.within;
+    }
+
+    pub then_least : (x : Value) (b : Block) (t : y.Kind) (e f : List ℕ) → LeastAt x (y.read Nothing) e → IsLeastAt y s locals owner b t f → IsLeastAt y s locals owner (Then x b) t (union e f)
+    then_least x b t e f l m = record {
+      has = record { derivation = T-Seq (mark x) l.has.derivation e m.has.derivation f; derives = (refl, l.has.derives, m.has.derives, refl) };
+      least = λ h d.
+          let c = block_bare y w s locals owner (Then x b) t h d in
+          let k = c.formed in
+          w.within (union e f) c.effect h
+          (subst (λ v. y.Includes (union e f) v) (sym k.4) (w.unions e f k.0 k.1 (l.least k.0 k.2) (m.least k.1 (raise_block b c.typ t k.1 c.above k.3))))
+          c.within;
+    }
+
+    pub val_least : (q : Place) (n : ℕ) (typ : Option TypeRef) (x : Value) (b : Block) (k t : y.Kind) (e f : List ℕ) → slice_get locals n ≡ Some k → IsValType y s locals owner typ k → LeastAt x k e → IsLeastAt y s locals owner b t f →
+        IsLeastAt y s locals owner (Val q n typ x b) t (union e f)
+    val_least q n typ x b k t e f i v l m = record {
+      has = record { derivation = T-Val q l.has.derivation k e m.has.derivation f; derives = (refl, i, v, l.has.derives, m.has.derives, refl) };
+      least = λ h d.
+          let c = block_bare y w s locals owner (Val q n typ x b) t h d in
+          let j = c.formed in
+          let same = same_kind k j.0 (sym i ∙ j.3) in
+          w.within (union e f) c.effect h
+          (subst (λ u. y.Includes (union e f) u) (sym j.7)
+          (w.unions e f j.1 j.2 (l.least j.1 (subst (λ u. Has y s locals owner x u j.1) (sym same) j.5)) (m.least j.2 (raise_block b c.typ t j.2 c.above j.6))))
+          c.within;
+    }
+      where
+        same_kind : (a c : y.Kind) → ◌≡◌ {A = Option y.Kind} (Some a) (Some c) → a ≡ c
+        same_kind a c p = cc

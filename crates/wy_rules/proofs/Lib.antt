@@ -21,4 +21,5 @@ pub mod Lawfulness
 pub mod Marks
 pub mod Needs
 pub mod Rereadings
+pub mod Passing
 mod Sources

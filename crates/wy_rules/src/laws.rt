@@ -5,6 +5,7 @@ ghost use Rattle.wy_types.specs.Order.{IsReflexive, IsTransitive};
 ghost use Rattle.wy_rules.specs.Tables.{ReflexiveOverTables, TransitiveOverTables, KeptUnderReplacement, ReplacedTablesAgree};
 ghost use Rattle.wy_rules.specs.Polarity.{Annotation, DualAnnotation};
 ghost use Rattle.wy_rules.specs.Rereading.{Erasure, Substitution, Retyping};
+ghost use Rattle.wy_rules.specs.Judging.{PassingIsAccepted, AcceptedLinesHold};
 
 /// Each type in range is a subtype of itself, with effects and without.
 pub fn subtyping_is_reflexive()
@@ -67,4 +68,14 @@ pub fn substitution()
 /// declared type stands at the set and each method has it as its effect.
 pub fn retyping()
     ensures { Retyping }
+{}
+
+/// A program of which every node passes is accepted (docs/LANGUAGE.md, "First failing node").
+pub fn passing_is_accepted()
+    ensures { PassingIsAccepted }
+{}
+
+/// In an accepted program no line is at fault.
+pub fn accepted_lines_hold()
+    ensures { AcceptedLinesHold }
 {}
