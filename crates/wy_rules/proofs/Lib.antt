@@ -16,6 +16,7 @@ mod ExamplesPlug
 mod ExamplesSeals
 pub mod Forms
 pub mod Least
+pub mod Grounding
 mod Laboratory
 pub mod Lawfulness
 pub mod Marks

@@ -136,7 +136,7 @@ erasure p scope s h = scope_carried (annotated_reading p scope) (erased_reading 
 ------------------------------------------------------------
 -- Retyping
 
-annotated-substituted : (e : List ℕ) (by : List (List ℕ)) (t : TypeRef) → annotated e (substituted by t) ≡ annotated e t
+pub annotated-substituted : (e : List ℕ) (by : List (List ℕ)) (t : TypeRef) → annotated e (substituted by t) ≡ annotated e t
 annotated-substituted e by Int = refl
 annotated-substituted e by Bool = refl
 annotated-substituted e by Text = refl
@@ -145,7 +145,7 @@ annotated-substituted e by (Named d ms) = refl
 annotated-substituted e by (At d b) = refl
 annotated-substituted e by (Own l) = refl
 
-annotated-annotated : (e b : List ℕ) (t : TypeRef) → annotated e (annotated b t) ≡ annotated e t
+pub annotated-annotated : (e b : List ℕ) (t : TypeRef) → annotated e (annotated b t) ≡ annotated e t
 annotated-annotated e b Int = refl
 annotated-annotated e b Bool = refl
 annotated-annotated e b Text = refl
@@ -154,7 +154,7 @@ annotated-annotated e b (Named d ms) = refl
 annotated-annotated e b (At d c) = refl
 annotated-annotated e b (Own l) = refl
 
-annotated-bare : (e : List ℕ) (t : TypeRef) → annotated e (erased t) ≡ annotated e t
+pub annotated-bare : (e : List ℕ) (t : TypeRef) → annotated e (erased t) ≡ annotated e t
 annotated-bare e Int = refl
 annotated-bare e Bool = refl
 annotated-bare e Text = refl

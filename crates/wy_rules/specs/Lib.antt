@@ -2,6 +2,7 @@ pub mod Acceptance
 pub mod Derivations
 pub mod Failing
 pub mod GroundTypes
+pub mod GroundTyping
 pub mod Judging
 pub mod Nodes
 pub mod Operators

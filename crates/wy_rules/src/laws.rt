@@ -6,6 +6,7 @@ ghost use Rattle.wy_rules.specs.Tables.{ReflexiveOverTables, TransitiveOverTable
 ghost use Rattle.wy_rules.specs.Polarity.{Annotation, DualAnnotation};
 ghost use Rattle.wy_rules.specs.Rereading.{Erasure, Substitution, Retyping};
 ghost use Rattle.wy_rules.specs.Judging.{PassingIsAccepted, AcceptedLinesHold};
+ghost use Rattle.wy_rules.specs.GroundTyping.{GroundTyping};
 
 /// Each type in range is a subtype of itself, with effects and without.
 pub fn subtyping_is_reflexive()
@@ -78,4 +79,10 @@ pub fn passing_is_accepted()
 /// In an accepted program no line is at fault.
 pub fn accepted_lines_hold()
     ensures { AcceptedLinesHold }
+{}
+
+/// Ground typing: the bodies of an instance's module have derivations over the types of a run, with the
+/// instance's ground sets put in for its atoms, or at the ground of its bound (docs/LANGUAGE.md, "Types of a run").
+pub fn ground_typing()
+    ensures { GroundTyping }
 {}
