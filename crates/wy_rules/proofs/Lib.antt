@@ -10,6 +10,7 @@ mod ExamplesGround
 mod ExamplesLines
 mod ExamplesLogger
 mod ExamplesOperators
+mod ExamplesOrder
 mod ExamplesParts
 mod ExamplesPick
 mod ExamplesPlug
