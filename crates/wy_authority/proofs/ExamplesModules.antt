@@ -134,18 +134,22 @@ maker_bound = refl
 -- An argument's member may be a defined one of its type, and a type at a bound has every member:
 --
 -- type Both
---   effect Log = {}                 (defined)
+--   effect Read
+--   effect Log = {Read}
+-- resource module both(d: Folder): Both
+--   effect Read = {d.Write}
+-- plain module plug(): Logger
 -- resource module two(l: Logger, m: Logger): Logger
 --   effect Log = {l.Log, m.Log}
 -- program
 --   grant x: Folder
---   instance b = both()
+--   instance b = both(x)
 --   import i = plug() at {x.Read}
 --   instance t = two(b, i)
 --   run: {t.Log}
 
 both_type : TypeDecl
-both_type = record { name = codes "Both"; members = []; defined = record { name = codes "Log"; effects = [] } ∷ []; methods = [] }
+both_type = record { name = codes "Both"; members = codes "Read" ∷ []; defined = record { name = codes "Log"; effects = 0 ∷ [] } ∷ []; methods = [] }
 
 two : Scope
 two =
@@ -156,18 +160,18 @@ two =
 with_two : Program
 with_two =
     program (logger_type ∷ both_type ∷ [])
-    (module_of kind.Resource (codes "both") [] [] 5 [] [] ∷
+    (module_of kind.Resource (codes "both") (atoms_of (codes "d") folder_members) (own (codes "d") (folder_from 0 1 2 3) (Parameter true) ∷ []) 5 ((1 ∷ []) ∷ []) [] ∷
     module_of kind.Plain (codes "plug") [] [] 4 [] [] ∷
     two ∷
-    main_of (atoms_of (codes "x") folder_members ++ atoms_of (codes "t") (codes "Log" ∷ []))
+    main_of (atoms_of (codes "x") folder_members ++ (atoms_of (codes "b") (codes "Read" ∷ []) ++ atoms_of (codes "t") (codes "Log" ∷ [])))
     (own (codes "x") (folder_from 0 1 2 3) Grant ∷
-    own (codes "b") (Named 5 []) (Instance 0 []) ∷
+    own (codes "b") (Named 5 ((4 ∷ []) ∷ [])) (Instance 0 (0 ∷ [])) ∷
     own (codes "i") (At 4 (0 ∷ [])) (Import 1 [] (0 ∷ [])) ∷
-    own (codes "t") (Named 4 ((4 ∷ []) ∷ [])) (Instance 2 (1 ∷ 2 ∷ [])) ∷ [])
-    (4 ∷ []) [] ∷ [])
+    own (codes "t") (Named 4 ((5 ∷ []) ∷ [])) (Instance 2 (1 ∷ 2 ∷ [])) ∷ [])
+    (5 ∷ []) [] ∷ [])
 
--- `l.Log` stands for nothing, and `m.Log` for the bound
-two_grounds : map (λ (i : Started). i.ground) (start_list with_two) ≡ [] ∷ [] ∷ ([] ∷ (0 ∷ []) ∷ []) ∷ []
+-- `l.Log` stands for what `both` defines for Read, and `m.Log` for the bound
+two_grounds : map (λ (i : Started). i.ground) (start_list with_two) ≡ ((0 ∷ []) ∷ (1 ∷ []) ∷ (2 ∷ []) ∷ (3 ∷ []) ∷ []) ∷ [] ∷ ((1 ∷ []) ∷ (0 ∷ []) ∷ []) ∷ []
 unfolding with_two both_type two
 two_grounds = refl
 
@@ -213,6 +217,36 @@ pairs_arguments : map (λ (i : Started). i.arguments) (start_list with_pairs) �
     (actual.Grant 0 ∷ []) ∷ (actual.Grant 1 ∷ actual.Grant 0 ∷ actual.Instance 2 ∷ []) ∷ []
 unfolding with_pairs pair logger
 pairs_arguments = refl
+
+------------------------------------------------------------
+-- Lines inside the modules of lines, with one folder in both places:
+--
+-- resource module outer(a: Folder): Logger
+--   instance in = pair(a, a)
+--   effect Log = {in.Log}
+-- program
+--   grant x: Folder
+--   instance o = outer(x)
+--   run: {}
+
+outer : Scope
+outer =
+    module_of kind.Resource (codes "outer") (atoms_of (codes "a") folder_members ++ atoms_of (codes "in") (codes "Log" ∷ []))
+    (own (codes "a") (folder_from 0 1 2 3) (Parameter true) ∷ own (codes "in") (Named 4 ((4 ∷ []) ∷ [])) (Instance 1 (0 ∷ 0 ∷ [])) ∷ [])
+    4 ((4 ∷ []) ∷ []) (body 0 (codes "log") (4 ∷ []) ∷ [])
+
+with_outer : Program
+with_outer =
+    program (logger_type ∷ [])
+    (logger ∷ pair ∷ outer ∷
+    main_of (atoms_of (codes "x") folder_members ++ atoms_of (codes "o") (codes "Log" ∷ []))
+    (own (codes "x") (folder_from 0 1 2 3) Grant ∷ own (codes "o") (Named 4 ((4 ∷ []) ∷ [])) (Instance 2 (0 ∷ [])) ∷ []) [] [] ∷ [])
+
+outer_report : report_text (authority_of with_outer) ≡
+    codes "authority of o.in.one: x.Append\n  init: -\n  log: x.Append\nauthority of o.in: x.Read, x.Append\n  init: -\n  log: x.Read, x.Append\n" ++
+    codes "authority of o: x.Read, x.Append\n  init: -\n  log: x.Read, x.Append\nauthority of main: -\n  run: -\n"
+unfolding with_outer outer pair logger
+outer_report = refl
 
 ------------------------------------------------------------
 -- The first use of a pure module starts it, wherever it stands, after the pure modules that it uses; later uses find it there:
