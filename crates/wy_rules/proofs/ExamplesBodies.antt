@@ -61,7 +61,7 @@ append_least =
     call_least y w s [] (Some 0) _ _ _ _ folder [] _ [] receiver tt refl args (base_itself p 0).1
 
 -- a statement that is the whole of a body, and the fault of a body that lacks an effect
-abbrev lacks : ℕ → ℕ → ℕ → List ℕ → List ℕ → Fault
+abbrev pub lacks : ℕ → ℕ → ℕ → List ℕ → List ℕ → Fault
 lacks file line column owner member = record { place = record { file = file; line = line; column = column }; rule = TBody; premise = 2; atom = Some (atom_name owner member) }
 
 logger_body : IsLeastAt (annotated_reading p 0) s [] (Some 0) (last append_call) Nothing (2 ∷ [])
@@ -70,7 +70,7 @@ logger_body =
     last_least y (annotated_lawful p 0) s [] (Some 0) _ Nothing (2 ∷ []) (at_type y (annotated_lawful p 0) s [] (Some 0) _ Nothing Nothing (2 ∷ []) append_least (inl refl))
 
 -- line 6, column 3: T-Body, premise 2, disk.Append
-logger_refused : IsScopeFault p 0 s (lacks 1 6 3 (codes "disk") (codes "Append"))
+pub logger_refused : IsScopeFault p 0 s (lacks 1 6 3 (codes "disk") (codes "Append"))
 logger_refused = record {
   locals = [];
   first =
@@ -121,7 +121,7 @@ main_body =
     last_least y (annotated_lawful q 1) main [] None _ Nothing (4 ∷ []) (at_type y (annotated_lawful q 1) main [] None _ Nothing Nothing (4 ∷ []) log_least (inl refl))
 
 -- the second file's line 4, column 3: T-Body, premise 2, lg.Log
-main_refused : IsScopeFault q 1 main (lacks 2 4 3 (codes "lg") (codes "Log"))
+pub main_refused : IsScopeFault q 1 main (lacks 2 4 3 (codes "lg") (codes "Log"))
 main_refused = record {
   locals = [];
   first =

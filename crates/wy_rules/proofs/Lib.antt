@@ -14,6 +14,7 @@ mod ExamplesOrder
 mod ExamplesParts
 mod ExamplesPick
 mod ExamplesPlug
+mod ExamplesRefused
 mod ExamplesSeals
 pub mod Forms
 pub mod Least

@@ -8,6 +8,7 @@ pub mod Nodes
 pub mod Operators
 pub mod Polarity
 pub mod Readings
+pub mod Refusals
 pub mod Rereading
 pub mod Tables
 pub mod Typing
