@@ -6,6 +6,7 @@ mod ExamplesBodies
 mod ExamplesBounds
 mod ExamplesCalls
 mod ExamplesChoices
+mod ExamplesForms
 mod ExamplesGround
 mod ExamplesLines
 mod ExamplesLogger
