@@ -20,10 +20,13 @@ mod ExamplesSeals
 pub mod Forms
 pub mod Least
 pub mod Grounding
+pub mod Holding
 mod Laboratory
 pub mod Lawfulness
 pub mod Marks
+pub mod Narrowing
 pub mod Needs
 pub mod Rereadings
 pub mod Passing
 mod Sources
+pub mod Standing

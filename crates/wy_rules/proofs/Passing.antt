@@ -20,11 +20,11 @@ use Rattle.wy_rules.specs.Failing.{FirstFailing, AllPass, IsLineFaultFrom}
 use Rattle.wy_rules.specs.Judging.{PassingIsAccepted, AcceptedLinesHold}
 
 module _ (p : Program) (k : ℕ) (s : Scope) (locals : List (scope_reading p k s).Kind) where
-  left : (ns ms : List Node) → AllPass p k s locals (ns ++ ms) → AllPass p k s locals ns
+  pub left : (ns ms : List Node) → AllPass p k s locals (ns ++ ms) → AllPass p k s locals ns
   left [] ms h = tt
   left (n ∷ ns) ms h = (h.0, left ns ms h.1)
 
-  right : (ns ms : List Node) → AllPass p k s locals (ns ++ ms) → AllPass p k s locals ms
+  pub right : (ns ms : List Node) → AllPass p k s locals (ns ++ ms) → AllPass p k s locals ms
   right [] ms h = h
   right (n ∷ ns) ms h = right ns ms h.1
 

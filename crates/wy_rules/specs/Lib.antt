@@ -10,5 +10,6 @@ pub mod Polarity
 pub mod Readings
 pub mod Refusals
 pub mod Rereading
+pub mod Scoped
 pub mod Tables
 pub mod Typing

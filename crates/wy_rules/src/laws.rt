@@ -7,6 +7,7 @@ ghost use Rattle.wy_rules.specs.Polarity.{Annotation, DualAnnotation};
 ghost use Rattle.wy_rules.specs.Rereading.{Erasure, Substitution, Retyping};
 ghost use Rattle.wy_rules.specs.Judging.{PassingIsAccepted, AcceptedLinesHold};
 ghost use Rattle.wy_rules.specs.GroundTyping.{GroundTyping};
+ghost use Rattle.wy_rules.specs.Scoped.{AcceptedScopesHold};
 
 /// Each type in range is a subtype of itself, with effects and without.
 pub fn subtyping_is_reflexive()
@@ -85,4 +86,10 @@ pub fn accepted_lines_hold()
 /// instance's ground sets put in for its atoms, or at the ground of its bound (docs/LANGUAGE.md, "Types of a run").
 pub fn ground_typing()
     ensures { GroundTyping }
+{}
+
+/// No module and no program's body is at fault whose rules hold, where its names stand for what is there and
+/// its literals capture what stands before their methods (docs/LANGUAGE.md, "First failing node").
+pub fn accepted_scopes_hold()
+    ensures { AcceptedScopesHold }
 {}
