@@ -69,7 +69,7 @@ transitive_over_tables methods a b c = (
   transitive TypeRef decide_type methods IsObject AnyEffect (λ e f g v w. tt) a b c,
 )
 
-object-substituted : (by : List (List ℕ)) (t : TypeRef) → IsObject t → IsObject (substituted by t)
+pub object-substituted : (by : List (List ℕ)) (t : TypeRef) → IsObject t → IsObject (substituted by t)
 object-substituted by Int o = o
 object-substituted by Bool o = o
 object-substituted by Text o = o
@@ -78,7 +78,7 @@ object-substituted by (Named d ms) o = tt
 object-substituted by (At d e) o = tt
 object-substituted by (Own l) o = tt
 
-substituted-object : (by : List (List ℕ)) (t : TypeRef) → IsObject (substituted by t) → IsObject t
+pub substituted-object : (by : List (List ℕ)) (t : TypeRef) → IsObject (substituted by t) → IsObject t
 substituted-object by Int o = o
 substituted-object by Bool o = o
 substituted-object by Text o = o
@@ -96,12 +96,12 @@ kept_under_replacement by methods methods' agree s t = (
 ------------------------------------------------------------
 -- The tables of a scope
 
-map-after : {X Y Z : Type 0} (f : Y → Z) (g : X → Y) (h : X → Z) → ((x : X) → f (g x) ≡ h x) → (xs : List X) → map f (map g xs) ≡ map h xs
+pub map-after : {X Y Z : Type 0} (f : Y → Z) (g : X → Y) (h : X → Z) → ((x : X) → f (g x) ≡ h x) → (xs : List X) → map f (map g xs) ≡ map h xs
 map-after f g h e [] = refl
 map-after f g h e (x ∷ xs) = ap (λ y. y ∷ map f (map g xs)) (e x) ∙ ap (λ l. h x ∷ l) (map-after f g h e xs)
 
 -- a signature that is read in one way and then in another
-mapped-after : (f g h : TypeRef → TypeRef) (e d c : List ℕ → List ℕ) → ((t : TypeRef) → f (g t) ≡ h t) → ((s : List ℕ) → e (d s) ≡ c s) → (m : Signature TypeRef) →
+pub mapped-after : (f g h : TypeRef → TypeRef) (e d c : List ℕ → List ℕ) → ((t : TypeRef) → f (g t) ≡ h t) → ((s : List ℕ) → e (d s) ≡ c s) → (m : Signature TypeRef) →
     mapped_signature f e (mapped_signature g d m) ≡ mapped_signature h c m
 mapped-after f g h e d c types effects m =
     ap (λ ps. let v : Signature TypeRef = record { name = m.name; params = ps; effect = e (d m.effect); result = f (g m.result) } in v) (map-after f g h types m.params) ∙

@@ -1,2 +1,15 @@
+pub mod Acceptance
+pub mod Derivations
+pub mod Failing
+pub mod GroundTypes
+pub mod GroundTyping
+pub mod Judging
+pub mod Nodes
+pub mod Operators
 pub mod Polarity
+pub mod Readings
+pub mod Refusals
+pub mod Rereading
+pub mod Scoped
 pub mod Tables
+pub mod Typing

@@ -1,12 +1,12 @@
 -- Laws of subtyping over tables of methods: the methods of each type, whatever they are.
-use Rattle.std.specs.Prelude.{◌≡◌, ℕ, List, map, slice_get}
+use Rattle.std.specs.Prelude.{◌≡◌, ℕ, List, [], map, slice_get, false}
 use Rattle.wy_effects.specs.Members.{In, Within, Apart}
 use Rattle.wy_effects.specs.EffSet.{AreSets, replace}
 use Rattle.wy_types.specs.declared.types.TypeRef.{TypeRef}
 use Rattle.wy_types.specs.declared.types.TypeRef.TheVariants.{Int, Bool, Text, Unit as Nothing, Named, At, Own}
 use Rattle.wy_types.specs.Program.{Program}
 use Rattle.wy_types.specs.Signature.{Signature, mapped_signature}
-use Rattle.wy_types.specs.Types.{IsObject, substituted, methods_of_owner, scope_bodies, methods_of}
+use Rattle.wy_types.specs.Types.{IsObject, substituted, annotated, erased, declared_methods, named_methods, bounded_methods, methods_of_owner, scope_bodies, methods_of}
 use Rattle.wy_types.specs.Subtyping.{IsSubtype, AnyEffect}
 
 abbrev pub Methods : Type 0
@@ -61,3 +61,23 @@ replaced_methods p scope by (Own l) = map (mapped_signature (substituted by) (re
 -- they agree with the scope's own
 abbrev pub ReplacedTablesAgree : Type 0
 ReplacedTablesAgree = (p : Program) (scope : ℕ) (by : List (List ℕ)) → AreSets 512 by → Agree by (methods_of p scope) (replaced_methods p scope by)
+
+-- the methods of a scope's types with no regard to effects: every declared type bare, every effect empty
+abbrev pub erased_methods : Program → ℕ → Methods
+erased_methods p scope Int = []
+erased_methods p scope Bool = []
+erased_methods p scope Text = []
+erased_methods p scope Nothing = []
+erased_methods p scope (Named d members) = map (mapped_signature erased (λ e. [])) (declared_methods (slice_get p.declarations d))
+erased_methods p scope (At d bound) = map (mapped_signature erased (λ e. [])) (declared_methods (slice_get p.declarations d))
+erased_methods p scope (Own l) = map (mapped_signature erased (λ e. [])) (methods_of_owner l (scope_bodies (slice_get p.scopes scope)))
+
+-- the methods of a plain module's types at a set: every declared type at it, every effect the set
+abbrev pub retyped_methods : Program → ℕ → List ℕ → Methods
+retyped_methods p scope e Int = []
+retyped_methods p scope e Bool = []
+retyped_methods p scope e Text = []
+retyped_methods p scope e Nothing = []
+retyped_methods p scope e (Named d members) = named_methods false members (declared_methods (slice_get p.declarations d))
+retyped_methods p scope e (At d bound) = bounded_methods bound (declared_methods (slice_get p.declarations d))
+retyped_methods p scope e (Own l) = map (mapped_signature (annotated e) (λ f. e)) (methods_of_owner l (scope_bodies (slice_get p.scopes scope)))

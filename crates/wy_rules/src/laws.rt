@@ -1,8 +1,13 @@
-//! Laws of subtyping, paths and annotation (docs/LANGUAGE.md, "Subtyping" to "Annotation and erasure").
+//! Laws of subtyping, paths and annotation (docs/LANGUAGE.md, "Subtyping" to "Annotation and erasure"), and of typing
+//! ("Typing of bodies").
 
 ghost use Rattle.wy_types.specs.Order.{IsReflexive, IsTransitive};
 ghost use Rattle.wy_rules.specs.Tables.{ReflexiveOverTables, TransitiveOverTables, KeptUnderReplacement, ReplacedTablesAgree};
 ghost use Rattle.wy_rules.specs.Polarity.{Annotation, DualAnnotation};
+ghost use Rattle.wy_rules.specs.Rereading.{Erasure, Substitution, Retyping};
+ghost use Rattle.wy_rules.specs.Judging.{PassingIsAccepted, AcceptedLinesHold};
+ghost use Rattle.wy_rules.specs.GroundTyping.{GroundTyping};
+ghost use Rattle.wy_rules.specs.Scoped.{AcceptedScopesHold};
 
 /// Each type in range is a subtype of itself, with effects and without.
 pub fn subtyping_is_reflexive()
@@ -47,4 +52,44 @@ pub fn annotation()
 /// annotated at the set is a subtype of it.
 pub fn dual_annotation()
     ensures { DualAnnotation }
+{}
+
+/// Erasure: the bodies of an annotated scope have derivations without effects, in which declared types are
+/// bare (docs/LANGUAGE.md, "Typing of bodies").
+pub fn erasure()
+    ensures { Erasure }
+{}
+
+/// Substitution: derivations of a scope's bodies stay derivations when its atoms are replaced by sets, in
+/// types and effects alike.
+pub fn substitution()
+    ensures { Substitution }
+{}
+
+/// Retyping: plain derivations of a module's bodies become annotated ones at every set, in which each
+/// declared type stands at the set and each method has it as its effect.
+pub fn retyping()
+    ensures { Retyping }
+{}
+
+/// A program of which every node passes is accepted (docs/LANGUAGE.md, "First failing node").
+pub fn passing_is_accepted()
+    ensures { PassingIsAccepted }
+{}
+
+/// In an accepted program no line is at fault.
+pub fn accepted_lines_hold()
+    ensures { AcceptedLinesHold }
+{}
+
+/// Ground typing: the bodies of an instance's module have derivations over the types of a run, with the
+/// instance's ground sets put in for its atoms, or at the ground of its bound (docs/LANGUAGE.md, "Types of a run").
+pub fn ground_typing()
+    ensures { GroundTyping }
+{}
+
+/// No module and no program's body is at fault whose rules hold, where its names stand for what is there and
+/// its literals capture what stands before their methods (docs/LANGUAGE.md, "First failing node").
+pub fn accepted_scopes_hold()
+    ensures { AcceptedScopesHold }
 {}

@@ -3,6 +3,7 @@ pub mod Core
 pub mod Few
 pub mod Fitting
 pub mod Gathering
+pub mod Ground
 pub mod InRange
 pub mod Keys
 pub mod Order

@@ -1,0 +1,4 @@
+mod ExamplesCallbacks
+mod ExamplesFiles
+mod ExamplesModules
+mod Sources
