@@ -10,6 +10,7 @@ mod ExamplesForms
 mod ExamplesGround
 mod ExamplesLines
 mod ExamplesLogger
+mod ExamplesMaker
 mod ExamplesOperators
 mod ExamplesOrder
 mod ExamplesParts
@@ -18,15 +19,16 @@ mod ExamplesPlug
 mod ExamplesRefused
 mod ExamplesSeals
 pub mod Forms
-pub mod Least
 pub mod Grounding
 pub mod Holding
 mod Laboratory
 pub mod Lawfulness
+pub mod Least
 pub mod Marks
 pub mod Narrowing
 pub mod Needs
-pub mod Rereadings
 pub mod Passing
+pub mod Rereadings
 mod Sources
 pub mod Standing
+pub mod Unrefused

@@ -162,9 +162,6 @@ abbrev pub FirstOf : {X : Type 0} → (X → Type 0) → (X → Option ℕ → T
 FirstOf Holds Lacks [] atom = ⊥
 FirstOf Holds Lacks (x ∷ xs) atom = ((Holds x → ⊥) × Lacks x atom) ⊎ (Holds x × FirstOf Holds Lacks xs atom)
 
-abbrev pub LacksNone : {X : Type 0} → X → Option ℕ → Type 0
-LacksNone x atom = atom ≡ None
-
 module _ (p : Program) (k : ℕ) (outer : List OwnName) where
   -- the least effect of a type that is not in the bound
   abbrev pub LacksInBound : List ℕ → Handed → Option ℕ → Type 0

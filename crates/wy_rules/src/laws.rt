@@ -8,6 +8,7 @@ ghost use Rattle.wy_rules.specs.Rereading.{Erasure, Substitution, Retyping};
 ghost use Rattle.wy_rules.specs.Judging.{PassingIsAccepted, AcceptedLinesHold};
 ghost use Rattle.wy_rules.specs.GroundTyping.{GroundTyping};
 ghost use Rattle.wy_rules.specs.Scoped.{AcceptedScopesHold};
+ghost use Rattle.wy_rules.specs.Refusals.{AcceptedHasNoFault};
 
 /// Each type in range is a subtype of itself, with effects and without.
 pub fn subtyping_is_reflexive()
@@ -92,4 +93,10 @@ pub fn ground_typing()
 /// its literals capture what stands before their methods (docs/LANGUAGE.md, "First failing node").
 pub fn accepted_scopes_hold()
     ensures { AcceptedScopesHold }
+{}
+
+/// An accepted program has no fault, where names stand for what is there and literals capture what stands
+/// before their methods.
+pub fn accepted_has_no_fault()
+    ensures { AcceptedHasNoFault }
 {}
