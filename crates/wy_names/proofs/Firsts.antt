@@ -1,7 +1,9 @@
 -- The first of a name, and the names before.
 use Rattle.std.proofs.Common.{◌≡◌, ℕ, zero, suc, ◌+◌, ◌<◌, List, [], ◌∷◌, ◌++◌, length, take, get_or, Bool, true, false, cond, refl, sym, ap, ◌∙◌, subst, Option, Some, None, is_some, arith, rules, if◌then◌else◌}
-use Rattle.std.specs.Prelude.{◌||◌, IfSome}
+use Rattle.std.specs.Prelude.{◌||◌, IfSome, map, slice_get}
+use Rattle.wy_names.specs.declared.scoping.Meaning.{Meaning}
 use Rattle.wy_names.specs.Declarations.{same_name, has_name, first_from}
+use Rattle.wy_names.specs.Meanings.{meaning_names, meaning_of}
 
 pub same_exact : (a b : List ℕ) → same_name a b ≡ true → b ≡ a
 same_exact a b e = search rules
@@ -94,3 +96,87 @@ number_below ns x =
     let start : 0 + length ns ≡ length ns = omega arith in
     let Q : ℕ → Type 0 = λ m. IfSome (first_from 0 ns x) (λ r. r < m) in
     subst Q start (first_below 0 ns x)
+
+-- names with one more at their end
+first_append : (k : ℕ) (ns : List (List ℕ)) (n x : List ℕ) → first_from k (ns ++ n ∷ []) x ≡ or_else (first_from k ns x) (one_of (k + length ns) (same_name n x))
+unfolding or_else one_of
+first_append k [] n x = (let start : k + 0 ≡ k = omega arith in ap (λ j. one_of j (same_name n x)) (sym start))
+first_append k (m ∷ ns) n x =
+    let next : (k + 1) + length ns ≡ k + suc (length ns) = omega arith in
+    let P : Bool → Type 0 = λ b. (if b then Some k else first_from (k + 1) (ns ++ n ∷ []) x) ≡ or_else (if b then Some k else first_from (k + 1) ns x) (one_of (k + suc (length ns)) (same_name n x)) in
+    elim (same_name m x) as P [
+      | true ↦ refl
+      | false ↦ first_append (k + 1) ns n x ∙ ap (λ j. or_else (first_from (k + 1) ns x) (one_of j (same_name n x))) next
+    ]
+
+-- that was there
+pub first_again : (ns : List (List ℕ)) (n : List ℕ) → is_some (first_from 0 ns n) ≡ true → (x : List ℕ) → first_from 0 ns x ≡ first_from 0 (ns ++ n ∷ []) x
+unfolding one_of
+first_again ns n there x =
+    let P : Bool → Type 0 = λ b. same_name n x ≡ b → first_from 0 ns x ≡ or_else (first_from 0 ns x) (one_of (0 + length ns) b) in
+    let h = elim (same_name n x) as P [
+      | true ↦ λ e. sym (or_some (first_from 0 ns x) _ (ap (λ y. is_some (first_from 0 ns y)) (same_exact n x e) ∙ there))
+      | false ↦ λ e. sym (or_none (first_from 0 ns x))
+    ] refl in
+    h ∙ sym (first_append 0 ns n x)
+
+-- that was not
+pub first_put : (ns : List (List ℕ)) (n : List ℕ) → is_some (first_from 0 ns n) ≡ false → (x : List ℕ) → cond (same_name n x) (Some (length ns)) (first_from 0 ns x) ≡ first_from 0 (ns ++ n ∷ []) x
+unfolding one_of
+first_put ns n absent x =
+    let start : 0 + length ns ≡ length ns = omega arith in
+    let P : Bool → Type 0 = λ b. same_name n x ≡ b → cond b (Some (length ns)) (first_from 0 ns x) ≡ or_else (first_from 0 ns x) (one_of (0 + length ns) b) in
+    let h = elim (same_name n x) as P [
+      | true ↦ λ e. ap (λ (j : ℕ). Some j) (sym start) ∙ sym (or_new (first_from 0 ns x) _ (ap (λ y. is_some (first_from 0 ns y)) (same_exact n x e) ∙ absent))
+      | false ↦ λ e. sym (or_none (first_from 0 ns x))
+    ] refl in
+    h ∙ sym (first_append 0 ns n x)
+
+pub next_number : Option ℕ → Option ℕ
+next_number None = None
+next_number (Some j) = Some (suc j)
+
+pub first_next : (k : ℕ) (ns : List (List ℕ)) (x : List ℕ) → first_from (k + 1) ns x ≡ next_number (first_from k ns x)
+unfolding next_number
+first_next k [] x = refl
+first_next k (n ∷ ns) x =
+    let P : Bool → Type 0 = λ b. (if b then Some (k + 1) else first_from ((k + 1) + 1) ns x) ≡ next_number (if b then Some k else first_from (k + 1) ns x) in
+    let more : k + 1 ≡ suc k = omega arith in
+    elim (same_name n x) as P [ true ↦ ap (λ (j : ℕ). Some j) more | false ↦ first_next (k + 1) ns x ]
+
+-- the item of a number, where there is one
+abbrev pub item_at : {X : Type 0} → List X → Option ℕ → Option X
+item_at xs None = None
+item_at xs (Some j) = slice_get xs j
+
+pub item_next : {X : Type 0} (x : X) (xs : List X) (o : Option ℕ) → item_at (x ∷ xs) (next_number o) ≡ item_at xs o
+unfolding next_number
+item_next x xs None = refl
+item_next x xs (Some j) = refl
+
+-- the first item of a name, by a function that gives names
+pub first_item : {X : Type 0} (name : X → List ℕ) (find : List X → List ℕ → Option X) →
+    ((x : List ℕ) → find [] x ≡ None) → ((i : X) (is : List X) (x : List ℕ) → find (i ∷ is) x ≡ (if same_name (name i) x then Some i else find is x)) →
+    (is : List X) (x : List ℕ) → find is x ≡ item_at is (first_from 0 (map name is) x)
+first_item {X} name find none more [] x = none x
+first_item {X} name find none more (i ∷ is) x =
+    let P : Bool → Type 0 = λ b. (if b then Some i else find is x) ≡ item_at (i ∷ is) (if b then Some 0 else first_from 1 (map name is) x) in
+    more i is x ∙
+    elim (same_name (name i) x) as P [
+      | true ↦ refl
+      | false ↦
+          first_item name find none more is x
+          ∙ sym (item_next i is (first_from 0 (map name is) x))
+          ∙ ap (item_at (i ∷ is)) (sym (first_next 0 (map name is) x))
+    ]
+
+-- a meaning is the item of its name's number
+pub meaning_item : (ms : List Meaning) (x : List ℕ) → meaning_of ms x ≡ item_at ms (first_from 0 (meaning_names ms) x)
+meaning_item ms x = first_item (λ (m : Meaning). m.name) meaning_of (λ y. refl) (λ i is y. refl) ms x
+
+-- whether a name is there is whether it has a number
+pub has_number : (k : ℕ) (ns : List (List ℕ)) (x : List ℕ) → has_name x ns ≡ is_some (first_from k ns x)
+has_number k [] x = refl
+has_number k (n ∷ ns) x =
+    let P : Bool → Type 0 = λ b. b || has_name x ns ≡ is_some (if b then Some k else first_from (k + 1) ns x) in
+    elim (same_name n x) as P [ true ↦ refl | false ↦ has_number (k + 1) ns x ]

@@ -90,6 +90,18 @@ pub none_is : (rs : List Refusal) → noted None rs ≡ None → rs ≡ []
 none_is [] h = refl
 none_is (x ∷ rs) h = absurd (some_noted x rs h)
 
-pub noted-append : (old : Option Refusal) (xs ys : List Refusal) → noted old (xs ++ ys) ≡ noted (noted old xs) ys
-noted-append old [] ys = refl
-noted-append old (x ∷ xs) ys = noted-append (Some (lesser old x)) xs ys
+pub noted_append : (old : Option Refusal) (xs ys : List Refusal) → noted old (xs ++ ys) ≡ noted (noted old xs) ys
+noted_append old [] ys = refl
+noted_append old (x ∷ xs) ys = noted_append (Some (lesser old x)) xs ys
+
+-- one turn of a walk that notes what it meets
+pub noted_turn : (old new start : Option Refusal) (one rest left all : List Refusal) → new ≡ noted old one → left ≡ one ++ rest → noted old left ≡ noted start all → noted new rest ≡ noted start all
+noted_turn old new start one rest left all is at h = ap (λ o. noted o rest) is ∙ sym (noted_append old one rest) ∙ ap (noted old) (sym at) ∙ h
+
+-- a turn that notes nothing
+pub noted_same : (old new start : Option Refusal) (left rest all : List Refusal) → new ≡ old → left ≡ rest → noted old left ≡ noted start all → noted new rest ≡ noted start all
+noted_same old new start left rest all is at h = ap (λ o. noted o rest) is ∙ ap (noted old) (sym at) ∙ h
+
+-- what is noted first, and then the rest
+pub noted_then : (old new end : Option Refusal) (one rest : List Refusal) → new ≡ noted old one → end ≡ noted new rest → end ≡ noted old (one ++ rest)
+noted_then old new end one rest is h = h ∙ ap (λ o. noted o rest) is ∙ sym (noted_append old one rest)

@@ -23,6 +23,7 @@ use Rattle.wy_names.specs.declared.scoping.Opening.{Opening}
 use Rattle.wy_names.specs.declared.scoping.Opening.TheVariants.{Members, Nothing, Missing}
 use Rattle.wy_names.specs.declared.scoping.Owner.{Owner}
 use Rattle.wy_names.specs.Least.{refusal_at}
+use Rattle.wy_names.specs.Meanings.{meaning_of, abstract_names}
 use Rattle.wy_names.specs.Declarations.{ModuleTree, same_name, first_from, module_number, type_names, texts}
 
 -- a scope of atoms: the types of the program, the scope's atoms, its owners, and what its names of one word stand for
@@ -37,16 +38,6 @@ unknown n = refusal_at n.place Unknown ∷ []
 
 ------------------------------------------------------------
 -- Types and their members
-
--- the first of a name
-abbrev pub meaning_of : List Meaning → List ℕ → Option Meaning
-meaning_of [] x = None
-meaning_of (m ∷ ms) x = if same_name m.name x then Some m else meaning_of ms x
-
--- the names of the abstract members, in their order
-abbrev pub abstract_names : List Meaning → List (List ℕ)
-abstract_names [] = []
-abstract_names (m ∷ ms) = if m.is_abstract then m.name ∷ abstract_names ms else abstract_names ms
 
 abbrev pub head_names : List Head → List (List ℕ)
 head_names hs = map (λ (h : Head). h.name) hs

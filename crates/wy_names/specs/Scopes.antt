@@ -20,7 +20,8 @@ use Rattle.wy_names.specs.declared.scoping.Head.{Head}
 use Rattle.wy_names.specs.declared.scoping.Owner.{Owner}
 use Rattle.wy_names.specs.Least.{refusal_at}
 use Rattle.wy_names.specs.Declarations.{ModuleTree, ProgramTree, types_of, modules_of, programs_of, module_names, type_names, repeated, texts}
-use Rattle.wy_names.specs.Atoms.{AtomScope, unknown, head_names, type_number, members_of, abstract_names, meaning_of, meaning_set, atoms_of, params_owners, grant_owner, use_owner, line_owner, defined_member, set_of, set_refusals, heads_of, primitive_names}
+use Rattle.wy_names.specs.Meanings.{abstract_names, meaning_of}
+use Rattle.wy_names.specs.Atoms.{AtomScope, unknown, head_names, type_number, members_of, meaning_set, atoms_of, params_owners, grant_owner, use_owner, line_owner, defined_member, set_of, set_refusals, heads_of, primitive_names}
 use Rattle.wy_names.specs.TypeUses.{lacking, not_abstract, declarations_of, declarations_refusals, param_names}
 use Rattle.wy_names.specs.Lines.{param_name, param_refusals, grant_name, grant_refusals, use_name, uses_refusals, line_names, lines_refusals, line_word, owner_names}
 use Rattle.wy_names.specs.Sight.{outermost, inside}

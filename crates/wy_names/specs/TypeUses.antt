@@ -23,7 +23,8 @@ use Rattle.wy_names.specs.declared.scoping.Meaning.{Meaning}
 use Rattle.wy_names.specs.declared.scoping.Head.{Head}
 use Rattle.wy_names.specs.Least.{refusal_at}
 use Rattle.wy_names.specs.Declarations.{has_name, same_name, repeated}
-use Rattle.wy_names.specs.Atoms.{AtomScope, unknown, meaning_of, abstract_names, head_names, type_number, members_of, set_of, set_refusals, members_after, member_scope}
+use Rattle.wy_names.specs.Meanings.{meaning_of, abstract_names}
+use Rattle.wy_names.specs.Atoms.{AtomScope, unknown, head_names, type_number, members_of, set_of, set_refusals, members_after, member_scope}
 
 ------------------------------------------------------------
 -- Types

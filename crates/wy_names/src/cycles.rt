@@ -43,7 +43,7 @@ fn add_all(seen: &mut Items<usize>, numbers: &[usize]) -> Result<(), Memory>
 }
 
 /// The modules that a module leads to.
-fn next_from<'a>(edges: &'a [Items<usize>], k: usize) -> &'a [usize]
+pub fn next_from<'a>(edges: &'a [Items<usize>], k: usize) -> &'a [usize]
     ensures { result.now ≡ next_from edges.now k }
 {
     match edges.get(k) {

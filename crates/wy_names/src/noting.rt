@@ -1,8 +1,8 @@
 //! The refusal that comes first.
 
-ghost use Rattle.std.specs.Prelude.{◌≡◌, ◌↔◌, IsTrue, Some, map};
+ghost use Rattle.std.specs.Prelude.{◌≡◌, ◌∷◌, [], Some};
 ghost use Rattle.wy_syntax.specs.Nodes.{is_before};
-ghost use Rattle.wy_names.specs.Least.{cause_number, same_place, comes_before, lesser};
+ghost use Rattle.wy_names.specs.Least.{cause_number, same_place, comes_before, lesser, noted, refusal_at};
 
 use crate::refusal::{Cause, Refusal};
 use wy_text::fault::Place;
@@ -65,4 +65,11 @@ pub fn note(least: &mut Option<Refusal>, new: Refusal)
             }
         }
     };
+}
+
+/// Keeps the refusal that comes first, of the one so far and one at this place. It takes no memory.
+pub fn note_at(least: &mut Option<Refusal>, place: Place, cause: Cause)
+    ensures { least.new ≡ noted least.old (refusal_at place cause ∷ []) }
+{
+    note(least, Refusal { place, cause });
 }

@@ -46,7 +46,7 @@ fn param_opening(types: &Table, use_of: &TypeUse) -> Opening
 }
 
 /// What a grant opens: the members of its primitive type.
-fn grant_opening(types: &Table, name: &Text) -> Opening
+pub fn grant_opening(types: &Table, name: &Text) -> Opening
     requires { length types.now ≤ 1028 }
     ensures { result ≡ primitive_opening (type_number types.now name.now) }
 {
@@ -65,7 +65,12 @@ fn grant_opening(types: &Table, name: &Text) -> Opening
 }
 
 /// What a used module or an instance of a module opens: the members of the type that it is sealed at.
-fn module_opening(types: &Table, numbers: &Table, modules: &[ModuleView], name: &Text) -> Opening
+pub fn module_opening(
+    types: &Table,
+    numbers: &Table,
+    modules: &[ModuleView],
+    name: &Text,
+) -> Opening
     requires few { length types.now ≤ 1028 }
     requires numbered { numbers.now ≡ texts (module_names (map module_tree modules.now)) }
     ensures { result ≡ module_opening types.now (map module_tree modules.now) name.now }

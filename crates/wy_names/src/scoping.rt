@@ -1,5 +1,5 @@
+use crate::meanings::Meanings;
 use wy_effects::set::EffSet;
-use wy_text::list::Items;
 use wy_text::text::Text;
 use wy_types::code::Binding;
 
@@ -13,10 +13,10 @@ pub struct Meaning {
 }
 
 /// A type's name and its effect members, in their order. The atoms are its abstract members, by their numbers.
-#[derive(Debug, Drop)]
+#[derive(Drop)]
 pub struct Head {
     pub name: Text,
-    pub members: Items<Meaning>,
+    pub members: Meanings,
 }
 
 /// What a scope's own name opens for effects: the members of the type of this number, nothing, or what

@@ -103,6 +103,13 @@ impl Table {
         Ok(Table { names, numbers })
     }
 
+    /// How many names there are. It takes no memory.
+    pub fn len(&self) -> usize
+        ensures { result ≡ length self.now }
+    {
+        self.names.len()
+    }
+
     /// The number of the first of a name. It takes no memory.
     pub fn number(&self, name: &Text) -> Option<usize>
         ensures value { result ≡ first_from 0 self.now name.now }

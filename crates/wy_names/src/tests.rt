@@ -1,6 +1,9 @@
-use crate::atoms::atoms_of;
+use crate::atom_scope::Owners;
 use crate::gathering::{modules, programs, types};
+use crate::heads::Heads;
 use crate::limits::first_limit;
+use crate::meanings::Meanings;
+use crate::members::head_table;
 use crate::refusal::{Cause, Refusal};
 use crate::scoping::{Head, Meaning, Opening, Owner};
 use crate::tables::{Table, note_repeated};
@@ -115,7 +118,7 @@ fn grants_are_counted_in_each_block_by_itself(rt: HostRuntime) -> Result<(), Fai
 #[test]
 fn owners_open_their_abstract_members(rt: HostRuntime) -> Result<(), Fail> {
     let alloc = rt.alloc();
-    let mut members = Items::new(alloc);
+    let mut members = Meanings::new(alloc);
     for (text, is_abstract) in [("A", true), ("B", false), ("C", true)] {
         members.push(Meaning {
             name: from_bytes(alloc, text.as_bytes())?,
@@ -123,15 +126,24 @@ fn owners_open_their_abstract_members(rt: HostRuntime) -> Result<(), Fail> {
             atoms: EffSet::empty(alloc),
         })?;
     }
-    let head = Head {
-        name: from_bytes(alloc, b"T")?,
-        members,
-    };
     let owner = Owner {
         name: from_bytes(alloc, b"x")?,
         opening: Opening::Members { decl: 0 },
     };
-    let atoms = atoms_of(alloc, &[head], &[owner])?;
+    let mut list = Vec::new(alloc);
+    list.push(Head {
+        name: from_bytes(alloc, b"T")?,
+        members,
+    })?;
+    let names = head_table(alloc, &list)?;
+    if list.len() > 1028 {
+        return Err(Memory.into());
+    }
+    let heads = Heads::new(list, names);
+    let Ok(owners) = Owners::new(alloc, &heads, &[owner]) else {
+        return Err(Memory.into());
+    };
+    let atoms = owners.into_atoms();
     assert_eq!(rt; atoms.len(), 2);
     let Some(last) = atoms.name(Atom(1)) else {
         return Err(Memory.into());

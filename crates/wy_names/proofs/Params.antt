@@ -1,0 +1,12 @@
+-- The refusals of parameters one by one.
+use Rattle.std.proofs.Common.{◌≡◌, List, [], ◌∷◌, ◌++◌, Bool, true, false, sym, ap}
+use Rattle.std.proofs.lemmas.List.{append-nil}
+use Rattle.wy_syntax.specs.declared.types.Param.{Param}
+use Rattle.wy_names.specs.declared.refusal.Refusal.{Refusal}
+use Rattle.wy_names.specs.Atoms.{AtomScope}
+use Rattle.wy_names.specs.TypeUses.{plain_refusals, type_refusals}
+use Rattle.wy_names.specs.Lines.{param_refusals}
+
+pub params_more : (s : AtomScope) (plain : Bool) (p : Param) (ps : List Param) → param_refusals s plain (p ∷ ps) ≡ param_refusals s plain (p ∷ []) ++ param_refusals s plain ps
+params_more s true p ps = ap (λ l. l ++ param_refusals s true ps) (sym (append-nil (plain_refusals s p.type_use)))
+params_more s false p ps = ap (λ l. l ++ param_refusals s false ps) (sym (append-nil (type_refusals s true p.type_use)))

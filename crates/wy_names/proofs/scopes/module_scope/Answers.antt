@@ -1,0 +1,31 @@
+use Rattle.std.proofs.Common.{◌≡◌, [], List, map, sym, ap, ◌∙◌, subst, rules, refl}
+use Rattle.wy_types.specs.Program.{scope_of}
+use Rattle.wy_names.specs.declared.scopes.Parts.{Parts}
+use Rattle.wy_names.specs.declared.scoping.Head.{Head}
+use Rattle.wy_names.specs.Least.{noted}
+use Rattle.wy_names.specs.Atoms.{AtomScope}
+use Rattle.wy_names.specs.ScopeParts.{ArePartsOfModule}
+use Rattle.wy_names.specs.Scopes.{scope_of_module, module_refusals}
+use Rattle.wy_names.specs.Lent.{module_tree}
+use Rattle.wy_names.proofs.ScopesMade.{scope_by_parts, place_same}
+use Rattle.wy_names.proofs.scopes.module_scope.Goals as goal
+
+pub returns-clause-scope : goal.returns-clause-scope
+returns-clause-scope c =
+    let heads = c.args.heads.now in
+    let modules = map module_tree c.args.modules.now in
+    let m = module_tree c.args.view.now in
+    let seen = ap (λ (s : AtomScope). s.heads) c.in_ok-owners.ensures in
+    let P : List Head → Type 0 = λ h. ArePartsOfModule h modules m c.in_ok-names.field-0 in
+    let parts = subst P seen c.in_ok-names.ensures.parts in
+    scope_by_parts (scope_of _) (scope_of_module heads modules m) refl c.in_ok-copy.ensures refl
+    (c.into_atoms.ensures ∙ ap (λ (s : AtomScope). s.atoms) c.in_ok-owners.ensures)
+    parts.names c.number.ensures parts.definitions parts.literals
+    (c.start_place.ensures ∙ place_same [] heads [] modules m m.init) parts.effect parts.start parts.bodies
+
+pub returns-clause-noted : goal.returns-clause-noted
+returns-clause-noted c =
+    let modules = map module_tree c.args.modules.now in
+    let m = module_tree c.args.view.now in
+    let seen = ap (λ (s : AtomScope). s.heads) c.in_ok-owners.ensures in
+    c.in_ok-names.ensures.noted ∙ ap (λ h. noted c.args.least.now (module_refusals h modules m)) seen

@@ -1,0 +1,29 @@
+use Rattle.std.proofs.Common.{◌≡◌, [], List, map, sym, ap, ◌∙◌, subst, rules, refl}
+use Rattle.wy_types.specs.Program.{scope_of}
+use Rattle.wy_names.specs.declared.scoping.Head.{Head}
+use Rattle.wy_names.specs.Least.{noted}
+use Rattle.wy_names.specs.Atoms.{AtomScope}
+use Rattle.wy_names.specs.ScopeParts.{ArePartsOfProgram}
+use Rattle.wy_names.specs.Scopes.{scope_of_program, program_refusals}
+use Rattle.wy_names.specs.Lent.{module_tree, program_tree}
+use Rattle.wy_names.proofs.ScopesMade.{scope_by_parts}
+use Rattle.wy_names.proofs.scopes.program_scope.Goals as goal
+
+pub returns-clause-scope : goal.returns-clause-scope
+returns-clause-scope c =
+    let heads = c.args.heads.now in
+    let modules = map module_tree c.args.modules.now in
+    let g = program_tree c.args.program.now in
+    let seen = ap (λ (s : AtomScope). s.heads) c.in_ok-owners.ensures in
+    let P : List Head → Type 0 = λ h. ArePartsOfProgram h modules g c.in_ok-names.field-0 in
+    let parts = subst P seen c.in_ok-names.ensures.parts in
+    scope_by_parts (scope_of _) (scope_of_program heads modules g) refl (search rules) refl
+    (c.into_atoms.ensures ∙ ap (λ (s : AtomScope). s.atoms) c.in_ok-owners.ensures)
+    parts.names refl parts.definitions parts.literals refl parts.effect parts.start parts.bodies
+
+pub returns-clause-noted : goal.returns-clause-noted
+returns-clause-noted c =
+    let modules = map module_tree c.args.modules.now in
+    let g = program_tree c.args.program.now in
+    let seen = ap (λ (s : AtomScope). s.heads) c.in_ok-owners.ensures in
+    c.in_ok-names.ensures.noted ∙ ap (λ h. noted c.args.least.now (program_refusals h modules g)) seen

@@ -1,0 +1,143 @@
+//! The bodies of a scope.
+
+ghost use Rattle.std.specs.Prelude.{◌≡◌, ◌∷◌, ◌++◌, [], List, map, IfOk, OnOk};
+ghost use Rattle.wy_types.specs.Program.{body_of, start_of, Init, Run};
+ghost use Rattle.wy_syntax.specs.Views.{part_trees, tail_tree};
+ghost use Rattle.wy_names.specs.Least.{noted};
+ghost use Rattle.wy_names.specs.Sight.{outermost, inside};
+ghost use Rattle.wy_names.specs.Bodies.{at_start, part_values, tail_block, literal_of, parts_literals, tail_literals, parts_bodies, tail_bodies};
+ghost use Rattle.wy_names.specs.BodyRefusals.{repeated_parts, parts_refusals, tail_refusals};
+ghost use Rattle.wy_names.specs.Lending.{lent_within};
+ghost use Rattle.wy_names.specs.FoundBodies.{found_of, begun};
+
+use crate::atom_scope::AtomScope;
+use crate::literals::{literal_of, note_repeated_parts};
+use crate::refusal::Refusal;
+use crate::sight::{Frame, Variables};
+use crate::statements::{Count, Found, part_values, tail_block};
+use crate::tables::Table;
+use std::alloc::Global;
+use wy_syntax::statements::{Part, Tail};
+use wy_text::fault::Place;
+use wy_text::list::Items;
+use wy_text::text::Memory;
+use wy_types::resolved::{Body, Literal, Start};
+
+/// A scope as its bodies see it: its atoms, whether it is a plain module, and its own names.
+#[derive(Drop)]
+pub struct Within<'a> {
+    pub atoms: &'a AtomScope<'a>,
+    pub plain: bool,
+    pub own: &'a Table,
+}
+
+/// What the bodies of a scope stand for.
+#[derive(Drop)]
+pub struct Resolved {
+    pub literals: Items<Literal>,
+    pub start: Start,
+    pub bodies: Items<Body>,
+}
+
+/// What is found at the start of a scope whose literal 0 is this one.
+fn begun(alloc: Global, literal: Literal, least: Option<Refusal>) -> Result<Found, Memory>
+    ensures { IfOk result (λ f. found_of f ≡ begun literal least) }
+{
+    let mut literals = Items::new(alloc);
+    literals.push(literal)?;
+    let count = Count {
+        vals: 0,
+        literals: 1,
+        bodies: 0,
+    };
+    let bodies = Vec::new(alloc);
+    Ok(Found {
+        count,
+        literals,
+        bodies,
+        least,
+    })
+}
+
+/// The literal 0 of the program, which has nothing.
+fn no_fields(alloc: Global) -> Literal
+    ensures { result ≡ record { captures = []; fields = [] } }
+{
+    Literal {
+        captures: Items::new(alloc),
+        fields: Items::new(alloc),
+    }
+}
+
+/// Bodies as a list.
+fn listed(alloc: Global, bodies: Vec<Body>) -> Result<Items<Body>, Memory>
+    ensures { IfOk result (λ l. l ≡ bodies.items) }
+{
+    let mut list = Items::new(alloc);
+    for body in bodies {
+        list.push(body)?;
+    }
+    Ok(list)
+}
+
+/// The fields and methods of a module. Their refusals are noted.
+pub fn module_parts(
+    alloc: Global,
+    within: &Within,
+    parts: &[Part],
+    least: &mut Option<Refusal>,
+) -> Result<Resolved, Memory>
+    ensures literals { IfOk result (λ r. r.literals ≡ literal_of (lent_within within.now) outermost (part_trees parts.now) ∷ parts_literals (lent_within within.now) outermost (inside outermost (part_trees parts.now)) at_start (part_trees parts.now)) }
+    ensures start { IfOk result (λ r. start_of r.start ≡ Init (part_values (lent_within within.now) outermost at_start (part_trees parts.now))) }
+    ensures bodies { IfOk result (λ r. map body_of r.bodies ≡ parts_bodies (lent_within within.now) outermost (inside outermost (part_trees parts.now)) 0 at_start (part_trees parts.now)) }
+    ensures noted { OnOk result (least.new ≡ noted least.old (repeated_parts (part_trees parts.now) ++ parts_refusals (lent_within within.now) outermost (inside outermost (part_trees parts.now)) at_start (part_trees parts.now))) }
+{
+    let outer = Frame::outermost(alloc);
+    let mut variables = Variables::new(alloc);
+    note_repeated_parts(alloc, parts, least)?;
+    let literal = literal_of(alloc, within, &variables, parts)?;
+    let mut found = begun(alloc, literal, *least)?;
+    let inner = Frame::inside(alloc, 0, parts)?;
+    let values = part_values(
+        alloc,
+        within,
+        &outer,
+        &inner,
+        &mut variables,
+        &mut found,
+        0,
+        parts,
+    )?;
+    *least = found.least;
+    Ok(Resolved {
+        literals: found.literals,
+        start: Start::Init(values),
+        bodies: listed(alloc, found.bodies)?,
+    })
+}
+
+/// The program's block. Its refusals are noted.
+pub fn program_block(
+    alloc: Global,
+    within: &Within,
+    run: Place,
+    body: &Tail,
+    least: &mut Option<Refusal>,
+) -> Result<Resolved, Memory>
+    ensures literals { IfOk result (λ r. r.literals ≡ record { captures = []; fields = [] } ∷ tail_literals (lent_within within.now) outermost at_start (tail_tree body.now)) }
+    ensures start { IfOk result (λ r. start_of r.start ≡ Run (tail_block (lent_within within.now) run outermost at_start (tail_tree body.now))) }
+    ensures bodies { IfOk result (λ r. map body_of r.bodies ≡ tail_bodies (lent_within within.now) outermost at_start (tail_tree body.now)) }
+    ensures noted { OnOk result (least.new ≡ noted least.old (tail_refusals (lent_within within.now) outermost at_start (tail_tree body.now))) }
+{
+    let frame = Frame::outermost(alloc);
+    let mut variables = Variables::new(alloc);
+    let literal = no_fields(alloc);
+    let mut found = begun(alloc, literal, *least)?;
+    let block = tail_block(alloc, within, &frame, &mut variables, &mut found, run, body)?;
+    *least = found.least;
+    Ok(Resolved {
+        literals: found.literals,
+        start: Start::Run(block),
+        bodies: listed(alloc, found.bodies)?,
+    })
+}

@@ -1,0 +1,227 @@
+//! What modules define, and the refusals of their parameters, grants and definitions
+//! (docs/LANGUAGE.md, "Names").
+
+ghost use Rattle.std.specs.Prelude.{◌≡◌, ◌≤◌, ◌++◌, ◌∷◌, [], map, take, length, IfOk, OnOk};
+ghost use Rattle.std.specs.Option.{option_copied};
+ghost use Rattle.wy_names.specs.Least.{noted};
+ghost use Rattle.wy_names.specs.Meanings.{abstract_names, meaning_of};
+ghost use Rattle.wy_names.specs.Declarations.{texts};
+ghost use Rattle.wy_names.specs.Atoms.{defined_member, meaning_set, set_of, set_refusals};
+ghost use Rattle.wy_names.specs.Lines.{param_refusals, grant_refusals};
+ghost use Rattle.wy_names.specs.Scopes.{atom_scope, definitions_after, definitions_refusals, define_names, definitions_for, start_effect, init_refusals};
+ghost use Rattle.wy_names.specs.Lent.{lent_name};
+
+use crate::atom_scope::{AtomScope, Owners};
+use crate::heads::Heads;
+use crate::meanings::Meanings;
+use crate::noting::note_at;
+use crate::owners::grant_opening;
+use crate::refusal::{Cause, Refusal};
+use crate::scoping::{Meaning, Opening};
+use crate::sets::{note_set, set_of};
+use crate::tables::Table;
+use crate::type_uses::{note_plain, note_type};
+use std::alloc::Global;
+use wy_effects::set::{EffSet, SetList};
+use wy_syntax::items::{Define, Grant, Init};
+use wy_syntax::types::{AtomUse, Name, Param};
+use wy_text::list::Items;
+use wy_text::text::{Memory, Text};
+
+/// Adds what a module defines, whose set sees the owners of the scope and the definitions before it.
+fn add_definition(
+    alloc: Global,
+    owners: &Owners,
+    visible: usize,
+    before: &mut Meanings,
+    name: &Text,
+    set: &[AtomUse],
+) -> Result<(), Memory>
+    ensures { OnOk result (before.new ≡ before.old ++ defined_member name.now (set_of (atom_scope owners.now.heads owners.now.atoms (take visible owners.now.owners) before.old) set.now) ∷ []) }
+{
+    let atoms = set_of(alloc, &AtomScope::new(owners, visible, before), set)?;
+    before.push(Meaning {
+        name: name.copy()?,
+        is_abstract: false,
+        atoms,
+    })
+}
+
+/// What a module defines, in its order.
+pub fn definitions(
+    alloc: Global,
+    owners: &Owners,
+    visible: usize,
+    defines: &[Define],
+) -> Result<Meanings, Memory>
+    ensures { IfOk result (λ ms. ms ≡ definitions_after owners.now.heads owners.now.atoms (take visible owners.now.owners) [] defines.now) }
+{
+    let mut before = Meanings::new(alloc);
+    for define in defines {
+        add_definition(
+            alloc,
+            owners,
+            visible,
+            &mut before,
+            &define.name.text,
+            define.effect.as_slice(),
+        )?;
+    }
+    Ok(before)
+}
+
+/// Notes the refusals of a definition's set.
+fn note_definition(
+    owners: &Owners,
+    visible: usize,
+    before: &Meanings,
+    set: &[AtomUse],
+    least: &mut Option<Refusal>,
+)
+    ensures { least.new ≡ noted least.old (set_refusals (atom_scope owners.now.heads owners.now.atoms (take visible owners.now.owners) before.now) set.now) }
+{
+    note_set(&AtomScope::new(owners, visible, before), set, least);
+}
+
+/// Notes the refusals of the sets of definitions.
+pub fn note_definitions(
+    alloc: Global,
+    owners: &Owners,
+    visible: usize,
+    defines: &[Define],
+    least: &mut Option<Refusal>,
+) -> Result<(), Memory>
+    ensures { OnOk result (least.new ≡ noted least.old (definitions_refusals owners.now.heads owners.now.atoms (take visible owners.now.owners) [] defines.now)) }
+{
+    let mut before = Meanings::new(alloc);
+    for define in defines {
+        note_definition(owners, visible, &before, define.effect.as_slice(), least);
+        add_definition(
+            alloc,
+            owners,
+            visible,
+            &mut before,
+            &define.name.text,
+            define.effect.as_slice(),
+        )?;
+    }
+    Ok(())
+}
+
+/// The names that a module defines.
+pub fn define_names<'a>(alloc: Global, defines: &'a [Define]) -> Result<Vec<&'a Name>, Memory>
+    ensures { IfOk result (λ ns. map lent_name ns.items ≡ define_names defines.now) }
+{
+    let mut names = Vec::new(alloc);
+    for define in defines {
+        names.push(&define.name)?;
+    }
+    Ok(names)
+}
+
+/// The texts of names as a table.
+pub fn name_table(alloc: Global, names: &[&Name]) -> Result<Table, Memory>
+    ensures { IfOk result (λ t. t ≡ texts (map lent_name names.now)) }
+{
+    let mut list = Vec::new(alloc);
+    for name in names {
+        list.push(name.text.copy()?)?;
+    }
+    Table::new(alloc, list)
+}
+
+/// What a name stands for; nothing where it stands for none.
+fn meaning_set(alloc: Global, meanings: &Meanings, name: &Text) -> Result<EffSet, Memory>
+    ensures { IfOk result (λ e. e ≡ meaning_set (meaning_of meanings.now name.now)) }
+{
+    match meanings.find(name) {
+        None => Ok(EffSet::empty(alloc)),
+        Some(meaning) => meaning.atoms.copy(),
+    }
+}
+
+/// What a module defines for each abstract member.
+pub fn definitions_for(
+    alloc: Global,
+    heads: &Heads,
+    meanings: &Meanings,
+    members: &[Meaning],
+) -> Result<SetList, Memory>
+    ensures { IfOk result (λ l. l ≡ definitions_for heads.now [] meanings.now (abstract_names members.now)) }
+{
+    let mut list = Items::new(alloc);
+    for member in members {
+        if member.is_abstract {
+            list.push(meaning_set(alloc, meanings, &member.name)?)?;
+        }
+    }
+    Ok(list)
+}
+
+/// Notes the refusals of the types of a module's parameters.
+pub fn note_params(
+    alloc: Global,
+    scope: &AtomScope,
+    plain: bool,
+    params: &[Param],
+    least: &mut Option<Refusal>,
+) -> Result<(), Memory>
+    ensures { OnOk result (least.new ≡ noted least.old (param_refusals scope.now plain params.now)) }
+{
+    for param in params {
+        note_param(alloc, scope, plain, param, least)?;
+    }
+    Ok(())
+}
+
+/// Notes the refusals of a parameter's type, which may be bare.
+fn note_param(
+    alloc: Global,
+    scope: &AtomScope,
+    plain: bool,
+    param: &Param,
+    least: &mut Option<Refusal>,
+) -> Result<(), Memory>
+    ensures { OnOk result (least.new ≡ noted least.old (param_refusals scope.now plain (param.now ∷ []))) }
+{
+    if plain {
+        note_plain(scope, &param.type_use, least);
+        Ok(())
+    } else {
+        note_type(alloc, scope, true, &param.type_use, least)
+    }
+}
+
+/// Notes Unknown at each grant whose type is none of the primitive ones.
+pub fn note_grants(types: &Table, grants: &[Grant], least: &mut Option<Refusal>)
+    requires { length types.now ≤ 1028 }
+    ensures { least.new ≡ noted least.old (grant_refusals types.now grants.now) }
+{
+    for grant in grants {
+        match grant_opening(types, &grant.kind.text) {
+            Opening::Members { decl: _ } => {}
+            Opening::Nothing | Opening::Missing => {
+                note_at(least, grant.kind.place, Cause::Unknown)
+            }
+        }
+    }
+}
+
+/// The declared effect of a module's start; empty where none is written.
+pub fn start_effect(alloc: Global, scope: &AtomScope, init: Option<&Init>) -> Result<EffSet, Memory>
+    ensures { IfOk result (λ e. e ≡ start_effect [] [] scope.now (option_copied init.entry)) }
+{
+    match init {
+        None => Ok(EffSet::empty(alloc)),
+        Some(init) => set_of(alloc, scope, init.effect.as_slice()),
+    }
+}
+
+/// Notes the refusals of the declared effect of a module's start.
+pub fn note_init(scope: &AtomScope, init: Option<&Init>, least: &mut Option<Refusal>)
+    ensures { least.new ≡ noted least.old (init_refusals [] [] scope.now (option_copied init.entry)) }
+{
+    if let Some(init) = init {
+        note_set(scope, init.effect.as_slice(), least);
+    }
+}

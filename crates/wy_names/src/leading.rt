@@ -1,0 +1,184 @@
+//! Which modules lead to which, and the refusals of those that lead back to themselves
+//! (docs/LANGUAGE.md, "Names").
+
+ghost use Rattle.std.specs.Prelude.{◌≡◌, ◌≤◌, ◌+◌, ◌++◌, [], map, length, IfOk, OnOk, slice_index_or};
+ghost use Rattle.wy_effects.specs.EffSet.{has};
+ghost use Rattle.wy_names.specs.Least.{noted};
+ghost use Rattle.wy_names.specs.Declarations.{texts, module_names, module_number};
+ghost use Rattle.wy_names.specs.Cycles.{named_modules};
+ghost use Rattle.wy_names.specs.Lines.{line_module};
+ghost use Rattle.wy_names.specs.Leading.{numbers_of, edges_of, LeadsInside};
+ghost use Rattle.wy_names.specs.CycleRefusals.{AreReached, word_refusals, words_refusals, cycle_refusals, NotesCycles};
+ghost use Rattle.wy_names.specs.Lent.{lent_name, module_tree};
+
+use crate::cycles::{next_from, reached_from};
+use crate::gathering::ModuleView;
+use crate::noting::note_at;
+use crate::refusal::{Cause, Refusal};
+use crate::tables::Table;
+use std::alloc::Global;
+use wy_syntax::items::Line;
+use wy_syntax::types::Name;
+use wy_text::list::Items;
+use wy_text::text::Memory;
+
+/// The name of the module of a line.
+fn line_module(line: &Line) -> &Name
+    ensures { result.now ≡ line_module line.now }
+{
+    match line {
+        Line::Instance(_, named, _) => named,
+        Line::Import(_, named, _, _) => named,
+    }
+}
+
+/// Adds the names of the modules of lines.
+fn add_line_modules<'a>(words: &mut Vec<&'a Name>, lines: &'a [Line]) -> Result<(), Memory>
+    ensures { OnOk result (map lent_name words.new.items ≡ map lent_name words.old.items ++ map line_module lines.now) }
+{
+    for line in lines {
+        words.push(line_module(line))?;
+    }
+    Ok(())
+}
+
+/// The words that name modules in a module's uses and lines.
+fn named_modules<'a>(alloc: Global, view: &ModuleView<'a>) -> Result<Vec<&'a Name>, Memory>
+    ensures { IfOk result (λ ws. map lent_name ws.items ≡ named_modules (module_tree view.now)) }
+{
+    let mut words = Vec::new(alloc);
+    for name in view.uses {
+        words.push(name)?;
+    }
+    add_line_modules(&mut words, view.lines)?;
+    Ok(words)
+}
+
+/// The numbers of the modules that words name.
+fn numbers_of(
+    alloc: Global,
+    numbers: &Table,
+    modules: &[ModuleView],
+    words: &[&Name],
+) -> Result<Items<usize>, Memory>
+    requires { numbers.now ≡ texts (module_names (map module_tree modules.now)) }
+    ensures { IfOk result (λ ks. ks ≡ numbers_of (map module_tree modules.now) (map lent_name words.now)) }
+{
+    let mut list = Items::new(alloc);
+    for word in words {
+        if let Some(number) = numbers.number(&word.text) {
+            list.push(number)?;
+        }
+    }
+    Ok(list)
+}
+
+/// For each module the numbers of those that its uses and lines name.
+fn edges_of(
+    alloc: Global,
+    numbers: &Table,
+    modules: &[ModuleView],
+) -> Result<Vec<Items<usize>>, Memory>
+    requires { numbers.now ≡ texts (module_names (map module_tree modules.now)) }
+    ensures { IfOk result (λ es. es.items ≡ edges_of (map module_tree modules.now)) }
+{
+    let mut edges = Vec::new(alloc);
+    for view in modules {
+        let words = named_modules(alloc, view)?;
+        edges.push(numbers_of(alloc, numbers, modules, &words)?)?;
+    }
+    Ok(edges)
+}
+
+/// For each module the numbers of those that are reached from it.
+fn reached_of(alloc: Global, edges: &[Items<usize>]) -> Result<Vec<Items<usize>>, Memory>
+    requires { LeadsInside edges.now }
+    ensures { IfOk result (λ rs. AreReached edges.now rs.items) }
+{
+    let mut reached = Vec::new(alloc);
+    for start in 0..edges.len() {
+        reached.push(reached_from(alloc, edges, start)?)?;
+    }
+    Ok(reached)
+}
+
+/// Whether a number is in the list.
+fn has(list: &[usize], number: usize) -> bool
+    ensures { result ≡ has number list.now }
+{
+    for other in list {
+        if *other == number {
+            return true;
+        }
+    }
+    false
+}
+
+/// Notes Cycle at each word of the module of a number that names a module from which that one is reached.
+fn note_words(
+    numbers: &Table,
+    modules: &[ModuleView],
+    reached: &[Items<usize>],
+    number: usize,
+    words: &[&Name],
+    least: &mut Option<Refusal>,
+)
+    requires { numbers.now ≡ texts (module_names (map module_tree modules.now)) }
+    ensures { least.new ≡ noted least.old (words_refusals reached.now (map module_tree modules.now) number (map lent_name words.now)) }
+{
+    for word in words {
+        note_word(numbers, modules, reached, number, word, least);
+    }
+}
+
+fn note_word(
+    numbers: &Table,
+    modules: &[ModuleView],
+    reached: &[Items<usize>],
+    number: usize,
+    word: &Name,
+    least: &mut Option<Refusal>,
+)
+    requires { numbers.now ≡ texts (module_names (map module_tree modules.now)) }
+    ensures { least.new ≡ noted least.old (word_refusals reached.now number word.now (module_number (map module_tree modules.now) word.now.text)) }
+{
+    if let Some(next) = numbers.number(&word.text) {
+        if has(next_from(reached, next), number) {
+            note_at(least, word.place, Cause::Cycle);
+        }
+    }
+}
+
+/// Notes Cycle by what is reached from each module.
+fn note_reached(
+    alloc: Global,
+    numbers: &Table,
+    modules: &[ModuleView],
+    reached: &[Items<usize>],
+    least: &mut Option<Refusal>,
+) -> Result<(), Memory>
+    requires { numbers.now ≡ texts (module_names (map module_tree modules.now)) }
+    ensures { OnOk result (least.new ≡ noted least.old (cycle_refusals reached.now (map module_tree modules.now) 0 (map module_tree modules.now))) }
+{
+    for i in 0..modules.len() {
+        let words = named_modules(alloc, &modules[i])?;
+        note_words(numbers, modules, reached, i, &words, least);
+    }
+    Ok(())
+}
+
+/// Notes Cycle at each use and line that leads back to the module that it stands in.
+pub fn note_cycles(
+    alloc: Global,
+    numbers: &Table,
+    modules: &[ModuleView],
+    least: &mut Option<Refusal>,
+) -> Result<(), Memory>
+    requires { numbers.now ≡ texts (module_names (map module_tree modules.now)) }
+    ensures { OnOk result (NotesCycles (map module_tree modules.now) least.old least.new) }
+{
+    let edges = edges_of(alloc, numbers, modules)?;
+    let reached = reached_of(alloc, &edges)?;
+    note_reached(alloc, numbers, modules, &reached, least)?;
+    Ok(())
+}

@@ -1,0 +1,276 @@
+//! What stands in front of a module's bodies: its owners, own names and definitions, and their refusals
+//! (docs/LANGUAGE.md, "Names").
+
+ghost use Rattle.std.specs.Prelude.{◌≡◌, ◌≤◌, ◌++◌, [], map, take, length, IfOk, OnOk};
+ghost use Rattle.std.specs.Option.{option_copied};
+ghost use Rattle.wy_types.specs.Types.{is_plain};
+ghost use Rattle.wy_names.specs.Least.{noted};
+ghost use Rattle.wy_names.specs.Declarations.{texts, module_names, repeated};
+ghost use Rattle.wy_names.specs.Atoms.{head_names, type_number};
+ghost use Rattle.wy_names.specs.TypeUses.{param_names, lacking, not_abstract};
+ghost use Rattle.wy_names.specs.Fronts.{front_refusals};
+ghost use Rattle.wy_names.specs.Lines.{line_word, param_refusals, uses_refusals, lines_refusals};
+ghost use Rattle.wy_names.specs.Scopes.{atom_scope, line_words, define_names, param_scope, early_owners, module_owners, module_atoms, module_meanings, module_scope, module_own, definitions_at, definitions_refusals, sealed_refusals, init_refusals};
+ghost use Rattle.wy_names.specs.Lent.{lent_name, module_tree};
+
+use crate::atom_scope::{AtomScope, Owners};
+use crate::definitions::{
+    define_names, definitions, definitions_for, name_table, note_definitions, note_init,
+    note_params,
+};
+use crate::gathering::ModuleView;
+use crate::heads::Heads;
+use crate::lines::{add_lines, note_lines, note_uses};
+use crate::meanings::Meanings;
+use crate::noting::note_at;
+use crate::own_names::{add_params, add_uses};
+use crate::owners::module_owners;
+use crate::refusal::{Cause, Refusal};
+use crate::signatures::param_names;
+use crate::tables::{Table, note_repeated};
+use crate::type_uses::{note_lacking, note_not_abstract};
+use std::alloc::Global;
+use wy_effects::set::SetList;
+use wy_syntax::items::Line;
+use wy_syntax::types::Name;
+use wy_text::list::Items;
+use wy_text::text::Memory;
+use wy_types::resolved::{OwnName, ScopeKind};
+
+fn line_word(line: &Line) -> &Name
+    ensures { result.now ≡ line_word line.now }
+{
+    match line {
+        Line::Instance(name, _, _) => name,
+        Line::Import(name, _, _, _) => name,
+    }
+}
+
+/// Adds the names of lines.
+fn add_line_words<'a>(words: &mut Vec<&'a Name>, lines: &'a [Line]) -> Result<(), Memory>
+    ensures { OnOk result (map lent_name words.new.items ≡ map lent_name words.old.items ++ line_words lines.now) }
+{
+    for line in lines {
+        words.push(line_word(line))?;
+    }
+    Ok(())
+}
+
+/// Adds the names of uses and lines.
+pub fn add_words<'a>(
+    words: &mut Vec<&'a Name>,
+    uses: &'a [Name],
+    lines: &'a [Line],
+) -> Result<(), Memory>
+    ensures { OnOk result (map lent_name words.new.items ≡ map lent_name words.old.items ++ (uses.now ++ line_words lines.now)) }
+{
+    for name in uses {
+        words.push(name)?;
+    }
+    add_line_words(words, lines)
+}
+
+/// The owners of a module with their atoms.
+pub fn owners_of<'a>(
+    alloc: Global,
+    heads: &'a Heads,
+    numbers: &Table,
+    modules: &[ModuleView],
+    view: &ModuleView,
+) -> Result<Owners<'a>, Memory>
+    requires { numbers.now ≡ texts (module_names (map module_tree modules.now)) }
+    ensures { IfOk result (λ o. o ≡ atom_scope heads.now (module_atoms heads.now (map module_tree modules.now) (module_tree view.now)) (module_owners heads.now (map module_tree modules.now) (module_tree view.now)) []) }
+{
+    let list = module_owners(alloc, heads.names(), numbers, modules, view)?;
+    match Owners::new(alloc, heads, list.as_slice()) {
+        Ok(owners) => Ok(owners),
+        Err(_) => Err(Memory),
+    }
+}
+
+/// A module's own names.
+pub fn own_of(
+    alloc: Global,
+    owners: &Owners,
+    numbers: &Table,
+    modules: &[ModuleView],
+    view: &ModuleView,
+) -> Result<Items<OwnName>, Memory>
+    requires few { length numbers.now ≤ 256 }
+    requires numbered { numbers.now ≡ texts (module_names (map module_tree modules.now)) }
+    requires owned { owners.now ≡ atom_scope owners.now.heads (module_atoms owners.now.heads (map module_tree modules.now) (module_tree view.now)) (module_owners owners.now.heads (map module_tree modules.now) (module_tree view.now)) [] }
+    ensures { IfOk result (λ ns. ns ≡ module_own owners.now.heads (map module_tree modules.now) (module_tree view.now)) }
+{
+    let mut list = Items::new(alloc);
+    let plain = view.kind == ScopeKind::Plain;
+    let (params, uses, lines) = (view.params, view.uses, view.lines);
+    add_params(alloc, &mut list, owners, plain, params)?;
+    add_uses(
+        alloc,
+        &mut list,
+        owners,
+        numbers,
+        modules,
+        params.len(),
+        uses,
+    )?;
+    let Some(first) = params.len().checked_add(uses.len()) else {
+        return Err(Memory);
+    };
+    add_lines(alloc, &mut list, owners, numbers, modules, first, lines)?;
+    Ok(list)
+}
+
+/// What a module defines for each abstract member of the type of this number; nothing in a plain module.
+pub fn definitions_at(
+    alloc: Global,
+    heads: &Heads,
+    plain: bool,
+    meanings: &Meanings,
+    number: Option<u16>,
+) -> Result<SetList, Memory>
+    ensures { IfOk result (λ l. l ≡ definitions_at heads.now [] plain meanings.now number) }
+{
+    let Some(decl) = number else {
+        return Ok(Items::new(alloc));
+    };
+    if plain {
+        return Ok(Items::new(alloc));
+    }
+    match heads.head(decl) {
+        None => Ok(Items::new(alloc)),
+        Some(head) => definitions_for(alloc, heads, meanings, head.members.as_slice()),
+    }
+}
+
+/// Notes what is refused of the members that a module defines.
+#[tactic(auto, using(crate::proofs::Leasts::noted_append))]
+fn note_members(
+    alloc: Global,
+    members: &Meanings,
+    view: &ModuleView,
+    least: &mut Option<Refusal>,
+) -> Result<(), Memory>
+    ensures { OnOk result (least.new ≡ noted least.old (lacking view.now.name.now members.now (texts (define_names view.now.defines.now)) ++ not_abstract members.now (define_names view.now.defines.now))) }
+{
+    let names = define_names(alloc, view.defines)?;
+    let written = name_table(alloc, &names)?;
+    note_lacking(view.name, members, &written, least);
+    note_not_abstract(members, &names, least);
+    Ok(())
+}
+
+/// Notes the refusals of the type that a module is sealed at: it is declared, and an annotated module
+/// defines each abstract member of it, and nothing else.
+fn note_sealed(
+    alloc: Global,
+    heads: &Heads,
+    view: &ModuleView,
+    least: &mut Option<Refusal>,
+) -> Result<(), Memory>
+    ensures { OnOk result (least.new ≡ noted least.old (sealed_refusals heads.now [] (module_tree view.now) (type_number (head_names heads.now) view.now.sealed.now.text))) }
+{
+    let Some(decl) = heads.number(&view.sealed.text) else {
+        note_at(least, view.sealed.place, Cause::Unknown);
+        return Ok(());
+    };
+    if view.kind == ScopeKind::Plain {
+        return Ok(());
+    }
+    match heads.head(decl) {
+        None => {
+            let members = Meanings::new(alloc);
+            note_members(alloc, &members, view, least)
+        }
+        Some(head) => note_members(alloc, &head.members, view, least),
+    }
+}
+
+/// Notes Twice at each own name that repeats another.
+fn note_words(alloc: Global, view: &ModuleView, least: &mut Option<Refusal>) -> Result<(), Memory>
+    ensures { OnOk result (least.new ≡ noted least.old (repeated [] (param_names view.now.params.now ++ (view.now.uses.now ++ line_words view.now.lines.now)))) }
+{
+    let mut words = param_names(alloc, view.params)?;
+    add_words(&mut words, view.uses, view.lines)?;
+    note_repeated(alloc, &[], &words, least)
+}
+
+/// Notes the refusals of a module's parameters.
+fn note_param_types(
+    alloc: Global,
+    owners: &Owners,
+    view: &ModuleView,
+    least: &mut Option<Refusal>,
+) -> Result<(), Memory>
+    ensures { OnOk result (least.new ≡ noted least.old (param_refusals (atom_scope owners.now.heads owners.now.atoms (take (length view.now.params.now) owners.now.owners) []) (is_plain view.now.kind) view.now.params.now)) }
+{
+    let nothing = Meanings::new(alloc);
+    let scope = AtomScope::new(owners, view.params.len(), &nothing);
+    note_params(
+        alloc,
+        &scope,
+        view.kind == ScopeKind::Plain,
+        view.params,
+        least,
+    )
+}
+
+/// Notes the refusals of a module's lines.
+fn note_own_lines(
+    alloc: Global,
+    owners: &Owners,
+    numbers: &Table,
+    modules: &[ModuleView],
+    view: &ModuleView,
+    least: &mut Option<Refusal>,
+) -> Result<(), Memory>
+    requires numbered { numbers.now ≡ texts (module_names (map module_tree modules.now)) }
+    requires owned { owners.now ≡ atom_scope owners.now.heads (module_atoms owners.now.heads (map module_tree modules.now) (module_tree view.now)) (module_owners owners.now.heads (map module_tree modules.now) (module_tree view.now)) [] }
+    ensures { OnOk result (least.new ≡ noted least.old (lines_refusals owners.now.heads (map module_tree modules.now) owners.now.atoms (early_owners owners.now.heads (map module_tree modules.now) (module_tree view.now)) view.now.lines.now)) }
+{
+    let Some(first) = view.params.len().checked_add(view.uses.len()) else {
+        return Err(Memory);
+    };
+    note_lines(alloc, owners, numbers, modules, first, view.lines, least);
+    Ok(())
+}
+
+/// Notes the refusals of a module's head, up to its lines.
+pub fn note_front(
+    alloc: Global,
+    owners: &Owners,
+    numbers: &Table,
+    modules: &[ModuleView],
+    view: &ModuleView,
+    least: &mut Option<Refusal>,
+) -> Result<(), Memory>
+    requires numbered { numbers.now ≡ texts (module_names (map module_tree modules.now)) }
+    requires owned { owners.now ≡ atom_scope owners.now.heads (module_atoms owners.now.heads (map module_tree modules.now) (module_tree view.now)) (module_owners owners.now.heads (map module_tree modules.now) (module_tree view.now)) [] }
+    ensures { OnOk result (least.new ≡ noted least.old (front_refusals owners.now.heads (map module_tree modules.now) (module_tree view.now))) }
+{
+    note_sealed(alloc, owners.heads(), view, least)?;
+    note_words(alloc, view, least)?;
+    note_param_types(alloc, owners, view, least)?;
+    note_uses(numbers, modules, view.uses, least);
+    note_own_lines(alloc, owners, numbers, modules, view, least)?;
+    Ok(())
+}
+
+/// Notes the refusals of a module's definitions and of the declared effect of its start.
+#[tactic(auto, using(crate::proofs::Leasts::noted_append))]
+pub fn note_defined(
+    alloc: Global,
+    owners: &Owners,
+    visible: usize,
+    scope: &AtomScope,
+    view: &ModuleView,
+    least: &mut Option<Refusal>,
+) -> Result<(), Memory>
+    ensures { OnOk result (least.new ≡ noted least.old (repeated [] (define_names view.now.defines.now) ++ (definitions_refusals owners.now.heads owners.now.atoms (take visible owners.now.owners) [] view.now.defines.now ++ init_refusals [] [] scope.now (option_copied view.now.init)))) }
+{
+    let names = define_names(alloc, view.defines)?;
+    note_repeated(alloc, &[], &names, least)?;
+    note_definitions(alloc, owners, visible, view.defines, least)?;
+    note_init(scope, view.init, least);
+    Ok(())
+}

@@ -1,0 +1,144 @@
+//! What stands in front of the program's block: its owners and own names, and their refusals
+//! (docs/LANGUAGE.md, "Names").
+
+ghost use Rattle.std.specs.Prelude.{◌≡◌, ◌≤◌, ◌++◌, [], map, length, IfOk, OnOk};
+ghost use Rattle.wy_names.specs.Least.{noted};
+ghost use Rattle.wy_names.specs.Declarations.{texts, module_names, repeated};
+ghost use Rattle.wy_names.specs.Lines.{lines_refusals};
+ghost use Rattle.wy_names.specs.Scopes.{atom_scope, grant_names, line_words, grant_owners, program_owners, program_atoms, program_own};
+ghost use Rattle.wy_names.specs.Fronts.{program_front};
+ghost use Rattle.wy_names.specs.Lent.{lent_name, module_tree, program_tree};
+
+use crate::atom_scope::Owners;
+use crate::definitions::note_grants;
+use crate::gathering::ModuleView;
+use crate::heads::Heads;
+use crate::lines::{add_lines, note_lines, note_uses};
+use crate::module_heads::add_words;
+use crate::own_names::{add_grants, add_uses};
+use crate::owners::program_owners;
+use crate::refusal::Refusal;
+use crate::tables::{Table, note_repeated};
+use std::alloc::Global;
+use wy_syntax::items::{Grant, Program};
+use wy_syntax::types::Name;
+use wy_text::list::Items;
+use wy_text::text::Memory;
+use wy_types::resolved::OwnName;
+
+/// The owners of the program with their atoms.
+pub fn program_owners_of<'a>(
+    alloc: Global,
+    heads: &'a Heads,
+    numbers: &Table,
+    modules: &[ModuleView],
+    program: &Program,
+) -> Result<Owners<'a>, Memory>
+    requires { numbers.now ≡ texts (module_names (map module_tree modules.now)) }
+    ensures { IfOk result (λ o. o ≡ atom_scope heads.now (program_atoms heads.now (map module_tree modules.now) (program_tree program.now)) (program_owners heads.now (map module_tree modules.now) (program_tree program.now)) []) }
+{
+    let list = program_owners(alloc, heads.names(), numbers, modules, program)?;
+    match Owners::new(alloc, heads, list.as_slice()) {
+        Ok(owners) => Ok(owners),
+        Err(_) => Err(Memory),
+    }
+}
+
+/// The program's own names.
+pub fn program_own(
+    alloc: Global,
+    owners: &Owners,
+    numbers: &Table,
+    modules: &[ModuleView],
+    program: &Program,
+) -> Result<Items<OwnName>, Memory>
+    requires few { length numbers.now ≤ 256 }
+    requires numbered { numbers.now ≡ texts (module_names (map module_tree modules.now)) }
+    requires owned { owners.now ≡ atom_scope owners.now.heads (program_atoms owners.now.heads (map module_tree modules.now) (program_tree program.now)) (program_owners owners.now.heads (map module_tree modules.now) (program_tree program.now)) [] }
+    ensures { IfOk result (λ ns. ns ≡ program_own owners.now.heads (map module_tree modules.now) (program_tree program.now)) }
+{
+    let mut list = Items::new(alloc);
+    let (grants, uses) = (program.grants.as_slice(), program.uses.as_slice());
+    add_grants(alloc, &mut list, owners, grants)?;
+    add_uses(
+        alloc,
+        &mut list,
+        owners,
+        numbers,
+        modules,
+        grants.len(),
+        uses,
+    )?;
+    let Some(first) = grants.len().checked_add(uses.len()) else {
+        return Err(Memory);
+    };
+    let lines = program.lines.as_slice();
+    add_lines(alloc, &mut list, owners, numbers, modules, first, lines)?;
+    Ok(list)
+}
+
+/// The names of grants.
+fn grant_names<'a>(alloc: Global, grants: &'a [Grant]) -> Result<Vec<&'a Name>, Memory>
+    ensures { IfOk result (λ ns. map lent_name ns.items ≡ grant_names grants.now) }
+{
+    let mut names = Vec::new(alloc);
+    for grant in grants {
+        names.push(&grant.name)?;
+    }
+    Ok(names)
+}
+
+/// Notes Twice at each own name that repeats another.
+fn note_words(alloc: Global, program: &Program, least: &mut Option<Refusal>) -> Result<(), Memory>
+    ensures { OnOk result (least.new ≡ noted least.old (repeated [] (grant_names program.now.grants ++ (program.now.uses ++ line_words program.now.lines)))) }
+{
+    let mut words = grant_names(alloc, program.grants.as_slice())?;
+    add_words(
+        &mut words,
+        program.uses.as_slice(),
+        program.lines.as_slice(),
+    )?;
+    note_repeated(alloc, &[], &words, least)
+}
+
+/// Notes the refusals of the program's lines.
+fn note_own_lines(
+    alloc: Global,
+    owners: &Owners,
+    numbers: &Table,
+    modules: &[ModuleView],
+    program: &Program,
+    least: &mut Option<Refusal>,
+) -> Result<(), Memory>
+    requires numbered { numbers.now ≡ texts (module_names (map module_tree modules.now)) }
+    requires owned { owners.now ≡ atom_scope owners.now.heads (program_atoms owners.now.heads (map module_tree modules.now) (program_tree program.now)) (program_owners owners.now.heads (map module_tree modules.now) (program_tree program.now)) [] }
+    ensures { OnOk result (least.new ≡ noted least.old (lines_refusals owners.now.heads (map module_tree modules.now) owners.now.atoms (grant_owners owners.now.heads (map module_tree modules.now) (program_tree program.now)) program.now.lines)) }
+{
+    let (grants, uses) = (program.grants.as_slice(), program.uses.as_slice());
+    let Some(first) = grants.len().checked_add(uses.len()) else {
+        return Err(Memory);
+    };
+    let lines = program.lines.as_slice();
+    note_lines(alloc, owners, numbers, modules, first, lines, least);
+    Ok(())
+}
+
+/// Notes the refusals of the program's head, up to its lines.
+pub fn note_program(
+    alloc: Global,
+    owners: &Owners,
+    numbers: &Table,
+    modules: &[ModuleView],
+    program: &Program,
+    least: &mut Option<Refusal>,
+) -> Result<(), Memory>
+    requires numbered { numbers.now ≡ texts (module_names (map module_tree modules.now)) }
+    requires owned { owners.now ≡ atom_scope owners.now.heads (program_atoms owners.now.heads (map module_tree modules.now) (program_tree program.now)) (program_owners owners.now.heads (map module_tree modules.now) (program_tree program.now)) [] }
+    ensures { OnOk result (least.new ≡ noted least.old (program_front owners.now.heads (map module_tree modules.now) (program_tree program.now))) }
+{
+    note_words(alloc, program, least)?;
+    note_grants(owners.heads().names(), program.grants.as_slice(), least);
+    note_uses(numbers, modules, program.uses.as_slice(), least);
+    note_own_lines(alloc, owners, numbers, modules, program, least)?;
+    Ok(())
+}
