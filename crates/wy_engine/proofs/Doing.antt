@@ -4,15 +4,17 @@ use Rattle.wy_text.specs.Outside.{SinkState}
 use Rattle.wy_device.specs.Devices.{DevicesState}
 use Rattle.wy_syntax.specs.Canonical.{canonical_form}
 use Rattle.wy_syntax.specs.Trees.{ItemTree}
-use Rattle.wy_engine.specs.Answering.{Answered, RunsTrees, Wrote, alone, declined, formatted, formless, ran, ran_tree, refused, several, stopped}
+use Rattle.wy_engine.specs.Answering.{Answered, RunsForm, RunsTrees, Wrote, alone, declined, formatted, formless, ran, ran_tree, refused, resolved, several, stopped, unresolved}
 use Rattle.wy_engine.specs.FileTrees.{FirstNoTree, HaveTrees}
-use Rattle.wy_engine.specs.Judgement.{IsUnbuilt, ReadsAs, Stops}
+use Rattle.wy_engine.specs.Judgement.{IsUnbuilt, ReadsAs, Stops, fault_of}
 use Rattle.wy_engine.specs.LiteralForm.{program_of}
+use Rattle.wy_engine.specs.NameFaults.{NamesResolve, names_status}
 use Rattle.wy_engine.specs.declared.literal_form.Program.{Program}
 use Rattle.wy_engine.specs.declared.settings.Command.{Command}
 use Rattle.wy_engine.specs.declared.settings.Command.TheVariants as command
 use Rattle.wy_engine.specs.declared.status.Status.{Status}
 use Rattle.wy_engine.specs.declared.status.Status.TheVariants as status
+use Rattle.wy_engine.proofs.NamesJudged.{names_stop}
 use Rattle.wy_engine.proofs.OneAnswer.{stops_treeless}
 use Rattle.wy_engine.proofs.OneTree.{same_trees}
 
@@ -23,7 +25,7 @@ stops_unless asked texts status.Usage none = inr (stops_treeless asked texts sta
 stops_unless asked texts (status.Unread file) none = inr (stops_treeless asked texts (status.Unread file) (none (λ is. cc)))
 stops_unless asked texts (status.Syntax place kind) none = inr (none (λ is. cc))
 stops_unless asked texts (status.Refused fault) none = inr (stops_treeless asked texts (status.Refused fault) (none (λ is. cc)))
-stops_unless asked texts (status.Limit name) none = inr (none (λ is. cc))
+stops_unless asked texts (status.Limit name) none = inr (stops_treeless asked texts (status.Limit name) (none (λ is. cc)))
 stops_unless asked texts (status.DeviceFailed grant op) none = inr (stops_treeless asked texts (status.DeviceFailed grant op) (none (λ is. cc)))
 stops_unless asked texts status.Unwritten none = inr (stops_treeless asked texts status.Unwritten (none (λ is. cc)))
 stops_unless asked texts status.Unbuilt none = inr (stops_treeless asked texts status.Unbuilt (none (λ is. cc)))
@@ -35,36 +37,56 @@ did_none asked texts out report devices end none = declined (stops_unless asked 
 tree_is : (texts : List (List ℕ)) (trees : List (List ItemTree)) (tree other : List ItemTree) → HaveTrees 1 texts trees → trees ≡ tree ∷ [] → HaveTrees 1 texts (other ∷ []) → other ≡ tree
 tree_is texts trees tree other have is has = let same : other ∷ [] ≡ tree ∷ [] = same_trees 1 texts (other ∷ []) trees has have ∙ is in cc
 
-reads_tree : (texts : List (List ℕ)) (trees : List (List ItemTree)) (tree : List ItemTree) (program : Program) → HaveTrees 1 texts trees → trees ≡ tree ∷ [] → program_of tree ≡ Some program → ReadsAs texts program
-reads_tree texts trees tree program have is form = record { tree = tree; trees = subst (λ (ts : List (List ItemTree)). HaveTrees 1 texts ts) is have; form = form }
+reads_tree : (texts : List (List ℕ)) (trees : List (List ItemTree)) (tree : List ItemTree) (program : Program) → HaveTrees 1 texts trees → NamesResolve trees → trees ≡ tree ∷ [] → program_of tree ≡ Some program → ReadsAs texts program
+reads_tree texts trees tree program have names is form = record {
+  tree = tree;
+  trees = subst (λ (ts : List (List ItemTree)). HaveTrees 1 texts ts) is have;
+  names = subst (λ (ts : List (List ItemTree)). NamesResolve ts) is names;
+  form = form;
+}
 
-formless_tree : (texts : List (List ℕ)) (trees : List (List ItemTree)) (tree : List ItemTree) → HaveTrees 1 texts trees → trees ≡ tree ∷ [] → program_of tree ≡ None → IsUnbuilt texts
-formless_tree texts trees tree have is form = record {
+formless_tree : (texts : List (List ℕ)) (trees : List (List ItemTree)) (tree : List ItemTree) → HaveTrees 1 texts trees → NamesResolve trees → trees ≡ tree ∷ [] → program_of tree ≡ None → IsUnbuilt texts
+formless_tree texts trees tree have names is form = record {
   trees = trees;
   have = have;
+  names = names;
   formless = λ program reads. let e : Some program ≡ None = sym reads.form ∙ ap program_of (tree_is texts trees tree reads.tree have is reads.trees) ∙ form in cc;
 }
 
-pub did_run : (asked : Command) (texts : List (List ℕ)) (trees : List (List ItemTree)) (out report report' : SinkState) (devices devices' : DevicesState) (end : Status)
-    → asked ≡ command.Run → HaveTrees 1 texts trees → RunsTrees trees report report' devices devices' end → Answered asked texts out out report report' devices devices' end
-did_run asked texts trees out report report' devices devices' end run have (several none r d is) =
-    declined (inr (subst (λ (c : Command). Stops c texts end) (sym run) (subst (λ (s : Status). Stops command.Run texts s) (sym is) (record {
+-- a run is stopped by a status that stops runs
+stops_run : (asked : Command) (texts : List (List ℕ)) (end other : Status) → asked ≡ command.Run → end ≡ other → Stops command.Run texts other → Stops asked texts end
+stops_run asked texts end other run is stops = subst (λ (c : Command). Stops c texts end) (sym run) (subst (λ (s : Status). Stops command.Run texts s) (sym is) stops)
+
+did_form : (asked : Command) (texts : List (List ℕ)) (trees : List (List ItemTree)) (out report report' : SinkState) (devices devices' : DevicesState) (end : Status)
+    → asked ≡ command.Run → HaveTrees 1 texts trees → NamesResolve trees → RunsForm trees report report' devices devices' end → Answered asked texts out out report report' devices devices' end
+did_form asked texts trees out report report' devices devices' end run have names (several none r d is) =
+    declined (inr (stops_run asked texts end status.Unbuilt run is (record {
       trees = trees;
       have = have;
+      names = names;
       formless = λ program reads. none reads.tree (same_trees 1 texts trees (reads.tree ∷ []) have reads.trees);
-    })))) refl r d
-did_run asked texts trees out report report' devices devices' end run have (alone tree one (stopped r d is)) = declined (inl is) refl r d
-did_run asked texts trees out report report' devices devices' end run have (alone tree one (formless r d form is)) =
-    declined (inr (subst (λ (c : Command). Stops c texts end) (sym run) (subst (λ (s : Status). Stops command.Run texts s) (sym is) (formless_tree texts trees tree have one form)))) refl r d
-did_run asked texts trees out report report' devices devices' end run have (alone tree one (refused r d program form lacks is)) =
-    declined (inr (subst (λ (c : Command). Stops c texts end) (sym run) (subst (λ (s : Status). Stops command.Run texts s) (sym is) (record {
+    }))) refl r d
+did_form asked texts trees out report report' devices devices' end run have names (alone tree one (stopped r d is)) = declined (inl is) refl r d
+did_form asked texts trees out report report' devices devices' end run have names (alone tree one (formless r d form is)) =
+    declined (inr (stops_run asked texts end status.Unbuilt run is (formless_tree texts trees tree have names one form))) refl r d
+did_form asked texts trees out report report' devices devices' end run have names (alone tree one (refused r d program form lacks is)) =
+    declined (inr (stops_run asked texts end (status.Refused (fault_of program)) run is (inr (record {
       program = program;
-      read = reads_tree texts trees tree program have one form;
+      read = reads_tree texts trees tree program have names one form;
       lacks = lacks;
       named = refl;
     })))) refl r d
-did_run asked texts trees out report report' devices devices' end run have (alone tree one (ran_tree program form allowed so)) =
-    ran program run (record { read = reads_tree texts trees tree program have one form; allowed = allowed }) so refl
+did_form asked texts trees out report report' devices devices' end run have names (alone tree one (ran_tree program form allowed so)) =
+    ran program run (record { read = reads_tree texts trees tree program have names one form; allowed = allowed }) so refl
+
+stopped_by : (asked : Command) (texts : List (List ℕ)) (end other : Status) → asked ≡ command.Run → end ≡ other → (other ≡ status.Memory) ⊎ Stops command.Run texts other → (end ≡ status.Memory) ⊎ Stops asked texts end
+stopped_by asked texts end other run is (inl starved) = inl (is ∙ starved)
+stopped_by asked texts end other run is (inr stops) = inr (stops_run asked texts end other run is stops)
+
+pub did_run : (asked : Command) (texts : List (List ℕ)) (trees : List (List ItemTree)) (out report report' : SinkState) (devices devices' : DevicesState) (end : Status)
+    → asked ≡ command.Run → HaveTrees 1 texts trees → RunsTrees trees report report' devices devices' end → Answered asked texts out out report report' devices devices' end
+did_run asked texts trees out report report' devices devices' end run have (unresolved why names r d is) = declined (stopped_by asked texts end (names_status why) run is (names_stop texts trees why have names)) refl r d
+did_run asked texts trees out report report' devices devices' end run have (resolved names so) = did_form asked texts trees out report report' devices devices' end run have names so
 
 pub did_format : (asked : Command) (texts : List (List ℕ)) (trees : List (List ItemTree)) (tree : List ItemTree) (out out' report : SinkState) (devices : DevicesState) (end : Status)
     → asked ≡ command.Format → HaveTrees 1 texts trees → trees ≡ tree ∷ [] → Wrote (canonical_form tree) out out' end → Answered asked texts out out' report report devices devices end

@@ -10,12 +10,13 @@ use Rattle.wy_syntax.specs.Trees.{ItemTree}
 use Rattle.wy_canonical.specs.Printed.{HasTree}
 use Rattle.wy_engine.specs.FileTrees.{FirstNoTree, HasNoTree, HaveTrees}
 use Rattle.wy_engine.specs.Judgement.{IsAccepted, ReadsAs, Stops}
+use Rattle.wy_engine.specs.NameFaults.{NamesStop}
 use Rattle.wy_engine.specs.Reading.{GivesFiles}
 use Rattle.wy_engine.specs.TopCall.{texts_of}
 use Rattle.wy_engine.specs.declared.literal_form.Program.{Program}
 use Rattle.wy_engine.specs.declared.settings.Command.{Command}
 use Rattle.wy_engine.specs.declared.status.Status.{Status}
-use Rattle.wy_engine.proofs.OneAnswer.{StopsBy, refusal, stops_by, stops_of, treeless, unbuilt}
+use Rattle.wy_engine.proofs.OneAnswer.{StopsBy, unresolved, refusal, stops_by, stops_of, treeless, unbuilt}
 use Rattle.wy_engine.proofs.OneTree.{IsWhy, Why, large, none_of, reason_of, unexpected, wrong}
 
 -- what is read of a text
@@ -98,15 +99,19 @@ first_of_cut file (x ∷ xs) end (inl here) = inl (none_of_cut file x end here)
 first_of_cut file (x ∷ xs) end (inr later) = inr (later.0, tree_of_cut file x later.0 later.1, first_of_cut (suc file) xs end later.2)
 
 reads_of_cut : (texts : List (List ℕ)) (program : Program) → ReadsAs (map cut texts) program → ReadsAs texts program
-reads_of_cut texts program reads = record { tree = reads.tree; trees = trees_of_cut 1 texts (reads.tree ∷ []) reads.trees; form = reads.form }
+reads_of_cut texts program reads = record { tree = reads.tree; trees = trees_of_cut 1 texts (reads.tree ∷ []) reads.trees; names = reads.names; form = reads.form }
 
 reads_cut : (texts : List (List ℕ)) (program : Program) → ReadsAs texts program → ReadsAs (map cut texts) program
-reads_cut texts program reads = record { tree = reads.tree; trees = trees_cut 1 texts (reads.tree ∷ []) reads.trees; form = reads.form }
+reads_cut texts program reads = record { tree = reads.tree; trees = trees_cut 1 texts (reads.tree ∷ []) reads.trees; names = reads.names; form = reads.form }
+
+names_of_cut : (texts : List (List ℕ)) (end : Status) → NamesStop (map cut texts) end → NamesStop texts end
+names_of_cut texts end stop = record { trees = stop.trees; have = trees_of_cut 1 texts stop.trees stop.have; why = stop.why; refused = stop.refused; gives = stop.gives }
 
 stop_of_cut : (asked : Command) (texts : List (List ℕ)) (end : Status) → StopsBy asked (map cut texts) end → StopsBy asked texts end
 stop_of_cut asked texts end (treeless first) = treeless (first_of_cut 1 texts end first)
+stop_of_cut asked texts end (unresolved run stop full) = unresolved run (names_of_cut texts end stop) full
 stop_of_cut asked texts end (refusal run fault is named) = refusal run fault (record { program = is.program; read = reads_of_cut texts is.program is.read; lacks = is.lacks; named = is.named }) named
-stop_of_cut asked texts end (unbuilt run is named) = unbuilt run (record { trees = is.trees; have = trees_of_cut 1 texts is.trees is.have; formless = λ program reads. is.formless program (reads_cut texts program reads) }) named
+stop_of_cut asked texts end (unbuilt run is named) = unbuilt run (record { trees = is.trees; have = trees_of_cut 1 texts is.trees is.have; names = is.names; formless = λ program reads. is.formless program (reads_cut texts program reads) }) named
 
 pub stops_of_cut : (asked : Command) (texts : List (List ℕ)) (end : Status) → Stops asked (map cut texts) end → Stops asked texts end
 stops_of_cut asked texts end stops = stops_of asked texts end (stop_of_cut asked texts end (stops_by asked (map cut texts) end stops))

@@ -3,8 +3,10 @@ mod Deeds
 mod Doing
 mod EndOnce
 mod Examples
+mod ExamplesNames
 mod FormTexts
 mod Givens
+mod NamesJudged
 mod OneAnswer
 mod OneBad
 mod OneItem

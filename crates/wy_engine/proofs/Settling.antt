@@ -30,6 +30,7 @@ use Rattle.wy_engine.specs.declared.status.Status.TheVariants as status
 use Rattle.wy_engine.proofs.Deeds.{bounded, did_exactly, did_first, did_nothing, ends_so}
 use Rattle.wy_engine.proofs.FormTexts.{some_of_form}
 use Rattle.wy_engine.proofs.Givens.{accepted_of_cut, cut, cut_texts, stops_of_cut, tree_of_cuts}
+use Rattle.wy_engine.proofs.NamesJudged.{uncrowded}
 use Rattle.wy_engine.proofs.OneAnswer.{ask_or_stop, never, one_ask, one_stop}
 
 -- ---- which files were read
@@ -131,11 +132,16 @@ given_read call settings read other texts set so given =
 
 -- ---- which statuses come when
 
+crowds_none : (asked : Command) (texts : List (List ℕ)) → Stops asked texts (status.Limit limit.Files) → ⊥
+crowds_none command.Run texts (inl none) = never (status.Limit limit.Files) (λ file bytes h. h) 1 texts none
+crowds_none command.Run texts (inr stop) = uncrowded texts stop
+crowds_none command.Format texts none = never (status.Limit limit.Files) (λ file bytes h. h) 1 texts none
+
 stops_past : (asked : Command) (texts : List (List ℕ)) (end : Status) → Stops asked texts end → IsPastReading end
 stops_past asked texts end stops = record {
   usage = λ is. subst (λ (s : Status). Stops asked texts s) is stops;
   unread = λ file is. subst (λ (s : Status). Stops asked texts s) is stops;
-  crowd = λ is. never (status.Limit limit.Files) (λ file bytes h. h) 1 texts (subst (λ (s : Status). Stops asked texts s) is stops);
+  crowd = λ is. crowds_none asked texts (subst (λ (s : Status). Stops asked texts s) is stops);
 }
 
 run_past : (end : Status) → IsOfRun end → IsPastReading end

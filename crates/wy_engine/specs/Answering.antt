@@ -5,9 +5,13 @@ use Rattle.wy_text.specs.Writing.{StopsShort, WritesUpTo}
 use Rattle.wy_device.specs.Devices.{DevicesState}
 use Rattle.wy_syntax.specs.Canonical.{canonical_form}
 use Rattle.wy_syntax.specs.Trees.{ItemTree}
+use Rattle.wy_names.specs.Declarations.{all_items}
+use Rattle.wy_names.specs.Names.{Refused}
+use Rattle.wy_names.specs.declared.refusal.NameRefusal.{NameRefusal}
 use Rattle.wy_engine.specs.FileTrees.{HaveTrees}
 use Rattle.wy_engine.specs.Judgement.{IsAccepted, Stops, fault_of}
 use Rattle.wy_engine.specs.LiteralForm.{program_of}
+use Rattle.wy_engine.specs.NameFaults.{NamesResolve, names_status}
 use Rattle.wy_engine.specs.Running.{Ran}
 use Rattle.wy_engine.specs.declared.literal_form.Program.{Program}
 use Rattle.wy_engine.specs.declared.settings.Command.{Command}
@@ -31,10 +35,15 @@ pub data RunsTree (tree : List ItemTree) (report report' : SinkState) (devices d
   ran_tree : (program : Program) → program_of tree ≡ Some program → program.allowed ≡ true → Ran program report report' devices devices' end
       → RunsTree tree report report' devices devices' end
 
--- and with the trees of several files, of which no more than one is of a form that is built
+-- and with the trees of several files in which the names resolve, of which no more than one is of a form that is built
+pub data RunsForm (trees : List (List ItemTree)) (report report' : SinkState) (devices devices' : DevicesState) (end : Status) : Type 0 where
+  alone : (tree : List ItemTree) → trees ≡ tree ∷ [] → RunsTree tree report report' devices devices' end → RunsForm trees report report' devices devices' end
+  several : ((tree : List ItemTree) → trees ≡ tree ∷ [] → ⊥) → report' ≡ report → devices' ≡ devices → end ≡ status.Unbuilt → RunsForm trees report report' devices devices' end
+
+-- and with any trees: their names are refused, or else judging went on
 pub data RunsTrees (trees : List (List ItemTree)) (report report' : SinkState) (devices devices' : DevicesState) (end : Status) : Type 0 where
-  alone : (tree : List ItemTree) → trees ≡ tree ∷ [] → RunsTree tree report report' devices devices' end → RunsTrees trees report report' devices devices' end
-  several : ((tree : List ItemTree) → trees ≡ tree ∷ [] → ⊥) → report' ≡ report → devices' ≡ devices → end ≡ status.Unbuilt → RunsTrees trees report report' devices devices' end
+  unresolved : (why : NameRefusal) → Refused (all_items trees) why → report' ≡ report → devices' ≡ devices → end ≡ names_status why → RunsTrees trees report report' devices devices' end
+  resolved : NamesResolve trees → RunsForm trees report report' devices devices' end → RunsTrees trees report report' devices devices' end
 
 -- what was done with texts: nothing, since memory was wanting or they stop the call; a program was run; or the
 -- canonical form of a file was written

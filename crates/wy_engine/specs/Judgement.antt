@@ -1,6 +1,6 @@
 -- Which texts are accepted and which are refused, what an accepted program means, and its authority. All that the
 -- promises of the top call say of programs, they say by the words of this page.
-use Rattle.std.specs.Prelude.{codes, ◌≡◌, List, [], ◌∷◌, ℕ, Some, true, false}
+use Rattle.std.specs.Prelude.{codes, ◌≡◌, ◌⊎◌, List, [], ◌∷◌, ℕ, Some, true, false}
 use Rattle.wy_text.specs.declared.fault.AtomName.{AtomName}
 use Rattle.wy_text.specs.declared.fault.Fault.{Fault}
 use Rattle.wy_text.specs.declared.fault.RuleName.TheVariants.{TBody}
@@ -10,6 +10,7 @@ use Rattle.wy_meaning.specs.Meaning.{Meaning}
 use Rattle.wy_syntax.specs.Trees.{ItemTree}
 use Rattle.wy_engine.specs.FileTrees.{FirstNoTree, HaveTrees}
 use Rattle.wy_engine.specs.LiteralForm.{program_of}
+use Rattle.wy_engine.specs.NameFaults.{NamesResolve, NamesStop}
 use Rattle.wy_engine.specs.Report.{InstanceRow}
 use Rattle.wy_engine.specs.declared.literal_form.Program.{Program}
 use Rattle.wy_engine.specs.declared.settings.Command.{Command}
@@ -17,10 +18,11 @@ use Rattle.wy_engine.specs.declared.settings.Command.TheVariants as command
 use Rattle.wy_engine.specs.declared.status.Status.{Status}
 use Rattle.wy_engine.specs.declared.status.Status.TheVariants as status
 
--- the trees of the texts are those of a program
+-- the names in the texts resolve, and their trees are those of a program
 pub record ReadsAs (texts : List (List ℕ)) (program : Program) : Type 0 where
   pub tree : List ItemTree
   pub trees : HaveTrees 1 texts (tree ∷ [])
+  pub names : NamesResolve (tree ∷ [])
   pub form : program_of tree ≡ Some program
 
 -- the texts are those of a program whose declared effect has the effect of its writes
@@ -42,18 +44,21 @@ pub record IsRefused (texts : List (List ℕ)) (fault : Fault) : Type 0 where
   pub lacks : program.allowed ≡ false
   pub named : fault ≡ fault_of program
 
--- the texts have trees, which are of no form that is built
+-- the texts have trees in which the names resolve, and which are of no form that is built
 pub record IsUnbuilt (texts : List (List ℕ)) : Type 0 where
   pub trees : List (List ItemTree)
   pub have : HaveTrees 1 texts trees
+  pub names : NamesResolve trees
   pub formless : (program : Program) → ¬ ReadsAs texts program
 
--- the status with which texts end a call before anything is run or written to `out`: some file has no tree, or a
--- program that is to run is refused or of no form that is built
+-- The status with which texts end a call before anything is run or written to `out`: some file has no tree; or, of
+-- texts that are to run, the names are refused, the program is refused, or they are of no form that is built. What is
+-- formatted may have any names.
 abbrev pub Stops : Command → List (List ℕ) → Status → Type 0
 Stops command texts (status.Syntax place kind) = FirstNoTree 1 texts (status.Syntax place kind)
-Stops command texts (status.Limit name) = FirstNoTree 1 texts (status.Limit name)
-Stops command.Run texts (status.Refused fault) = IsRefused texts fault
+Stops command.Run texts (status.Limit name) = FirstNoTree 1 texts (status.Limit name) ⊎ NamesStop texts (status.Limit name)
+Stops command.Format texts (status.Limit name) = FirstNoTree 1 texts (status.Limit name)
+Stops command.Run texts (status.Refused fault) = NamesStop texts (status.Refused fault) ⊎ IsRefused texts fault
 Stops command.Run texts status.Unbuilt = IsUnbuilt texts
 Stops command texts other = ⊥
 

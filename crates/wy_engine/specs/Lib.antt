@@ -5,6 +5,7 @@ pub mod Headline
 pub mod Judgement
 pub mod LastLine
 pub mod LiteralForm
+pub mod NameFaults
 pub mod Parsed
 pub mod ReadForm
 pub mod Reading

@@ -28,7 +28,7 @@ pub enum Status {
     Unread(u16),
     /// A file has no tokens or no tree. It is the first such file, and the place is the first in it.
     Syntax { place: Place, kind: SyntaxKind },
-    /// The texts are refused.
+    /// A name in the texts is refused, or else their program is.
     Refused(Fault),
     /// A limit is passed.
     Limit(LimitName),
@@ -38,7 +38,7 @@ pub enum Status {
     Unwritten,
     /// Memory was wanting.
     Memory,
-    /// The texts are of no form that is built yet.
+    /// The names in the texts resolve, and the texts are of no form that is built yet.
     Unbuilt,
 }
 

@@ -4,6 +4,8 @@
 mod canonical_table;
 mod files;
 mod literals;
+mod names;
+mod names_table;
 mod outside;
 mod support;
 mod syntax;

@@ -18,8 +18,16 @@ const PRINTED: &[u8] = b"program\n  run: {}\n    (1 + 2 : Int)\n";
 
 /// Words, the number of the status, and the last line.
 static ORDERS: [(&[&str], u8, &str); 7] = [
-    (&["run", "a.wy", "a.wy"], 63, "unbuilt\n"),
-    (&["run", "a.wy"], 63, "unbuilt\n"),
+    (
+        &["run", "a.wy", "a.wy"],
+        4,
+        "a.wy:1:6: refused: N-Twice premise 1\n",
+    ),
+    (
+        &["run", "a.wy"],
+        4,
+        "a.wy:1:1: refused: N-NoProgram premise 1\n",
+    ),
     (
         &["run", "a.wy", "b.wy"],
         3,
@@ -79,7 +87,8 @@ fn many_end_so(alloc: Global, count: u32, number: u8, line: &str) -> Result<bool
 #[test]
 fn sixty_four_files_are_read_and_one_more_passes_the_limit(rt: HostRuntime) -> Result<(), Fail> {
     let alloc = rt.alloc();
-    assert!(rt; many_end_so(alloc, 64, 63, "unbuilt\n")?);
+    let twice = "a.wy:1:6: refused: N-Twice premise 1\n";
+    assert!(rt; many_end_so(alloc, 64, 4, twice)?);
     assert!(rt; many_end_so(alloc, 65, 5, "limit: files 64\n")?);
     Ok(())
 }

@@ -1,8 +1,9 @@
-use Rattle.wy_syntax.specs.Views.{file_tree}
-use Rattle.wy_engine.specs.Answering.{alone}
-use Rattle.wy_engine.proofs.OneItem.{one_mapped}
+use Rattle.std.proofs.Common.{refl}
+use Rattle.wy_engine.specs.Answering.{resolved, unresolved}
 use Rattle.wy_engine.proofs.judging.run_trees.Goals as goal
 
-pub returns-in-len1 : goal.returns-in-len1
-returns-in-len1 g c =
-    alone (file_tree c.tree-item.result) (one_mapped file_tree c.args.trees.now c.tree-item.result c.in-len1.len_at_least c.in-len1.len_below c.tree-item.is) c.run_tree.ensures
+pub returns-in-Err : goal.returns-in-Err
+returns-in-Err g c = unresolved c.in-Err.why c.in-Err.ensures.refusal refl refl c.names_status.ensures
+
+pub returns : goal.returns
+returns g c = resolved (record { program = _; resolves = c.in-Ok.ensures.core }) c.run_form.ensures

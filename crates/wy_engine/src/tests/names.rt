@@ -1,0 +1,366 @@
+use crate::tests::names_table::{FIRST, REFUSED};
+use crate::tests::support::outcome_of;
+use std::alloc::Global;
+use std::test::Fail;
+use wy_text::mem_sink::MemSink;
+
+/// Whether a call of `run` with these words and files has the status of the number and the report, and does
+/// nothing.
+fn ends_so(
+    alloc: Global,
+    words: &[&str],
+    files: &[(&str, &[u8])],
+    number: u8,
+    report: &str,
+) -> Result<bool, Fail> {
+    let done = outcome_of(alloc, words, files)?;
+    Ok(
+        done.number == number
+            && done.deeds == 0
+            && done.report.bytes() == report.as_bytes()
+            && done.out.bytes().is_empty(),
+    )
+}
+
+/// The number of the first text whose names are not refused by the rule at the place.
+fn first_not_refused(
+    alloc: Global,
+    cases: &[(&str, u32, u32, &str)],
+) -> Result<Option<usize>, Fail> {
+    for (at, (text, line, column, rule)) in cases.iter().enumerate() {
+        let last = format!(in alloc; "b.wy:{line}:{column}: refused: N-{rule} premise 1\n")?;
+        let files: [(&str, &[u8]); 1] = [("b.wy", text.as_bytes())];
+        if !ends_so(alloc, &["run", "b.wy"], &files, 4, last.as_str())? {
+            return Ok(Some(at));
+        }
+    }
+    Ok(None)
+}
+
+#[test]
+fn each_refusal_of_names_comes_at_its_place(rt: HostRuntime) -> Result<(), Fail> {
+    assert_eq!(rt; first_not_refused(rt.alloc(), &REFUSED)?, None);
+    Ok(())
+}
+
+#[test]
+fn of_several_refusals_of_names_the_least_comes(rt: HostRuntime) -> Result<(), Fail> {
+    assert_eq!(rt; first_not_refused(rt.alloc(), &FIRST)?, None);
+    Ok(())
+}
+
+/// The number of the first text that is not formatted.
+fn first_not_formatted(
+    alloc: Global,
+    cases: &[(&str, u32, u32, &str)],
+) -> Result<Option<usize>, Fail> {
+    for (at, (text, _, _, _)) in cases.iter().enumerate() {
+        let done = outcome_of(alloc, &["format", "b.wy"], &[("b.wy", text.as_bytes())])?;
+        if done.number != 0 || !done.report.bytes().is_empty() {
+            return Ok(Some(at));
+        }
+    }
+    Ok(None)
+}
+
+#[test]
+fn a_file_is_formatted_whatever_its_names(rt: HostRuntime) -> Result<(), Fail> {
+    assert_eq!(rt; first_not_formatted(rt.alloc(), &FIRST)?, None);
+    Ok(())
+}
+
+const EMPTY: &[u8] = b"program\n  run: {}\n    ()\n";
+
+const LOG: &[u8] =
+    b"type Logger\n  effect Log\n  def log(t: String): {Log} Unit\nresource module logger(disk: Folder): Logger\n  effect Log = {disk.Append}\n  def log(t: String): {Log} Unit = disk.append(\"log\", t)\n";
+
+const MAIN: &[u8] =
+    b"program\n  grant disk: Folder\n  instance lg = logger(disk)\n  run: {lg.Log}\n    lg.log(\"a\")\n";
+
+/// Words, the number of the status, and the report.
+static ORDERS: [(&[&str], u8, &str); 9] = [
+    (
+        &["run", "a.wy", "a.wy"],
+        4,
+        "a.wy:1:1: refused: N-TwoPrograms premise 1\n",
+    ),
+    (
+        &["run", "log.wy", "log.wy", "main.wy"],
+        4,
+        "log.wy:1:6: refused: N-Twice premise 1\n",
+    ),
+    (
+        &["run", "log.wy"],
+        4,
+        "log.wy:1:1: refused: N-NoProgram premise 1\n",
+    ),
+    (
+        &["run", "main.wy"],
+        4,
+        "main.wy:3:17: refused: N-Unknown premise 1\n",
+    ),
+    (&["run", "log.wy", "main.wy"], 63, "unbuilt\n"),
+    (&["run", "main.wy", "log.wy"], 63, "unbuilt\n"),
+    (
+        &["run", "late.wy", "early.wy"],
+        4,
+        "late.wy:3:7: refused: N-Unknown premise 1\n",
+    ),
+    (
+        &["run", "early.wy", "late.wy"],
+        4,
+        "early.wy:1:11: refused: N-Unknown premise 1\n",
+    ),
+    (
+        &["run", "early.wy", "bad.wy"],
+        3,
+        "bad.wy:1:5: syntax: Unexpected\n",
+    ),
+];
+
+/// The number of the first words with which a call ends otherwise.
+fn first_otherwise(alloc: Global, cases: &[(&[&str], u8, &str)]) -> Result<Option<usize>, Fail> {
+    let files: [(&str, &[u8]); 6] = [
+        ("a.wy", EMPTY),
+        ("log.wy", LOG),
+        ("main.wy", MAIN),
+        ("late.wy", b"type N\nmodule m: N\n  use u\n"),
+        ("early.wy", b"module k: X\n"),
+        ("bad.wy", b"type\n"),
+    ];
+    for (at, (words, number, report)) in cases.iter().enumerate() {
+        if !ends_so(alloc, words, &files, *number, report)? {
+            return Ok(Some(at));
+        }
+    }
+    Ok(None)
+}
+
+#[test]
+fn names_of_several_files_are_judged_together(rt: HostRuntime) -> Result<(), Fail> {
+    assert_eq!(rt; first_otherwise(rt.alloc(), &ORDERS)?, None);
+    Ok(())
+}
+
+/// Texts in which the names resolve, and which are of no form that runs.
+static UNBUILT: [&str; 6] = [
+    "program\n  run: {}\n    ()\n",
+    "type T\nprogram\n  grant c: Console\n  run: {c.Out}\n    c.write(\"a\")\n",
+    "program\n  grant c: Console\n  run: {c.Out} = c.write(\"a\")\n",
+    "program\n  grant c: Console\n  grant d: Console\n  run: {c.Out}\n    c.write(\"a\")\n",
+    "program\n  grant c: Console\n  run: {c.In}\n    c.write(\"a\")\n",
+    "program\n  grant c: Console\n  run: {c.Out}\n    c.read()\n    c.write(\"a\")\n",
+];
+
+/// The number of the first text that is not unbuilt.
+fn first_built(alloc: Global, texts: &[&str]) -> Result<Option<usize>, Fail> {
+    for (at, text) in texts.iter().enumerate() {
+        let files: [(&str, &[u8]); 1] = [("b.wy", text.as_bytes())];
+        if !ends_so(alloc, &["run", "b.wy"], &files, 63, "unbuilt\n")? {
+            return Ok(Some(at));
+        }
+    }
+    Ok(None)
+}
+
+#[test]
+fn texts_with_names_and_of_no_form_are_unbuilt(rt: HostRuntime) -> Result<(), Fail> {
+    assert_eq!(rt; first_built(rt.alloc(), &UNBUILT)?, None);
+    Ok(())
+}
+
+/// What is reported of a text that has a piece so many times between a front and an end.
+fn said_of(
+    alloc: Global,
+    front: &str,
+    piece: &str,
+    end: &str,
+    count: u32,
+) -> Result<MemSink, Fail> {
+    let mut text = Vec::from_slice(alloc, front.as_bytes())?;
+    for _ in 0..count {
+        text.extend_from_slice(piece.as_bytes())?;
+    }
+    text.extend_from_slice(end.as_bytes())?;
+    let done = outcome_of(alloc, &["run", "b.wy"], &[("b.wy", text.as_slice())])?;
+    Ok(done.report)
+}
+
+/// A front, a piece and an end; how often the piece stands where a count is at its limit; what is refused there;
+/// and the limit that one piece more passes.
+type Limited = (
+    &'static str,
+    &'static str,
+    &'static str,
+    u32,
+    &'static str,
+    &'static str,
+);
+
+static LIMITS: [Limited; 15] = [
+    (
+        "",
+        "type T\n",
+        "",
+        1024,
+        "2:6: refused: N-Twice",
+        "types 1024",
+    ),
+    (
+        "",
+        "module m: T\n",
+        "",
+        256,
+        "1:11: refused: N-Unknown",
+        "modules 256",
+    ),
+    (
+        "program\n",
+        "  grant g: Clock\n",
+        "  run: {}\n    ()\n",
+        64,
+        "3:9: refused: N-Twice",
+        "grants 64",
+    ),
+    (
+        "program\n  run: {}\n    ()\nprogram\n",
+        "  grant g: Clock\n",
+        "  run: {}\n    ()\n",
+        64,
+        "4:1: refused: N-TwoPrograms",
+        "grants 64",
+    ),
+    (
+        "type T\n",
+        "  def f(): {} Unit\n",
+        "",
+        128,
+        "3:7: refused: N-Twice",
+        "methods 128",
+    ),
+    (
+        "type N\nmodule m: N\n",
+        "  def f(): {} Unit = ()\n",
+        "",
+        128,
+        "4:7: refused: N-Twice",
+        "methods 128",
+    ),
+    (
+        "program\n  run: {}\n    val x = new\n",
+        "      def f(): {} Unit = ()\n",
+        "    ()\n",
+        128,
+        "5:11: refused: N-Twice",
+        "methods 128",
+    ),
+    (
+        "type N\nmodule m: N\n",
+        "  val f: Int = 1\n",
+        "",
+        128,
+        "4:7: refused: N-Twice",
+        "fields 128",
+    ),
+    (
+        "program\n  run: {}\n    val x = new\n",
+        "      val f: Int = 1\n",
+        "    ()\n",
+        128,
+        "5:11: refused: N-Twice",
+        "fields 128",
+    ),
+    (
+        "type T\n  def f(",
+        "a: Int, ",
+        "a: Int): {} Unit\n",
+        15,
+        "2:17: refused: N-Twice",
+        "parameters 16",
+    ),
+    (
+        "resource module r(",
+        "p: N, ",
+        "p: N): N\n",
+        15,
+        "1:22: refused: N-Unknown",
+        "parameters 16",
+    ),
+    (
+        "program\n  run: {}\n    val x = new\n      def f(",
+        "a: Int, ",
+        "a: Int): {} Unit = ()\n    ()\n",
+        15,
+        "4:21: refused: N-Twice",
+        "parameters 16",
+    ),
+    (
+        "type T\n",
+        "  effect A\n",
+        "",
+        512,
+        "3:10: refused: N-Twice",
+        "atoms 512",
+    ),
+    (
+        "type E\n  effect A\nresource module r(): E\nresource module s(): E\n",
+        "  instance x = r()\n",
+        "",
+        512,
+        "3:17: refused: N-MemberUndefined",
+        "atoms 512",
+    ),
+    (
+        "type E\n  effect A\nresource module r(): E\nprogram\n",
+        "  instance x = r()\n",
+        "  run: {}\n    ()\n",
+        512,
+        "3:17: refused: N-MemberUndefined",
+        "atoms 512",
+    ),
+];
+
+/// The number of the first case in which the limit comes too early or too late.
+fn first_not_limited(alloc: Global, cases: &[Limited]) -> Result<Option<usize>, Fail> {
+    for (at, (front, piece, end, most, refused, limit)) in cases.iter().enumerate() {
+        let within = said_of(alloc, front, piece, end, *most)?;
+        let past = said_of(alloc, front, piece, end, most.saturating_add(1))?;
+        let refusal = format!(in alloc; "b.wy:{refused} premise 1\n")?;
+        let last = format!(in alloc; "limit: {limit}\n")?;
+        if within.bytes() != refusal.as_bytes() || past.bytes() != last.as_bytes() {
+            return Ok(Some(at));
+        }
+    }
+    Ok(None)
+}
+
+#[test]
+fn a_limit_of_names_comes_before_all_refusals(rt: HostRuntime) -> Result<(), Fail> {
+    assert_eq!(rt; first_not_limited(rt.alloc(), &LIMITS)?, None);
+    Ok(())
+}
+
+/// Of two limits that are passed the earlier in the table comes, whatever stands first in the text.
+#[test]
+fn limits_of_names_come_in_their_order(rt: HostRuntime) -> Result<(), Fail> {
+    let alloc = rt.alloc();
+    let front =
+        "type T\n  def f(a: Int, a: Int, a: Int, a: Int, a: Int, a: Int, a: Int, a: Int, a: Int, a: Int, a: Int, a: Int, a: Int, a: Int, a: Int, a: Int, a: Int): {} Unit\nprogram\n";
+    let said = said_of(
+        alloc,
+        front,
+        "  grant g: Clock\n",
+        "  run: {}\n    ()\n",
+        65,
+    )?;
+    assert_eq!(rt; said.bytes(), b"limit: grants 64\n".as_slice());
+    let said = said_of(
+        alloc,
+        front,
+        "  grant g: Clock\n",
+        "  run: {}\n    ()\n",
+        64,
+    )?;
+    assert_eq!(rt; said.bytes(), b"limit: parameters 16\n".as_slice());
+    Ok(())
+}
