@@ -6,8 +6,6 @@ mod atom_counts;
 pub mod atom_scope;
 pub mod atoms;
 pub mod bodies;
-#[cfg(test)]
-mod body_tests;
 mod captures;
 pub mod counts;
 mod cycles;

@@ -1,16 +1,9 @@
-use crate::atom_scope::Owners;
 use crate::gathering::{modules, programs, types};
-use crate::heads::Heads;
 use crate::limits::first_limit;
-use crate::meanings::Meanings;
-use crate::members::head_table;
 use crate::refusal::{Cause, Refusal};
-use crate::scoping::{Head, Meaning, Opening, Owner};
 use crate::tables::{Table, note_repeated};
 use std::alloc::Global;
 use std::test::Fail;
-use wy_effects::atom::Atom;
-use wy_effects::set::EffSet;
 use wy_syntax::expressions::Expr;
 use wy_syntax::items::{Grant, Item, Program, Tree};
 use wy_syntax::statements::{Rhs, Tail};
@@ -112,43 +105,5 @@ fn grants_are_counted_in_each_block_by_itself(rt: HostRuntime) -> Result<(), Fai
     let alloc = rt.alloc();
     assert!(rt; limit_of(alloc, &[64, 64])? == None);
     assert!(rt; limit_of(alloc, &[1, 65])? == Some(LimitName::Grants));
-    Ok(())
-}
-
-#[test]
-fn owners_open_their_abstract_members(rt: HostRuntime) -> Result<(), Fail> {
-    let alloc = rt.alloc();
-    let mut members = Meanings::new(alloc);
-    for (text, is_abstract) in [("A", true), ("B", false), ("C", true)] {
-        members.push(Meaning {
-            name: from_bytes(alloc, text.as_bytes())?,
-            is_abstract,
-            atoms: EffSet::empty(alloc),
-        })?;
-    }
-    let owner = Owner {
-        name: from_bytes(alloc, b"x")?,
-        opening: Opening::Members { decl: 0 },
-    };
-    let mut list = Vec::new(alloc);
-    list.push(Head {
-        name: from_bytes(alloc, b"T")?,
-        members,
-    })?;
-    let names = head_table(alloc, &list)?;
-    if list.len() > 1028 {
-        return Err(Memory.into());
-    }
-    let heads = Heads::new(list, names);
-    let Ok(owners) = Owners::new(alloc, &heads, &[owner]) else {
-        return Err(Memory.into());
-    };
-    let atoms = owners.into_atoms();
-    assert_eq!(rt; atoms.len(), 2);
-    let Some(last) = atoms.name(Atom(1)) else {
-        return Err(Memory.into());
-    };
-    assert_eq!(rt; last.owner.as_bytes(), b"x".as_slice());
-    assert_eq!(rt; last.member.as_bytes(), b"C".as_slice());
     Ok(())
 }
