@@ -1,4 +1,4 @@
-mod AtomsPut
+pub mod AtomsPut
 mod Blocks
 mod CyclesFound
 mod Cycling
@@ -8,14 +8,14 @@ mod ExamplesRefusals
 mod ExamplesValues
 mod Filling
 mod Finding
-mod Firsts
+pub mod Firsts
 mod Fronts
 mod InSights
 mod Judging
 mod Latests
 mod Leasts
 mod Marks
-mod Mosts
+pub mod Mosts
 mod Notings
 mod Opening
 mod Owned

@@ -1,5 +1,5 @@
 -- No module and no program's body is refused whose rules hold.
-use Rattle.std.proofs.Common.{◌≡◌, ℕ, ◌+◌, List, [], ◌∷◌, ◌++◌, map, inl, inr, refl, subst, Option, Some, None, false}
+use Rattle.std.proofs.Common.{◌≡◌, ℕ, suc, ◌+◌, List, [], ◌∷◌, ◌++◌, map, inl, inr, refl, subst, Option, Some, None, false, arith}
 use Rattle.std.specs.Prelude.{slice_get, if◌then◌else◌}
 use Rattle.wy_text.specs.declared.fault.Fault.{Fault}
 use Rattle.wy_text.specs.declared.fault.RuleName.TheVariants.{MPure}
@@ -15,17 +15,31 @@ use Rattle.wy_types.specs.declared.resolved.ScopeKind.{ScopeKind}
 use Rattle.wy_types.specs.declared.resolved.ScopeKind.TheVariants.{Pure, Resource, Plain, Program as Main}
 use Rattle.wy_types.specs.Program.{Program, Scope, Body, Start, Init, Run}
 use Rattle.wy_types.specs.Types.{is_plain}
-use Rattle.wy_types.specs.Core.{StartFits, literal_captures, body_parameters, start_vals, block_vals}
+use Rattle.wy_types.specs.Core.{StartFits, BodyFits, CapturesBefore, literal_captures, body_parameters, start_vals, block_vals}
 use Rattle.wy_rules.specs.Derivations.{BodyDerivation, T-Body, T-Body-Init, effects_of}
 use Rattle.wy_rules.specs.Typing.{BlockHas, fields_of, field_types, DerivesStart, DerivesBodies}
 use Rattle.wy_rules.specs.Acceptance.{scope_reading, IsLine, PureHolds, SealHolds}
 use Rattle.wy_rules.specs.Nodes.{nothing, written, impure, Node, node, written_spots, values_nodes, block_nodes, start_nodes, body_nodes, bodies_nodes, var_nodes, impure_line, impure_lines, pure_nodes, seal_nodes}
 use Rattle.wy_rules.specs.Failing.{FirstFailing, AllPass}
-use Rattle.wy_rules.specs.Scoped.{BodiesScoped, AcceptedScopesHold}
+use Rattle.wy_rules.specs.Refusals.{AcceptedScopesHold}
 use Rattle.wy_rules.proofs.Forms.{Lawful}
 use Rattle.wy_rules.proofs.Narrowing.{Narrower, AllNarrower, narrow_values, narrow_block}
 use Rattle.wy_rules.proofs.Passing.{left}
 use Rattle.wy_rules.proofs.Standing.{reading_lawful, either_fails, values_ready, block_ready, expects_all, expects_written, values_stand, block_stands}
+
+-- bodies that can be judged one after the other: names stand for what is there, and a literal's methods capture `val`s that stand before them
+abbrev BodiesScoped : Program → Scope → List ℕ → ℕ → List Body → Type 0
+BodiesScoped p s before i [] = Unit {0}
+BodiesScoped p s before i (b ∷ bs) =
+    BodyFits p s i b × ((n : ℕ) → In (Local n) (literal_captures (slice_get s.literals b.owner)) → In n before) × BodiesScoped p s (before ++ block_vals b.block) (i + 1) bs
+
+bodies_scoped : (p : Program) (s : Scope) (before : List ℕ) (i : ℕ) (bs : List Body) → ((j : ℕ) (b : Body) → slice_get bs j ≡ Some b → BodyFits p s (i + j) b) → CapturesBefore s before bs → BodiesScoped p s before i bs
+bodies_scoped p s before i [] h c = tt
+bodies_scoped p s before i (b ∷ bs) h c = (
+  (let same : i + 0 ≡ i = omega arith in subst (λ v. BodyFits p s v b) same (h 0 b refl)),
+  c.0,
+  bodies_scoped p s (before ++ block_vals b.block) (i + 1) bs (λ j d e. (let same : i + suc j ≡ i + 1 + j = omega arith in subst (λ v. BodyFits p s v d) same (h (suc j) d e))) c.1,
+)
 
 module _ (p : Program) (k : ℕ) (s : Scope) (w : Lawful (scope_reading p k s)) (least given : List (scope_reading p k s).Kind) where
   nothing_seen : AllNarrower (scope_reading p k s) w p s least given []
@@ -158,16 +172,17 @@ module _ (p : Program) (k : ℕ) (s : Scope) (w : Lawful (scope_reading p k s)) 
       ]
 
 pub accepted_scopes_hold : AcceptedScopesHold
-accepted_scopes_hold p k s fault scoped a f =
+accepted_scopes_hold p k s fault fits a f =
+    let bodies : BodiesScoped p s (start_vals s.start) 0 s.bodies = bodies_scoped p s (start_vals s.start) 0 s.bodies (λ j b e. (let same : j ≡ 0 + j = omega arith in subst (λ v. BodyFits p s v b) same (fits.bodies j b e))) fits.captured in
     let w = reading_lawful p k (is_plain s.kind) in
     let d = a.bodies.derivation in
     let h = a.bodies.derives in
     elim (either_fails p k s w f.locals d.locals (pure_nodes s s.kind) (start_nodes s s.start ++ (bodies_nodes s s.bodies ++ seal_nodes s s.ascribed)) fault f.first) [
       | inl e ↦ pure_stands p k s w f.locals d.locals s.kind a.pure fault e
       | inr e ↦ elim (either_fails p k s w f.locals d.locals (start_nodes s s.start) (bodies_nodes s s.bodies ++ seal_nodes s s.ascribed) fault e.1) [
-        | inl i ↦ start_stands p k s w f.locals d.locals s.start d.start scoped.0 h.0 fault i
+        | inl i ↦ start_stands p k s w f.locals d.locals s.start d.start fits.starts.1 h.0 fault i
         | inr i ↦ elim (either_fails p k s w f.locals d.locals (bodies_nodes s s.bodies) (seal_nodes s s.ascribed) fault i.1) [
-          | inl j ↦ bodies_stand p k s w f.locals d.locals s.bodies d.bodies (start_vals s.start) 0 scoped.1 (start_narrower p k s w f.locals d.locals s.start d.start scoped.0 h.0 i.0) h.1 fault j
+          | inl j ↦ bodies_stand p k s w f.locals d.locals s.bodies d.bodies (start_vals s.start) 0 bodies (start_narrower p k s w f.locals d.locals s.start d.start fits.starts.1 h.0 i.0) h.1 fault j
           | inr j ↦ seal_stands p k s w f.locals d.locals s.ascribed a.seal fault j.1
         ]
       ]

@@ -10,6 +10,5 @@ pub mod Polarity
 pub mod Readings
 pub mod Refusals
 pub mod Rereading
-pub mod Scoped
 pub mod Tables
 pub mod Typing

@@ -1,14 +1,14 @@
 -- The fault by which a whole program is refused: plain modules are judged first, then the other modules, then all lines, then the
 -- program's body, each in file order (docs/LANGUAGE.md, "First failing node").
-use Rattle.std.specs.Prelude.{◌≡◌, ℕ, ◌+◌, List, [], ◌∷◌, ◌⊎◌, Some, Bool as Truth, true, false, if◌then◌else◌, slice_get}
+use Rattle.std.specs.Prelude.{ℕ, ◌+◌, List, [], ◌∷◌, ◌⊎◌, Bool as Truth, true, false, if◌then◌else◌}
 use Rattle.wy_text.specs.declared.fault.Fault.{Fault}
 use Rattle.wy_types.specs.declared.resolved.ScopeKind.{ScopeKind}
 use Rattle.wy_types.specs.declared.resolved.ScopeKind.TheVariants.{Pure, Resource, Plain, Program as Main}
 use Rattle.wy_types.specs.Program.{Program, Scope}
-use Rattle.wy_rules.specs.Acceptance.{scope_reading, Accepted}
+use Rattle.wy_types.specs.Core.{IsCore, ScopeFits}
+use Rattle.wy_rules.specs.Acceptance.{scope_reading, Accepted, ScopeAccepted}
 use Rattle.wy_rules.specs.Nodes.{scope_nodes, lines_nodes}
 use Rattle.wy_rules.specs.Failing.{AllPass, IsScopeFault, IsLineFault}
-use Rattle.wy_rules.specs.Scoped.{IsScoped}
 
 -- the passes over the scopes
 pub data Turn : Type 0 where
@@ -65,6 +65,10 @@ module _ (p : Program) where
       (IsLineFault p fault ⊎
       (LinesPassFrom 0 p.scopes × FirstFault (scopes_of the_program 0 p.scopes) fault)))))
 
+-- no module and no program's body is refused whose rules hold
+abbrev pub AcceptedScopesHold : Type 0
+AcceptedScopesHold = (p : Program) (k : ℕ) (s : Scope) (fault : Fault) → ScopeFits p s → ScopeAccepted p k s → IsScopeFault p k s fault → ⊥
+
 -- an accepted program has no fault
 abbrev pub AcceptedHasNoFault : Type 0
-AcceptedHasNoFault = (p : Program) (fault : Fault) → ((k : ℕ) (s : Scope) → slice_get p.scopes k ≡ Some s → IsScoped p s) → Accepted p → IsRefusal p fault → ⊥
+AcceptedHasNoFault = (p : Program) (fault : Fault) → IsCore p → Accepted p → IsRefusal p fault → ⊥

@@ -7,8 +7,7 @@ ghost use Rattle.wy_rules.specs.Polarity.{Annotation, DualAnnotation};
 ghost use Rattle.wy_rules.specs.Rereading.{Erasure, Substitution, Retyping};
 ghost use Rattle.wy_rules.specs.Judging.{PassingIsAccepted, AcceptedLinesHold};
 ghost use Rattle.wy_rules.specs.GroundTyping.{GroundTyping};
-ghost use Rattle.wy_rules.specs.Scoped.{AcceptedScopesHold};
-ghost use Rattle.wy_rules.specs.Refusals.{AcceptedHasNoFault};
+ghost use Rattle.wy_rules.specs.Refusals.{AcceptedScopesHold, AcceptedHasNoFault};
 
 /// Each type in range is a subtype of itself, with effects and without.
 pub fn subtyping_is_reflexive()
@@ -89,14 +88,12 @@ pub fn ground_typing()
     ensures { GroundTyping }
 {}
 
-/// No module and no program's body is at fault whose rules hold, where its names stand for what is there and
-/// its literals capture what stands before their methods (docs/LANGUAGE.md, "First failing node").
+/// No module and no program's body of a core is at fault whose rules hold (docs/LANGUAGE.md, "First failing node").
 pub fn accepted_scopes_hold()
     ensures { AcceptedScopesHold }
 {}
 
-/// An accepted program has no fault, where names stand for what is there and literals capture what stands
-/// before their methods.
+/// An accepted core has no fault (docs/LANGUAGE.md, "First failing node").
 pub fn accepted_has_no_fault()
     ensures { AcceptedHasNoFault }
 {}

@@ -1,5 +1,5 @@
 -- The types that a scope reaches, by a list that is worked off.
-use Rattle.std.proofs.Common.{◌≡◌, ℕ, ◌+◌, ◌<◌, ◌≤◌, List, [], ◌∷◌, ◌++◌, take, inl, inr, length, get_or, Ok, Err, refl, sym, ap, ◌∙◌, subst, arith, length-append, ◌^◌, Some}
+use Rattle.std.proofs.Common.{◌≡◌, ℕ, ◌+◌, ◌<◌, ◌≤◌, List, [], ◌∷◌, ◌++◌, take, inl, inr, length, get_or, Ok, Err, refl, sym, ap, ◌∙◌, subst, arith, length-append}
 use Rattle.std.specs.Prelude.{slice_get}
 use Rattle.std.proofs.lemmas.List.{take_more, take_all, take-append-le}
 use Rattle.wy_effects.specs.Members.{In, Apart}
@@ -11,16 +11,11 @@ use Rattle.wy_types.specs.declared.path.Part.TheVariants.{Parameter, Result as R
 use Rattle.wy_types.specs.declared.path.Step.{Step}
 use Rattle.wy_types.specs.declared.reach.ReachRefusal.{ReachRefusal}
 use Rattle.wy_types.specs.declared.reach.ReachRefusal.TheVariants.{Limit, Memory}
-use Rattle.std.specs.Option.{option_map}
-use Rattle.std.proofs.lemmas.Option.{slice_get-map}
-use Rattle.wy_types.specs.declared.resolved.Scope.{Scope}
-use Rattle.wy_types.specs.declared.resolved.Core.{Core}
-use Rattle.wy_types.specs.Program.{Program, program_of, scope_of}
-use Rattle.wy_types.specs.Program as plain
+use Rattle.wy_types.specs.Program.{Program}
 use Rattle.wy_types.specs.Signature.{Signature, signature_types}
 use Rattle.wy_types.specs.Types.{IsObject, methods_of}
 use Rattle.wy_types.specs.Paths.{IsPartOf, Goes, Walks}
-use Rattle.wy_types.specs.Reached.{scope_first_types, IsReached, Reach, LiteralsHaveNumbers}
+use Rattle.wy_types.specs.Reached.{scope_first_types, IsReached, Reach}
 use Rattle.wy_types.specs.Gathering.{IsGathered, Gathers, Begins}
 use Rattle.wy_types.proofs.Gathered.{gathered_old, gathered_cases}
 
@@ -185,11 +180,3 @@ start_refused p scope (Limit limit) h = (
     ],
   ),
 )
-
--- a scope of the code whose literals have numbers, as plain data
-pub literals_have_numbers : (core : Core) (scope : ℕ) (s : Scope) → Some s ≡ slice_get core.scopes scope → length s.literals < 2 ^ 32 → LiteralsHaveNumbers (program_of core) scope
-literals_have_numbers core scope s e lt t there =
-    let same : Some (scope_of s) ≡ Some t = sym (slice_get-map scope_of core.scopes scope ∙ ap (option_map scope_of) (sym e)) ∙ there in
-    let equal : scope_of s ≡ t = cc in
-    let P : plain.Scope → Type 0 = λ v. length v.literals < 2 ^ 32 in
-    subst P equal lt

@@ -1,5 +1,5 @@
 -- What every core keeps: numbers in range, names that differ, and the forms of each kind of scope.
-use Rattle.std.specs.Prelude.{◌≡◌, ℕ, ◌+◌, ◌<◌, ◌≤◌, ◌^◌, List, [], ◌∷◌, ◌++◌, Option, Some, None, Bool as Truth, true, false, length, map, take, slice_get}
+use Rattle.std.specs.Prelude.{◌≡◌, ℕ, ◌+◌, ◌<◌, ◌≤◌, List, [], ◌∷◌, ◌++◌, Option, Some, None, Bool as Truth, true, false, length, map, take, slice_get}
 use Rattle.std.specs.List.{range_with_len}
 use Rattle.wy_effects.specs.Members.{In, Within, Apart}
 use Rattle.wy_effects.specs.EffSet.{IsSet, AreSets}
@@ -177,6 +177,12 @@ bodies_vals (b ∷ bs) = block_vals b.block ++ bodies_vals bs
 abbrev pub scope_vals : Scope → List ℕ
 scope_vals s = start_vals s.start ++ bodies_vals s.bodies
 
+-- of `val` statements the methods of a literal capture those alone that stand before them, in the scope's start or in an earlier body
+abbrev pub CapturesBefore : Scope → List ℕ → List Body → Type 0
+CapturesBefore s before [] = Unit {0}
+CapturesBefore s before (b ∷ bs) =
+    ((n : ℕ) → In (Local n) (literal_captures (slice_get s.literals b.owner)) → In n before) × CapturesBefore s (before ++ block_vals b.block) bs
+
 ------------------------------------------------------------
 -- Own names and lines
 
@@ -264,13 +270,13 @@ pub record ScopeFits (p : Program) (s : Scope) : Type 0 where
   pub no_effect : BodiesHaveNoEffect s.kind s.start_effect s.bodies
   pub own_literal : 0 < length s.literals
   pub vals : Apart (scope_vals s)
+  pub captured : CapturesBefore s (start_vals s.start) s.bodies
   -- names that differ
   pub own_names : Apart (map (λ (n : OwnName). n.name) s.names)
   pub field_names : (l : Literal) → In l s.literals → Apart (map (λ (f : Field). f.name) l.fields)
   pub method_names : (l : ℕ) → Apart (map (λ (m : Signature TypeRef). m.name) (methods_of_owner l s.bodies))
   -- counts within their limits
   pub atoms : length s.atoms ≤ 512
-  pub few_literals : length s.literals < 2 ^ 32
   pub few_fields : (l : Literal) → In l s.literals → length l.fields ≤ 128
   pub few_methods : (l : ℕ) → length (methods_of_owner l s.bodies) ≤ 128
   pub few_parameters : (b : Body) → In b s.bodies → length b.signature.params ≤ 16
@@ -290,6 +296,12 @@ ProgramIsLast [] = ⊥
 ProgramIsLast (s ∷ []) = s.kind ≡ Main
 ProgramIsLast (s ∷ t ∷ rest) = (s.kind ≡ Main → ⊥) × ProgramIsLast (t ∷ rest)
 
+-- the names of modules; the program's is a reserved word
+abbrev pub module_names : List Scope → List (List ℕ)
+module_names [] = []
+module_names (s ∷ []) = []
+module_names (s ∷ t ∷ rest) = s.name ∷ module_names (t ∷ rest)
+
 pub record IsCore (p : Program) : Type 0 where
   pub primitives : take 4 p.declarations ≡ primitive_types
   pub declarations : (d : TypeDecl) → In d p.declarations → DeclarationFits p d
@@ -297,6 +309,6 @@ pub record IsCore (p : Program) : Type 0 where
   pub program : ProgramIsLast p.scopes
   pub no_cycle : NoCycle p
   pub type_names : Apart (map (λ (d : TypeDecl). d.name) p.declarations)
-  pub module_names : Apart (map (λ (s : Scope). s.name) p.scopes)
+  pub modules : Apart (module_names p.scopes)
   pub few_types : length p.declarations ≤ 1028
   pub few_scopes : length p.scopes ≤ 257

@@ -1,5 +1,5 @@
 -- The types that a scope reaches.
-use Rattle.std.specs.Prelude.{◌≡◌, ℕ, ◌-◌, ◌<◌, ◌≤◌, ◌^◌, List, [], ◌∷◌, ◌++◌, ◌↔◌, Option, Some, None, Result, Ok, Err, map, length, slice_get}
+use Rattle.std.specs.Prelude.{◌≡◌, ℕ, ◌-◌, ◌<◌, ◌≤◌, List, [], ◌∷◌, ◌++◌, ◌↔◌, Option, Some, None, Result, Ok, Err, map, length, slice_get}
 use Rattle.std.specs.List.{range_with_len}
 use Rattle.wy_text.specs.declared.limit.LimitName.TheVariants.{ReachedTypes}
 use Rattle.wy_effects.specs.Members.{In, Apart}
@@ -63,7 +63,3 @@ Reach p scope (Ok ts) = Apart ts × (length ts ≤ 1024) × ((u : TypeRef) → I
 Reach p scope (Err (Limit limit)) =
     (limit ≡ ReachedTypes) × ((us : List TypeRef) × Apart us × (1024 < length us) × ((u : TypeRef) → In u us → IsObject u × IsReached p scope u))
 Reach p scope (Err Memory) = Unit {0}
-
--- a scope's literals have numbers
-abbrev pub LiteralsHaveNumbers : Program → ℕ → Type 0
-LiteralsHaveNumbers p scope = (s : Scope) → slice_get p.scopes scope ≡ Some s → length s.literals < 2 ^ 32

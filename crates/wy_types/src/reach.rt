@@ -1,9 +1,9 @@
-ghost use Rattle.std.specs.Prelude.{◌≡◌, ◌++◌, ◌∷◌, [], ◌≤◌, ◌<◌, ◌-◌, ◌^◌, IsTrue, OnOk, IfOk, false, map, length, slice_get};
+ghost use Rattle.std.specs.Prelude.{◌≡◌, ◌++◌, ◌∷◌, [], ◌≤◌, ◌-◌, IsTrue, OnOk, IfOk, false, map, length, slice_get};
 ghost use Rattle.wy_effects.specs.Members.{In, Apart};
 ghost use Rattle.wy_types.specs.Program.{program_of, scope_of, body_of, start_of};
 ghost use Rattle.wy_types.specs.Types.{IsObject, signature};
 ghost use Rattle.wy_types.specs.Signature.{signature_types};
-ghost use Rattle.wy_types.specs.Reached.{Reach, LiteralsHaveNumbers, sealed_types, own_types, field_types, start_types, body_types, first_types, scope_first_types};
+ghost use Rattle.wy_types.specs.Reached.{Reach, sealed_types, own_types, field_types, start_types, body_types, first_types, scope_first_types};
 ghost use Rattle.std.specs.List.{range_with_len};
 ghost use Rattle.wy_types.specs.Gathering.{Gathers, Begins};
 
@@ -164,9 +164,8 @@ fn add_bodies(alloc: Global, out: &mut TypeList, bodies: &[Body]) -> Result<(), 
     Ok(())
 }
 
-/// The types from which reaching begins.
+/// The types from which reaching begins. Literals have numbers of 32 bits; no memory has room for more of them.
 fn firsts(alloc: Global, scope: &Scope) -> Result<TypeList, Memory>
-    requires { length scope.now.literals < 2 ^ 32 }
     ensures { IfOk result (λ ts. ts ≡ first_types (scope_of scope.now)) }
 {
     let mut out = Items::new(alloc);
@@ -176,7 +175,10 @@ fn firsts(alloc: Global, scope: &Scope) -> Result<TypeList, Memory>
         ScopeKind::Pure | ScopeKind::Resource | ScopeKind::Plain => 0,
         ScopeKind::Program => 1,
     };
-    add_own(&mut out, first, scope.literals.len() as u32)?;
+    let Ok(count) = u32::try_from(scope.literals.len()) else {
+        return Err(Memory);
+    };
+    add_own(&mut out, first, count)?;
     add_fields(alloc, &mut out, scope.literals.as_slice())?;
     add_start(alloc, &mut out, &scope.start)?;
     add_bodies(alloc, &mut out, scope.bodies.as_slice())?;
@@ -185,7 +187,6 @@ fn firsts(alloc: Global, scope: &Scope) -> Result<TypeList, Memory>
 
 /// The object types among those from which reaching begins, each once.
 fn begin(alloc: Global, core: &Core, scope: u16) -> Result<TypeList, ReachRefusal>
-    requires { LiteralsHaveNumbers (program_of core.now) scope }
     ensures { Begins (scope_first_types (slice_get (program_of core.now).scopes scope)) result }
 {
     let mut seen = Items::new(alloc);
@@ -202,7 +203,6 @@ fn begin(alloc: Global, core: &Core, scope: u16) -> Result<TypeList, ReachRefusa
 /// The object types that a scope reaches, each once (docs/LANGUAGE.md, "Effects and types"). `Limit`
 /// comes exactly where there are more than 1,024 (docs/LANGUAGE.md, "Limits").
 pub fn reach(alloc: Global, core: &Core, scope: u16) -> Result<TypeList, ReachRefusal>
-    requires { LiteralsHaveNumbers (program_of core.now) scope }
     ensures { Reach (program_of core.now) scope result }
 {
     let mut seen = begin(alloc, core, scope)?;

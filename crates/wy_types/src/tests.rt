@@ -168,12 +168,6 @@ fn chained_core(alloc: Global, number: u16) -> Result<Core, Memory> {
 
 /// How many types the first scope reaches; `None` where they pass the limit.
 fn reached(alloc: Global, core: &Core) -> Result<Option<usize>, Memory> {
-    let Some(scope) = core.scopes.get(0) else {
-        return Ok(None);
-    };
-    if scope.literals.len() > 100 {
-        return Ok(None);
-    }
     match reach(alloc, core, 0) {
         Ok(types) => Ok(Some(types.len())),
         Err(ReachRefusal::Limit(_limit)) => Ok(None),

@@ -16,9 +16,6 @@ use Rattle.wy_types.proofs.reach.begin.Goals as goal
 scope_there : (scopes : List Scope) (k : _) (o : Option Scope) → o ≡ slice_get scopes k → slice_get (map scope_of scopes) k ≡ option_map scope_of o
 scope_there scopes k o e = slice_get-map scope_of scopes k ∙ ap (option_map scope_of) (sym e)
 
-pub firsts-requires : goal.firsts-requires
-firsts-requires c = c.requires (scope_of c.in-Some.s.now) (scope_there c.args.core.now.scopes c.args.scope (Some c.in-Some.s.now) c.in-Some.ensures)
-
 pub returns-in_err-add_all-in-Some : goal.returns-in_err-add_all-in-Some
 returns-in_err-add_all-in-Some c =
     let there = scope_there c.args.core.now.scopes c.args.scope (Some c.in-Some.s.now) c.in-Some.ensures in
