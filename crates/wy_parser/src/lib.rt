@@ -10,6 +10,4 @@ pub mod parsing;
 mod sort;
 mod statements;
 mod stop;
-#[cfg(test)]
-mod tests;
 mod types;

@@ -2,9 +2,9 @@ ghost use Rattle.std.specs.Prelude.{◌≡◌, IfOk};
 ghost use Rattle.wy_syntax.specs.Tokens.{toks};
 ghost use Rattle.wy_parser.specs.Refusals.{EndsOnce};
 
-use crate::parsing::{ParseRefusal, parse};
 use std::alloc::Global;
 use std::test::Fail;
+use wy_parser::parsing::{ParseRefusal, parse};
 use wy_syntax::items::{Item, Member};
 use wy_text::fault::Place;
 use wy_text::text::{Memory, from_bytes};

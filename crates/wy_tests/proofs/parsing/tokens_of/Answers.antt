@@ -4,7 +4,7 @@ use Rattle.wy_text.specs.declared.token.Token.{Token}
 use Rattle.wy_text.specs.declared.token.TokenKind.TheVariants as kind
 use Rattle.wy_syntax.specs.Tokens.{Tok, tok_of, toks}
 use Rattle.wy_parser.specs.Refusals.{EndsOnce, NoEnd}
-use Rattle.wy_parser.proofs.tests.tokens_of.Goals as goal
+use Rattle.wy_tests.proofs.parsing.tokens_of.Goals as goal
 
 no_end_behind : (u : List Tok) (x : Tok) → NoEnd u → (x.kind ≡ kind.End → ⊥) → NoEnd (u ++ x ∷ [])
 no_end_behind [] x before other = (other, tt)
