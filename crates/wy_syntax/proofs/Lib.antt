@@ -1,5 +1,5 @@
 mod Arguments
 mod Indentation
-mod Layers
+pub mod Layers
 mod Numbers
 mod Sums
