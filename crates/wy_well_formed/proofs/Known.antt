@@ -1,0 +1,64 @@
+-- The types that names of a program stand for are its declarations.
+use Rattle.std.proofs.Common.{◌≡◌, ℕ, zero, suc, List, [], ◌∷◌, ◌++◌, map, length, refl, sym, ap, ◌∙◌}
+use Rattle.std.specs.Prelude.{slice_get}
+use Rattle.std.proofs.lemmas.List.{map-append}
+use Rattle.wy_syntax.specs.declared.items.TypeDecl.{TypeDecl}
+use Rattle.wy_types.specs.declared.resolved.TypeDecl as core
+use Rattle.wy_types.specs.Fitting.{member_count}
+use Rattle.wy_types.specs.Primitive.{primitive_types}
+use Rattle.wy_types.specs.Program.{Program}
+use Rattle.wy_names.specs.declared.scoping.Head.{Head}
+use Rattle.wy_names.specs.Declarations.{texts, type_names}
+use Rattle.wy_names.specs.Meanings.{abstract_names}
+use Rattle.wy_names.specs.Atoms.{head, head_names, members_of, primitive_head, primitive_names, all_names, heads_of}
+use Rattle.wy_names.specs.TypeUses.{declaration, declarations_of}
+use Rattle.wy_well_formed.proofs.WrittenTypes.{Knows}
+
+-- one by one, heads and declarations have the same abstract members
+abbrev AreAlike : List Head → List core.TypeDecl → Type 0
+AreAlike [] [] = Unit {0}
+AreAlike [] (d ∷ ds) = ⊥
+AreAlike (h ∷ hs) [] = ⊥
+AreAlike (h ∷ hs) (d ∷ ds) = (abstract_names h.members ≡ d.members) × AreAlike hs ds
+
+alike_length : (hs : List Head) (ds : List core.TypeDecl) → AreAlike hs ds → length hs ≡ length ds
+alike_length [] [] a = refl
+alike_length [] (d ∷ ds) a = absurd a
+alike_length (h ∷ hs) [] a = absurd a
+alike_length (h ∷ hs) (d ∷ ds) a = ap suc (alike_length hs ds a.1)
+
+alike_members : (hs : List Head) (ds : List core.TypeDecl) → AreAlike hs ds → (k : ℕ) → length (abstract_names (members_of hs k)) ≡ member_count (slice_get ds k)
+alike_members [] [] a k = refl
+alike_members [] (d ∷ ds) a k = absurd a
+alike_members (h ∷ hs) [] a k = absurd a
+alike_members (h ∷ hs) (d ∷ ds) a zero = ap (λ (l : List (List ℕ)). length l) a.0
+alike_members (h ∷ hs) (d ∷ ds) a (suc k) = alike_members hs ds a.1 k
+
+declared_alike : (heads : List Head) (types : List TypeDecl) → AreAlike (map head types) (map (declaration heads) types)
+declared_alike heads [] = tt
+declared_alike heads (d ∷ ds) = (refl, declared_alike heads ds)
+
+pub heads_known : (p : Program) (types : List TypeDecl) → p.declarations ≡ declarations_of (heads_of types) types → Knows p (heads_of types)
+heads_known p types e =
+    let alike : AreAlike (heads_of types) (declarations_of (heads_of types) types) = (refl, (refl, (refl, (refl, declared_alike (heads_of types) types)))) in
+    record {
+      types = alike_length (heads_of types) (declarations_of (heads_of types) types) alike ∙ ap (λ (l : List core.TypeDecl). length l) (sym e);
+      members = λ d. alike_members (heads_of types) (declarations_of (heads_of types) types) alike d ∙ ap (λ l. member_count (slice_get l d)) (sym e);
+    }
+
+-- the names of the types are those of the declarations, in their order
+declared_head_names : (types : List TypeDecl) → head_names (map head types) ≡ texts (type_names types)
+declared_head_names [] = refl
+declared_head_names (d ∷ ds) = ap (λ l. d.name.text ∷ l) (declared_head_names ds)
+
+pub head_names_are : (types : List TypeDecl) → head_names (heads_of types) ≡ all_names types
+head_names_are types =
+    map-append (λ (h : Head). h.name) (map primitive_head primitive_types) (map head types) ∙ ap (λ l. primitive_names ++ l) (declared_head_names types)
+
+declared_names : (heads : List Head) (types : List TypeDecl) → map (λ (d : core.TypeDecl). d.name) (map (declaration heads) types) ≡ texts (type_names types)
+declared_names heads [] = refl
+declared_names heads (d ∷ ds) = ap (λ l. d.name.text ∷ l) (declared_names heads ds)
+
+pub declaration_names : (heads : List Head) (types : List TypeDecl) → map (λ (d : core.TypeDecl). d.name) (declarations_of heads types) ≡ all_names types
+declaration_names heads types =
+    map-append (λ (d : core.TypeDecl). d.name) primitive_types (map (declaration heads) types) ∙ ap (λ l. primitive_names ++ l) (declared_names heads types)
