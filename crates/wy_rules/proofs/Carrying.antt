@@ -71,9 +71,10 @@ module _ (y z : Reading) (r : ReadsOn y z) where
     binding_on (to.Field i) t e = field_on (field_at s owner i) t e
     binding_on (to.Own k) t e = name_on (slice_get s.names k) t e
 
-    val_on : (o : Option TypeRef) (k : y.Kind) → IsValType y s locals owner o k → IsValType z s (map r.kind locals) owner o (r.kind k)
-    val_on None k h = tt
-    val_on (Some u) k h = ap r.kind h ∙ r.read u
+    val_on : (o : Option TypeRef) (x : Value) (k : y.Kind) → IsValType y s locals owner o x k → IsValType z s (map r.kind locals) owner o x (r.kind k)
+    val_on None (Plain x) k h = tt
+    val_on None (If q test first second) k h = absurd h
+    val_on (Some u) x k h = ap r.kind h ∙ r.read u
 
     -- a derivation, read on, of an effect within what the other's is read as
     pub record Carried (x : Value) (t : y.Kind) (f : List ℕ) : Type 0 where
@@ -200,7 +201,7 @@ module _ (y z : Reading) (r : ReadsOn y z) where
           record {
             derivation = T-Val p a.derivation (r.kind k) a.effect c.derivation c.effect;
             effect = union a.effect c.effect;
-            derives = (h.0, local_on locals n k h.1, val_on typ k h.2, a.derives, c.derives, refl);
+            derives = (h.0, local_on locals n k h.1, val_on typ x k h.2, a.derives, c.derives, refl);
             within = within_of _ f _ h.5 (within_union a.effect c.effect e g a.within c.within);
           }
       block_carried (Block-Sub p ds k e) b t f h =

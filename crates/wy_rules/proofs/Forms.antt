@@ -142,7 +142,7 @@ module _ (y : Reading) (w : Lawful y) (s : Scope) (locals : List y.Kind) (owner 
   BlockFormed (Last x) t f = Has y s locals owner x t f
   BlockFormed (Then x b) t f = (e : List ℕ) × (g : List ℕ) × Has y s locals owner x (y.read Nothing) e × BlockHas y s locals owner b t g × (f ≡ union e g)
   BlockFormed (Val q n typ x b) t f =
-      (k : y.Kind) × (e : List ℕ) × (g : List ℕ) × (slice_get locals n ≡ Some k) × IsValType y s locals owner typ k × Has y s locals owner x k e × BlockHas y s locals owner b t g × (f ≡ union e g)
+      (k : y.Kind) × (e : List ℕ) × (g : List ℕ) × (slice_get locals n ≡ Some k) × IsValType y s locals owner typ x k × Has y s locals owner x k e × BlockHas y s locals owner b t g × (f ≡ union e g)
 
   pub record BlockBare (b : Block) (u : y.Kind) (g : List ℕ) : Type 0 where
     pub typ : y.Kind

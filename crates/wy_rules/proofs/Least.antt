@@ -354,7 +354,7 @@ module _ (y : Reading) (w : Lawful y) where
           c.within;
     }
 
-    pub val_least : (q : Place) (n : ℕ) (typ : Option TypeRef) (x : Value) (b : Block) (k t : y.Kind) (e f : List ℕ) → slice_get locals n ≡ Some k → IsValType y s locals owner typ k → LeastAt x k e → IsLeastAt y s locals owner b t f →
+    pub val_least : (q : Place) (n : ℕ) (typ : Option TypeRef) (x : Value) (b : Block) (k t : y.Kind) (e f : List ℕ) → slice_get locals n ≡ Some k → IsValType y s locals owner typ x k → LeastAt x k e → IsLeastAt y s locals owner b t f →
         IsLeastAt y s locals owner (Val q n typ x b) t (union e f)
     val_least q n typ x b k t e f i v l m = record {
       has = record { derivation = T-Val q l.has.derivation k e m.has.derivation f; derives = (refl, i, v, l.has.derives, m.has.derives, refl) };

@@ -149,14 +149,15 @@ module _ (y : Reading) (w : Lawful y) (p : Program) (s : Scope) (least given : L
       pub kind : y.Kind
       pub effect : List ℕ
       pub there : slice_get least n ≡ Some kind
-      pub is_type : IsValType y s least owner typ kind
+      pub is_type : IsValType y s least owner typ x kind
       pub has : Has y s least owner x kind effect
       pub within : y.Includes effect e
       pub narrower : Narrower n
 
-    pub settled : (n : ℕ) (typ : Option TypeRef) (x : Value) (k : y.Kind) (e : List ℕ) → slice_get given n ≡ Some k → IsValType y s given owner typ k → ValSettles y s least owner n typ x →
+    pub settled : (n : ℕ) (typ : Option TypeRef) (x : Value) (k : y.Kind) (e : List ℕ) → slice_get given n ≡ Some k → IsValType y s given owner typ x k → ValSettles y s least owner n typ x →
         (g : List ℕ) → Has y s least owner x k g → y.Includes g e → Settled n typ x e
-    settled n None x k e i v l g h j =
+    settled n None (If q test first second) k e i v l g h j = absurd v
+    settled n None (Plain x) k e i v l g h j =
         let b = l.2.least k g h in
         record {
           kind = l.0;

@@ -119,9 +119,9 @@ module _ (p : Program) (k : ℕ) (s : Scope) (w : Lawful (scope_reading p k s)) 
     above_above a b c (inr g) (inl e) = inr (subst (λ v. IsBelow (scope_reading p k s) a v) e g)
     above_above a b c (inr g) (inr h) = inr (w.below a b c g h)
 
-    expects_val : (typ : Option TypeRef) (t : (scope_reading p k s).Kind) → IsValType (scope_reading p k s) s given owner typ t → Expects (val_spot typ) t
-    expects_val None t h = expects_nothing t
-    expects_val (Some u) t h = subst (Expects (written u)) (sym h) (expects_written u)
+    expects_val : (typ : Option TypeRef) (x : Value) (t : (scope_reading p k s).Kind) → IsValType (scope_reading p k s) s given owner typ x t → Expects (val_spot typ) t
+    expects_val None x t h = expects_nothing t
+    expects_val (Some u) x t h = subst (Expects (written u)) (sym h) (expects_written u)
 
     expects_row : (rows : Row) (r : Row) → In r (rows ∷ []) → AllExpect (written_spots (row_types (rows ∷ []))) (map (scope_reading p k s).read r.operands)
     expects_row a r (inl e) = subst (λ (v : Row). AllExpect (written_spots a.operands) (map (scope_reading p k s).read v.operands)) e (expects_all a.operands)
@@ -198,8 +198,9 @@ module _ (p : Program) (k : ℕ) (s : Scope) (w : Lawful (scope_reading p k s)) 
         Has (scope_reading p k s) s given owner (Plain x) t f → ExprReady (scope_reading p k s) w p s least given owner x → HasSome (scope_reading p k s) s least owner (Plain x)
     some_least x seen fit ok t f h ready = let n = narrow_expr (scope_reading p k s) w p s least given owner x seen fit ok ready t f h in record { typ = t; effect = n.effect; has = n.has }
 
-    val_stands : (typ : Option TypeRef) (x : Value) (t : (scope_reading p k s).Kind) (e : List ℕ) → IsValType (scope_reading p k s) s given owner typ t → Has (scope_reading p k s) s least owner x t e → ValStands (scope_reading p k s) s least owner typ x
-    val_stands None x t e v h = record { typ = t; effect = e; has = h }
+    val_stands : (typ : Option TypeRef) (x : Value) (t : (scope_reading p k s).Kind) (e : List ℕ) → IsValType (scope_reading p k s) s given owner typ x t → Has (scope_reading p k s) s least owner x t e → ValStands (scope_reading p k s) s least owner typ x
+    val_stands None (If q test first second) t e v h = absurd v
+    val_stands None (Plain x) t e v h = record { typ = t; effect = e; has = h }
     val_stands (Some u) x t e v h = record { effect = e; has = subst (λ z. Has (scope_reading p k s) s least owner x z e) v h }
 
     none_given : (x : Value) (xs : Values) (f : List ℕ) → AllHave (scope_reading p k s) s given owner (more x xs) [] f → ⊥
@@ -350,7 +351,7 @@ module _ (p : Program) (k : ℕ) (s : Scope) (w : Lawful (scope_reading p k s)) 
           let b = block_bare (scope_reading p k s) w s given owner (Val q n typ x rest) t f h in
           let c = b.formed in
           elim (either_fails (value_nodes s owner (val_spot typ) x) _ fault g) [
-            | inl e ↦ value_stands x (val_spot typ) seen fit.1 ok c.0 c.1 (expects_val typ c.0 c.4) c.5 fault e
+            | inl e ↦ value_stands x (val_spot typ) seen fit.1 ok c.0 c.1 (expects_val typ x c.0 c.4) c.5 fault e
             | inr e ↦ (
                 let l = narrow_value (scope_reading p k s) w p s least given owner x seen fit.1 ok (value_ready x (val_spot typ) e.0) c.0 c.1 c.5 in
                 elim e.1 [

@@ -125,11 +125,13 @@ module _ (y : Reading) (s : Scope) (locals : List y.Kind) (owner : Option ℕ) w
   ValueStands (Some t) (If place test first second) = HasAt y s locals owner (If place test first second) t
 
   abbrev pub ValStands : Option TypeRef → Value → Type 0
-  ValStands None x = HasSome y s locals owner x
+  ValStands None (Plain x) = HasSome y s locals owner (Plain x)
+  ValStands None (If place test first second) = ⊥
   ValStands (Some t) x = HasAt y s locals owner x (y.read t)
 
   abbrev pub ValFails : Option TypeRef → Value → ℕ → Type 0
-  ValFails None x k = ⊥
+  ValFails None (Plain x) k = ⊥
+  ValFails None (If place test first second) k = k ≡ 1
   ValFails (Some t) x k = FirstFalse 1 (HasAt y s locals owner x (y.read t)) ⊥ k
 
   -- a `val` that stands has its written type, or else the least type of its initialiser

@@ -58,10 +58,11 @@ module _ (y : Reading) (s : Scope) (locals : List y.Kind) (owner : Option ℕ) w
   binding_type (to.Field i) = option_map (λ (f : Field). y.read f.typ) (field_at s owner i)
   binding_type (to.Own k) = option_map (λ (n : OwnName). y.read n.typ) (slice_get s.names k)
 
-  -- a `val` has its written type, where it has one
-  abbrev pub IsValType : Option TypeRef → y.Kind → Type 0
-  IsValType None k = Unit {0}
-  IsValType (Some u) k = k ≡ y.read u
+  -- a `val` has its written type, or else that of its initialiser, which is then no `if`
+  abbrev pub IsValType : Option TypeRef → Value → y.Kind → Type 0
+  IsValType None (Plain x) k = Unit {0}
+  IsValType None (If place test first second) k = ⊥
+  IsValType (Some u) x k = k ≡ y.read u
 
   ------------------------------------------------------------
   -- The rules
@@ -96,7 +97,7 @@ module _ (y : Reading) (s : Scope) (locals : List y.Kind) (owner : Option ℕ) w
     DerivesBlock (Result d) (Last x) t f = Derives d x t f
     DerivesBlock (T-Seq place d e ds g) (Then x b) t f = (place ≡ mark x) × Derives d x (y.read Nothing) e × DerivesBlock ds b t g × (f ≡ union e g)
     DerivesBlock (T-Val place d k e ds g) (Val q n typ x b) t f =
-        (place ≡ q) × (slice_get locals n ≡ Some k) × IsValType typ k × Derives d x k e × DerivesBlock ds b t g × (f ≡ union e g)
+        (place ≡ q) × (slice_get locals n ≡ Some k) × IsValType typ x k × Derives d x k e × DerivesBlock ds b t g × (f ≡ union e g)
     DerivesBlock (Block-Sub place ds k e) b t f = (place ≡ block_mark b) × DerivesBlock ds b k e × IsBelow y k t × y.Includes e f
     DerivesBlock ds b t f = ⊥
 

@@ -130,6 +130,10 @@ BodyFits p s k b =
     (b.owner < length s.literals) ×
     BlockFits p s (Some b.owner) (literal_captures (slice_get s.literals b.owner) ++ body_parameters k b) b.block
 
+-- the scope's body of a number has a parameter of a number
+abbrev pub HasParameter : Scope → ℕ → ℕ → Type 0
+HasParameter s k i = (b : Body) × (slice_get s.bodies k ≡ Some b) × (i < length b.signature.params)
+
 -- what a scope does at its start sees no variable and no object
 abbrev pub StartFits : Program → Scope → Start → Type 0
 StartFits p s (Init values) = (value_count values ≡ length (literal_fields (slice_get s.literals 0))) × ValuesFit p s None [] values
@@ -271,6 +275,7 @@ pub record ScopeFits (p : Program) (s : Scope) : Type 0 where
   pub own_literal : 0 < length s.literals
   pub vals : Apart (scope_vals s)
   pub captured : CapturesBefore s (start_vals s.start) s.bodies
+  pub captured_parameters : (l : Literal) → In l s.literals → (k i : ℕ) → In (Param k i) l.captures → HasParameter s k i
   -- names that differ
   pub own_names : Apart (map (λ (n : OwnName). n.name) s.names)
   pub field_names : (l : Literal) → In l s.literals → Apart (map (λ (f : Field). f.name) l.fields)
