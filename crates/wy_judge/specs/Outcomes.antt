@@ -1,0 +1,226 @@
+-- What judging a form comes to, by what judging its parts came to: the first failing node in the parts, in the order in which
+-- they are evaluated, and else the first premise of the form's own rule that is false (docs/LANGUAGE.md, "First failing node").
+use Rattle.std.specs.Prelude.{ℕ, ◌+◌, List, [], ◌∷◌, Option, Some, None, Bool as Truth, true, false}
+use Rattle.wy_text.specs.declared.fault.Place.{Place}
+use Rattle.wy_text.specs.declared.fault.Fault.{Fault}
+use Rattle.wy_text.specs.declared.fault.RuleName.{RuleName}
+use Rattle.wy_text.specs.declared.fault.RuleName.TheVariants.{TCall, TNew, TIf, TSet, TOp, TAsc}
+use Rattle.wy_effects.specs.EffSet.{union}
+use Rattle.wy_types.specs.declared.types.TypeRef.{TypeRef}
+use Rattle.wy_types.specs.declared.types.TypeRef.TheVariants.{Int, Bool, Text, Unit as Nothing, Named, At, Own}
+use Rattle.wy_types.specs.declared.code.UnaryOperator.{UnaryOperator}
+use Rattle.wy_types.specs.declared.code.UnaryOperator.TheVariants.{Negate, Not}
+use Rattle.wy_types.specs.declared.code.BinaryOperator.{BinaryOperator}
+use Rattle.wy_types.specs.declared.code.BinaryOperator.TheVariants.{Add, Subtract, Multiply, Divide, Remainder, Join, Less, LessOrEqual, Greater, GreaterOrEqual, Equal, NotEqual, And, Or}
+use Rattle.wy_types.specs.declared.code.TextOperator.{TextOperator}
+use Rattle.wy_types.specs.declared.code.TextOperator.TheVariants.{Size, Part, Code, Byte, Show}
+use Rattle.wy_judge.specs.declared.outcomes.Inference.{Inference}
+use Rattle.wy_judge.specs.declared.outcomes.Inference.TheVariants as inferred
+use Rattle.wy_judge.specs.declared.outcomes.Fit.{Fit}
+use Rattle.wy_judge.specs.declared.outcomes.Fit.TheVariants as fit
+use Rattle.wy_judge.specs.declared.outcomes.Fits.{Fits}
+use Rattle.wy_judge.specs.declared.outcomes.Fits.TheVariants as fits
+
+-- a premise of a rule is false at a place; no atom is missing
+abbrev pub fault_at : Place → RuleName → ℕ → Fault
+fault_at place rule premise = record { place = place; rule = rule; premise = premise; atom = None }
+
+------------------------------------------------------------
+-- Operators
+
+abbrev pub if_int : TypeRef → TypeRef → Option TypeRef
+if_int Int result = Some result
+if_int Bool result = None
+if_int Text result = None
+if_int Nothing result = None
+if_int (Named d members) result = None
+if_int (At d bound) result = None
+if_int (Own l) result = None
+
+abbrev pub if_bool : TypeRef → TypeRef → Option TypeRef
+if_bool Int result = None
+if_bool Bool result = Some result
+if_bool Text result = None
+if_bool Nothing result = None
+if_bool (Named d members) result = None
+if_bool (At d bound) result = None
+if_bool (Own l) result = None
+
+abbrev pub if_text : TypeRef → TypeRef → Option TypeRef
+if_text Int result = None
+if_text Bool result = None
+if_text Text result = Some result
+if_text Nothing result = None
+if_text (Named d members) result = None
+if_text (At d bound) result = None
+if_text (Own l) result = None
+
+-- equality is asked of two numbers, two truth values or two texts
+abbrev pub if_equated : TypeRef → Option TypeRef
+if_equated Int = Some Bool
+if_equated Bool = Some Bool
+if_equated Text = Some Bool
+if_equated Nothing = None
+if_equated (Named d members) = None
+if_equated (At d bound) = None
+if_equated (Own l) = None
+
+-- the result's type, where the operator takes an operand of this type
+abbrev pub unary_result : UnaryOperator → TypeRef → Option TypeRef
+unary_result Negate t = if_int t Int
+unary_result Not t = if_bool t Bool
+
+-- .. where it takes a first operand of this type; the second one has to have the same type
+abbrev pub binary_result : BinaryOperator → TypeRef → Option TypeRef
+binary_result Add t = if_int t Int
+binary_result Subtract t = if_int t Int
+binary_result Multiply t = if_int t Int
+binary_result Divide t = if_int t Int
+binary_result Remainder t = if_int t Int
+binary_result Join t = if_text t Text
+binary_result Less t = if_int t Bool
+binary_result LessOrEqual t = if_int t Bool
+binary_result Greater t = if_int t Bool
+binary_result GreaterOrEqual t = if_int t Bool
+binary_result Equal t = if_equated t
+binary_result NotEqual t = if_equated t
+binary_result And t = if_bool t Bool
+binary_result Or t = if_bool t Bool
+
+-- the type that an operation on texts asks of its operands, and its result's
+abbrev pub text_operands : TextOperator → List TypeRef
+text_operands Size = Text ∷ []
+text_operands Part = Text ∷ Int ∷ Int ∷ []
+text_operands Code = Text ∷ Int ∷ []
+text_operands Byte = Int ∷ []
+text_operands Show = Int ∷ []
+
+abbrev pub text_result : TextOperator → TypeRef
+text_result Size = Int
+text_result Part = Text
+text_result Code = Int
+text_result Byte = Text
+text_result Show = Text
+
+abbrev pub operation_outcome : Place → Option TypeRef → List ℕ → Inference
+operation_outcome place None e = inferred.Fails (fault_at place TOp 1)
+operation_outcome place (Some t) e = inferred.Least t e
+
+abbrev pub unary_outcome : Place → UnaryOperator → Inference → Inference
+unary_outcome place op (inferred.Least t e) = operation_outcome place (unary_result op t) e
+unary_outcome place op (inferred.Fails fault) = inferred.Fails fault
+
+-- whether the second operand has the first one's type is the truth value
+abbrev pub second_outcome : Place → Option TypeRef → Truth → List ℕ → Inference
+second_outcome place None same e = inferred.Fails (fault_at place TOp 1)
+second_outcome place (Some t) true e = inferred.Least t e
+second_outcome place (Some t) false e = inferred.Fails (fault_at place TOp 2)
+
+abbrev pub both_outcome : Place → BinaryOperator → Truth → Inference → Inference → Inference
+both_outcome place op same (inferred.Fails fault) z = inferred.Fails fault
+both_outcome place op same (inferred.Least t e) (inferred.Fails fault) = inferred.Fails fault
+both_outcome place op same (inferred.Least t e) (inferred.Least u f) = second_outcome place (binary_result op t) same (union e f)
+
+abbrev pub text_outcome : Place → TextOperator → Fits → Inference
+text_outcome place op (fits.Have e) = inferred.Least (text_result op) e
+text_outcome place op (fits.Misfit n) = inferred.Fails (fault_at place TOp (n + 1))
+text_outcome place op (fits.Fails fault) = inferred.Fails fault
+
+------------------------------------------------------------
+-- Calls, objects, ascriptions and assignments
+
+-- the premise of a call that is false before its arguments count, and else the method
+abbrev pub call_outcome : Place → TypeRef → List ℕ → List ℕ → Fits → Inference
+call_outcome place result effect e (fits.Have h) = inferred.Least result (union e (union h effect))
+call_outcome place result effect e (fits.Misfit n) = inferred.Fails (fault_at place TCall 4)
+call_outcome place result effect e (fits.Fails fault) = inferred.Fails fault
+
+-- premise 1, 2 or 3 is false: the arguments are judged where no type is expected
+abbrev pub uncalled_outcome : Place → ℕ → Option Fault → Inference
+uncalled_outcome place premise None = inferred.Fails (fault_at place TCall premise)
+uncalled_outcome place premise (Some fault) = inferred.Fails fault
+
+abbrev pub new_outcome : Place → ℕ → Fits → Inference
+new_outcome place literal (fits.Have e) = inferred.Least (Own literal) e
+new_outcome place literal (fits.Misfit n) = inferred.Fails (fault_at place TNew 1)
+new_outcome place literal (fits.Fails fault) = inferred.Fails fault
+
+abbrev pub ascribed_outcome : Place → TypeRef → Fit → Inference
+ascribed_outcome place t (fit.Has e) = inferred.Least t e
+ascribed_outcome place t fit.Misfit = inferred.Fails (fault_at place TAsc 1)
+ascribed_outcome place t (fit.Fails fault) = inferred.Fails fault
+
+abbrev pub assigned_outcome : Place → Fit → Inference
+assigned_outcome place (fit.Has e) = inferred.Least Nothing e
+assigned_outcome place fit.Misfit = inferred.Fails (fault_at place TSet 2)
+assigned_outcome place (fit.Fails fault) = inferred.Fails fault
+
+-- the name is no `var` field of the current object
+abbrev pub unassigned_outcome : Place → Option Fault → Inference
+unassigned_outcome place None = inferred.Fails (fault_at place TSet 1)
+unassigned_outcome place (Some fault) = inferred.Fails fault
+
+------------------------------------------------------------
+-- Values at a type, and where none is expected
+
+-- whether the least type is a subtype of the expected one is the truth value
+abbrev pub fitted_outcome : Truth → Inference → Fit
+fitted_outcome true (inferred.Least t e) = fit.Has e
+fitted_outcome false (inferred.Least t e) = fit.Misfit
+fitted_outcome below (inferred.Fails fault) = fit.Fails fault
+
+abbrev pub probed_outcome : Inference → Option Fault
+probed_outcome (inferred.Least t e) = None
+probed_outcome (inferred.Fails fault) = Some fault
+
+-- the condition is judged at Bool, both branches at the type that the `if` is
+abbrev pub chosen_second : Place → List ℕ → Fit → Fit
+chosen_second place e (fit.Has f) = fit.Has (union e f)
+chosen_second place e fit.Misfit = fit.Fails (fault_at place TIf 3)
+chosen_second place e (fit.Fails fault) = fit.Fails fault
+
+abbrev pub unless_failing : Fit → Fit → Fit
+unless_failing (fit.Has f) result = result
+unless_failing fit.Misfit result = result
+unless_failing (fit.Fails fault) result = fit.Fails fault
+
+abbrev pub chosen_fit : Place → Fit → Fit → Fit → Fit
+chosen_fit place (fit.Fails fault) y z = fit.Fails fault
+chosen_fit place fit.Misfit (fit.Fails fault) z = fit.Fails fault
+chosen_fit place fit.Misfit (fit.Has f) z = unless_failing z (fit.Fails (fault_at place TIf 1))
+chosen_fit place fit.Misfit fit.Misfit z = unless_failing z (fit.Fails (fault_at place TIf 1))
+chosen_fit place (fit.Has e) (fit.Fails fault) z = fit.Fails fault
+chosen_fit place (fit.Has e) fit.Misfit z = unless_failing z (fit.Fails (fault_at place TIf 2))
+chosen_fit place (fit.Has e) (fit.Has f) z = chosen_second place (union e f) z
+
+-- an `if` where no type is expected fails by its parts alone, and its condition by its own nodes
+abbrev pub fault_or : Option Fault → Option Fault → Option Fault
+fault_or (Some fault) other = Some fault
+fault_or None other = other
+
+abbrev pub fit_fault : Fit → Option Fault
+fit_fault (fit.Has f) = None
+fit_fault fit.Misfit = None
+fit_fault (fit.Fails fault) = Some fault
+
+abbrev pub chosen_fault : Fit → Option Fault → Option Fault → Option Fault
+chosen_fault test first second = fault_or (fit_fault test) (fault_or first second)
+
+------------------------------------------------------------
+-- Several values
+
+-- the first value, at its type, and the others; a misfit counts only where no node after it fails
+abbrev pub others_fit : List ℕ → Fits → Fits
+others_fit e (fits.Have f) = fits.Have (union e f)
+others_fit e (fits.Misfit n) = fits.Misfit (n + 1)
+others_fit e (fits.Fails fault) = fits.Fails fault
+
+abbrev pub unless_fail : Fits → Fits → Fits
+unless_fail (fits.Have f) result = result
+unless_fail (fits.Misfit n) result = result
+unless_fail (fits.Fails fault) result = fits.Fails fault
+
+abbrev pub more_fits : Fit → Fits → Fits
+more_fits (fit.Has e) others = others_fit e others
+more_fits fit.Misfit others = unless_fail others (fits.Misfit 0)
+more_fits (fit.Fails fault) others = fits.Fails fault

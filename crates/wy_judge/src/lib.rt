@@ -1,0 +1,5 @@
+//! Judging a scope: whether each node of a module or of the program's body has a derivation, and else the first that
+//! has none (docs/LANGUAGE.md, "First failing node").
+#![tactic(auto)]
+
+pub mod outcomes;
