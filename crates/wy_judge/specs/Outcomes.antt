@@ -1,6 +1,6 @@
 -- What judging a form comes to, by what judging its parts came to: the first failing node in the parts, in the order in which
 -- they are evaluated, and else the first premise of the form's own rule that is false (docs/LANGUAGE.md, "First failing node").
-use Rattle.std.specs.Prelude.{ℕ, ◌+◌, List, [], ◌∷◌, Option, Some, None, Bool as Truth, true, false}
+use Rattle.std.specs.Prelude.{◌≡◌, ℕ, ◌+◌, ◌<◌, ◌↔◌, List, [], ◌∷◌, Option, Some, None, Bool as Truth, true, false}
 use Rattle.wy_text.specs.declared.fault.Place.{Place}
 use Rattle.wy_text.specs.declared.fault.Fault.{Fault}
 use Rattle.wy_text.specs.declared.fault.RuleName.{RuleName}
@@ -121,6 +121,25 @@ both_outcome place op same (inferred.Fails fault) z = inferred.Fails fault
 both_outcome place op same (inferred.Least t e) (inferred.Fails fault) = inferred.Fails fault
 both_outcome place op same (inferred.Least t e) (inferred.Least u f) = second_outcome place (binary_result op t) same (union e f)
 
+-- whether two operands have the same type
+abbrev pub IsSame : Inference → Inference → Truth → Type 0
+IsSame (inferred.Least t e) (inferred.Least u f) same = (same ≡ true) ↔ (t ≡ u)
+IsSame (inferred.Least t e) (inferred.Fails fault) same = Unit {0}
+IsSame (inferred.Fails fault) z same = Unit {0}
+
+-- what an operation on two operands comes to
+abbrev pub IsBoth : Place → BinaryOperator → Inference → Inference → Inference → Type 0
+IsBoth place op x z u = (same : Truth) × IsSame x z same × (u ≡ both_outcome place op same x z)
+
+abbrev pub IsSecond : Place → BinaryOperator → TypeRef → List ℕ → Inference → Inference → Type 0
+IsSecond place op t e z u = IsBoth place op (inferred.Least t e) z u
+
+-- the numbers of premises are small
+abbrev pub FewOperands : Fits → Type 0
+FewOperands (fits.Have e) = Unit {0}
+FewOperands (fits.Misfit n) = n < 3
+FewOperands (fits.Fails fault) = Unit {0}
+
 abbrev pub text_outcome : Place → TextOperator → Fits → Inference
 text_outcome place op (fits.Have e) = inferred.Least (text_result op) e
 text_outcome place op (fits.Misfit n) = inferred.Fails (fault_at place TOp (n + 1))
@@ -173,25 +192,30 @@ abbrev pub probed_outcome : Inference → Option Fault
 probed_outcome (inferred.Least t e) = None
 probed_outcome (inferred.Fails fault) = Some fault
 
--- the condition is judged at Bool, both branches at the type that the `if` is
-abbrev pub chosen_second : Place → List ℕ → Fit → Fit
-chosen_second place e (fit.Has f) = fit.Has (union e f)
-chosen_second place e fit.Misfit = fit.Fails (fault_at place TIf 3)
-chosen_second place e (fit.Fails fault) = fit.Fails fault
-
+-- what fails in a part comes first
 abbrev pub unless_failing : Fit → Fit → Fit
-unless_failing (fit.Has f) result = result
-unless_failing fit.Misfit result = result
-unless_failing (fit.Fails fault) result = fit.Fails fault
+unless_failing (fit.Has f) otherwise = otherwise
+unless_failing fit.Misfit otherwise = otherwise
+unless_failing (fit.Fails fault) otherwise = fit.Fails fault
+
+-- the condition is judged at Bool, both branches at the type of the `if`
+abbrev pub chosen_second : Place → List ℕ → List ℕ → Fit → Fit
+chosen_second place e f (fit.Has g) = fit.Has (union e (union f g))
+chosen_second place e f fit.Misfit = fit.Fails (fault_at place TIf 3)
+chosen_second place e f (fit.Fails fault) = fit.Fails fault
+
+abbrev pub chosen_first : Place → List ℕ → Fit → Fit → Fit
+chosen_first place e (fit.Has f) second = chosen_second place e f second
+chosen_first place e fit.Misfit second = unless_failing second (fit.Fails (fault_at place TIf 2))
+chosen_first place e (fit.Fails fault) second = fit.Fails fault
+
+abbrev pub misfit_condition : Place → Fit → Fit → Fit
+misfit_condition place first second = unless_failing first (unless_failing second (fit.Fails (fault_at place TIf 1)))
 
 abbrev pub chosen_fit : Place → Fit → Fit → Fit → Fit
-chosen_fit place (fit.Fails fault) y z = fit.Fails fault
-chosen_fit place fit.Misfit (fit.Fails fault) z = fit.Fails fault
-chosen_fit place fit.Misfit (fit.Has f) z = unless_failing z (fit.Fails (fault_at place TIf 1))
-chosen_fit place fit.Misfit fit.Misfit z = unless_failing z (fit.Fails (fault_at place TIf 1))
-chosen_fit place (fit.Has e) (fit.Fails fault) z = fit.Fails fault
-chosen_fit place (fit.Has e) fit.Misfit z = unless_failing z (fit.Fails (fault_at place TIf 2))
-chosen_fit place (fit.Has e) (fit.Has f) z = chosen_second place (union e f) z
+chosen_fit place (fit.Has e) first second = chosen_first place e first second
+chosen_fit place fit.Misfit first second = misfit_condition place first second
+chosen_fit place (fit.Fails fault) first second = fit.Fails fault
 
 -- an `if` where no type is expected fails by its parts alone, and its condition by its own nodes
 abbrev pub fault_or : Option Fault → Option Fault → Option Fault

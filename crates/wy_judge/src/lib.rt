@@ -2,4 +2,5 @@
 //! has none (docs/LANGUAGE.md, "First failing node").
 #![tactic(auto)]
 
+pub mod combining;
 pub mod outcomes;
