@@ -4,3 +4,4 @@
 
 pub mod combining;
 pub mod outcomes;
+pub mod targets;

@@ -3,6 +3,7 @@ pub mod Arities
 pub mod Closing
 pub mod Composing
 pub mod Deciding
+pub mod FindingMethods
 pub mod Finite
 pub mod Gathered
 pub mod Kept

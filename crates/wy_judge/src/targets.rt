@@ -1,0 +1,268 @@
+//! What is looked up where a part of a body is judged: types of names and fields, and the methods that calls name.
+
+ghost use Rattle.std.specs.Prelude.{◌≡◌, ◌↔◌, IfOk, true, slice_get};
+ghost use Rattle.std.specs.Option.{option_copied};
+ghost use Rattle.wy_types.specs.Program.{program_of, scope_of};
+ghost use Rattle.wy_types.specs.Types.{is_plain};
+ghost use Rattle.wy_types.specs.InRange.{IsInRange};
+ghost use Rattle.wy_types.specs.Fitting.{IsTypeOf};
+ghost use Rattle.wy_rules.specs.Typing.{field_types, field_at, var_field, parameter_type, fields_of};
+ghost use Rattle.wy_rules.specs.Derivations.{mark, expr_mark};
+ghost use Rattle.wy_types.specs.View.{value_of, expr_of};
+ghost use Rattle.wy_subtype.specs.Verdict.{IsSubtypeIn, IsYes};
+ghost use Rattle.wy_judge.specs.Targets.{mode_of, known, type_of_binding, IsTargetOf, IsInRangeOf, IsFittedIn};
+
+use crate::outcomes::{Fit, Inference};
+use std::alloc::Global;
+use wy_effects::set::EffSet;
+use wy_subtype::subtype::subtype;
+use wy_subtype::verdict::{Mode, Verdict};
+use wy_text::fault::{Fault, Place};
+use wy_text::list::Items;
+use wy_text::text::{Memory, Text};
+use wy_types::code::{Binding, Expr, Value, Variable};
+use wy_types::methods::find_method;
+use wy_types::resolved::{Core, Field, Scope, ScopeKind};
+use wy_types::types::{Method, TypeList, TypeRef};
+
+/// What a receiver offers by a name.
+#[derive(Debug, Drop)]
+pub enum Target {
+    /// The first failing node in the receiver.
+    Failed(Fault),
+    /// The premise of the call that is false: no object type, no such method, another number of parameters.
+    Without(u8),
+    /// The receiver's effect, and the method.
+    Found(EffSet, Method),
+}
+
+/// How a scope is judged: a plain module without effects.
+pub fn mode_of(scope: &Scope) -> Mode
+    ensures { result ≡ mode_of (is_plain scope.now.kind) }
+{
+    match scope.kind {
+        ScopeKind::Plain => Mode::Plain,
+        ScopeKind::Pure | ScopeKind::Resource | ScopeKind::Program => Mode::Annotated,
+    }
+}
+
+// ----------------------------------------------------------------------------
+// Fields and names
+
+/// The fields of the module, by 0, or of a literal.
+pub fn fields_of(scope: &Scope, literal: u32) -> &[Field]
+    ensures { result.now ≡ fields_of (scope_of scope.now) literal }
+{
+    match scope.literals.get(literal as usize) {
+        Some(l) => l.fields.as_slice(),
+        None => &[],
+    }
+}
+
+/// The types of the fields of the module, by 0, or of a literal.
+pub fn field_types(alloc: Global, scope: &Scope, literal: u32) -> Result<TypeList, Memory>
+    ensures { IfOk result (λ ts. ts ≡ field_types (scope_of scope.now) literal) }
+{
+    let mut types = Items::new(alloc);
+    for field in fields_of(scope, literal) {
+        types.push(field.typ.copy(alloc)?)?;
+    }
+    Ok(types)
+}
+
+/// A field of the current object.
+fn field_at(scope: &Scope, owner: Option<u32>, number: u16) -> Option<&Field>
+    ensures { option_copied result ≡ field_at (scope_of scope.now) owner number }
+{
+    match owner {
+        Some(literal) => fields_of(scope, literal).get(number as usize),
+        None => None,
+    }
+}
+
+/// The `var` field of the current object that a name stands for.
+pub fn var_field(scope: &Scope, owner: Option<u32>, binding: Binding) -> Option<&Field>
+    ensures { option_copied result ≡ var_field (scope_of scope.now) owner binding }
+{
+    match binding {
+        Binding::Field(number) => match field_at(scope, owner, number) {
+            Some(field) => {
+                if field.mutable {
+                    return Some(field);
+                }
+                None
+            }
+            None => None,
+        },
+        Binding::Variable(_) | Binding::Own(_) => None,
+    }
+}
+
+/// The type of a parameter of the scope's body of a number.
+fn parameter_type(scope: &Scope, body: u32, index: u16) -> Option<&TypeRef>
+    ensures { option_copied result ≡ parameter_type (slice_get (scope_of scope.now).bodies body) index }
+{
+    match scope.bodies.get(body as usize) {
+        Some(b) => b.signature.params.get(index as usize),
+        None => None,
+    }
+}
+
+/// The type of a `val`, where it is known.
+fn local_type(table: &[Option<TypeRef>], number: u32) -> Option<&TypeRef>
+    ensures { option_copied result ≡ known (slice_get table.now number) }
+{
+    match table.get(number as usize) {
+        Some(Some(typ)) => Some(typ),
+        Some(None) | None => None,
+    }
+}
+
+/// The type of what a name stands for, over the types that are known.
+pub fn type_of_binding<'a>(
+    scope: &'a Scope,
+    table: &'a [Option<TypeRef>],
+    owner: Option<u32>,
+    binding: Binding,
+) -> Option<&'a TypeRef>
+    ensures { option_copied result ≡ type_of_binding (scope_of scope.now) table.now owner binding }
+{
+    match binding {
+        Binding::Variable(Variable::Parameter { body, index }) => {
+            parameter_type(scope, body, index)
+        }
+        Binding::Variable(Variable::Local(number)) => local_type(table, number),
+        Binding::Field(number) => match field_at(scope, owner, number) {
+            Some(field) => Some(&field.typ),
+            None => None,
+        },
+        Binding::Own(number) => match scope.names.get(number as usize) {
+            Some(name) => Some(&name.typ),
+            None => None,
+        },
+    }
+}
+
+// ----------------------------------------------------------------------------
+// Calls
+
+/// The method of a type that has the name, for so many arguments.
+fn method_for(
+    alloc: Global,
+    core: &Core,
+    number: u16,
+    typ: &TypeRef,
+    effect: EffSet,
+    name: &Text,
+    arity: usize,
+) -> Result<Target, Memory>
+    ensures { IfOk result (λ t. IsTargetOf (program_of core.now) number (Inference.Least typ.now effect) name.now arity t) }
+{
+    if !typ.is_object() {
+        return Ok(Target::Without(1));
+    }
+    match find_method(alloc, core, number, typ, name)? {
+        None => Ok(Target::Without(2)),
+        Some(method) => {
+            if method.params.len() != arity {
+                return Ok(Target::Without(3));
+            }
+            Ok(Target::Found(effect, method))
+        }
+    }
+}
+
+/// What a receiver that came to this offers by a name, for so many arguments.
+pub fn target_of(
+    alloc: Global,
+    core: &Core,
+    number: u16,
+    receiver: Inference,
+    name: &Text,
+    arity: usize,
+) -> Result<Target, Memory>
+    ensures { IfOk result (λ t. IsTargetOf (program_of core.now) number receiver name.now arity t) }
+{
+    match receiver {
+        Inference::Least(typ, effect) => method_for(alloc, core, number, &typ, effect, name, arity),
+        Inference::Fails(fault) => Ok(Target::Failed(fault)),
+    }
+}
+
+// ----------------------------------------------------------------------------
+// Types at a place
+
+fn is_yes(verdict: Verdict) -> bool
+    ensures { (result ≡ true) ↔ IsYes verdict }
+{
+    match verdict {
+        Verdict::Yes => true,
+        Verdict::No { .. } => false,
+    }
+}
+
+/// Whether a type is a subtype of another.
+fn is_below(
+    alloc: Global,
+    core: &Core,
+    number: u16,
+    mode: Mode,
+    least: &TypeRef,
+    typ: &TypeRef,
+) -> Result<bool, Memory>
+    requires core { IsInRange (program_of core.now) }
+    requires least { IsTypeOf (program_of core.now) number least.now }
+    requires expected { IsTypeOf (program_of core.now) number typ.now }
+    ensures { IfOk result (λ b. (b ≡ true) ↔ IsSubtypeIn (program_of core.now) number mode least.now typ.now) }
+{
+    let verdict = subtype(alloc, core, number, least, typ, mode)?;
+    Ok(is_yes(verdict))
+}
+
+/// An expression at a type: whether its least type is a subtype.
+pub fn fitted(
+    alloc: Global,
+    core: &Core,
+    number: u16,
+    mode: Mode,
+    expr: Inference,
+    typ: &TypeRef,
+) -> Result<Fit, Memory>
+    requires core { IsInRange (program_of core.now) }
+    requires least { IsInRangeOf (program_of core.now) number expr }
+    requires expected { IsTypeOf (program_of core.now) number typ.now }
+    ensures { IfOk result (λ u. IsFittedIn (program_of core.now) number mode expr typ.now u) }
+{
+    match expr {
+        Inference::Least(least, effect) => {
+            if is_below(alloc, core, number, mode, &least, typ)? {
+                return Ok(Fit::Has(effect));
+            }
+            Ok(Fit::Misfit)
+        }
+        Inference::Fails(fault) => Ok(Fit::Fails(fault)),
+    }
+}
+
+/// The mark of an expression.
+fn expr_mark(expr: &Expr) -> Place
+    ensures { result ≡ expr_mark (expr_of expr.now) }
+{
+    match expr {
+        Expr::Int(place, _) | Expr::Text(place, _) | Expr::Bool(place, _) => *place,
+        Expr::Unit(place) | Expr::This(place) | Expr::Name(place, _) => *place,
+        Expr::Unary(place, _, _) | Expr::Binary(place, _, _, _) => *place,
+        Expr::TextCall(place, _, _) | Expr::Call(place, _, _, _) | Expr::New(place, _, _) => *place,
+        Expr::Ascribe(place, _, _) | Expr::Assign(place, _, _) => *place,
+    }
+}
+
+/// The mark of a value.
+pub fn mark(value: &Value) -> Place
+    ensures { result ≡ mark (value_of value.now) }
+{
+    match value {
+        Value::Plain(expr) => expr_mark(expr),
+        Value::If(place, _, _, _) => *place,
+    }
+}
