@@ -1,3 +1,6 @@
 pub mod Bases
+pub mod Choosing
+pub mod Fitting
 pub mod Lists
 pub mod ReadTypes
+pub mod Unions
