@@ -1,6 +1,9 @@
 pub mod Bases
+pub mod Carrying
 pub mod Choosing
+pub mod Dropping
 pub mod Fitting
 pub mod Lists
 pub mod ReadTypes
+pub mod Several
 pub mod Unions

@@ -1,14 +1,17 @@
 -- What judging a part of a body says of its types and its nodes, over the types of the `val`s that stand before it
 -- (docs/LANGUAGE.md, "First failing node").
-use Rattle.std.specs.Prelude.{ℕ, ◌+◌, List, Option, Some, None, map, take}
+use Rattle.std.specs.Prelude.{ℕ, ◌+◌, List, Option, Some, None, map, take, drop}
 use Rattle.wy_text.specs.declared.fault.Fault.{Fault}
 use Rattle.wy_types.specs.declared.types.TypeRef.{TypeRef}
-use Rattle.wy_types.specs.Code.{Expr, Value, Plain, Values, Block}
+use Rattle.wy_types.specs.declared.code.Value as v
+use Rattle.wy_types.specs.declared.code.Stmt as st
+use Rattle.wy_types.specs.Code.{Expr, Value, Plain, Values, Block, Last}
+use Rattle.wy_types.specs.View.{values_of, stmts_block}
 use Rattle.wy_types.specs.Program.{Program, Scope}
 use Rattle.wy_rules.specs.Readings.{Reading}
 use Rattle.wy_rules.specs.Typing.{Has, HasAt, BlockHasAt, AllHaveAt}
 use Rattle.wy_rules.specs.Acceptance.{scope_reading}
-use Rattle.wy_rules.specs.Nodes.{Spot, expr_nodes, value_nodes, values_nodes, block_nodes}
+use Rattle.wy_rules.specs.Nodes.{Spot, Node, expr_nodes, value_nodes, values_nodes, block_nodes}
 use Rattle.wy_rules.specs.Failing.{IsLeast, IsLeastAt, AreLeastAt, first_values, AllPass, FirstFailing}
 use Rattle.wy_judge.specs.declared.outcomes.Inference.{Inference}
 use Rattle.wy_judge.specs.declared.outcomes.Inference.TheVariants as inferred
@@ -16,6 +19,7 @@ use Rattle.wy_judge.specs.declared.outcomes.Fit.{Fit}
 use Rattle.wy_judge.specs.declared.outcomes.Fit.TheVariants as fit
 use Rattle.wy_judge.specs.declared.outcomes.Fits.{Fits}
 use Rattle.wy_judge.specs.declared.outcomes.Fits.TheVariants as fits
+use Rattle.wy_judge.specs.Outcomes.{then_fits, followed_fit}
 
 -- the least effect of a value at a type
 pub record IsLeastOf (y : Reading) (s : Scope) (locals : List y.Kind) (owner : Option ℕ) (x : Value) (t : y.Kind) (f : List ℕ) : Type 0 where
@@ -61,3 +65,23 @@ module _ (p : Program) (k : ℕ) (s : Scope) (locals : List (scope_reading p k s
   abbrev pub AllProbed : List Spot → Values → Option Fault → Type 0
   AllProbed spots xs None = AllPass p k s locals (values_nodes s owner spots xs)
   AllProbed spots xs (Some fault) = FirstFailing p k s locals (values_nodes s owner spots xs) fault
+
+  -- what the values from a number on come to gives what all come to, by what those before it came to
+  pub record Carries (spots : List Spot) (xs : List v.Value) (ts : List TypeRef) (i : ℕ) (sofar : Fits) : Type 0 where
+    pub carries : (rest : Fits) → AllFitted (drop i spots) (values_of (drop i xs)) (drop i ts) rest → AllFitted spots (values_of xs) ts (then_fits i sofar rest)
+
+  -- .. where no types are expected, and no node before it fails
+  pub record CarriesProbed (spots : List Spot) (xs : List v.Value) (i : ℕ) : Type 0 where
+    pub carries : (rest : Option Fault) → AllProbed (drop i spots) (values_of (drop i xs)) rest → AllProbed spots (values_of xs) rest
+
+  -- the same of a block's statements: what is left of the block from a number on gives what the block comes to, by the effect of those before it
+  pub record Steps (statements : List st.Stmt) (last : Value) (i : ℕ) (effect : List ℕ) : Type 0 where
+    pub fits : (spot : Spot) (t : TypeRef) (rest : Fit) → BlockFitted spot (stmts_block (drop i statements) (Last last)) t rest →
+        BlockFitted spot (stmts_block statements (Last last)) t (followed_fit effect rest)
+    pub probes : (spot : Spot) (rest : Option Fault) → BlockProbed spot (stmts_block (drop i statements) (Last last)) rest → BlockProbed spot (stmts_block statements (Last last)) rest
+
+-- what judging some nodes comes to
+module _ (p : Program) (k : ℕ) (s : Scope) (locals : List (scope_reading p k s).Kind) where
+  abbrev pub NodesJudged : List Node → Option Fault → Type 0
+  NodesJudged ns None = AllPass p k s locals ns
+  NodesJudged ns (Some fault) = FirstFailing p k s locals ns fault
