@@ -1,4 +1,5 @@
 pub mod Bases
+pub mod Blocks
 pub mod Carrying
 pub mod Choosing
 pub mod Dropping
@@ -6,4 +7,5 @@ pub mod Fitting
 pub mod Lists
 pub mod ReadTypes
 pub mod Several
+pub mod Stepping
 pub mod Unions

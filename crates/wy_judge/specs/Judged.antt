@@ -74,11 +74,20 @@ module _ (p : Program) (k : ℕ) (s : Scope) (locals : List (scope_reading p k s
   pub record CarriesProbed (spots : List Spot) (xs : List v.Value) (i : ℕ) : Type 0 where
     pub carries : (rest : Option Fault) → AllProbed (drop i spots) (values_of (drop i xs)) rest → AllProbed spots (values_of xs) rest
 
-  -- the same of a block's statements: what is left of the block from a number on gives what the block comes to, by the effect of those before it
-  pub record Steps (statements : List st.Stmt) (last : Value) (i : ℕ) (effect : List ℕ) : Type 0 where
-    pub fits : (spot : Spot) (t : TypeRef) (rest : Fit) → BlockFitted spot (stmts_block (drop i statements) (Last last)) t rest →
-        BlockFitted spot (stmts_block statements (Last last)) t (followed_fit effect rest)
-    pub probes : (spot : Spot) (rest : Option Fault) → BlockProbed spot (stmts_block (drop i statements) (Last last)) rest → BlockProbed spot (stmts_block statements (Last last)) rest
+  -- what the rest of a block comes to gives what the block comes to, by the effect of what stands before the rest
+  pub record Follows (rest whole : Block) (effect : List ℕ) : Type 0 where
+    pub fits : (spot : Spot) (t : TypeRef) (u : Fit) → BlockFitted spot rest t u → BlockFitted spot whole t (followed_fit effect u)
+    pub probes : (spot : Spot) (fault : Option Fault) → BlockProbed spot rest fault → BlockProbed spot whole fault
+
+  -- a statement before the rest of a block: its effect, or the fault of the block
+  abbrev pub Stated : (Block → Block) → Fit → Type 0
+  Stated before (fit.Has e) = (rest : Block) → Follows rest (before rest) e
+  Stated before fit.Misfit = ⊥
+  Stated before (fit.Fails fault) = (rest : Block) (spot : Spot) → FirstFailing p k s locals (block_nodes s owner spot (before rest)) fault
+
+  -- .. all statements before a number
+  abbrev pub Steps : List st.Stmt → Value → ℕ → List ℕ → Type 0
+  Steps statements last i effect = Follows (stmts_block (drop i statements) (Last last)) (stmts_block statements (Last last)) effect
 
 -- what judging some nodes comes to
 module _ (p : Program) (k : ℕ) (s : Scope) (locals : List (scope_reading p k s).Kind) where
