@@ -1,0 +1,11 @@
+pub mod Bases
+pub mod Blocks
+pub mod Carrying
+pub mod Choosing
+pub mod Dropping
+pub mod Fitting
+pub mod Lists
+pub mod ReadTypes
+pub mod Several
+pub mod Stepping
+pub mod Unions

@@ -1,14 +1,17 @@
 -- What judging a part of a body says of its types and its nodes, over the types of the `val`s that stand before it
 -- (docs/LANGUAGE.md, "First failing node").
-use Rattle.std.specs.Prelude.{ℕ, ◌+◌, List, Option, Some, None, map, take}
+use Rattle.std.specs.Prelude.{ℕ, ◌+◌, List, Option, Some, None, map, take, drop}
 use Rattle.wy_text.specs.declared.fault.Fault.{Fault}
 use Rattle.wy_types.specs.declared.types.TypeRef.{TypeRef}
-use Rattle.wy_types.specs.Code.{Expr, Value, Plain, Values, Block}
+use Rattle.wy_types.specs.declared.code.Value as v
+use Rattle.wy_types.specs.declared.code.Stmt as st
+use Rattle.wy_types.specs.Code.{Expr, Value, Plain, Values, Block, Last}
+use Rattle.wy_types.specs.View.{values_of, stmts_block}
 use Rattle.wy_types.specs.Program.{Program, Scope}
 use Rattle.wy_rules.specs.Readings.{Reading}
 use Rattle.wy_rules.specs.Typing.{Has, HasAt, BlockHasAt, AllHaveAt}
 use Rattle.wy_rules.specs.Acceptance.{scope_reading}
-use Rattle.wy_rules.specs.Nodes.{Spot, expr_nodes, value_nodes, values_nodes, block_nodes}
+use Rattle.wy_rules.specs.Nodes.{Spot, Node, expr_nodes, value_nodes, values_nodes, block_nodes}
 use Rattle.wy_rules.specs.Failing.{IsLeast, IsLeastAt, AreLeastAt, first_values, AllPass, FirstFailing}
 use Rattle.wy_judge.specs.declared.outcomes.Inference.{Inference}
 use Rattle.wy_judge.specs.declared.outcomes.Inference.TheVariants as inferred
@@ -16,6 +19,7 @@ use Rattle.wy_judge.specs.declared.outcomes.Fit.{Fit}
 use Rattle.wy_judge.specs.declared.outcomes.Fit.TheVariants as fit
 use Rattle.wy_judge.specs.declared.outcomes.Fits.{Fits}
 use Rattle.wy_judge.specs.declared.outcomes.Fits.TheVariants as fits
+use Rattle.wy_judge.specs.Outcomes.{then_fits, followed_fit}
 
 -- the least effect of a value at a type
 pub record IsLeastOf (y : Reading) (s : Scope) (locals : List y.Kind) (owner : Option ℕ) (x : Value) (t : y.Kind) (f : List ℕ) : Type 0 where
@@ -61,3 +65,32 @@ module _ (p : Program) (k : ℕ) (s : Scope) (locals : List (scope_reading p k s
   abbrev pub AllProbed : List Spot → Values → Option Fault → Type 0
   AllProbed spots xs None = AllPass p k s locals (values_nodes s owner spots xs)
   AllProbed spots xs (Some fault) = FirstFailing p k s locals (values_nodes s owner spots xs) fault
+
+  -- what the values from a number on come to gives what all come to, by what those before it came to
+  pub record Carries (spots : List Spot) (xs : List v.Value) (ts : List TypeRef) (i : ℕ) (sofar : Fits) : Type 0 where
+    pub carries : (rest : Fits) → AllFitted (drop i spots) (values_of (drop i xs)) (drop i ts) rest → AllFitted spots (values_of xs) ts (then_fits i sofar rest)
+
+  -- .. where no types are expected, and no node before it fails
+  pub record CarriesProbed (spots : List Spot) (xs : List v.Value) (i : ℕ) : Type 0 where
+    pub carries : (rest : Option Fault) → AllProbed (drop i spots) (values_of (drop i xs)) rest → AllProbed spots (values_of xs) rest
+
+  -- what the rest of a block comes to gives what the block comes to, by the effect of what stands before the rest
+  pub record Follows (rest whole : Block) (effect : List ℕ) : Type 0 where
+    pub fits : (spot : Spot) (t : TypeRef) (u : Fit) → BlockFitted spot rest t u → BlockFitted spot whole t (followed_fit effect u)
+    pub probes : (spot : Spot) (fault : Option Fault) → BlockProbed spot rest fault → BlockProbed spot whole fault
+
+  -- a statement before the rest of a block: its effect, or the fault of the block
+  abbrev pub Stated : (Block → Block) → Fit → Type 0
+  Stated before (fit.Has e) = (rest : Block) → Follows rest (before rest) e
+  Stated before fit.Misfit = ⊥
+  Stated before (fit.Fails fault) = (rest : Block) (spot : Spot) → FirstFailing p k s locals (block_nodes s owner spot (before rest)) fault
+
+  -- .. all statements before a number
+  abbrev pub Steps : List st.Stmt → Value → ℕ → List ℕ → Type 0
+  Steps statements last i effect = Follows (stmts_block (drop i statements) (Last last)) (stmts_block statements (Last last)) effect
+
+-- what judging some nodes comes to
+module _ (p : Program) (k : ℕ) (s : Scope) (locals : List (scope_reading p k s).Kind) where
+  abbrev pub NodesJudged : List Node → Option Fault → Type 0
+  NodesJudged ns None = AllPass p k s locals ns
+  NodesJudged ns (Some fault) = FirstFailing p k s locals ns fault

@@ -1,10 +1,11 @@
 -- What judging a form comes to, by what judging its parts came to: the first failing node in the parts, in the order in which
 -- they are evaluated, and else the first premise of the form's own rule that is false (docs/LANGUAGE.md, "First failing node").
-use Rattle.std.specs.Prelude.{◌≡◌, ℕ, ◌+◌, ◌<◌, ◌↔◌, List, [], ◌∷◌, Option, Some, None, Bool as Truth, true, false}
+use Rattle.std.specs.Prelude.{◌≡◌, ℕ, ◌+◌, ◌<◌, ◌↔◌, List, [], ◌∷◌, Option, Some, None, Bool as Truth, true, false, slice_get, if◌then◌else◌}
+use Rattle.wy_text.specs.declared.fault.AtomName.{AtomName}
 use Rattle.wy_text.specs.declared.fault.Place.{Place}
 use Rattle.wy_text.specs.declared.fault.Fault.{Fault}
 use Rattle.wy_text.specs.declared.fault.RuleName.{RuleName}
-use Rattle.wy_text.specs.declared.fault.RuleName.TheVariants.{TCall, TNew, TIf, TSet, TOp, TAsc}
+use Rattle.wy_text.specs.declared.fault.RuleName.TheVariants.{TCall, TNew, TIf, TVal, TSet, TOp, TAsc, TBody, MPure, MAscribe}
 use Rattle.wy_effects.specs.EffSet.{union}
 use Rattle.wy_types.specs.declared.types.TypeRef.{TypeRef}
 use Rattle.wy_types.specs.declared.types.TypeRef.TheVariants.{Int, Bool, Text, Unit as Nothing, Named, At, Own}
@@ -14,6 +15,12 @@ use Rattle.wy_types.specs.declared.code.BinaryOperator.{BinaryOperator}
 use Rattle.wy_types.specs.declared.code.BinaryOperator.TheVariants.{Add, Subtract, Multiply, Divide, Remainder, Join, Less, LessOrEqual, Greater, GreaterOrEqual, Equal, NotEqual, And, Or}
 use Rattle.wy_types.specs.declared.code.TextOperator.{TextOperator}
 use Rattle.wy_types.specs.declared.code.TextOperator.TheVariants.{Size, Part, Code, Byte, Show}
+use Rattle.wy_types.specs.declared.resolved.Field.{Field}
+use Rattle.wy_types.specs.declared.resolved.OwnName.{OwnName}
+use Rattle.wy_types.specs.declared.resolved.Origin.{Origin}
+use Rattle.wy_types.specs.declared.resolved.Origin.TheVariants.{Parameter, Grant, Use, Instance, Import}
+use Rattle.wy_types.specs.declared.resolved.ScopeKind.{ScopeKind}
+use Rattle.wy_types.specs.declared.resolved.ScopeKind.TheVariants.{Pure, Resource, Plain, Program as Main}
 use Rattle.wy_judge.specs.declared.outcomes.Inference.{Inference}
 use Rattle.wy_judge.specs.declared.outcomes.Inference.TheVariants as inferred
 use Rattle.wy_judge.specs.declared.outcomes.Fit.{Fit}
@@ -248,3 +255,115 @@ abbrev pub more_fits : Fit → Fits → Fits
 more_fits (fit.Has e) others = others_fit e others
 more_fits fit.Misfit others = unless_fail others (fits.Misfit 0)
 more_fits (fit.Fails fault) others = fits.Fails fault
+
+------------------------------------------------------------
+-- Several values, as they are judged one after the other
+
+-- what the values before a number come to, and with the one of that number
+abbrev pub pushed_value : ℕ → List ℕ → Fit → Fits
+pushed_value i e (fit.Has f) = fits.Have (union e f)
+pushed_value i e fit.Misfit = fits.Misfit i
+pushed_value i e (fit.Fails fault) = fits.Fails fault
+
+-- .. where one before it has not its type
+abbrev pub misfit_stays : ℕ → Fit → Fits
+misfit_stays n (fit.Has f) = fits.Misfit n
+misfit_stays n fit.Misfit = fits.Misfit n
+misfit_stays n (fit.Fails fault) = fits.Fails fault
+
+abbrev pub push_fit : Fits → ℕ → Fit → Fits
+push_fit (fits.Have e) i u = pushed_value i e u
+push_fit (fits.Misfit n) i u = misfit_stays n u
+push_fit (fits.Fails fault) i u = fits.Fails fault
+
+-- the values from that number on, after those before it
+abbrev pub joined_fits : ℕ → List ℕ → Fits → Fits
+joined_fits i e (fits.Have f) = fits.Have (union e f)
+joined_fits i e (fits.Misfit n) = fits.Misfit (i + n)
+joined_fits i e (fits.Fails fault) = fits.Fails fault
+
+abbrev pub then_fits : ℕ → Fits → Fits → Fits
+then_fits i (fits.Have e) rest = joined_fits i e rest
+then_fits i (fits.Misfit n) rest = unless_fail rest (fits.Misfit n)
+then_fits i (fits.Fails fault) rest = fits.Fails fault
+
+-- no node fails so far
+abbrev pub NoneFails : Fits → Type 0
+NoneFails (fits.Have e) = Unit {0}
+NoneFails (fits.Misfit n) = Unit {0}
+NoneFails (fits.Fails fault) = ⊥
+
+------------------------------------------------------------
+-- Blocks
+
+-- a statement's effect and what the rest of the block comes to
+abbrev pub followed_fit : List ℕ → Fit → Fit
+followed_fit e (fit.Has f) = fit.Has (union e f)
+followed_fit e fit.Misfit = fit.Misfit
+followed_fit e (fit.Fails fault) = fit.Fails fault
+
+-- what a statement comes to that has to have a type of its own: its misfit is premise 1 of its rule
+abbrev pub stated_fit : Place → RuleName → Fit → Fit
+stated_fit place rule (fit.Has e) = fit.Has e
+stated_fit place rule fit.Misfit = fit.Fails (fault_at place rule 1)
+stated_fit place rule (fit.Fails fault) = fit.Fails fault
+
+-- what a `val` without a type comes to whose initialiser is an `if`
+abbrev pub untyped_fault : Place → Option Fault → Fault
+untyped_fault place None = fault_at place TVal 1
+untyped_fault place (Some fault) = fault
+
+------------------------------------------------------------
+-- Bodies and scopes
+
+-- an atom of the effect that the declared one lacks, with its name
+abbrev pub lacking : Place → Option AtomName → Fault
+lacking place atom = record { place = place; rule = TBody; premise = 2; atom = atom }
+
+-- .. where there is one
+abbrev pub lack_fault : Place → List AtomName → Option ℕ → Option Fault
+lack_fault place atoms None = None
+lack_fault place atoms (Some a) = Some (lacking place (slice_get atoms a))
+
+-- what a body comes to, by what its block comes to at the result's type
+abbrev pub body_fault : Place → List AtomName → Option ℕ → Fit → Option Fault
+body_fault place atoms lack (fit.Has f) = lack_fault place atoms lack
+body_fault place atoms lack fit.Misfit = Some (fault_at place TBody 1)
+body_fault place atoms lack (fit.Fails fault) = Some fault
+
+-- .. and the initialisers of a module's fields
+abbrev pub init_fault : Place → List AtomName → Option ℕ → Fits → Option Fault
+init_fault place atoms lack (fits.Have f) = lack_fault place atoms lack
+init_fault place atoms lack (fits.Misfit n) = Some (fault_at place TBody 1)
+init_fault place atoms lack (fits.Fails fault) = Some fault
+
+-- the first `var` field of a pure module, and its first line
+abbrev pub var_fault : List Field → Option Fault
+var_fault [] = None
+var_fault (f ∷ fs) = if f.mutable then Some (fault_at f.place MPure 1) else var_fault fs
+
+abbrev pub is_line : Origin → Truth
+is_line (Parameter bare) = false
+is_line Grant = false
+is_line (Use m) = false
+is_line (Instance m arguments) = true
+is_line (Import m arguments bound) = true
+
+abbrev pub line_fault : List OwnName → Option Fault
+line_fault [] = None
+line_fault (n ∷ ns) = if is_line n.origin then Some (fault_at n.place MPure 2) else line_fault ns
+
+abbrev pub pure_fault : ScopeKind → List Field → List OwnName → Option Fault
+pure_fault Pure fields names = fault_or (var_fault fields) (line_fault names)
+pure_fault Resource fields names = None
+pure_fault Plain fields names = None
+pure_fault Main fields names = None
+
+-- whether the module's own type is a subtype of the one that it is sealed at is the truth value
+abbrev pub seal_fault : Place → Truth → Option Fault
+seal_fault place true = None
+seal_fault place false = Some (fault_at place MAscribe 1)
+
+abbrev pub ascribed_fault : Place → Option ℕ → Truth → Option Fault
+ascribed_fault place None below = None
+ascribed_fault place (Some d) below = seal_fault place below
