@@ -1,3 +1,7 @@
 pub mod Bases
+pub mod Ending
 pub mod Lists
 pub mod ReadTypes
+pub mod Refitting
+pub mod Simple
+pub mod Tables
