@@ -1,8 +1,12 @@
 pub mod Bases
+pub mod Calling
 pub mod Ending
 pub mod Lists
+pub mod Making
 pub mod Operating
 pub mod ReadTypes
 pub mod Refitting
+pub mod Several
 pub mod Simple
 pub mod Tables
+pub mod Texts

@@ -119,7 +119,7 @@ module _ (p : Program) (k : ℕ) (s : Scope) (w : Lawful (scope_reading p k s)) 
       let same : c ≡ m.typ = ap (λ (v : Row). v.result) m.is in
       subst (λ v. IsObject v → ⊥) (sym same) m.base_result
 
-  pub result_below : (others : TypeRef → List TypeRef) (rows : List Row) (result : TypeRef → Option TypeRef) (table : IsTable others rows result) (t c : TypeRef) → result t ≡ Some c →
+  result_below : (others : TypeRef → List TypeRef) (rows : List Row) (result : TypeRef → Option TypeRef) (table : IsTable others rows result) (t c : TypeRef) → result t ≡ Some c →
       IsBelow (scope_reading p k s) ((scope_reading p k s).read c) ((scope_reading p k s).read c)
   result_below others rows result table t c g = base_below p k (is_plain s.kind) c (base_of others rows result table t c g)
 
