@@ -1,4 +1,5 @@
 pub mod Judged
+pub mod Judging
 pub mod Outcomes
 pub mod Tables
 pub mod Targets

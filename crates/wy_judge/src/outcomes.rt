@@ -28,3 +28,10 @@ pub enum Fits {
     Misfit(usize),
     Fails(Fault),
 }
+
+/// A statement before the rest of a block, or several: their effect, or the first failing node.
+#[derive(Debug, Drop)]
+pub enum Step {
+    Done(EffSet),
+    Fails(Fault),
+}
