@@ -19,6 +19,7 @@ pub mod leading;
 pub mod limits;
 pub mod lines;
 mod literals;
+mod marked;
 pub mod meanings;
 pub mod members;
 pub mod module_heads;
