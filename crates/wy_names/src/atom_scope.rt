@@ -11,6 +11,7 @@ ghost use Rattle.wy_names.specs.Found.{IsFound};
 
 use crate::atoms::open;
 use crate::heads::Heads;
+use crate::items::item;
 use crate::meanings::Meanings;
 use crate::scoping::{Meaning, Owner};
 use crate::tables::Table;
@@ -50,12 +51,6 @@ impl<'a> Model for Owners<'a> {
     ghost invariant = { λ o.
         (o.names ≡ owner_names (map (λ (p : Opened). p.owner) o.list.items)) ×
         ((p : Opened) → In p o.list.items → owner_sets o.atoms p.owner.name (opened_names o.heads.now p.owner.opening) ≡ p.sets) };
-}
-
-fn item(list: &[Opened], number: usize) -> Option<&Opened>
-    ensures { option_copied result ≡ slice_get list.now number }
-{
-    list.get(number)
 }
 
 /// Adds an owner and its name.

@@ -14,6 +14,7 @@ pub mod definitions;
 mod expressions;
 pub mod gathering;
 pub mod heads;
+mod items;
 pub mod laws;
 pub mod leading;
 pub mod limits;

@@ -21,7 +21,8 @@ use Rattle.wy_names.specs.Bodies.{stmts_block, part_values, rhs_value, tail_bloc
 use Rattle.wy_names.specs.BodyRefusals.{field_names, typed_refusals}
 use Rattle.wy_names.specs.FoundBodies.{Found, found_of, noting, after_rhs, after_stmt, after_stmts, after_part, after_parts, after_tail, ended, named, alone, stmt_form, with_stmt}
 use Rattle.wy_names.proofs.Turns.{next_of}
-use Rattle.wy_names.proofs.TreeLayers.{rhs_tree-Value, rhs_tree-Branch, stmt_tree-Val, stmt_tree-Assign, stmt_tree-Run, part_tree-Field, part_tree-Method}
+use Rattle.wy_syntax.proofs.Layers.{rhs_tree-Branch}
+use Rattle.wy_names.proofs.TreeLayers.{rhs_tree-Value, stmt_tree-Val, stmt_tree-Assign, stmt_tree-Run, part_tree-Field, part_tree-Method}
 use Rattle.wy_names.proofs.ValueRows.{values_then, values_turn, values_then-none, if_of}
 use Rattle.wy_names.proofs.Walks.{made, value_next, branch_next, val_next, assign_next, field_next, parts_turn, parts_end, method_turn, literal_turn, bodies_are, with_params_is, variables_are, inside_is}
 use Rattle.wy_names.proofs.Blocks.{joined, joined_none, longer_none, longer_back, longer_start, found_end, block_longer, block_found, block_value, start_kept}
