@@ -10,11 +10,11 @@ use Rattle.wy_effects.proofs.Lists.{In-left, In-right, In-cases}
 use Rattle.wy_names.specs.declared.refusal.Cause.TheVariants.{Cycle}
 use Rattle.wy_names.specs.declared.refusal.Refusal.{Refusal}
 use Rattle.wy_names.specs.Least.{refusal_at}
-use Rattle.wy_names.specs.Declarations.{ModuleTree, module_number, module_names, texts, first_from}
-use Rattle.wy_names.specs.Cycles.{named_modules, Names, LeadsBy, IsCycle}
+use Rattle.wy_names.specs.Declarations.{ModuleTree, module_number, module_names, texts}
+use Rattle.wy_names.specs.Cycles.{named_modules, LeadsBy, IsCycle}
 use Rattle.wy_names.specs.Leading.{numbers_of, edges_of, Reached, LeadsInside}
 use Rattle.wy_names.specs.CycleRefusals.{AreReached, word_refusals, words_refusals, cycle_refusals}
-use Rattle.wy_names.proofs.Cycling.{number_leads, path_goes, goes_path}
+use Rattle.wy_names.proofs.Cycling.{path_goes, goes_path}
 use Rattle.wy_names.proofs.Firsts.{number_below}
 
 module_below : (modules : List ModuleTree) (x : List ℕ) (j : ℕ) → module_number modules x ≡ Some j → j < length modules

@@ -1,12 +1,12 @@
 -- Leading by words is leading by numbers.
-use Rattle.std.proofs.Common.{◌≡◌, ◌<◌, ℕ, zero, suc, ◌+◌, List, [], ◌∷◌, ◌++◌, length, map, take, get_or, Bor, Option, Some, None, refl, sym, ap, ◌∙◌, subst, inl, inr, ◌⊎◌, slice_get, append_assoc}
-use Rattle.std.specs.Prelude.{option_to_list, slice_index_or, ◌↔◌}
+use Rattle.std.proofs.Common.{◌≡◌, ◌<◌, ℕ, zero, suc, ◌+◌, List, [], ◌∷◌, ◌++◌, length, map, take, get_or, Bor, Option, Some, None, refl, sym, ap, ◌∙◌, subst, inl, inr, slice_get, append_assoc}
+use Rattle.std.specs.Prelude.{option_to_list, slice_index_or}
 use Rattle.std.proofs.lemmas.List.{append-nil, map-append}
 use Rattle.wy_syntax.specs.declared.types.Name.{Name}
 use Rattle.wy_effects.specs.Members.{In}
 use Rattle.wy_effects.proofs.Lists.{In-left, In-right, In-cases}
 use Rattle.wy_names.specs.Declarations.{ModuleTree, module_number}
-use Rattle.wy_names.specs.Cycles.{named_modules, Names, LeadsTo, LeadsBy}
+use Rattle.wy_names.specs.Cycles.{named_modules, LeadsTo, LeadsBy}
 use Rattle.wy_names.specs.Leading.{numbers_of, edges_of, next_from, Goes}
 use Rattle.wy_names.specs.Lent.{lent_name}
 use Rattle.wy_names.proofs.Turns.{taken}

@@ -7,7 +7,7 @@ use Rattle.wy_names.specs.declared.refusal.Refusal.{Refusal}
 use Rattle.wy_names.specs.Least.{refusal_at, noted}
 use Rattle.wy_names.specs.Declarations.{ModuleTree, module_number}
 use Rattle.wy_names.specs.Cycles.{named_modules, IsCycle}
-use Rattle.wy_names.specs.Leading.{Reached, edges_of}
+use Rattle.wy_names.specs.Leading.{Reached}
 
 -- for each module the marks of those that are reached from it
 abbrev pub AreReached : List (List ℕ) → List (List Bool) → Type 0

@@ -1,5 +1,5 @@
-use Rattle.std.proofs.Common.{◌≡◌, List, ap, subst, ◌∙◌}
-use Rattle.std.specs.Prelude.{ℕ, OnOk}
+use Rattle.std.proofs.Common.{◌≡◌, ap, subst, ◌∙◌}
+use Rattle.std.specs.Prelude.{OnOk}
 use Rattle.wy_text.specs.declared.fault.AtomName.{AtomName}
 use Rattle.wy_names.specs.Atoms.{atom_of, with_atom}
 use Rattle.wy_names.proofs.AtomsPut.{put_on}

@@ -1,7 +1,6 @@
 use Rattle.std.proofs.Common.{◌≡◌, ◌<◌, ◌+◌, length, drop, rules, sym, ap, ◌∙◌}
 use Rattle.std.proofs.lemmas.List.{drop_all}
 use Rattle.wy_types.specs.Code as plain
-use Rattle.wy_types.specs.View.{expr_of, value_of, block_of}
 use Rattle.wy_syntax.specs.Views.{expr_tree, expr_trees}
 use Rattle.wy_names.specs.Least.{noted}
 use Rattle.wy_names.specs.Lending.{lent_within}

@@ -1,5 +1,4 @@
 use Rattle.std.proofs.Common.{◌<◌, ◌++◌, ◌∷◌, [], List, ℕ, length, map, rules, subst, sym, take}
-use Rattle.wy_syntax.specs.declared.types.Name.{Name}
 use Rattle.wy_names.specs.Declarations.{ModuleTree}
 use Rattle.wy_names.specs.Cycles.{named_modules}
 use Rattle.wy_names.specs.Leading.{numbers_of, Adds, EachOnce}

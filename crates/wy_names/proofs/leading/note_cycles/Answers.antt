@@ -1,4 +1,4 @@
-use Rattle.std.proofs.Common.{◌≡◌, ◌+◌, ℕ, List, sym, ap, ◌∙◌, subst, map, rules, arith, slice_get}
+use Rattle.std.proofs.Common.{◌≡◌, ◌+◌, ℕ, ap, map, rules, arith, slice_get}
 use Rattle.wy_names.specs.Leading.{EachOnce, edges_of}
 use Rattle.wy_names.specs.CycleRefusals.{cycle_refusals}
 use Rattle.wy_names.specs.Lent.{module_tree}

@@ -1,4 +1,4 @@
-use Rattle.std.proofs.Common.{◌≡◌, ◌<◌, ◌≤◌, [], List, ℕ, Bor, length, map, rules, subst, sym, take}
+use Rattle.std.proofs.Common.{◌<◌, ◌≤◌, [], List, ℕ, Bor, length, map, rules, subst, sym, take}
 use Rattle.std.specs.Prelude.{option_to_list}
 use Rattle.std.proofs.lemmas.List.{take_all}
 use Rattle.wy_syntax.specs.declared.types.Name.{Name}

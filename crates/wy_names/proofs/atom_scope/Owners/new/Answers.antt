@@ -1,4 +1,4 @@
-use Rattle.std.proofs.Common.{◌≡◌, [], ◌∷◌, ◌++◌, ◌+◌, ◌<◌, ◌≤◌, List, rules, drop, length, subst, ap, ◌∙◌, sym}
+use Rattle.std.proofs.Common.{[], ◌+◌, ◌<◌, List, rules, drop, length, subst, ap, ◌∙◌, sym}
 use Rattle.std.proofs.lemmas.List.{append-nil}
 use Rattle.wy_names.specs.declared.scoping.Owner.{Owner}
 use Rattle.wy_names.specs.Atoms.{owner_sets, opened_names}

@@ -1,4 +1,4 @@
-use Rattle.std.proofs.Common.{◌≡◌, ◌<◌, ℕ, [], ◌∷◌, true, false, get_or, length, sym, ap, ◌∙◌, subst, rules}
+use Rattle.std.proofs.Common.{◌≡◌, ◌<◌, [], ◌∷◌, true, false, get_or, length, sym, ap, ◌∙◌, subst}
 use Rattle.wy_effects.specs.EffSet.{has}
 use Rattle.wy_names.specs.Leading.{Adds, Numbers}
 use Rattle.wy_names.proofs.MarksPut.{more_marks, marked_in, unmarked_out}
