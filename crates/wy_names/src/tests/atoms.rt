@@ -49,11 +49,7 @@ fn owner(alloc: Global, text: &str) -> Result<Owner, Memory> {
 
 /// The owners `x` and `y`, both of that type.
 fn owners<'a>(alloc: Global, heads: &'a Heads) -> Result<Owners<'a>, Memory> {
-    let list = [owner(alloc, "x")?, owner(alloc, "y")?];
-    match Owners::new(alloc, heads, &list) {
-        Ok(owners) => Ok(owners),
-        Err(_) => Err(Memory),
-    }
+    Owners::new(alloc, heads, &[owner(alloc, "x")?, owner(alloc, "y")?])
 }
 
 fn atoms(alloc: Global, heads: &Heads) -> Result<AtomTable, Memory> {

@@ -89,10 +89,7 @@ fn resolved_by(
 /// What the parts stand for in a plain module without types.
 fn resolved(alloc: Global, heads: &Heads, parts: &[Part]) -> Result<Resolved, Memory> {
     let own = own_names(alloc)?;
-    match Owners::new(alloc, heads, &[]) {
-        Ok(owners) => resolved_by(alloc, &owners, &own, parts),
-        Err(_) => Err(Memory),
-    }
+    resolved_by(alloc, &Owners::new(alloc, heads, &[])?, &own, parts)
 }
 
 /// What a value that is a name stands for.
