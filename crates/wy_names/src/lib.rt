@@ -38,7 +38,5 @@ mod sight;
 pub mod signatures;
 mod statements;
 pub mod tables;
-#[cfg(test)]
-mod tests;
 pub mod type_uses;
 mod values;

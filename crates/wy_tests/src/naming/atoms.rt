@@ -1,15 +1,15 @@
-use crate::atom_scope::{AtomScope, Owners};
-use crate::atoms::single;
-use crate::heads::Heads;
-use crate::meanings::Meanings;
-use crate::members::head_table;
-use crate::scoping::{Head, Meaning, Opening, Owner};
-use crate::sets::set_of;
-use crate::tests::name;
+use crate::naming::name;
 use std::alloc::Global;
 use std::test::Fail;
 use wy_effects::atom::{Atom, AtomTable};
 use wy_effects::set::EffSet;
+use wy_names::atom_scope::{AtomScope, Owners};
+use wy_names::atoms::single;
+use wy_names::heads::Heads;
+use wy_names::meanings::Meanings;
+use wy_names::members::head_table;
+use wy_names::scoping::{Head, Meaning, Opening, Owner};
+use wy_names::sets::set_of;
 use wy_syntax::types::AtomUse;
 use wy_text::text::{Memory, from_bytes};
 

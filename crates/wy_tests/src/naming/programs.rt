@@ -1,10 +1,10 @@
-use crate::refusal::NameRefusal;
-use crate::resolving::resolve;
-use crate::tests::{name, place};
+use crate::naming::{name, place};
 use std::alloc::Global;
 use std::test::Fail;
 use wy_effects::atom::Atom;
 use wy_effects::set::EffSet;
+use wy_names::refusal::NameRefusal;
+use wy_names::resolving::resolve;
 use wy_syntax::expressions::Expr;
 use wy_syntax::items::{Grant, Item, Program, Tree};
 use wy_syntax::statements::{Rhs, Tail};

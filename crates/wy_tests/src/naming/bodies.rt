@@ -1,11 +1,11 @@
-use crate::atom_scope::{AtomScope, Owners};
-use crate::bodies::{Resolved, Within, module_parts};
-use crate::heads::Heads;
-use crate::meanings::Meanings;
-use crate::tables::Table;
-use crate::tests::{name, place};
+use crate::naming::{name, place};
 use std::alloc::Global;
 use std::test::Fail;
+use wy_names::atom_scope::{AtomScope, Owners};
+use wy_names::bodies::{Resolved, Within, module_parts};
+use wy_names::heads::Heads;
+use wy_names::meanings::Meanings;
+use wy_names::tables::Table;
 use wy_syntax::expressions::Expr;
 use wy_syntax::statements::{FieldKind, Part, Rhs, Stmt, Tail};
 use wy_syntax::types::{Param, Signature, TypeUse};

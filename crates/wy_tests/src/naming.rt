@@ -2,12 +2,12 @@ mod atoms;
 mod bodies;
 mod programs;
 
-use crate::gathering::{modules, programs, types};
-use crate::limits::first_limit;
-use crate::refusal::{Cause, Refusal};
-use crate::tables::{Table, note_repeated};
 use std::alloc::Global;
 use std::test::Fail;
+use wy_names::gathering::{modules, programs, types};
+use wy_names::limits::first_limit;
+use wy_names::refusal::{Cause, Refusal};
+use wy_names::tables::{Table, note_repeated};
 use wy_syntax::expressions::Expr;
 use wy_syntax::items::{Grant, Item, Program, Tree};
 use wy_syntax::statements::{Rhs, Tail};
