@@ -1,20 +1,20 @@
 -- The refusals by what is reached are those of cycles.
-use Rattle.std.proofs.Common.{◌≡◌, ◌<◌, ℕ, zero, suc, ◌+◌, List, [], ◌∷◌, ◌++◌, length, map, Option, Some, None, Bool, true, false, refl, sym, ap, ◌∙◌, subst, inl, inr, ◌⊎◌, slice_get, arith, if◌then◌else◌}
-use Rattle.std.specs.Prelude.{◌↔◌, slice_index_or, option_to_list, IfSome}
-use Rattle.std.proofs.lemmas.List.{length-map}
+use Rattle.std.proofs.Common.{◌≡◌, ◌<◌, ℕ, zero, suc, ◌+◌, List, [], ◌∷◌, ◌++◌, length, map, get_or, Option, Some, None, Bool, true, false, refl, sym, ap, ◌∙◌, subst, inl, inr, ◌⊎◌, slice_get, arith, if◌then◌else◌}
+use Rattle.std.specs.Prelude.{◌↔◌, slice_index_or, option_to_list, IfSome, IsTrue}
+use Rattle.std.proofs.Math.Seq.{get_or-append_seam}
+use Rattle.std.proofs.lemmas.Bool.{cases_lt}
+use Rattle.std.proofs.lemmas.List.{length-map, get_or_append_left}
 use Rattle.wy_syntax.specs.declared.types.Name.{Name}
-use Rattle.wy_effects.specs.EffSet.{has}
 use Rattle.wy_effects.specs.Members.{In}
 use Rattle.wy_effects.proofs.Lists.{In-left, In-right, In-cases}
-use Rattle.wy_effects.proofs.SetLaws.{has-In, In-has}
 use Rattle.wy_names.specs.declared.refusal.Cause.TheVariants.{Cycle}
 use Rattle.wy_names.specs.declared.refusal.Refusal.{Refusal}
 use Rattle.wy_names.specs.Least.{refusal_at}
-use Rattle.wy_names.specs.Declarations.{ModuleTree, module_number, module_names, texts, first_from}
-use Rattle.wy_names.specs.Cycles.{named_modules, Names, LeadsBy, IsCycle}
-use Rattle.wy_names.specs.Leading.{numbers_of, edges_of, Goes, Reached, LeadsInside, next_from}
+use Rattle.wy_names.specs.Declarations.{ModuleTree, module_number, module_names, texts}
+use Rattle.wy_names.specs.Cycles.{named_modules, LeadsBy, IsCycle}
+use Rattle.wy_names.specs.Leading.{numbers_of, edges_of, Reached, LeadsInside}
 use Rattle.wy_names.specs.CycleRefusals.{AreReached, word_refusals, words_refusals, cycle_refusals}
-use Rattle.wy_names.proofs.Cycling.{number_leads, path_goes, goes_path}
+use Rattle.wy_names.proofs.Cycling.{path_goes, goes_path}
 use Rattle.wy_names.proofs.Firsts.{number_below}
 
 module_below : (modules : List ModuleTree) (x : List ℕ) (j : ℕ) → module_number modules x ≡ Some j → j < length modules
@@ -25,7 +25,7 @@ module_below modules x j h =
     let two = length-map (module_names modules) (λ (n : Name). n.text) in
     omega (arith, lt, one, two)
 
-module _ (reached : List (List ℕ)) (modules : List ModuleTree) (are : AreReached (edges_of modules) reached) where
+module _ (reached : List (List Bool)) (modules : List ModuleTree) (are : AreReached (edges_of modules) reached) where
   fits : (j : ℕ) → j < length modules → j < length (edges_of modules)
   fits j lt = (let l = length-map modules (λ (m : ModuleTree). numbers_of modules (named_modules m)) in omega (arith, lt, l))
 
@@ -33,11 +33,11 @@ module _ (reached : List (List ℕ)) (modules : List ModuleTree) (are : AreReach
       (j : ℕ) × (module_number modules w.text ≡ Some j) × (path : List ℕ) × LeadsBy modules j path k × (r ≡ refusal_at w.place Cycle)
   word_sound k w r None e i = absurd i
   word_sound k w r (Some j) e i =
-      let P : Bool → Type 0 = λ b. has k (slice_index_or reached j []) ≡ b → In r (if b then refusal_at w.place Cycle ∷ [] else []) →
+      let P : Bool → Type 0 = λ b. slice_index_or (slice_index_or reached j []) k false ≡ b → In r (if b then refusal_at w.place Cycle ∷ [] else []) →
       (j : ℕ) × (module_number modules w.text ≡ Some j) × (path : List ℕ) × LeadsBy modules j path k × (r ≡ refusal_at w.place Cycle) in
-      (elim (has k (slice_index_or reached j [])) as P [
+      (elim (slice_index_or (slice_index_or reached j []) k false) as P [
         | true ↦ λ h g. (
-            let go = (are j k (fits j (module_below modules w.text j e))).0 (In-has k (slice_index_or reached j []) h) in
+            let go = (are j k (fits j (module_below modules w.text j e))).0 h in
             (j, e, go.0, goes_path modules j go.0 k go.1, elim g [ inl s ↦ sym s | inr z ↦ absurd z ])
             )
         | false ↦ λ h g. absurd g
@@ -75,7 +75,7 @@ module _ (reached : List (List ℕ)) (modules : List ModuleTree) (are : AreReach
 
   word_complete : (k j : ℕ) (w : Name) (path : List ℕ) → module_number modules w.text ≡ Some j → LeadsBy modules j path k → In (refusal_at w.place Cycle) (word_refusals reached k w (module_number modules w.text))
   word_complete k j w path e l =
-      let there = has-In k (slice_index_or reached j []) ((are j k (fits j (module_below modules w.text j e))).1 (path, path_goes modules j path k l)) in
+      let there = (are j k (fits j (module_below modules w.text j e))).1 (path, path_goes modules j path k l) in
       let P : List Refusal → Type 0 = λ rs. In (refusal_at w.place Cycle) rs in
       subst P (sym (ap (word_refusals reached k w) e ∙ ap (λ b. if b then refusal_at w.place Cycle ∷ [] else []) there)) (inl refl)
 
@@ -134,32 +134,20 @@ leads_inside modules k j i =
     let l = length-map modules (λ (m : ModuleTree). numbers_of modules (named_modules m)) in
     omega (arith, lt, l)
 
--- what is at the end of a list, and what is before
-at_last : (xs : List (List ℕ)) (y : List ℕ) (j : ℕ) → j ≡ length xs → slice_index_or (xs ++ y ∷ []) j [] ≡ y
-at_last [] y j e = (let z : j ≡ 0 = e in ap (λ (i : ℕ). slice_index_or (y ∷ []) i []) z)
-at_last (x ∷ xs) y zero e = absurd (omega (arith, e))
-at_last (x ∷ xs) y (suc j) e = at_last xs y j (omega (arith, e))
-
-at_before : (xs : List (List ℕ)) (y : List ℕ) (j : ℕ) → j < length xs → slice_index_or (xs ++ y ∷ []) j [] ≡ slice_index_or xs j []
-at_before [] y j lt = absurd (omega (arith, lt))
-at_before (x ∷ xs) y zero lt = refl
-at_before (x ∷ xs) y (suc j) lt = at_before xs y j (omega (arith, lt))
-
 below_or : (j n : ℕ) → j < n + 1 → (j < n) ⊎ (j ≡ n)
-below_or zero zero lt = inr refl
-below_or zero (suc n) lt = inl (omega arith)
-below_or (suc j) zero lt = absurd (omega (arith, lt))
-below_or (suc j) (suc n) lt = elim (below_or j n (omega (arith, lt))) [ inl h ↦ inl (omega (arith, h)) | inr h ↦ inr (omega (arith, h)) ]
+below_or j n lt = elim (cases_lt j n) [ inl h ↦ inl h | inr h ↦ inr (omega (arith, h, lt)) ]
 
 -- one module more whose reached ones are known
-pub reached_more : (edges xs ys : List (List ℕ)) (y : List ℕ) (n : ℕ) → length xs ≡ n → ys ≡ xs ++ y ∷ [] →
-    ((j k : ℕ) → j < n → In k (slice_index_or xs j []) ↔ Reached edges j k) → ((k : ℕ) → In k y ↔ Reached edges n k) →
-    (j k : ℕ) → j < n + 1 → In k (slice_index_or ys j []) ↔ Reached edges j k
+pub reached_more : (edges : List (List ℕ)) (xs ys : List (List Bool)) (y : List Bool) (n : ℕ) → length xs ≡ n → ys ≡ xs ++ y ∷ [] →
+    ((j k : ℕ) → j < n → IsTrue (get_or (get_or xs j []) k false) ↔ Reached edges j k) → ((k : ℕ) → IsTrue (get_or y k false) ↔ Reached edges n k) →
+    (j k : ℕ) → j < n + 1 → IsTrue (get_or (get_or ys j []) k false) ↔ Reached edges j k
 reached_more edges xs ys y n len is before last j k lt =
-    let P : List (List ℕ) → Type 0 = λ l. In k (slice_index_or l j []) ↔ Reached edges j k in
-    let Q : List ℕ → Type 0 = λ l. In k l ↔ Reached edges j k in
-    let R : ℕ → Type 0 = λ i. In k y ↔ Reached edges i k in
+    let P : List (List Bool) → Type 0 = λ l. IsTrue (get_or (get_or l j []) k false) ↔ Reached edges j k in
+    let Q : List Bool → Type 0 = λ l. IsTrue (get_or l k false) ↔ Reached edges j k in
+    let R : ℕ → Type 0 = λ i. IsTrue (get_or (get_or (xs ++ y ∷ []) i []) k false) ↔ Reached edges i k in
+    let S : List Bool → Type 0 = λ l. IsTrue (get_or l k false) ↔ Reached edges (length xs) k in
+    let T : ℕ → Type 0 = λ i. IsTrue (get_or y k false) ↔ Reached edges i k in
     subst P (sym is) (elim (below_or j n lt) [
-      | inl h ↦ (let there : j < length xs = omega (arith, h, len) in subst Q (sym (at_before xs y j there)) (before j k h))
-      | inr h ↦ (let there : j ≡ length xs = omega (arith, h, len) in subst Q (sym (at_last xs y j there)) (subst R (sym h) (last k)))
+      | inl h ↦ (let there : j < length xs = omega (arith, h, len) in subst Q (sym (get_or_append_left xs (y ∷ []) [] j there)) (before j k h))
+      | inr h ↦ subst R (len ∙ sym h) (subst S (sym (get_or-append_seam xs y [] [])) (subst T (sym len) (last k)))
     ])

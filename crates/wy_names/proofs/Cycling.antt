@@ -1,12 +1,15 @@
 -- Leading by words is leading by numbers.
-use Rattle.std.proofs.Common.{◌≡◌, ℕ, zero, suc, List, [], ◌∷◌, ◌++◌, map, Option, Some, None, refl, sym, ap, ◌∙◌, subst, inl, inr, ◌⊎◌, slice_get}
-use Rattle.std.specs.Prelude.{option_to_list, slice_index_or, ◌↔◌}
+use Rattle.std.proofs.Common.{◌≡◌, ◌<◌, ℕ, zero, suc, ◌+◌, List, [], ◌∷◌, ◌++◌, length, map, take, get_or, Bor, Option, Some, None, refl, sym, ap, ◌∙◌, subst, inl, inr, slice_get, append_assoc}
+use Rattle.std.specs.Prelude.{option_to_list, slice_index_or}
+use Rattle.std.proofs.lemmas.List.{append-nil, map-append}
 use Rattle.wy_syntax.specs.declared.types.Name.{Name}
 use Rattle.wy_effects.specs.Members.{In}
 use Rattle.wy_effects.proofs.Lists.{In-left, In-right, In-cases}
 use Rattle.wy_names.specs.Declarations.{ModuleTree, module_number}
-use Rattle.wy_names.specs.Cycles.{named_modules, Names, LeadsTo, LeadsBy}
+use Rattle.wy_names.specs.Cycles.{named_modules, LeadsTo, LeadsBy}
 use Rattle.wy_names.specs.Leading.{numbers_of, edges_of, next_from, Goes}
+use Rattle.wy_names.specs.Lent.{lent_name}
+use Rattle.wy_names.proofs.Turns.{taken}
 
 one_in : (o : Option ℕ) (j : ℕ) → In j (option_to_list o) → o ≡ Some j
 one_in None j i = absurd i
@@ -33,6 +36,20 @@ module _ (modules : List ModuleTree) where
       (in_one (module_number modules v.text) j (ap (λ (x : Name). module_number modules x.text) s ∙ e))
   word_number (v ∷ ws) w j (inr h) e =
       In-right j (option_to_list (module_number modules v.text)) (numbers_of modules ws) (word_number ws w j h e)
+
+  -- one word more
+  numbers_more : (ws : List Name) (w : Name) → numbers_of modules (ws ++ w ∷ []) ≡ numbers_of modules ws ++ option_to_list (module_number modules w.text)
+  numbers_more [] w = append-nil (option_to_list (module_number modules w.text))
+  numbers_more (v ∷ ws) w =
+      ap (λ l. option_to_list (module_number modules v.text) ++ l) (numbers_more ws w)
+      ∙ sym (append_assoc (option_to_list (module_number modules v.text)) (numbers_of modules ws) (option_to_list (module_number modules w.text)))
+
+  pub numbers_taken : (ns : List (Bor Name)) (i : ℕ) (n : Bor Name) → i < length ns → n ≡ get_or ns i n →
+      numbers_of modules (map lent_name (take (i + 1) ns)) ≡ numbers_of modules (map lent_name (take i ns)) ++ option_to_list (module_number modules n.now.text)
+  numbers_taken ns i n lt at =
+      ap (λ l. numbers_of modules (map lent_name l)) (sym (taken ns i n lt at))
+      ∙ ap (numbers_of modules) (map-append lent_name (take i ns) (n ∷ []))
+      ∙ numbers_more (map lent_name (take i ns)) n.now
 
   edge : ModuleTree → List ℕ
   edge m = numbers_of modules (named_modules m)

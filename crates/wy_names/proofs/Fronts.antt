@@ -4,14 +4,13 @@ use Rattle.wy_text.specs.declared.fault.AtomName.{AtomName}
 use Rattle.wy_syntax.specs.declared.types.Name.{Name}
 use Rattle.wy_syntax.specs.declared.items.Init.{Init}
 use Rattle.wy_types.specs.Types.{is_plain}
-use Rattle.wy_names.specs.declared.refusal.Refusal.{Refusal}
 use Rattle.wy_names.specs.declared.scoping.Head.{Head}
 use Rattle.wy_names.specs.declared.scoping.Owner.{Owner}
 use Rattle.wy_names.specs.declared.scoping.Meaning.{Meaning}
 use Rattle.wy_names.specs.Declarations.{ModuleTree, module_number}
-use Rattle.wy_names.specs.Atoms.{AtomScope, head_names, params_owners}
+use Rattle.wy_names.specs.Atoms.{AtomScope, head_names}
 use Rattle.wy_names.specs.Lines.{unless_number, uses_refusals}
-use Rattle.wy_names.specs.Scopes.{atom_scope, definitions_at, defined_refusals, sealed_refusals, start_effect, init_refusals, param_owners, param_scope, use_owners, line_owners, early_owners, module_owners, module_atoms}
+use Rattle.wy_names.specs.Scopes.{atom_scope, definitions_at, defined_refusals, sealed_refusals, start_effect, init_refusals, param_owners, param_scope, use_owners, line_owners, module_owners, module_atoms}
 use Rattle.wy_names.proofs.Owned.{take_front, params_length}
 
 defined_same : (heads : List Head) (ms ns : List ModuleTree) (m : ModuleTree) (plain : Bool) (members : List Meaning) → defined_refusals heads ms m plain members ≡ defined_refusals heads ns m plain members

@@ -1,13 +1,11 @@
 -- What is in sight, by the last variable of each name and the fields.
-use Rattle.std.proofs.Common.{◌≡◌, ℕ, zero, suc, ◌+◌, ◌<◌, ◌≤◌, List, [], ◌∷◌, ◌++◌, map, length, take, drop, get_or, Bool, true, false, cond, refl, sym, ap, ap₂, ◌∙◌, subst, Option, Some, None, if◌then◌else◌, append_assoc, arith, nat_le}
-use Rattle.std.proofs.lemmas.List.{map-append}
-use Rattle.wy_syntax.specs.declared.types.Param.{Param}
+use Rattle.std.proofs.Common.{◌≡◌, ℕ, zero, suc, List, [], ◌∷◌, ◌++◌, take, drop, Bool, true, false, refl, sym, ap, ◌∙◌, Option, Some, None, if◌then◌else◌, arith, nat_le}
 use Rattle.wy_types.specs.declared.code.Binding.{Binding}
 use Rattle.wy_types.specs.declared.code.Binding.TheVariants as to
 use Rattle.wy_names.specs.declared.scoping.Entry.{Entry}
 use Rattle.wy_names.specs.declared.sight.Latest.{Latest}
 use Rattle.wy_names.specs.Declarations.{same_name}
-use Rattle.wy_names.specs.Sight.{nearest, seen, entry, fields_from}
+use Rattle.wy_names.specs.Sight.{nearest, seen}
 use Rattle.wy_names.specs.InSight.{Known, known_entry, entries, later, latest, Frame, field_entries, sight_of, or_else}
 
 abbrev bound_of : Latest → Binding

@@ -1,5 +1,5 @@
 -- What is noted of all declarations, and what comes of it.
-use Rattle.std.proofs.Common.{◌≡◌, List, [], ◌∷◌, ◌++◌, Option, Some, None, refl, sym, ap, ◌∙◌, subst, inl, inr, ◌⊎◌, append_assoc, map, length, arith, Result, Ok, Err}
+use Rattle.std.proofs.Common.{◌≡◌, List, [], ◌∷◌, ◌++◌, Option, Some, None, refl, sym, ap, ◌∙◌, subst, inl, inr, append_assoc, map, length, arith, Result, Ok, Err}
 use Rattle.std.specs.Prelude.{IfOk, IfErr}
 use Rattle.wy_text.specs.declared.fault.Place.{Place}
 use Rattle.wy_effects.specs.Members.{In}
@@ -23,7 +23,7 @@ use Rattle.wy_names.specs.Cycles.{IsCycle}
 use Rattle.wy_names.specs.CycleRefusals.{NotesCycles}
 use Rattle.wy_names.specs.Scopes.{modules_refusals, programs_refusals, second_programs}
 use Rattle.wy_names.specs.Judged.{declared_refusals, NotesScopes, NotesAll, declared_program, RefusesDeclared, IsBound, IsRefusal, refusal_named}
-use Rattle.wy_names.specs.Names.{Resolves, Refused, IsFirst, HasNoProgram}
+use Rattle.wy_names.specs.Names.{Resolves, Refused}
 use Rattle.wy_names.proofs.Leasts.{least_is, none_is, noted_then}
 
 pub scopes_noted : (heads : List Head) (modules : List ModuleTree) (programs : List ProgramTree) (old a b c end : Option Refusal) →

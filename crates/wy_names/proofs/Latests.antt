@@ -1,7 +1,6 @@
 -- The last variable of each name, as variables come into sight and go out of it.
-use Rattle.std.proofs.Common.{◌≡◌, ℕ, zero, suc, List, [], ◌∷◌, ◌++◌, map, length, Bool, true, false, cond, refl, sym, ap, ◌∙◌, subst, Option, Some, None, is_some, if◌then◌else◌, append_assoc}
+use Rattle.std.proofs.Common.{◌≡◌, ℕ, suc, List, [], ◌∷◌, ◌++◌, map, length, Bool, true, false, cond, refl, sym, ap, ◌∙◌, Option, Some, None, if◌then◌else◌, append_assoc}
 use Rattle.std.specs.Prelude.{Result, Ok, Err, OnOk, OnErr}
-use Rattle.wy_types.specs.declared.code.Variable.{Variable}
 use Rattle.wy_names.specs.declared.sight.Latest.{Latest}
 use Rattle.wy_names.specs.declared.sight.Known as code
 use Rattle.wy_names.specs.Declarations.{same_name}

@@ -7,7 +7,7 @@ use Rattle.wy_names.specs.declared.refusal.Refusal.{Refusal}
 use Rattle.wy_names.specs.Least.{comes_before, lesser, noted, cause_number, IsLeast}
 
 -- the order by four numbers
-precedes : ℕ → ℕ → ℕ → ℕ → ℕ → ℕ → ℕ → ℕ → Bool
+unfoldable pub precedes : ℕ → ℕ → ℕ → ℕ → ℕ → ℕ → ℕ → ℕ → Bool
 precedes f l c n g m d o =
     (if f == g then (if l == m then nat_lt c d else nat_lt l m) else nat_lt f g) || ((f == g && (l == m && c == d)) && nat_lt n o)
 

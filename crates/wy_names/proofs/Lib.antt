@@ -2,6 +2,7 @@ pub mod AtomsPut
 mod Blocks
 mod CyclesFound
 mod Cycling
+mod EdgesOnce
 mod ExamplesCycles
 mod ExamplesPrograms
 mod ExamplesRefusals
@@ -15,6 +16,7 @@ mod Judging
 mod Latests
 mod Leasts
 mod Marks
+mod MarksPut
 pub mod Mosts
 mod Notings
 mod Opening

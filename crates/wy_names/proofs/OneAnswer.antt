@@ -1,6 +1,6 @@
 -- Names have one answer, of which want of memory alone may take the place.
-use Rattle.std.proofs.Common.{◌≡◌, ◌≢◌, ℕ, List, [], ◌∷◌, Bool, false, Some, None, refl, sym, ◌∙◌, ap, arith}
-use Rattle.std.specs.Prelude.{◌||◌, ◌&&◌, nat_lt, ◌==◌, if◌then◌else◌}
+use Rattle.std.proofs.Common.{◌≡◌, ◌≢◌, ℕ, List, [], ◌∷◌, false, Some, None, refl, sym, ◌∙◌, ap, arith}
+use Rattle.std.specs.Prelude.{◌==◌, if◌then◌else◌}
 use Rattle.std.proofs.lemmas.Grind.{common_steps}
 use Rattle.wy_text.specs.declared.fault.Place.{Place}
 use Rattle.wy_text.specs.declared.limit.LimitName.{LimitName}
@@ -15,13 +15,9 @@ use Rattle.wy_names.specs.declared.refusal.Cause.TheVariants as cause
 use Rattle.wy_names.specs.declared.refusal.NameRefusal.{NameRefusal}
 use Rattle.wy_names.specs.declared.refusal.NameRefusal.TheVariants as refusal
 use Rattle.wy_names.specs.declared.refusal.Refusal.{Refusal}
+use Rattle.wy_names.proofs.Leasts.{precedes}
 
 -- ---- of two refusals one comes first
-
--- the order by four numbers
-precedes : ℕ → ℕ → ℕ → ℕ → ℕ → ℕ → ℕ → ℕ → Bool
-precedes f l c n g m d o =
-    (if f == g then (if l == m then nat_lt c d else nat_lt l m) else nat_lt f g) || ((f == g && (l == m && c == d)) && nat_lt n o)
 
 -- four numbers are the same
 record AreSame (f l c n g m d o : ℕ) : Type 0 where

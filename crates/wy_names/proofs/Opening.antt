@@ -1,5 +1,5 @@
 -- A walk over the members that an owner opens, which adds their atoms and gathers their sets.
-use Rattle.std.proofs.Common.{◌≡◌, ℕ, List, [], ◌∷◌, ◌++◌, Bool, true, false, sym, ap, ◌∙◌, subst, Some, if◌then◌else◌, append_assoc}
+use Rattle.std.proofs.Common.{◌≡◌, ℕ, List, [], ◌∷◌, ◌++◌, true, false, sym, ap, ◌∙◌, subst, Some, if◌then◌else◌, append_assoc}
 use Rattle.std.specs.Prelude.{slice_get}
 use Rattle.wy_text.specs.declared.fault.AtomName.{AtomName}
 use Rattle.wy_effects.specs.Members.{Apart}

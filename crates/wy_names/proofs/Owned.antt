@@ -1,15 +1,15 @@
 -- A scope's own names by its owners.
-use Rattle.std.proofs.Common.{◌≡◌, ℕ, zero, suc, ◌+◌, List, [], ◌∷◌, ◌++◌, map, take, length, refl, sym, ap, ◌∙◌, Bool, true, false, arith, append_assoc}
+use Rattle.std.proofs.Common.{◌≡◌, ℕ, zero, suc, ◌+◌, List, [], ◌∷◌, ◌++◌, map, take, length, refl, ap, ◌∙◌, Bool, true, false, arith, append_assoc}
 use Rattle.std.proofs.lemmas.List.{length-map, length-append}
 use Rattle.wy_text.specs.declared.fault.AtomName.{AtomName}
 use Rattle.wy_syntax.specs.declared.types.Param.{Param}
 use Rattle.wy_types.specs.Types.{is_plain}
 use Rattle.wy_names.specs.declared.scoping.Head.{Head}
 use Rattle.wy_names.specs.declared.scoping.Owner.{Owner}
-use Rattle.wy_names.specs.Declarations.{ModuleTree, ProgramTree}
-use Rattle.wy_names.specs.Atoms.{AtomScope, head_names, params_owners, closed_owner, param_owner, use_owner, grant_owner}
-use Rattle.wy_names.specs.Lines.{param_name, use_name, line_names, grant_name}
-use Rattle.wy_names.specs.Scopes.{atom_scope, use_owners, line_owners, early_owners, module_owners, module_atoms, module_own, grant_owners, program_owners, program_atoms, program_own}
+use Rattle.wy_names.specs.Declarations.{ModuleTree}
+use Rattle.wy_names.specs.Atoms.{head_names, params_owners, closed_owner, param_owner, use_owner}
+use Rattle.wy_names.specs.Lines.{param_name, use_name, line_names}
+use Rattle.wy_names.specs.Scopes.{atom_scope, use_owners, line_owners, early_owners, module_owners, module_atoms, module_own}
 
 pub take_front : {X : Type 0} (n : ℕ) (xs ys : List X) → n ≡ length xs → take n (xs ++ ys) ≡ xs
 take_front zero [] ys e = refl

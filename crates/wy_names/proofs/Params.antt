@@ -2,7 +2,6 @@
 use Rattle.std.proofs.Common.{◌≡◌, List, [], ◌∷◌, ◌++◌, Bool, true, false, sym, ap}
 use Rattle.std.proofs.lemmas.List.{append-nil}
 use Rattle.wy_syntax.specs.declared.types.Param.{Param}
-use Rattle.wy_names.specs.declared.refusal.Refusal.{Refusal}
 use Rattle.wy_names.specs.Atoms.{AtomScope}
 use Rattle.wy_names.specs.TypeUses.{plain_refusals, type_refusals}
 use Rattle.wy_names.specs.Lines.{param_refusals}

@@ -1,5 +1,5 @@
 -- A module's scope of atoms, its bodies' view of it, and its refusals, part by part.
-use Rattle.std.proofs.Common.{◌≡◌, ℕ, List, [], ◌++◌, take, length, refl, sym, ap, ◌∙◌, subst, Bool, Option, Some, None, append_assoc}
+use Rattle.std.proofs.Common.{◌≡◌, ℕ, List, [], ◌++◌, take, length, refl, ap, ◌∙◌, Bool, Option, Some, None, append_assoc}
 use Rattle.std.proofs.Math.Seq.{take-length}
 use Rattle.wy_text.specs.declared.fault.AtomName.{AtomName}
 use Rattle.wy_syntax.specs.declared.items.Init.{Init}

@@ -58,15 +58,21 @@ goes_then : (edges : List (List ℕ)) (s : ℕ) (path : List ℕ) (x k : ℕ) �
 goes_then edges s [] x k g i = (let P : ℕ → Type 0 = λ v. In k (next_from edges v) in (subst P (sym g) i, refl))
 goes_then edges s (p ∷ path) x k g i = (g.0, goes_then edges p path x k g.1 i)
 
-pub search_start : (edges : List (List ℕ)) (start : ℕ) → start < length edges → IsSearch edges start (start ∷ []) 0
-search_start edges start lt = record {
-  begins = inl refl;
-  sound = λ k i. elim i [ inl e ↦ ([], e) | inr z ↦ absurd z ];
-  closed = λ k j i h. absurd i;
-  apart = (λ z. z, tt);
-  within = λ k i. elim i [ inl e ↦ (let P : ℕ → Type 0 = λ v. v < length edges in subst P e lt) | inr z ↦ absurd z ];
-  low = omega arith;
-}
+-- only the first is seen
+pub search_start : (edges : List (List ℕ)) (start : ℕ) (seen : List ℕ) → start < length edges → Adds [] (start ∷ []) seen → IsSearch edges start seen 0
+search_start edges start seen lt a =
+    let is : (k : ℕ) → In k seen → start ≡ k = λ k i. (
+    let P : List ℕ → Type 0 = λ l. In k l in
+    elim (a.only k (subst P a.longer i)) [ inl e ↦ e | inr z ↦ absurd z ]
+    ) in
+    record {
+      begins = a.all start (inl refl);
+      sound = λ k i. ([], is k i);
+      closed = λ k j i h. absurd i;
+      apart = a.apart tt;
+      within = λ k i. (let P : ℕ → Type 0 = λ v. v < length edges in subst P (is k i) lt);
+      low = omega arith;
+    }
 
 module _ (edges : List (List ℕ)) (start : ℕ) (inside : LeadsInside edges) (seen new : List ℕ) (next x : ℕ)
     (lt : next < length seen) (at : x ≡ get_or seen next 0) (s : IsSearch edges start seen next) (a : Adds seen (next_from edges x) new) where

@@ -1,5 +1,5 @@
 -- What is found in a module's fields and methods, and in the program's block, where nothing is in sight.
-use Rattle.std.proofs.Common.{◌≡◌, ℕ, ◌≤◌, List, [], ◌∷◌, ◌++◌, length, true, false, sym, ap, ap₂, ◌∙◌, Option}
+use Rattle.std.proofs.Common.{◌≡◌, List, [], ◌∷◌, ◌++◌, true, false, sym, ap, ap₂, ◌∙◌, Option}
 use Rattle.wy_syntax.specs.Trees as t
 use Rattle.wy_types.specs.declared.code.Variable.{Variable}
 use Rattle.wy_types.specs.declared.resolved.Field.{Field}

@@ -15,6 +15,12 @@ taken {X} xs i x lt at = ap (λ (v : X). take i xs ++ v ∷ []) at ∙ sym (take
 pub next_of : {X : Type 0} (xs : List X) (i : ℕ) (x : X) → i < length xs → x ≡ get_or xs i x → drop i xs ≡ x ∷ drop (i + 1) xs
 next_of {X} xs i x lt at = drop_more xs i x lt ∙ ap (λ (v : X). v ∷ drop (i + 1) xs) (sym at)
 
+-- what is done, as two functions give it one after the other
+pub mapped_more : {X Y Z : Type 0} (f : Y → Z) (g : X → Y) (xs : List X) (i : ℕ) (x : X) → i < length xs → x ≡ get_or xs i x →
+    map f (map g (take i xs)) ++ f (g x) ∷ [] ≡ map f (map g (take (i + 1) xs))
+mapped_more f g xs i x lt at =
+    sym (map-append f (map g (take i xs)) (g x ∷ [])) ∙ ap (map f) (sym (map-append g (take i xs) (x ∷ []))) ∙ ap (λ l. map f (map g l)) (taken xs i x lt at)
+
 module _ (before : List (List ℕ)) (ns : List (Bor Name)) (i : ℕ) (n : Bor Name) (lt : i < length ns) (at : n ≡ get_or ns i n) where
   -- the texts of the names so far
   pub texts_more : (before ++ texts (map lent_name (take i ns))) ++ n.now.text ∷ [] ≡ before ++ texts (map lent_name (take (i + 1) ns))

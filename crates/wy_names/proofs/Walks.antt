@@ -22,7 +22,7 @@ use Rattle.wy_names.specs.Least.{noted}
 use Rattle.wy_names.specs.Sight.{Sight, written_of, entry, is_variable, variables, fields_from, params_from, with_params, inside}
 use Rattle.wy_names.specs.InSight.{Known, known, known_entry, entries, Frame, frame, field_entries, sight_of, known_params}
 use Rattle.wy_names.specs.TypeUses.{signature_refusals}
-use Rattle.wy_names.specs.Bodies.{Within, Count, one_val, one_literal, one_body, stmts_after, stmt_sight, stmt_after, fields_of, literal_of, method_body, parts_literals, stmts_literals, stmt_literals, part_literals, tail_literals, rhs_literals, stmts_bodies, stmt_bodies, part_bodies, parts_bodies, rhs_bodies, tail_bodies, part_after}
+use Rattle.wy_names.specs.Bodies.{Within, Count, one_val, one_literal, one_body, stmts_after, stmt_sight, stmt_after, fields_of, literal_of, method_body, parts_literals, stmts_literals, stmt_literals, part_literals, stmts_bodies, stmt_bodies, part_bodies, parts_bodies, part_after}
 use Rattle.wy_names.specs.BodyRefusals.{field_names, expr_refusals, value_refusals, typed_refusals, typed_if_refusals, repeated_parts, stmts_refusals, stmt_refusals, part_refusals, parts_refusals, rhs_refusals, tail_refusals}
 use Rattle.wy_names.specs.FoundBodies.{Found, noting, after_rhs, after_stmt, after_stmts, after_part, after_parts, after_tail, with_stmt}
 use Rattle.wy_names.proofs.Leasts.{noted_append}

@@ -3,11 +3,11 @@ use Rattle.std.proofs.Common.{◌≡◌, ℕ, List, [], ◌∷◌, refl, sym, ap
 use Rattle.std.specs.Prelude.{slice_get, ◌&&◌}
 use Rattle.wy_syntax.specs.declared.types.MemberSet.{MemberSet}
 use Rattle.wy_names.specs.declared.scoping.Meaning.{Meaning}
-use Rattle.wy_names.specs.Declarations.{same_name, has_name, first_from}
+use Rattle.wy_names.specs.Declarations.{same_name, first_from}
 use Rattle.wy_names.specs.Meanings.{abstract_names}
 use Rattle.wy_names.specs.Atoms.{AtomScope, set_of}
 use Rattle.wy_names.specs.TypeUses.{written_set, texts_of, all_among}
-use Rattle.wy_names.proofs.Firsts.{first_next, next_number, item_at, item_next, has_number}
+use Rattle.wy_names.proofs.Firsts.{first_next, item_at, item_next, has_number}
 
 set_at : AtomScope → Option MemberSet → List ℕ
 set_at s None = []

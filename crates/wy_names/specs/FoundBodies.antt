@@ -1,5 +1,5 @@
 -- What a walk over the bodies of a scope has found so far, and what it has found after a part.
-use Rattle.std.specs.Prelude.{ℕ, List, [], ◌∷◌, ◌++◌, map, Option, Some, None}
+use Rattle.std.specs.Prelude.{ℕ, List, [], ◌∷◌, ◌++◌, map, Option}
 use Rattle.wy_text.specs.declared.fault.Place.{Place}
 use Rattle.wy_syntax.specs.Trees as t
 use Rattle.wy_types.specs.declared.code.Stmt as s

@@ -1,6 +1,6 @@
 -- What is in sight as two lists: the variables in the order in which they came into sight, and the fields of
 -- the current object, which stand before those of its own methods (docs/LANGUAGE.md, "Names").
-use Rattle.std.specs.Prelude.{◌≡◌, ℕ, suc, ◌+◌, Bool, true, false, List, [], ◌∷◌, ◌++◌, map, take, drop, Option, Some, None, if◌then◌else◌}
+use Rattle.std.specs.Prelude.{◌≡◌, ℕ, suc, ◌+◌, Bool, List, [], ◌∷◌, ◌++◌, map, take, drop, Option, Some, None, if◌then◌else◌}
 use Rattle.wy_syntax.specs.declared.types.Param.{Param}
 use Rattle.wy_types.specs.declared.code.Variable.{Variable}
 use Rattle.wy_types.specs.declared.code.Variable.TheVariants.{Parameter}

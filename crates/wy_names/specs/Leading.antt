@@ -33,6 +33,18 @@ pub record Adds (old others new : List ℕ) : Type 0 where
   pub only : (k : ℕ) → In k more → In k others
   pub apart : Apart old → Apart new
 
+-- for each list another with the same numbers, each once
+abbrev pub EachOnce : List (List ℕ) → List (List ℕ) → Type 0
+EachOnce [] [] = Unit {0}
+EachOnce [] (new ∷ more) = ⊥
+EachOnce (numbers ∷ others) [] = ⊥
+EachOnce (numbers ∷ others) (new ∷ more) = Adds [] numbers new × EachOnce others more
+
+-- numbers below a bound, in the order in which they came
+pub record Numbers : Type 0 where
+  pub below : ℕ
+  pub list : List ℕ
+
 -- no module leads out of their number
 abbrev pub LeadsInside : List (List ℕ) → Type 0
 LeadsInside edges = (k j : ℕ) → In j (next_from edges k) → j < length edges

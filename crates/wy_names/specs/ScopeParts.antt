@@ -1,5 +1,5 @@
 -- What a scope has besides its atoms, part by part.
-use Rattle.std.specs.Prelude.{codes, ◌≡◌, ◌∷◌, [], List, false, map}
+use Rattle.std.specs.Prelude.{◌≡◌, ◌∷◌, [], List, map}
 use Rattle.wy_types.specs.Types.{is_plain}
 use Rattle.wy_types.specs.Program.{body_of, start_of, Init, Run}
 use Rattle.wy_names.specs.declared.scopes.Parts.{Parts}

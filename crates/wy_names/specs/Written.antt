@@ -1,7 +1,6 @@
 -- The names that bodies write, in their order.
-use Rattle.std.specs.Prelude.{ℕ, suc, zero, Bool, List, [], ◌∷◌, ◌++◌, map, not, Option, Some, None, ◌&&◌, if◌then◌else◌}
+use Rattle.std.specs.Prelude.{ℕ, suc, zero, List, [], ◌∷◌, ◌++◌, map, not, Option, Some, None, ◌&&◌, if◌then◌else◌}
 use Rattle.std.proofs.Common.{Bor}
-use Rattle.wy_text.specs.declared.text.Text.{Text}
 use Rattle.wy_syntax.specs.Trees as t
 use Rattle.wy_types.specs.declared.code.Variable.{Variable}
 use Rattle.wy_names.specs.Declarations.{has_name}

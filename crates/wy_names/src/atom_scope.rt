@@ -11,12 +11,13 @@ ghost use Rattle.wy_names.specs.Found.{IsFound};
 
 use crate::atoms::open;
 use crate::heads::Heads;
+use crate::items::item;
 use crate::meanings::Meanings;
 use crate::scoping::{Meaning, Owner};
 use crate::tables::Table;
 use std::alloc::Global;
 use std::marker::Model;
-use wy_effects::atom::{AtomTable, TableRefusal};
+use wy_effects::atom::AtomTable;
 use wy_effects::set::SetList;
 use wy_text::text::{Memory, Text};
 
@@ -52,41 +53,29 @@ impl<'a> Model for Owners<'a> {
         ((p : Opened) → In p o.list.items → owner_sets o.atoms p.owner.name (opened_names o.heads.now p.owner.opening) ≡ p.sets) };
 }
 
-fn item(list: &[Opened], number: usize) -> Option<&Opened>
-    ensures { option_copied result ≡ slice_get list.now number }
-{
-    list.get(number)
-}
-
 /// Adds an owner and its name.
 fn add_owner(
     list: &mut Vec<Opened>,
     names: &mut Vec<Text>,
     owner: &Owner,
     sets: SetList,
-) -> Result<(), TableRefusal>
+) -> Result<(), Memory>
     ensures list { OnOk result (list.new.items ≡ list.old.items ++ record { owner = owner.now; sets = sets } ∷ []) }
     ensures names { OnOk result (names.new.items ≡ names.old.items ++ owner.now.name ∷ []) }
 {
-    let (Ok(name), Ok(again)) = (owner.name.copy(), owner.name.copy()) else {
-        return Err(TableRefusal::Memory);
-    };
+    let name = owner.name.copy()?;
+    let again = owner.name.copy()?;
     let opening = owner.opening;
     let owner = Owner { name, opening };
-    let (Ok(()), Ok(())) = (list.push(Opened { owner, sets }), names.push(again)) else {
-        return Err(TableRefusal::Memory);
-    };
+    list.push(Opened { owner, sets })?;
+    names.push(again)?;
     Ok(())
 }
 
 impl<'a> Owners<'a> {
     /// These owners with their atoms, which have numbers by the order of their owners, and then by that of
     /// abstract members.
-    pub fn new(
-        alloc: Global,
-        heads: &'a Heads,
-        owners: &[Owner],
-    ) -> Result<Owners<'a>, TableRefusal>
+    pub fn new(alloc: Global, heads: &'a Heads, owners: &[Owner]) -> Result<Owners<'a>, Memory>
         ensures { IfOk result (λ o. o ≡ atom_scope heads.now (atoms_of heads.now owners.now) owners.now []) }
     {
         let mut atoms = AtomTable::new(alloc);
@@ -96,15 +85,13 @@ impl<'a> Owners<'a> {
             let sets = open(alloc, &mut atoms, heads, owner)?;
             add_owner(&mut list, &mut names, owner, sets)?;
         }
-        match Table::new(alloc, names) {
-            Ok(names) => Ok(Owners {
-                heads,
-                atoms,
-                list,
-                names,
-            }),
-            Err(_) => Err(TableRefusal::Memory),
-        }
+        let names = Table::new(alloc, names)?;
+        Ok(Owners {
+            heads,
+            atoms,
+            list,
+            names,
+        })
     }
 
     /// The names, in the order of the owners. It takes no memory.

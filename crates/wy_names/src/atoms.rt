@@ -9,20 +9,22 @@ ghost use Rattle.wy_names.specs.Atoms.{atom_of, with_atom, with_members, owner_s
 use crate::heads::Heads;
 use crate::scoping::{Meaning, Opening, Owner};
 use std::alloc::Global;
-use wy_effects::atom::{Atom, AtomTable, TableRefusal};
+use wy_effects::atom::{Atom, AtomTable};
 use wy_effects::set::{EffSet, SetList};
 use wy_text::list::Items;
 use wy_text::text::{Memory, Text};
 
-/// Adds an atom, where it is not there, and gives its number.
-fn add_atom(atoms: &mut AtomTable, owner: &Text, member: &Text) -> Result<Atom, TableRefusal>
+/// Adds an atom, where it is not there, and gives its number. The limits keep a table from being full.
+fn add_atom(atoms: &mut AtomTable, owner: &Text, member: &Text) -> Result<Atom, Memory>
     ensures put { OnOk result (atoms.new ≡ with_atom atoms.old (atom_of owner.now member.now)) }
     ensures number { IfOk result (λ n. slice_get atoms.new n.0 ≡ Some (atom_of owner.now member.now)) }
 {
-    let (Ok(owner), Ok(member)) = (owner.copy(), member.copy()) else {
-        return Err(TableRefusal::Memory);
-    };
-    atoms.insert(owner, member)
+    let owner = owner.copy()?;
+    let member = member.copy()?;
+    match atoms.insert(owner, member) {
+        Ok(atom) => Ok(atom),
+        Err(_) => Err(Memory),
+    }
 }
 
 /// The set of the one atom of this number, which the limits keep below 512.
@@ -37,16 +39,10 @@ pub fn single(alloc: Global, number: usize) -> Result<EffSet, Memory>
     Ok(set)
 }
 
-fn add_single(alloc: Global, sets: &mut SetList, atom: Atom) -> Result<(), TableRefusal>
+fn add_single(alloc: Global, sets: &mut SetList, atom: Atom) -> Result<(), Memory>
     ensures { OnOk result (sets.new ≡ sets.old ++ (atom.0 ∷ []) ∷ []) }
 {
-    let Ok(set) = single(alloc, atom.0 as usize) else {
-        return Err(TableRefusal::Memory);
-    };
-    match sets.push(set) {
-        Ok(()) => Ok(()),
-        Err(_) => Err(TableRefusal::Memory),
-    }
+    sets.push(single(alloc, atom.0 as usize)?)
 }
 
 /// Adds the atoms of an owner, one for each abstract member, and gives the set of each.
@@ -55,7 +51,7 @@ fn open_members(
     atoms: &mut AtomTable,
     owner: &Text,
     members: &[Meaning],
-) -> Result<SetList, TableRefusal>
+) -> Result<SetList, Memory>
     requires apart { Apart atoms.old }
     ensures put { OnOk result (atoms.new ≡ with_members atoms.old owner.now (abstract_names members.now)) }
     ensures sets { IfOk result (λ s. (more : List AtomName) → owner_sets (atoms.new ++ more) owner.now (abstract_names members.now) ≡ s) }
@@ -76,7 +72,7 @@ pub fn open(
     atoms: &mut AtomTable,
     heads: &Heads,
     owner: &Owner,
-) -> Result<SetList, TableRefusal>
+) -> Result<SetList, Memory>
     requires apart { Apart atoms.old }
     ensures put { OnOk result (atoms.new ≡ with_members atoms.old owner.now.name (opened_names heads.now owner.now.opening)) }
     ensures sets { IfOk result (λ s. (more : List AtomName) → owner_sets (atoms.new ++ more) owner.now.name (opened_names heads.now owner.now.opening) ≡ s) }

@@ -4,6 +4,7 @@ ghost use Rattle.std.specs.Prelude.{◌≡◌, ◌≤◌, [], length, slice_get,
 ghost use Rattle.std.specs.Option.{option_copied};
 ghost use Rattle.wy_names.specs.Atoms.{head_names, type_number};
 
+use crate::items::item;
 use crate::scoping::Head;
 use crate::tables::Table;
 use std::alloc::Global;
@@ -28,12 +29,6 @@ impl Model for Heads {
     ghost view = { λ h. h.list.items };
 
     ghost invariant = { λ h. (h.names ≡ head_names h.list.items) × (length h.list.items ≤ 1028) };
-}
-
-fn item(list: &[Head], number: usize) -> Option<&Head>
-    ensures { option_copied result ≡ slice_get list.now number }
-{
-    list.get(number)
 }
 
 impl Heads {

@@ -1,18 +1,18 @@
 //! Which modules lead to which, and the refusals of those that lead back to themselves
 //! (docs/LANGUAGE.md, "Names").
 
-ghost use Rattle.std.specs.Prelude.{◌≡◌, ◌≤◌, ◌+◌, ◌++◌, [], map, length, IfOk, OnOk, slice_index_or};
-ghost use Rattle.wy_effects.specs.EffSet.{has};
+ghost use Rattle.std.specs.Prelude.{◌≡◌, ◌≤◌, ◌+◌, ◌++◌, [], false, map, length, option_to_list, slice_index_or, IfOk, OnOk};
 ghost use Rattle.wy_names.specs.Least.{noted};
-ghost use Rattle.wy_names.specs.Declarations.{texts, module_names, module_number};
+ghost use Rattle.wy_names.specs.Declarations.{first_from, texts, module_names, module_number};
 ghost use Rattle.wy_names.specs.Cycles.{named_modules};
 ghost use Rattle.wy_names.specs.Lines.{line_module};
-ghost use Rattle.wy_names.specs.Leading.{numbers_of, edges_of, LeadsInside};
+ghost use Rattle.wy_names.specs.Leading.{numbers_of, edges_of, Adds, EachOnce, LeadsInside};
 ghost use Rattle.wy_names.specs.CycleRefusals.{AreReached, word_refusals, words_refusals, cycle_refusals, NotesCycles};
 ghost use Rattle.wy_names.specs.Lent.{lent_name, module_tree};
 
-use crate::cycles::{next_from, reached_from};
+use crate::cycles::reached_from;
 use crate::gathering::ModuleView;
+use crate::marked::{Marked, Marks};
 use crate::noting::note_at;
 use crate::refusal::{Cause, Refusal};
 use crate::tables::Table;
@@ -54,7 +54,19 @@ fn named_modules<'a>(alloc: Global, view: &ModuleView<'a>) -> Result<Vec<&'a Nam
     Ok(words)
 }
 
-/// The numbers of the modules that words name.
+/// Adds the number of the module that a word names.
+fn add_number(list: &mut Marked, numbers: &Table, word: &Name) -> Result<(), Memory>
+    requires { list.old.below ≡ length numbers.now }
+    ensures bound { OnOk result (list.new.below ≡ list.old.below) }
+    ensures added { OnOk result (Adds list.old.list (option_to_list (first_from 0 numbers.now word.now.text)) list.new.list) }
+{
+    match numbers.number(&word.text) {
+        Some(number) => list.add(number),
+        None => Ok(()),
+    }
+}
+
+/// The numbers of the modules that words name, each once.
 fn numbers_of(
     alloc: Global,
     numbers: &Table,
@@ -62,25 +74,23 @@ fn numbers_of(
     words: &[&Name],
 ) -> Result<Items<usize>, Memory>
     requires { numbers.now ≡ texts (module_names (map module_tree modules.now)) }
-    ensures { IfOk result (λ ks. ks ≡ numbers_of (map module_tree modules.now) (map lent_name words.now)) }
+    ensures { IfOk result (λ ks. Adds [] (numbers_of (map module_tree modules.now) (map lent_name words.now)) ks) }
 {
-    let mut list = Items::new(alloc);
+    let mut list = Marked::new(alloc, numbers.len())?;
     for word in words {
-        if let Some(number) = numbers.number(&word.text) {
-            list.push(number)?;
-        }
+        add_number(&mut list, numbers, word)?;
     }
-    Ok(list)
+    Ok(list.into_list())
 }
 
-/// For each module the numbers of those that its uses and lines name.
+/// For each module the numbers of those that its uses and lines name, each once.
 fn edges_of(
     alloc: Global,
     numbers: &Table,
     modules: &[ModuleView],
 ) -> Result<Vec<Items<usize>>, Memory>
     requires { numbers.now ≡ texts (module_names (map module_tree modules.now)) }
-    ensures { IfOk result (λ es. es.items ≡ edges_of (map module_tree modules.now)) }
+    ensures { IfOk result (λ es. EachOnce (edges_of (map module_tree modules.now)) es.items) }
 {
     let mut edges = Vec::new(alloc);
     for view in modules {
@@ -90,8 +100,8 @@ fn edges_of(
     Ok(edges)
 }
 
-/// For each module the numbers of those that are reached from it.
-fn reached_of(alloc: Global, edges: &[Items<usize>]) -> Result<Vec<Items<usize>>, Memory>
+/// For each module the marks of those that are reached from it.
+fn reached_of(alloc: Global, edges: &[Items<usize>]) -> Result<Vec<Marks>, Memory>
     requires { LeadsInside edges.now }
     ensures { IfOk result (λ rs. AreReached edges.now rs.items) }
 {
@@ -102,23 +112,21 @@ fn reached_of(alloc: Global, edges: &[Items<usize>]) -> Result<Vec<Items<usize>>
     Ok(reached)
 }
 
-/// Whether a number is in the list.
-fn has(list: &[usize], number: usize) -> bool
-    ensures { result ≡ has number list.now }
+/// Whether a module is reached from another, by the marks of each.
+fn is_reached(reached: &[Marks], from: usize, number: usize) -> bool
+    ensures { result ≡ slice_index_or (slice_index_or reached.now from []) number false }
 {
-    for other in list {
-        if *other == number {
-            return true;
-        }
+    match reached.get(from) {
+        Some(marks) => marks.has(number),
+        None => false,
     }
-    false
 }
 
 /// Notes Cycle at each word of the module of a number that names a module from which that one is reached.
 fn note_words(
     numbers: &Table,
     modules: &[ModuleView],
-    reached: &[Items<usize>],
+    reached: &[Marks],
     number: usize,
     words: &[&Name],
     least: &mut Option<Refusal>,
@@ -134,7 +142,7 @@ fn note_words(
 fn note_word(
     numbers: &Table,
     modules: &[ModuleView],
-    reached: &[Items<usize>],
+    reached: &[Marks],
     number: usize,
     word: &Name,
     least: &mut Option<Refusal>,
@@ -143,7 +151,7 @@ fn note_word(
     ensures { least.new ≡ noted least.old (word_refusals reached.now number word.now (module_number (map module_tree modules.now) word.now.text)) }
 {
     if let Some(next) = numbers.number(&word.text) {
-        if has(next_from(reached, next), number) {
+        if is_reached(reached, next, number) {
             note_at(least, word.place, Cause::Cycle);
         }
     }
@@ -154,7 +162,7 @@ fn note_reached(
     alloc: Global,
     numbers: &Table,
     modules: &[ModuleView],
-    reached: &[Items<usize>],
+    reached: &[Marks],
     least: &mut Option<Refusal>,
 ) -> Result<(), Memory>
     requires { numbers.now ≡ texts (module_names (map module_tree modules.now)) }

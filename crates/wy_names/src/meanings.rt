@@ -1,9 +1,10 @@
 //! Names that stand for sets of atoms.
 
-ghost use Rattle.std.specs.Prelude.{◌≡◌, [], ◌∷◌, ◌++◌, slice_get, OnOk};
+ghost use Rattle.std.specs.Prelude.{◌≡◌, [], ◌∷◌, ◌++◌, OnOk};
 ghost use Rattle.std.specs.Option.{option_copied};
 ghost use Rattle.wy_names.specs.Meanings.{meaning_of};
 
+use crate::items::item;
 use crate::scoping::Meaning;
 use indexmap::IndexMap;
 use std::alloc::Global;
@@ -29,12 +30,6 @@ impl Model for Meanings {
     ghost view = { λ m. m.list.items };
 
     ghost invariant = { λ m. (x : List ℕ) → get same_name m.numbers x ≡ first_from 0 (meaning_names m.list.items) x };
-}
-
-fn item(list: &[Meaning], number: usize) -> Option<&Meaning>
-    ensures { option_copied result ≡ slice_get list.now number }
-{
-    list.get(number)
 }
 
 impl Meanings {

@@ -111,7 +111,7 @@ fn primitive_head(alloc: Global, decl: &resolved::TypeDecl) -> Result<Head, Memo
 }
 
 /// The names of types as a table.
-fn head_table(alloc: Global, heads: &[Head]) -> Result<Table, Memory>
+pub fn head_table(alloc: Global, heads: &[Head]) -> Result<Table, Memory>
     ensures { IfOk result (λ t. t ≡ head_names heads.now) }
 {
     let mut names = Vec::new(alloc);

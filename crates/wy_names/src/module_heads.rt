@@ -82,10 +82,7 @@ pub fn owners_of<'a>(
     ensures { IfOk result (λ o. o ≡ atom_scope heads.now (module_atoms heads.now (map module_tree modules.now) (module_tree view.now)) (module_owners heads.now (map module_tree modules.now) (module_tree view.now)) []) }
 {
     let list = module_owners(alloc, heads.names(), numbers, modules, view)?;
-    match Owners::new(alloc, heads, list.as_slice()) {
-        Ok(owners) => Ok(owners),
-        Err(_) => Err(Memory),
-    }
+    Owners::new(alloc, heads, list.as_slice())
 }
 
 /// A module's own names.

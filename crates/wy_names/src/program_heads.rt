@@ -38,10 +38,7 @@ pub fn program_owners_of<'a>(
     ensures { IfOk result (λ o. o ≡ atom_scope heads.now (program_atoms heads.now (map module_tree modules.now) (program_tree program.now)) (program_owners heads.now (map module_tree modules.now) (program_tree program.now)) []) }
 {
     let list = program_owners(alloc, heads.names(), numbers, modules, program)?;
-    match Owners::new(alloc, heads, list.as_slice()) {
-        Ok(owners) => Ok(owners),
-        Err(_) => Err(Memory),
-    }
+    Owners::new(alloc, heads, list.as_slice())
 }
 
 /// The program's own names.

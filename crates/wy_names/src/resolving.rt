@@ -130,10 +130,7 @@ fn note_second(programs: &[&Program], least: &mut Option<Refusal>)
 fn without_owners<'a>(alloc: Global, heads: &'a Heads) -> Result<Owners<'a>, Memory>
     ensures { IfOk result (λ o. o ≡ declaration_scope heads.now []) }
 {
-    match Owners::new(alloc, heads, &[]) {
-        Ok(owners) => Ok(owners),
-        Err(_) => Err(Memory),
-    }
+    Owners::new(alloc, heads, &[])
 }
 
 /// The modules and the program blocks. Their refusals are noted, and those of cycles.

@@ -3,4 +3,6 @@
 #![tactic(auto)]
 
 #[cfg(test)]
+mod naming;
+#[cfg(test)]
 mod parsing;

@@ -1,12 +1,13 @@
-use Rattle.std.proofs.Common.{◌≡◌, List, ap, subst, ◌∙◌}
-use Rattle.std.specs.Prelude.{ℕ, OnOk}
+use Rattle.std.proofs.Common.{◌≡◌, Ok, ap, subst, ◌∙◌}
 use Rattle.wy_text.specs.declared.fault.AtomName.{AtomName}
 use Rattle.wy_names.specs.Atoms.{atom_of, with_atom}
 use Rattle.wy_names.proofs.AtomsPut.{put_on}
 use Rattle.wy_names.proofs.atoms.add_atom.Goals as goal
 
-pub returns-clause-put : goal.returns-clause-put
-returns-clause-put c =
-    let same = ap (λ x. atom_of x c.in-Ok-Ok.member) c.in-Ok-Ok.ensures ∙ ap (λ x. atom_of c.args.owner.now x) c.in-Ok-Ok.ensures' in
-    let P : AtomName → Type 0 = λ a. OnOk c.insert.result (c.insert.new.self ≡ with_atom c.args.atoms.now a) in
-    subst P same (put_on c.args.atoms.now c.insert.new.self (atom_of c.in-Ok-Ok.owner c.in-Ok-Ok.member) c.insert.result c.insert.ensures)
+pub returns-in-Ok-clause-put : goal.returns-in-Ok-clause-put
+returns-in-Ok-clause-put c =
+    let owner = c.in_ok-owner.owner in
+    let member = c.in_ok-member.member in
+    let same = ap (λ x. atom_of x member) c.in_ok-owner.ensures ∙ ap (λ x. atom_of c.args.owner.now x) c.in_ok-member.ensures in
+    let P : AtomName → Type 0 = λ a. c.insert.new.self ≡ with_atom c.args.atoms.now a in
+    subst P same (put_on c.args.atoms.now c.insert.new.self (atom_of owner member) (Ok c.in-Ok.atom) c.in-Ok.ensures)

@@ -1,5 +1,4 @@
-use Rattle.std.proofs.Common.{◌≡◌, ◌++◌, [], ◌∷◌, ◌+◌, ◌<◌, rules, drop, length, subst, List, ap, ◌∙◌, sym}
-use Rattle.std.specs.Prelude.{ℕ}
+use Rattle.std.proofs.Common.{◌++◌, [], ◌∷◌, ◌+◌, ◌<◌, rules, drop, length, subst, List, ◌∙◌}
 use Rattle.wy_names.specs.declared.scoping.Meaning.{Meaning}
 use Rattle.wy_names.proofs.Opening.{Opens, moved, turn_abstract, turn_defined}
 use Rattle.wy_names.proofs.Turns.{next_of}

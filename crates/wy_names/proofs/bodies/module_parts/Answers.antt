@@ -1,4 +1,4 @@
-use Rattle.std.proofs.Common.{◌≡◌, ◌≤◌, map, arith, ap, ap₂, ◌∙◌}
+use Rattle.std.proofs.Common.{map, arith, ap, ap₂, ◌∙◌}
 use Rattle.wy_types.specs.Program.{body_of, Init}
 use Rattle.wy_syntax.specs.Views.{part_trees}
 use Rattle.wy_names.specs.InSight.{Frame}

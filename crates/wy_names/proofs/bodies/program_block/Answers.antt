@@ -1,4 +1,4 @@
-use Rattle.std.proofs.Common.{◌≡◌, ◌≤◌, [], map, arith, ap, ap₂, ◌∙◌}
+use Rattle.std.proofs.Common.{[], map, arith, ap, ap₂, ◌∙◌}
 use Rattle.wy_types.specs.Program.{body_of, Run}
 use Rattle.wy_syntax.specs.Views.{tail_tree}
 use Rattle.wy_names.specs.InSight.{Frame}

@@ -1,9 +1,8 @@
-use Rattle.std.proofs.Common.{◌≡◌, ℕ, List, [], ◌∷◌, ◌++◌, map, refl, sym, ap, ◌∙◌, rules}
-use Rattle.std.specs.Ordering.{nat_cmp}
-use Rattle.std.specs.BTreeMap.{get, values}
+use Rattle.std.proofs.Common.{◌≡◌, List, [], ◌∷◌, ◌++◌, map, refl, sym, ap, ◌∙◌, rules}
+use Rattle.std.specs.BTreeMap.{values}
 use Rattle.wy_syntax.specs.Views.{part_trees}
 use Rattle.wy_types.specs.declared.code.Variable.{Variable}
-use Rattle.wy_names.specs.Written.{lent_text, mark, methods_names}
+use Rattle.wy_names.specs.Written.{lent_text, methods_names}
 use Rattle.wy_names.proofs.Marks.{marks_are, marked_of, marked_written}
 use Rattle.wy_names.proofs.captures.captures.Goals as goal
 

@@ -1,10 +1,8 @@
-use Rattle.std.proofs.Common.{◌≡◌, ◌<◌, ◌+◌, ◌++◌, ◌∷◌, [], ℕ, List, map, take, length, Some, None, rules, sym, ap, ◌∙◌, cond, Option}
+use Rattle.std.proofs.Common.{◌<◌, ◌∷◌, [], map, take, length, Some, rules, sym, ap, ◌∙◌, cond}
 use Rattle.std.proofs.lemmas.List.{map-append}
 use Rattle.std.specs.Ordering.{nat_cmp}
 use Rattle.std.specs.BTreeMap.{get, is_at}
 use Rattle.std.specs.Map.{lookup}
-use Rattle.wy_types.specs.declared.code.Variable.{Variable}
-use Rattle.wy_names.specs.InSight.{latest}
 use Rattle.wy_names.specs.Written.{lent_text, mark}
 use Rattle.wy_names.proofs.Turns.{taken}
 use Rattle.wy_names.proofs.Marks.{mark_none, mark_more, put, put_is}

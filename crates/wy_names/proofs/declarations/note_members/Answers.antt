@@ -1,9 +1,7 @@
-use Rattle.std.proofs.Common.{◌≡◌, ◌<◌, ◌≤◌, ◌+◌, ◌++◌, ◌∷◌, [], List, ap, sym, ◌∙◌, rules, drop, length, false}
+use Rattle.std.proofs.Common.{◌<◌, ◌+◌, ◌++◌, ◌∷◌, [], List, ap, sym, ◌∙◌, rules, drop, length, false}
 use Rattle.std.specs.Prelude.{ℕ}
 use Rattle.wy_syntax.specs.declared.items.Member.{Member}
-use Rattle.wy_syntax.specs.declared.items.Member.TheVariants.{Abstract, Defined, Method}
 use Rattle.wy_names.specs.declared.scoping.Meaning.{Meaning}
-use Rattle.wy_names.specs.Least.{noted}
 use Rattle.wy_names.specs.Atoms.{set_refusals, member_scope, abstract_member, defined_member, set_of}
 use Rattle.wy_names.specs.TypeUses.{members_refusals, signature_refusals}
 use Rattle.wy_names.proofs.Turns.{next_of}

@@ -1,5 +1,4 @@
-use Rattle.std.proofs.Common.{◌<◌, ◌+◌, ◌++◌, ◌∷◌, [], List, ap, sym, ◌∙◌, rules, drop, take, length}
-use Rattle.wy_names.specs.declared.scoping.Meaning.{Meaning}
+use Rattle.std.proofs.Common.{◌<◌, ◌+◌, ◌++◌, [], ap, ◌∙◌, rules, drop, take, length}
 use Rattle.wy_names.specs.Atoms.{set_refusals}
 use Rattle.wy_names.specs.Scopes.{atom_scope, definitions_refusals}
 use Rattle.wy_names.proofs.Turns.{next_of}

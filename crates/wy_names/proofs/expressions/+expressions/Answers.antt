@@ -1,7 +1,6 @@
 use Rattle.std.proofs.Common.{◌≡◌, ◌<◌, ◌+◌, length, drop, rules, sym, ap, ◌∙◌}
 use Rattle.std.proofs.lemmas.List.{drop_all}
 use Rattle.wy_types.specs.Code as plain
-use Rattle.wy_types.specs.View.{expr_of, value_of, block_of}
 use Rattle.wy_syntax.specs.Views.{expr_tree, expr_trees}
 use Rattle.wy_names.specs.Least.{noted}
 use Rattle.wy_names.specs.Lending.{lent_within}
@@ -9,7 +8,8 @@ use Rattle.wy_names.specs.InSight.{sight_of}
 use Rattle.wy_names.specs.Bodies.{operand, expr_value, expr_values}
 use Rattle.wy_names.specs.BodyRefusals.{expr_refusals, exprs_refusals, typed_refusals}
 use Rattle.wy_names.proofs.Notings.{noted_two, noted_three, noted_turn}
-use Rattle.wy_names.proofs.TreeLayers.{expr_tree-Binary, expr_tree-Call, expr_tree-TextPart, expr_tree-TextCode, expr_tree-Ascribe, expr_tree-Choice}
+use Rattle.wy_syntax.proofs.Layers.{expr_tree-Binary, expr_tree-Call, expr_tree-TextPart, expr_tree-TextCode, expr_tree-Choice}
+use Rattle.wy_names.proofs.TreeLayers.{expr_tree-Ascribe}
 use Rattle.wy_names.proofs.Turns.{next_of}
 use Rattle.wy_names.proofs.ValueRows.{values_turn, values_then, values_then-none, if_of}
 use Rattle.wy_names.proofs.expressions.+expressions.Goals as goal

@@ -1,5 +1,4 @@
 use Rattle.std.proofs.Common.{◌≡◌, drop}
-use Rattle.wy_types.specs.Code as plain
 use Rattle.wy_syntax.specs.Views.{expr_trees}
 use Rattle.wy_names.specs.Least.{noted}
 use Rattle.wy_names.specs.Lending.{lent_within}

@@ -1,11 +1,10 @@
-use Rattle.std.proofs.Common.{◌≡◌, ◌++◌, drop, map}
+use Rattle.std.proofs.Common.{map, take}
 use Rattle.wy_names.specs.Declarations.{ModuleTree}
 use Rattle.wy_names.specs.Cycles.{named_modules}
-use Rattle.wy_names.specs.Leading.{numbers_of, edges_of}
+use Rattle.wy_names.specs.Leading.{numbers_of, EachOnce}
 use Rattle.wy_names.specs.Lent.{module_tree}
 use Rattle.wy_names.proofs.leading.edges_of.Given as goal
 
 abbrev pub invariant-loop-view : goal.invariant-loop-view
 invariant-loop-view l =
-    l.edges.items ++ map (λ (m : ModuleTree). numbers_of (map module_tree l.modules) (named_modules m)) (map module_tree (drop l.view-index l.modules)) ≡
-    edges_of (map module_tree l.modules)
+    EachOnce (map (λ (m : ModuleTree). numbers_of (map module_tree l.modules) (named_modules m)) (map module_tree (take l.view-index l.modules))) l.edges.items

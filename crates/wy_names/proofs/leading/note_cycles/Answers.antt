@@ -1,26 +1,28 @@
-use Rattle.std.proofs.Common.{◌≡◌, ◌+◌, ℕ, List, sym, ap, ◌∙◌, subst, map, rules, arith, slice_get}
-use Rattle.wy_names.specs.Leading.{LeadsInside, edges_of}
-use Rattle.wy_names.specs.CycleRefusals.{AreReached, cycle_refusals}
+use Rattle.std.proofs.Common.{◌≡◌, ◌+◌, ℕ, ap, map, rules, arith, slice_get}
+use Rattle.wy_names.specs.Leading.{EachOnce, edges_of}
+use Rattle.wy_names.specs.CycleRefusals.{cycle_refusals}
 use Rattle.wy_names.specs.Lent.{module_tree}
 use Rattle.wy_names.proofs.CyclesFound.{leads_inside, found_sound, found_complete}
+use Rattle.wy_names.proofs.EdgesOnce.{inside_once, reached_once}
 use Rattle.wy_names.proofs.leading.note_cycles.Goals as goal
 
 pub reached_of-requires : goal.reached_of-requires
 reached_of-requires c =
-    let same : edges_of (map module_tree c.args.modules.now) ≡ c.deref.result.now = sym (search rules) in
-    subst LeadsInside same (leads_inside (map module_tree c.args.modules.now))
+    let modules = map module_tree c.args.modules.now in
+    let once : EachOnce (edges_of modules) c.deref.result.now = search rules in
+    inside_once (edges_of modules) c.deref.result.now once (leads_inside modules)
 
 pub returns : goal.returns
 returns c =
     let modules = map module_tree c.args.modules.now in
-    let edges : edges_of modules ≡ c.deref.result.now = sym (search rules) in
-    let P : List (List ℕ) → Type 0 = λ e. AreReached e c.in_ok-reached.reached.items in
-    let are : AreReached (edges_of modules) c.in_ok-reached.reached.items = subst P (sym edges) c.in_ok-reached.ensures in
+    let reached = c.in_ok-reached.reached.items in
+    let once : EachOnce (edges_of modules) c.deref.result.now = search rules in
+    let are = reached_once (edges_of modules) c.deref.result.now reached once c.in_ok-reached.ensures in
     record {
-      refusals = cycle_refusals c.in_ok-reached.reached.items modules 0 modules;
+      refusals = cycle_refusals reached modules 0 modules;
       are = λ r. (
-        found_sound c.in_ok-reached.reached.items modules are 0 modules (λ i. (let e : i ≡ 0 + i = omega arith in ap (λ (n : ℕ). slice_get modules n) e)) r,
-        found_complete c.in_ok-reached.reached.items modules are r,
+        found_sound reached modules are 0 modules (λ i. (let e : i ≡ 0 + i = omega arith in ap (λ (n : ℕ). slice_get modules n) e)) r,
+        found_complete reached modules are r,
       );
       noted_are = search rules;
     }

@@ -1,4 +1,4 @@
-use Rattle.std.proofs.Common.{◌<◌, ◌+◌, ap, ◌∙◌, rules, drop, length, map}
+use Rattle.std.proofs.Common.{◌<◌, ◌+◌, ap, rules, drop, length, map}
 use Rattle.wy_names.specs.Cycles.{named_modules}
 use Rattle.wy_names.specs.CycleRefusals.{words_refusals, cycle_refusals}
 use Rattle.wy_names.specs.Lent.{module_tree}

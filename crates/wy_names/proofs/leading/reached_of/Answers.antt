@@ -1,4 +1,4 @@
-use Rattle.std.proofs.Common.{◌≡◌, ◌<◌, ◌+◌, ◌++◌, [], ◌∷◌, length, rules, arith}
+use Rattle.std.proofs.Common.{◌<◌, rules}
 use Rattle.wy_names.proofs.CyclesFound.{reached_more}
 use Rattle.wy_names.proofs.leading.reached_of.Goals as goal
 

@@ -1,8 +1,5 @@
-use Rattle.std.proofs.Common.{◌≡◌, ◌<◌, ◌+◌, ◌++◌, ◌∷◌, [], List, ap, sym, ◌∙◌, rules, drop, take, length, map, append_assoc, arith}
+use Rattle.std.proofs.Common.{◌≡◌, ◌<◌, ◌+◌, ◌++◌, ◌∷◌, [], ap, sym, ◌∙◌, rules, drop, take, length, map, append_assoc, arith}
 use Rattle.std.specs.Prelude.{Some, slice_get}
-use Rattle.wy_syntax.specs.declared.items.Line.{Line}
-use Rattle.wy_types.specs.declared.resolved.OwnName.{OwnName}
-use Rattle.wy_names.specs.declared.scoping.Owner.{Owner}
 use Rattle.wy_names.specs.Atoms.{head_names, line_owner}
 use Rattle.wy_names.specs.Lines.{line_name, line_names}
 use Rattle.wy_names.specs.Lent.{module_tree}

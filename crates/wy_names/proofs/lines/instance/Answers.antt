@@ -1,4 +1,4 @@
-use Rattle.std.proofs.Common.{◌≡◌, List, ap, ◌∙◌, map, rules}
+use Rattle.std.proofs.Common.{List, ap, ◌∙◌, map, rules}
 use Rattle.std.specs.Prelude.{ℕ}
 use Rattle.wy_syntax.specs.declared.items.Line.TheVariants as line
 use Rattle.wy_types.specs.declared.types.TypeRef.{TypeRef}

@@ -1,4 +1,4 @@
-use Rattle.std.proofs.Common.{◌≡◌, ◌<◌, ◌+◌, ◌++◌, ◌∷◌, [], List, ap, sym, ◌∙◌, rules, drop, take, length, map, arith}
+use Rattle.std.proofs.Common.{◌≡◌, ◌<◌, ◌+◌, ◌++◌, ap, sym, ◌∙◌, rules, drop, take, length, map, arith}
 use Rattle.std.specs.Prelude.{Some, slice_get}
 use Rattle.wy_names.specs.Atoms.{head_names, line_owner}
 use Rattle.wy_names.specs.Lines.{line_refusals, lines_refusals}

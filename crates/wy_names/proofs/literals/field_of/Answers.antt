@@ -1,4 +1,4 @@
-use Rattle.std.proofs.Common.{◌≡◌, ℕ, List, Bool, ap, ap₂, ◌∙◌}
+use Rattle.std.proofs.Common.{ℕ, List, Bool, ap, ap₂, ◌∙◌}
 use Rattle.wy_text.specs.declared.fault.Place.{Place}
 use Rattle.wy_types.specs.declared.types.TypeRef.{TypeRef}
 use Rattle.wy_types.specs.declared.resolved.Field.{Field}

@@ -1,4 +1,4 @@
-use Rattle.std.proofs.Common.{◌≡◌, [], ◌++◌, map, sym, ap, ◌∙◌, subst, Option, List}
+use Rattle.std.proofs.Common.{◌≡◌, [], map, sym, ap, ◌∙◌, subst, Option}
 use Rattle.std.specs.Prelude.{OnOk}
 use Rattle.wy_syntax.specs.Views.{part_trees}
 use Rattle.wy_names.specs.declared.refusal.Refusal.{Refusal}

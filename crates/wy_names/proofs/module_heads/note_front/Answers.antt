@@ -1,6 +1,5 @@
-use Rattle.std.proofs.Common.{◌≡◌, [], ◌++◌, List, map, take, length, ap, ◌∙◌, rules}
+use Rattle.std.proofs.Common.{◌≡◌, [], ◌++◌, map, ap, ◌∙◌, rules}
 use Rattle.wy_types.specs.Types.{is_plain}
-use Rattle.wy_names.specs.declared.refusal.Refusal.{Refusal}
 use Rattle.wy_names.specs.Least.{noted}
 use Rattle.wy_names.specs.Declarations.{repeated}
 use Rattle.wy_names.specs.Atoms.{AtomScope, head_names, type_number}

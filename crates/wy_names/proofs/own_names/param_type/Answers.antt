@@ -1,4 +1,4 @@
-use Rattle.std.proofs.Common.{◌≡◌, ap, subst, ◌∙◌, sym, if◌then◌else◌, rules}
+use Rattle.std.proofs.Common.{◌≡◌, ap, subst, ◌∙◌, sym, if◌then◌else◌}
 use Rattle.std.specs.Prelude.{IfOk, false}
 use Rattle.wy_types.specs.declared.types.TypeRef.{TypeRef}
 use Rattle.wy_names.specs.Atoms.{head_names, param_owner, param_opening}

@@ -1,4 +1,4 @@
-use Rattle.std.proofs.Common.{◌≡◌, [], ◌++◌, List, map, ap, ◌∙◌, rules}
+use Rattle.std.proofs.Common.{◌≡◌, [], ◌++◌, map, ap, ◌∙◌, rules}
 use Rattle.wy_names.specs.Least.{noted}
 use Rattle.wy_names.specs.Declarations.{repeated}
 use Rattle.wy_names.specs.Atoms.{AtomScope, head_names}

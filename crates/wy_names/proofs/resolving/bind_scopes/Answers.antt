@@ -1,4 +1,4 @@
-use Rattle.std.proofs.Common.{◌≡◌, ◌≤◌, ◌++◌, List, map, length, refl, ap, ◌∙◌, rules, arith}
+use Rattle.std.proofs.Common.{◌++◌, List, map, length, refl, ap, ◌∙◌, arith}
 use Rattle.std.proofs.lemmas.List.{length-map}
 use Rattle.std.specs.Prelude.{ℕ}
 use Rattle.wy_syntax.specs.declared.types.Name.{Name}

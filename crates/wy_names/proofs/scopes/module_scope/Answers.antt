@@ -1,6 +1,5 @@
-use Rattle.std.proofs.Common.{◌≡◌, [], List, map, sym, ap, ◌∙◌, subst, rules, refl}
+use Rattle.std.proofs.Common.{[], List, map, ap, ◌∙◌, subst, refl}
 use Rattle.wy_types.specs.Program.{scope_of}
-use Rattle.wy_names.specs.declared.scopes.Parts.{Parts}
 use Rattle.wy_names.specs.declared.scoping.Head.{Head}
 use Rattle.wy_names.specs.Least.{noted}
 use Rattle.wy_names.specs.Atoms.{AtomScope}

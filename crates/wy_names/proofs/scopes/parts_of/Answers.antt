@@ -1,9 +1,7 @@
-use Rattle.std.proofs.Common.{◌≡◌, [], ◌∷◌, ◌++◌, List, map, take, length, sym, ap, ◌∙◌, subst, rules}
+use Rattle.std.proofs.Common.{◌≡◌, [], ◌∷◌, ◌++◌, map, length, ap, ◌∙◌, rules}
 use Rattle.std.proofs.lemmas.List.{length-map}
 use Rattle.wy_types.specs.Program.{Init}
 use Rattle.wy_types.specs.Types.{is_plain}
-use Rattle.wy_names.specs.declared.refusal.Refusal.{Refusal}
-use Rattle.wy_names.specs.declared.scoping.Owner.{Owner}
 use Rattle.wy_names.specs.Least.{noted}
 use Rattle.wy_names.specs.Declarations.{repeated}
 use Rattle.wy_names.specs.Atoms.{AtomScope, head_names, type_number}
@@ -11,7 +9,7 @@ use Rattle.wy_names.specs.Lines.{owner_names}
 use Rattle.wy_names.specs.Sight.{outermost, inside}
 use Rattle.wy_names.specs.Bodies.{Within, at_start, part_values, literal_of, parts_literals, parts_bodies}
 use Rattle.wy_names.specs.BodyRefusals.{repeated_parts, parts_refusals}
-use Rattle.wy_names.specs.Scopes.{atom_scope, definitions_after, define_names, definitions_refusals, definitions_at, start_effect, init_refusals, module_scope, module_meanings, module_owners, module_atoms, module_within}
+use Rattle.wy_names.specs.Scopes.{define_names, definitions_refusals, definitions_at, start_effect, init_refusals, module_scope, module_meanings, module_owners, module_atoms}
 use Rattle.wy_names.specs.Lent.{module_tree}
 use Rattle.wy_names.proofs.Fronts.{init_same, start_same, definitions_same}
 use Rattle.wy_names.proofs.ScopesMade.{meanings_are, scope_is, defined_are, within_is, module_noted}

@@ -1,4 +1,4 @@
-use Rattle.std.proofs.Common.{◌≡◌, [], length, map, ap, ◌∙◌, false, rules}
+use Rattle.std.proofs.Common.{◌≡◌, length, map, ap, ◌∙◌, false, rules}
 use Rattle.std.proofs.lemmas.List.{length-map}
 use Rattle.wy_names.specs.Least.{noted}
 use Rattle.wy_names.specs.Atoms.{AtomScope, set_refusals}
@@ -6,7 +6,7 @@ use Rattle.wy_names.specs.Lines.{owner_names}
 use Rattle.wy_names.specs.Sight.{outermost}
 use Rattle.wy_names.specs.Bodies.{Within, at_start}
 use Rattle.wy_names.specs.BodyRefusals.{tail_refusals}
-use Rattle.wy_names.specs.Scopes.{atom_scope, program_atoms, program_owners, program_scope, program_within}
+use Rattle.wy_names.specs.Scopes.{program_atoms, program_owners, program_scope, program_within}
 use Rattle.wy_names.specs.Lent.{module_tree, program_tree}
 use Rattle.wy_names.proofs.ScopesMade.{program_noted, whole_scope}
 use Rattle.wy_names.proofs.scopes.program_parts.Goals as goal

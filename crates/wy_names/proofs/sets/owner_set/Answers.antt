@@ -1,10 +1,10 @@
-use Rattle.std.proofs.Common.{◌≡◌, List, Option, Some, ap, subst, ◌∙◌, sym, rules}
+use Rattle.std.proofs.Common.{◌≡◌, List, Option, Some, ap, subst, rules}
 use Rattle.std.specs.Prelude.{ℕ, IfOk, slice_get}
 use Rattle.std.specs.Option.{option_copied}
 use Rattle.wy_names.specs.declared.atom_scope.Opened.{Opened}
 use Rattle.wy_names.specs.Found.{IsFound}
 use Rattle.wy_names.specs.Meanings.{meaning_of}
-use Rattle.wy_names.specs.Atoms.{owner_of, owner_set}
+use Rattle.wy_names.specs.Atoms.{owner_of}
 use Rattle.wy_names.proofs.Finding.{member_found}
 use Rattle.wy_names.proofs.sets.owner_set.Goals as goal
 

@@ -1,5 +1,5 @@
-use Rattle.std.proofs.Common.{Vec, Global, ◌≡◌, ℕ, ◌<◌, ◌≤◌, ◌+◌, List, [], ◌∷◌, ◌++◌, map, length, take, drop, true, rules, arith, refl, sym, ap, ap₂, subst, ◌∙◌, Option, append_assoc}
-use Rattle.std.proofs.lemmas.List.{drop_all, map-append}
+use Rattle.std.proofs.Common.{Vec, Global, ◌≡◌, ℕ, ◌<◌, ◌≤◌, ◌+◌, [], ◌∷◌, ◌++◌, map, length, take, drop, true, rules, arith, refl, sym, ap, ap₂, subst, ◌∙◌, Option}
+use Rattle.std.proofs.lemmas.List.{drop_all}
 use Rattle.std.proofs.lemmas.Result.{on_ok_weaker}
 use Rattle.std.specs.Prelude.{Result, Ok, Err, OnOk, IfOk}
 use Rattle.wy_text.specs.declared.fault.Place.{Place}
@@ -14,14 +14,15 @@ use Rattle.wy_syntax.specs.Trees as trees
 use Rattle.wy_syntax.specs.Views.{expr_tree, rhs_tree, stmt_tree, stmt_trees, part_tree, part_trees, tail_tree}
 use Rattle.wy_names.specs.declared.refusal.Refusal.{Refusal}
 use Rattle.wy_names.specs.Declarations.{texts}
-use Rattle.wy_names.specs.Sight.{with_params, written_of}
-use Rattle.wy_names.specs.InSight.{Known, known, Frame, frame, sight_of, known_params}
+use Rattle.wy_names.specs.Sight.{written_of}
+use Rattle.wy_names.specs.InSight.{known, Frame, frame, sight_of, known_params}
 use Rattle.wy_names.specs.Lending.{lent_within}
-use Rattle.wy_names.specs.Bodies.{stmts_block, part_values, rhs_value, tail_block, method_body}
+use Rattle.wy_names.specs.Bodies.{stmts_block, part_values, rhs_value, tail_block}
 use Rattle.wy_names.specs.BodyRefusals.{field_names, typed_refusals}
-use Rattle.wy_names.specs.FoundBodies.{Found, found_of, noting, after_rhs, after_stmt, after_stmts, after_part, after_parts, after_tail, ended, named, alone, stmt_form, with_stmt}
+use Rattle.wy_names.specs.FoundBodies.{Found, found_of, noting, after_rhs, after_stmt, after_stmts, after_part, after_parts, named, alone, stmt_form, with_stmt}
 use Rattle.wy_names.proofs.Turns.{next_of}
-use Rattle.wy_names.proofs.TreeLayers.{rhs_tree-Value, rhs_tree-Branch, stmt_tree-Val, stmt_tree-Assign, stmt_tree-Run, part_tree-Field, part_tree-Method}
+use Rattle.wy_syntax.proofs.Layers.{rhs_tree-Branch}
+use Rattle.wy_names.proofs.TreeLayers.{rhs_tree-Value, stmt_tree-Val, stmt_tree-Assign, stmt_tree-Run, part_tree-Field, part_tree-Method}
 use Rattle.wy_names.proofs.ValueRows.{values_then, values_turn, values_then-none, if_of}
 use Rattle.wy_names.proofs.Walks.{made, value_next, branch_next, val_next, assign_next, field_next, parts_turn, parts_end, method_turn, literal_turn, bodies_are, with_params_is, variables_are, inside_is}
 use Rattle.wy_names.proofs.Blocks.{joined, joined_none, longer_none, longer_back, longer_start, found_end, block_longer, block_found, block_value, start_kept}

@@ -1,5 +1,4 @@
-use Rattle.std.proofs.Common.{◌≡◌, List, [], ◌∷◌, ◌++◌, ap, ◌∙◌}
-use Rattle.wy_types.specs.declared.code.Stmt as s
+use Rattle.std.proofs.Common.{ap}
 use Rattle.wy_types.specs.View.{value_of}
 use Rattle.wy_names.proofs.Blocks.{ended_do, ended_val}
 use Rattle.wy_names.proofs.statements.ended.Goals as goal

@@ -1,5 +1,4 @@
-use Rattle.std.proofs.Common.{◌≡◌, ◌<◌, ◌+◌, List, Bool, true, false, ap, subst, ◌∙◌, sym, rules, drop, length, is_some}
-use Rattle.wy_names.specs.declared.scoping.Meaning.{Meaning}
+use Rattle.std.proofs.Common.{◌≡◌, ◌<◌, ◌+◌, true, false, ap, ◌∙◌, sym, rules, drop, length, is_some}
 use Rattle.wy_names.specs.Declarations.{first_from}
 use Rattle.wy_names.specs.Meanings.{abstract_names}
 use Rattle.wy_names.specs.TypeUses.{all_among}

@@ -1,4 +1,4 @@
-use Rattle.std.proofs.Common.{◌≡◌, List, [], Some, None, ap, subst, ◌∙◌, sym, rules}
+use Rattle.std.proofs.Common.{◌≡◌, List, Some, None, ap, subst, ◌∙◌, sym, rules}
 use Rattle.std.specs.Prelude.{ℕ, IfOk, slice_get}
 use Rattle.std.specs.Option.{option_copied}
 use Rattle.wy_names.specs.Declarations.{first_from}

@@ -1,4 +1,4 @@
-use Rattle.std.proofs.Common.{◌≡◌, [], ap, subst, ◌∙◌, map, rules}
+use Rattle.std.proofs.Common.{[], subst, map, rules}
 use Rattle.std.specs.Prelude.{slice_get}
 use Rattle.std.specs.Option.{option_copied}
 use Rattle.wy_names.specs.declared.atom_scope.Opened.{Opened}

@@ -1,4 +1,4 @@
-use Rattle.std.proofs.Common.{◌≡◌, [], ◌∷◌, ◌++◌, ◌+◌, ◌<◌, ◌≤◌, List, rules, drop, length, subst, ap, ◌∙◌, sym}
+use Rattle.std.proofs.Common.{[], ◌+◌, ◌<◌, List, rules, drop, length, subst, ap, ◌∙◌, sym}
 use Rattle.std.proofs.lemmas.List.{append-nil}
 use Rattle.wy_names.specs.declared.scoping.Owner.{Owner}
 use Rattle.wy_names.specs.Atoms.{owner_sets, opened_names}
@@ -18,7 +18,7 @@ loop-owner-preserved c =
 
 pub invariant_of-result : goal.invariant_of-result
 invariant_of-result c = (
-  c.in-Ok.ensures ∙ c.loop-owner.invariant.named,
+  c.in_ok-names.ensures ∙ c.loop-owner.invariant.named,
   λ p i.
       ap (λ x. owner_sets x p.owner.name (opened_names c.args.heads.now p.owner.opening)) (sym (append-nil c.loop-owner.atoms))
       ∙ c.loop-owner.invariant.sets p i [],

@@ -1,8 +1,8 @@
-use Rattle.std.proofs.Common.{◌≡◌, ℕ, List, [], ◌∷◌, ◌++◌, map, length, Some, sym, ap, ◌∙◌, subst, cond, rules}
+use Rattle.std.proofs.Common.{◌≡◌, ℕ, List, [], map, length, Some, sym, ap, ◌∙◌, subst, cond, rules}
 use Rattle.indexmap.specs.IndexMap.{get}
 use Rattle.wy_names.specs.declared.sight.Known as code
 use Rattle.wy_names.specs.Declarations.{same_name}
-use Rattle.wy_names.specs.InSight.{Known, known_of, latest, numbered, held, KeepsHidden}
+use Rattle.wy_names.specs.InSight.{known_of, latest, numbered, held, KeepsHidden}
 use Rattle.wy_names.proofs.Latests.{found_more, hidden_more}
 use Rattle.wy_names.proofs.sight.Variables.push.Goals as goal
 

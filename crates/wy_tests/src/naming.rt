@@ -1,9 +1,13 @@
-use crate::gathering::{modules, programs, types};
-use crate::limits::first_limit;
-use crate::refusal::{Cause, Refusal};
-use crate::tables::{Table, note_repeated};
+mod atoms;
+mod bodies;
+mod programs;
+
 use std::alloc::Global;
 use std::test::Fail;
+use wy_names::gathering::{modules, programs, types};
+use wy_names::limits::first_limit;
+use wy_names::refusal::{Cause, Refusal};
+use wy_names::tables::{Table, note_repeated};
 use wy_syntax::expressions::Expr;
 use wy_syntax::items::{Grant, Item, Program, Tree};
 use wy_syntax::statements::{Rhs, Tail};
@@ -13,7 +17,7 @@ use wy_text::limit::LimitName;
 use wy_text::list::Items;
 use wy_text::text::{Memory, from_bytes};
 
-fn place(line: u32) -> Place {
+pub fn place(line: u32) -> Place {
     Place {
         file: 1,
         line,
@@ -21,7 +25,7 @@ fn place(line: u32) -> Place {
     }
 }
 
-fn name(alloc: Global, text: &str, line: u32) -> Result<Name, Memory> {
+pub fn name(alloc: Global, text: &str, line: u32) -> Result<Name, Memory> {
     Ok(Name {
         text: from_bytes(alloc, text.as_bytes())?,
         place: place(line),
