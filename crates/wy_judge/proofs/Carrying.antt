@@ -18,7 +18,7 @@ use Rattle.wy_judge.specs.declared.outcomes.Fits.TheVariants as fits
 use Rattle.wy_judge.specs.Outcomes.{more_fits, then_fits, push_fit, NoneFails}
 use Rattle.wy_judge.specs.Judged.{Fitted, Probed, AllFitted, AllProbed, Carries, CarriesProbed}
 use Rattle.wy_judge.proofs.Dropping.{drop_there, drop_past}
-use Rattle.wy_judge.proofs.Several.{none_fitted, more_fitted, first_value_fails, none_probed, more_probed, first_probe_fails}
+use Rattle.wy_judge.proofs.FirstAndOthers.{none_fitted, more_fitted, first_value_fails, none_probed, more_probed, first_probe_fails}
 use Rattle.wy_judge.proofs.Unions.{union_grouped, union_nothing}
 
 module _ (p : Program) (k : ℕ) (s : Scope) (w : Lawful (scope_reading p k s)) (locals : List (scope_reading p k s).Kind) (owner : Option ℕ) where

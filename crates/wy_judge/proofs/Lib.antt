@@ -3,9 +3,9 @@ pub mod Blocks
 pub mod Carrying
 pub mod Choosing
 pub mod Dropping
+pub mod FirstAndOthers
 pub mod Fitting
 pub mod Lists
 pub mod ReadTypes
-pub mod Several
 pub mod Stepping
 pub mod Unions
