@@ -10,18 +10,17 @@ use Rattle.wy_types.specs.declared.types.TypeRef.TheVariants.{Unit as Nothing}
 use Rattle.wy_types.specs.Code.{Expr, Value, Plain, If, Block, Last, Then, Val}
 use Rattle.wy_types.specs.Program.{Program, Scope}
 use Rattle.wy_rules.specs.Derivations.{mark}
-use Rattle.wy_rules.specs.Typing.{HasAt, BlockHasAt}
+use Rattle.wy_rules.specs.Typing.{BlockHasAt}
 use Rattle.wy_rules.specs.Acceptance.{scope_reading}
 use Rattle.wy_rules.specs.Nodes.{Spot, nothing, written, statement, val, Node, node, value_nodes, block_nodes, val_spot}
 use Rattle.wy_rules.specs.Failing.{IsLeastAt, ValStands, ValFails, Passes, FailsBy, FirstFailing, AllPass}
 use Rattle.wy_rules.proofs.Forms.{Lawful, block_bare}
-use Rattle.wy_rules.proofs.Least.{LeastAt, raise_block, last_least, last_has, then_least, val_least, at_type}
-use Rattle.wy_judge.specs.declared.outcomes.Inference.{Inference}
+use Rattle.wy_rules.proofs.Least.{raise_block, last_least, last_has, then_least, val_least, at_type}
 use Rattle.wy_judge.specs.declared.outcomes.Inference.TheVariants as inferred
 use Rattle.wy_judge.specs.declared.outcomes.Fit.{Fit}
 use Rattle.wy_judge.specs.declared.outcomes.Fit.TheVariants as fit
 use Rattle.wy_judge.specs.Outcomes.{fault_at, followed_fit, stated_fit, untyped_fault}
-use Rattle.wy_judge.specs.Judged.{Inferred, Fitted, BlockFitted, Probed, BlockProbed, Follows, Stated}
+use Rattle.wy_judge.specs.Judged.{Inferred, Fitted, BlockFitted, Probed, BlockProbed, Stated}
 use Rattle.wy_judge.proofs.Fitting.{least_at}
 use Rattle.wy_judge.proofs.Lists.{pass_both, fail_left, fail_right}
 

@@ -30,7 +30,7 @@ use Rattle.wy_judge.specs.Judged.{Inferred, AllFitted, AllProbed}
 use Rattle.wy_judge.proofs.ReadTypes.{read_signature, object_read, read_object, find_read}
 use Rattle.wy_judge.proofs.Lists.{pass_both, fail_left, fail_right}
 use Rattle.wy_judge.proofs.Ending.{ends_passing, ends_failing}
-use Rattle.wy_judge.proofs.Matching.{as_many, first_have}
+use Rattle.wy_judge.proofs.Several.{as_many, first_have}
 
 module _ (p : Program) (k : ℕ) (s : Scope) where
   ------------------------------------------------------------

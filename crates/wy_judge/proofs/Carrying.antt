@@ -18,8 +18,18 @@ use Rattle.wy_judge.specs.declared.outcomes.Fits.TheVariants as fits
 use Rattle.wy_judge.specs.Outcomes.{more_fits, then_fits, push_fit, NoneFails}
 use Rattle.wy_judge.specs.Judged.{Fitted, Probed, AllFitted, AllProbed, Carries, CarriesProbed}
 use Rattle.wy_judge.proofs.Dropping.{drop_there, drop_past}
-use Rattle.wy_judge.proofs.Several.{none_fitted, more_fitted, first_value_fails, none_probed, more_probed, first_probe_fails}
+use Rattle.wy_judge.proofs.FirstAndOthers.{none_fitted, more_fitted, first_value_fails, none_probed, more_probed, first_probe_fails}
 use Rattle.wy_judge.proofs.Unions.{union_grouped, union_nothing}
+
+-- no node fails where none has failed so far and none does in the next value
+pub pushed_none_fails : (sofar : Fits) (i : ℕ) (u : Fit) → NoneFails sofar → ((fault : Fault) → u ≡ fit.Fails fault → ⊥) → NoneFails (push_fit sofar i u)
+pushed_none_fails (fits.Have e) i (fit.Has f) n h = tt
+pushed_none_fails (fits.Have e) i fit.Misfit n h = tt
+pushed_none_fails (fits.Have e) i (fit.Fails fault) n h = absurd (h fault refl)
+pushed_none_fails (fits.Misfit m) i (fit.Has f) n h = tt
+pushed_none_fails (fits.Misfit m) i fit.Misfit n h = tt
+pushed_none_fails (fits.Misfit m) i (fit.Fails fault) n h = absurd (h fault refl)
+pushed_none_fails (fits.Fails other) i u n h = absurd n
 
 module _ (p : Program) (k : ℕ) (s : Scope) (w : Lawful (scope_reading p k s)) (locals : List (scope_reading p k s).Kind) (owner : Option ℕ) where
   module _ (spots : List Spot) (xs : List v.Value) (ts : List TypeRef) where

@@ -1,14 +1,16 @@
 pub mod Bases
 pub mod Blocks
+pub mod Bodies
 pub mod Calling
 pub mod Carrying
 pub mod Choosing
 pub mod Dropping
 pub mod Ending
+pub mod FirstAndOthers
 pub mod Fitting
+pub mod Lacking
 pub mod Lists
 pub mod Making
-pub mod Matching
 pub mod Operating
 pub mod ReadTypes
 pub mod Refitting
@@ -18,3 +20,4 @@ pub mod Stepping
 pub mod Tables
 pub mod Texts
 pub mod Unions
+pub mod Whole

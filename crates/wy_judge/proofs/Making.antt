@@ -27,7 +27,7 @@ use Rattle.wy_judge.specs.Judged.{IsLeastOf, Inferred, Fitted, Probed, AllFitted
 use Rattle.wy_judge.proofs.Bases.{base_below}
 use Rattle.wy_judge.proofs.Lists.{fail_left}
 use Rattle.wy_judge.proofs.Ending.{ends_passing, ends_failing}
-use Rattle.wy_judge.proofs.Matching.{first_have}
+use Rattle.wy_judge.proofs.Several.{first_have}
 
 -- a least effect at a type, in the rules' words
 pub least_at : (y : Reading) (w : Lawful y) (s : Scope) (locals : List y.Kind) (owner : Option ℕ) (x : Value) (t : y.Kind) (f : List ℕ) → IsLeastOf y s locals owner x t f → LeastAt y w s locals owner x t f

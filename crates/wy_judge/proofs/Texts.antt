@@ -22,7 +22,7 @@ use Rattle.wy_judge.specs.Judged.{Inferred, HaveFirst, AllFitted}
 use Rattle.wy_judge.proofs.Bases.{base_below}
 use Rattle.wy_judge.proofs.Lists.{fail_left}
 use Rattle.wy_judge.proofs.Ending.{ends_passing, ends_failing}
-use Rattle.wy_judge.proofs.Matching.{first_have}
+use Rattle.wy_judge.proofs.Several.{first_have}
 
 abbrev text_row : TextOperator → Row
 text_row op = row (text_operands op) (text_result op)
