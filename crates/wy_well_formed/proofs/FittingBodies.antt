@@ -24,6 +24,7 @@ use Rattle.wy_well_formed.proofs.Spreads.{Spread, spread_apart}
 use Rattle.wy_well_formed.proofs.Vals.{parts_spread, tail_spread}
 use Rattle.wy_well_formed.proofs.Owners.{Owned, Any, module_owned, tail_owned}
 use Rattle.wy_well_formed.proofs.Captured.{captured_before, locals_inside, parts_captured, tail_captured}
+use Rattle.wy_well_formed.proofs.Parameters.{CaptureThere, there_inside, capture_there, capture_more, parts_capture, tail_capture}
 
 -- what holds of the literals, the start and the bodies that a scope has
 record Parts (p : Program) (s : Scope) (literals : List Literal) (start : Start) (bodies : List Body) : Type 0 where
@@ -34,6 +35,7 @@ record Parts (p : Program) (s : Scope) (literals : List Literal) (start : Start)
   pub last : ℕ
   pub spread : Spread 0 last (start_vals start) (bodies_vals bodies)
   pub captured : CapturesBefore s (start_vals start) bodies
+  pub captured_parameters : CaptureThere s literals
   pub first : ℕ
   pub after : ℕ
   pub owned : Owned Any first after bodies
@@ -56,6 +58,7 @@ assembled p s literals start bodies l a b h =
       own_literal = subst Q (sym l) h.own_literal;
       vals = subst A (ap₂ (λ c d. start_vals c ++ bodies_vals d) (sym a) (sym b)) (spread_apart 0 h.last (start_vals start) (bodies_vals bodies) h.spread);
       captured = subst (λ c. CapturesBefore s (start_vals c) s.bodies) (sym a) (subst (λ d. CapturesBefore s (start_vals start) d) (sym b) h.captured);
+      captured_parameters = subst (λ c. CaptureThere s c) (sym l) h.captured_parameters;
       field_names = λ x i. (of x i).apart;
       method_names = λ k. (owned.good k tt).0;
       few_fields = λ x i. (of x i).few;
@@ -75,6 +78,7 @@ parts_fit p s w parts read is apart e few =
     let lie : Lies s.literals 0 (mine ∷ inner) = subst (λ l. Lies l 0 (mine ∷ inner)) (sym is.literals) (lies_itself (mine ∷ inner)) in
     let at : slice_get s.literals 0 ≡ Some mine = lie.0 in
     let rest : Lies s.literals 1 inner = lie.1 in
+    let lain : Lies s.bodies 0 bodies = subst (λ l. Lies l 0 bodies) (sym is.bodies) (lies_itself bodies) in
     let own : FewIn parts = few parts (inl refl) in
     let below : AllFew (counts.parts_literals parts) = λ qs i. few qs (inr i) in
     let positive : 0 < at_start.literals = omega arith in
@@ -88,6 +92,9 @@ parts_fit p s w parts read is apart e few =
       last = (parts_after at_start parts).vals;
       spread = parts_spread w outermost within 0 at_start parts;
       captured = parts_captured s w (values_vals values) outermost within 0 at_start parts (λ x k i b. absurd i) (locals_inside (values_vals values) outermost parts (λ x k i b. absurd i)) (subst Q (sym at) (captured_before (values_vals values) outermost parts (λ x k i b. absurd i))) (λ k i. i) rest;
+      captured_parameters =
+          capture_more s mine inner (capture_there s outermost parts (λ x k i m b. absurd m))
+          (parts_capture s w outermost within 0 at_start parts (λ x k i m b. absurd m) (there_inside s outermost parts (λ x k i m b. absurd m)) lain);
       first = 0;
       after = (parts_after at_start parts).literals;
       owned = module_owned w at_start parts outermost 0 refl apart e own below;
@@ -102,6 +109,7 @@ body_fits p s w g read is unplain e few =
     let bodies = tail_bodies w outermost at_start g.body in
     let lie : Lies s.literals 0 (mine ∷ inner) = subst (λ l. Lies l 0 (mine ∷ inner)) (sym is.literals) (lies_itself (mine ∷ inner)) in
     let rest : Lies s.literals 1 inner = lie.1 in
+    let lain : Lies s.bodies 0 bodies = subst (λ l. Lies l 0 bodies) (sym is.bodies) (lies_itself bodies) in
     let positive : 0 < at_start.literals = omega arith in
     assembled p s (mine ∷ inner) (Run block) bodies is.literals is.start is.bodies (record {
       starts = tail_fits p s w read None g.run [] outermost at_start g.body (sees_nothing s (λ x. tail_writes x g.body)) e positive rest;
@@ -111,6 +119,7 @@ body_fits p s w g read is unplain e few =
       last = (tail_after at_start g.body).vals;
       spread = tail_spread w g.run outermost at_start g.body;
       captured = tail_captured s w (block_vals block) g.run outermost at_start g.body (λ x k i b. absurd i) (λ k i. i) rest;
+      captured_parameters = capture_more s mine inner (λ k i m. absurd m) (tail_capture s w outermost at_start g.body (λ x k i m b. absurd m) lain);
       first = 1;
       after = (tail_after at_start g.body).literals;
       owned = tail_owned w outermost at_start g.body e few;

@@ -12,6 +12,7 @@ mod Spreads
 mod Vals
 mod Owners
 mod Captured
+mod Parameters
 pub mod FittingBodies
 mod Sets
 mod AtomsThere

@@ -226,6 +226,7 @@ module _ (p : Program) (heads : List Head) (modules : List ModuleTree) (knows : 
     own_literal = b.own_literal;
     vals = b.vals;
     captured = b.captured;
+    captured_parameters = b.captured_parameters;
     own_names =
         own_apart heads modules (module_atoms heads modules m) first_names (param_names m.params) m.uses (early_owners heads modules m) m.lines
         (param_texts (param_scope heads modules m) (is_plain m.kind) m.params) sound.names;

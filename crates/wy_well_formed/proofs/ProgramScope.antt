@@ -127,6 +127,7 @@ module _ (p : Program) (heads : List Head) (modules : List ModuleTree) (knows : 
     own_literal = b.own_literal;
     vals = b.vals;
     captured = b.captured;
+    captured_parameters = b.captured_parameters;
     own_names =
         own_apart heads modules (program_atoms heads modules g) first_names (grant_names g.grants) g.uses (grant_owners heads modules g) g.lines
         (grant_texts (program_scope heads modules g) g.grants) sound.names;
