@@ -17,6 +17,7 @@ pub mod Refitting
 pub mod Several
 pub mod Simple
 pub mod Stepping
+pub mod Tabled
 pub mod Tables
 pub mod Texts
 pub mod Unions

@@ -64,6 +64,10 @@ module _ (p : Program) (k : ℕ) (s : Scope) (owner : Option ℕ) where
   abbrev pub TypesInRange : List TypeRef → Type 0
   TypesInRange ts = (t : TypeRef) → In t ts → IsTypeOf p k t
 
+  -- a statement before some rest of a block
+  abbrev pub StmtReady : Table → st.Stmt → Type 0
+  StmtReady table x = (rest : Block) × BlockReady p k s owner table (stmt_block x rest)
+
   -- each place expects its type, or none
   pub record AreExpected (locals : List (scope_reading p k s).Kind) (spots : List Spot) (ts : List TypeRef) : Type 0 where
     pub as_many : length spots ≡ length ts

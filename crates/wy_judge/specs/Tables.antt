@@ -1,5 +1,5 @@
 -- The types of `val`s that are known so far, by their numbers, and which parts of a scope can be judged over them.
-use Rattle.std.specs.Prelude.{◌≡◌, ℕ, List, ◌⊎◌, Option, Some, slice_get}
+use Rattle.std.specs.Prelude.{◌≡◌, ℕ, ◌↔◌, List, ◌⊎◌, Option, Some, slice_get}
 use Rattle.wy_effects.specs.Members.{In, Apart}
 use Rattle.wy_types.specs.declared.types.TypeRef.{TypeRef}
 use Rattle.wy_types.specs.declared.code.Variable.{Variable}
@@ -15,6 +15,15 @@ Table = List (Option TypeRef)
 
 abbrev pub IsKnown : Table → ℕ → Type 0
 IsKnown table n = (t : TypeRef) × (slice_get table n ≡ Some (Some t))
+
+-- the same types are known
+abbrev pub IsKept : Table → Table → Type 0
+IsKept old new = (n : ℕ) (t : TypeRef) → slice_get new n ≡ Some (Some t) ↔ (slice_get old n ≡ Some (Some t))
+
+-- the type of one `val` is put in, and the others stay as they were
+pub record IsPut (old new : Table) (n : ℕ) (t : TypeRef) : Type 0 where
+  pub here : slice_get new n ≡ Some (Some t)
+  pub others : (m : ℕ) (u : TypeRef) → (m ≡ n → ⊥) → slice_get new m ≡ Some (Some u) ↔ (slice_get old m ≡ Some (Some u))
 
 -- types of all `val`s that go on from those that are known
 abbrev pub Agrees : (y : Reading) → List y.Kind → Table → Type 0

@@ -3,5 +3,7 @@
 #![tactic(auto)]
 
 pub mod combining;
+pub mod judging;
 pub mod outcomes;
+pub mod settling;
 pub mod targets;

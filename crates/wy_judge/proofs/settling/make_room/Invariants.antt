@@ -1,0 +1,9 @@
+use Rattle.std.proofs.Common.{ℕ, ◌+◌, ◌-◌, length}
+use Rattle.wy_judge.specs.Tables.{IsKept}
+use Rattle.wy_judge.proofs.settling.make_room.Given as goal
+
+abbrev pub invariant-loop-table : goal.invariant-loop-table
+invariant-loop-table l = IsKept l.initial.table.items l.table.items
+
+abbrev pub decreases-loop-table : goal.decreases-loop-table
+decreases-loop-table l = l.number + 1 - length l.table.items

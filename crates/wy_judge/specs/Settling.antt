@@ -1,0 +1,39 @@
+-- What a name and a `val` come to over the table of known types, and what then stands in the table.
+use Rattle.std.specs.Prelude.{◌≡◌, ℕ, List, [], Option, Some, None}
+use Rattle.wy_text.specs.declared.fault.Place.{Place}
+use Rattle.wy_text.specs.declared.fault.Fault.{Fault}
+use Rattle.wy_text.specs.declared.fault.RuleName.TheVariants.{TVal}
+use Rattle.wy_types.specs.declared.types.TypeRef.{TypeRef}
+use Rattle.wy_types.specs.declared.types.TypeRef.TheVariants.{Own}
+use Rattle.wy_judge.specs.declared.outcomes.Inference.{Inference}
+use Rattle.wy_judge.specs.declared.outcomes.Inference.TheVariants as inferred
+use Rattle.wy_judge.specs.declared.outcomes.Fit.{Fit}
+use Rattle.wy_judge.specs.declared.outcomes.Fit.TheVariants as fit
+use Rattle.wy_judge.specs.declared.outcomes.Step.{Step}
+use Rattle.wy_judge.specs.declared.outcomes.Step.TheVariants as step
+use Rattle.wy_judge.specs.Outcomes.{fault_at, untyped_fault}
+use Rattle.wy_judge.specs.Tables.{Table, IsPut}
+
+-- a name's type is known
+abbrev pub IsNamed : Option TypeRef → Type 0
+IsNamed None = ⊥
+IsNamed (Some t) = Unit {0}
+
+abbrev pub IsLeastOfName : Option TypeRef → Inference → Type 0
+IsLeastOfName o u = (t : TypeRef) × (o ≡ Some t) × (u ≡ inferred.Least t [])
+
+abbrev pub IsTypeOfThis : Option ℕ → Inference → Type 0
+IsTypeOfThis owner u = (l : ℕ) × (owner ≡ Some l) × (u ≡ inferred.Least (Own l) [])
+
+abbrev pub untyped_step : Place → Option Fault → Step
+untyped_step place o = step.Fails (untyped_fault place o)
+
+-- a `val` with a written type that its initialiser has gets it; else nothing is put in
+abbrev pub SettlesWritten : Table → Table → Place → ℕ → TypeRef → Fit → Step → Type 0
+SettlesWritten old new place n t (fit.Has e) u = IsPut old new n t × (u ≡ step.Done e)
+SettlesWritten old new place n t fit.Misfit u = (new ≡ old) × (u ≡ step.Fails (fault_at place TVal 1))
+SettlesWritten old new place n t (fit.Fails fault) u = (new ≡ old) × (u ≡ step.Fails fault)
+
+abbrev pub SettlesLeast : Table → Table → ℕ → Inference → Step → Type 0
+SettlesLeast old new n (inferred.Least t e) u = IsPut old new n t × (u ≡ step.Done e)
+SettlesLeast old new n (inferred.Fails fault) u = (new ≡ old) × (u ≡ step.Fails fault)
