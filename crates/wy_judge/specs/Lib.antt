@@ -4,3 +4,4 @@ pub mod Outcomes
 pub mod Settling
 pub mod Tables
 pub mod Targets
+pub mod Walking

@@ -3,7 +3,7 @@
 #![tactic(auto)]
 
 pub mod combining;
-pub mod judging;
 pub mod outcomes;
+pub mod scopes;
 pub mod settling;
 pub mod targets;

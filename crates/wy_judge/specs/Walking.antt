@@ -1,0 +1,54 @@
+-- Judging a scope: its start, its bodies in their order, and what is known after each; and what the whole comes to.
+use Rattle.std.specs.Prelude.{ℕ, List, ◌++◌, map, take, length, Option, Some, None}
+use Rattle.wy_text.specs.declared.fault.Fault.{Fault}
+use Rattle.wy_effects.specs.Members.{In}
+use Rattle.wy_types.specs.declared.types.TypeRef.{TypeRef}
+use Rattle.wy_types.specs.declared.types.TypeRef.TheVariants.{Unit as Nothing}
+use Rattle.wy_types.specs.Program.{Program, Scope, Body}
+use Rattle.wy_types.specs.Core.{start_vals, bodies_vals, block_vals}
+use Rattle.wy_rules.specs.Acceptance.{scope_reading}
+use Rattle.wy_rules.specs.Nodes.{start_nodes, body_nodes, bodies_nodes, scope_nodes}
+use Rattle.wy_rules.specs.Failing.{AllPass, IsScopeFault}
+use Rattle.wy_judge.specs.declared.scopes.Judged.{Judged}
+use Rattle.wy_judge.specs.declared.scopes.Judged.TheVariants.{Passes, Fails}
+use Rattle.wy_judge.specs.Judged.{NodesJudged}
+use Rattle.wy_judge.specs.Judging.{NoFault}
+use Rattle.wy_judge.specs.Tables.{Table, IsKnown, Agrees, AllInRange, Moves}
+
+-- a list of types for all `val`s: those that are not known have none that matters
+abbrev pub settled : Option TypeRef → TypeRef
+settled None = Nothing
+settled (Some t) = t
+
+abbrev pub settled_types : Table → List TypeRef
+settled_types table = map settled table
+
+module _ (p : Program) (k : ℕ) (s : Scope) where
+  -- the `val`s of the start and of so many bodies are known, and no others
+  pub record Walked (table : Table) (i : ℕ) : Type 0 where
+    pub range : AllInRange p k s table
+    pub known : (n : ℕ) → In n (start_vals s.start ++ bodies_vals (take i s.bodies)) → IsKnown table n
+    pub only : (n : ℕ) → IsKnown table n → In n (start_vals s.start ++ bodies_vals (take i s.bodies))
+
+  -- the start, and a body: the first failing node of it
+  pub record StartsTo (old new : Table) (o : Option Fault) : Type 0 where
+    pub moves : Moves p k s old new (start_vals s.start) (NoFault o)
+    pub judged : (locals : List (scope_reading p k s).Kind) → Agrees (scope_reading p k s) locals new → NodesJudged p k s locals (start_nodes s s.start) o
+
+  pub record BodyTo (old new : Table) (b : Body) (o : Option Fault) : Type 0 where
+    pub moves : Moves p k s old new (block_vals b.block) (NoFault o)
+    pub judged : (locals : List (scope_reading p k s).Kind) → Agrees (scope_reading p k s) locals new → NodesJudged p k s locals (body_nodes s b) o
+
+  -- all bodies, after the start
+  abbrev pub WalkedAll : Table → Option Fault → Type 0
+  WalkedAll table None = Walked table (length s.bodies)
+  WalkedAll table (Some fault) = Unit {0}
+
+  pub record BodiesTo (new : Table) (o : Option Fault) : Type 0 where
+    pub walked : WalkedAll new o
+    pub judged : (locals : List (scope_reading p k s).Kind) → Agrees (scope_reading p k s) locals new → NodesJudged p k s locals (bodies_nodes s s.bodies) o
+
+  -- a scope whose nodes all pass over these types of its `val`s, or its fault
+  abbrev pub IsJudged : Judged → Type 0
+  IsJudged (Passes types) = AllPass p k s (map (scope_reading p k s).read types) (scope_nodes s)
+  IsJudged (Fails fault) = IsScopeFault p k s fault
