@@ -1,5 +1,6 @@
 pub mod Judged
 pub mod Judging
+pub mod Lacks
 pub mod Outcomes
 pub mod Settling
 pub mod Tables

@@ -374,7 +374,8 @@ fn fit_fault(value: Fit) -> Option<Fault>
     }
 }
 
-fn fault_or(first: Option<Fault>, second: Option<Fault>) -> Option<Fault>
+/// The first fault, else the second.
+pub fn fault_or(first: Option<Fault>, second: Option<Fault>) -> Option<Fault>
     ensures { result ≡ fault_or first second }
 {
     match first {

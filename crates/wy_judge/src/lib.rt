@@ -3,6 +3,7 @@
 #![tactic(auto)]
 
 pub mod combining;
+pub mod faults;
 pub mod outcomes;
 pub mod scopes;
 pub mod settling;

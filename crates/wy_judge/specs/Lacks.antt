@@ -1,0 +1,37 @@
+-- The least atom of an effect that the declared one lacks, as a mode asks for it.
+use Rattle.std.specs.Prelude.{◌≡◌, ℕ, List, Option, Some, None}
+use Rattle.wy_text.specs.declared.fault.AtomName.{AtomName}
+use Rattle.wy_text.specs.declared.fault.Place.{Place}
+use Rattle.wy_text.specs.declared.fault.Fault.{Fault}
+use Rattle.wy_effects.specs.Members.{Within}
+use Rattle.wy_subtype.specs.declared.verdict.Mode.{Mode}
+use Rattle.wy_subtype.specs.declared.verdict.Mode.TheVariants.{Annotated, Plain}
+use Rattle.wy_subtype.specs.Verdict.{IsLeastMissing}
+use Rattle.wy_judge.specs.declared.outcomes.Fit.{Fit}
+use Rattle.wy_judge.specs.declared.outcomes.Fit.TheVariants as fit
+use Rattle.wy_judge.specs.declared.outcomes.Fits.{Fits}
+use Rattle.wy_judge.specs.declared.outcomes.Fits.TheVariants as fits
+use Rattle.wy_judge.specs.Outcomes.{body_fault, init_fault}
+
+-- plain modules have no effects to lack
+abbrev pub LacksIn : Mode → List ℕ → List ℕ → Option ℕ → Type 0
+LacksIn Plain f declared lack = lack ≡ None
+LacksIn Annotated f declared None = Within f declared
+LacksIn Annotated f declared (Some a) = IsLeastMissing a f declared
+
+abbrev pub FitLacksIn : Mode → Fit → List ℕ → Option ℕ → Type 0
+FitLacksIn mode (fit.Has f) declared lack = LacksIn mode f declared lack
+FitLacksIn mode fit.Misfit declared lack = Unit {0}
+FitLacksIn mode (fit.Fails fault) declared lack = Unit {0}
+
+abbrev pub FitsLackIn : Mode → Fits → List ℕ → Option ℕ → Type 0
+FitsLackIn mode (fits.Have f) declared lack = LacksIn mode f declared lack
+FitsLackIn mode (fits.Misfit n) declared lack = Unit {0}
+FitsLackIn mode (fits.Fails fault) declared lack = Unit {0}
+
+-- what a body, and the initialisers of fields, come to
+abbrev pub IsBodyFault : Mode → Place → List AtomName → List ℕ → Fit → Option Fault → Type 0
+IsBodyFault mode place atoms declared u o = (lack : Option ℕ) × FitLacksIn mode u declared lack × (o ≡ body_fault place atoms lack u)
+
+abbrev pub IsInitFault : Mode → Place → List AtomName → List ℕ → Fits → Option Fault → Type 0
+IsInitFault mode place atoms declared u o = (lack : Option ℕ) × FitsLackIn mode u declared lack × (o ≡ init_fault place atoms lack u)
