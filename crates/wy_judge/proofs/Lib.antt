@@ -4,6 +4,7 @@ pub mod Bodies
 pub mod Calling
 pub mod Carrying
 pub mod Choosing
+pub mod Contexts
 pub mod Dropping
 pub mod Ending
 pub mod FirstAndOthers
