@@ -1,3 +1,4 @@
+pub mod Apart
 pub mod Bases
 pub mod Blocks
 pub mod Bodies
@@ -12,6 +13,7 @@ pub mod Fitting
 pub mod Lacking
 pub mod Lists
 pub mod Making
+pub mod Moving
 pub mod Operating
 pub mod ReadTypes
 pub mod Refitting
