@@ -14,6 +14,7 @@ pub mod Lacking
 pub mod Lists
 pub mod Making
 pub mod Moving
+pub mod Naming
 pub mod Operating
 pub mod ReadTypes
 pub mod Refitting
