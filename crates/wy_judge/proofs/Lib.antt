@@ -16,6 +16,8 @@ pub mod Making
 pub mod Moving
 pub mod Naming
 pub mod Operating
+pub mod PartVals
+pub mod Putting
 pub mod ReadTypes
 pub mod Refitting
 pub mod Several

@@ -1,5 +1,5 @@
 -- The types of `val`s that are known so far, by their numbers, and which parts of a scope can be judged over them.
-use Rattle.std.specs.Prelude.{◌≡◌, ℕ, List, ◌⊎◌, Option, Some, slice_get}
+use Rattle.std.specs.Prelude.{◌≡◌, ◌↔◌, ℕ, List, ◌⊎◌, Option, Some, slice_get}
 use Rattle.wy_effects.specs.Members.{In, Apart}
 use Rattle.wy_types.specs.declared.types.TypeRef.{TypeRef}
 use Rattle.wy_types.specs.declared.code.Variable.{Variable}
@@ -19,6 +19,11 @@ IsKnown table n = (t : TypeRef) × (slice_get table n ≡ Some (Some t))
 -- types of all `val`s that go on from those that are known
 abbrev pub Agrees : (y : Reading) → List y.Kind → Table → Type 0
 Agrees y locals table = (n : ℕ) (t : TypeRef) → slice_get table n ≡ Some (Some t) → slice_get locals n ≡ Some (y.read t)
+
+-- the type of one `val` is put in, and the others are as before
+pub record IsPut (old new : Table) (n : ℕ) (t : TypeRef) : Type 0 where
+  pub here : slice_get new n ≡ Some (Some t)
+  pub others : (m : ℕ) (u : TypeRef) → (m ≡ n → ⊥) → (slice_get new m ≡ Some (Some u)) ↔ (slice_get old m ≡ Some (Some u))
 
 -- the scope of a number of a core
 pub record IsScopeOf (p : Program) (k : ℕ) (s : Scope) : Type 0 where
