@@ -26,4 +26,5 @@ pub mod Stepping
 pub mod Tables
 pub mod Texts
 pub mod Unions
+pub mod ValueParts
 pub mod Whole
