@@ -27,4 +27,5 @@ pub mod Tables
 pub mod Texts
 pub mod Unions
 pub mod ValueParts
+pub mod ValueWalks
 pub mod Whole
