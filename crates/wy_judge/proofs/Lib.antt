@@ -22,6 +22,7 @@ pub mod ReadTypes
 pub mod Refitting
 pub mod Several
 pub mod Simple
+pub mod Statements
 pub mod Stepping
 pub mod Tables
 pub mod Texts
