@@ -1,6 +1,7 @@
 pub mod Apart
 pub mod Bases
 pub mod Blocks
+pub mod BlockWalks
 pub mod Bodies
 pub mod Calling
 pub mod Carrying
