@@ -1,6 +1,6 @@
 -- What judging a part does: what it comes to over all types of `val`s that go on from those that are known afterwards, and which
 -- `val`s become known.
-use Rattle.std.specs.Prelude.{◌≡◌, ℕ, List, [], ◌∷◌, ◌++◌, Option, Some, None, length, slice_get}
+use Rattle.std.specs.Prelude.{◌≡◌, ℕ, List, [], ◌∷◌, ◌++◌, Option, Some, None, length, take, drop, slice_get}
 use Rattle.wy_text.specs.declared.fault.Fault.{Fault}
 use Rattle.wy_types.specs.declared.types.TypeRef.{TypeRef}
 use Rattle.wy_types.specs.declared.code.Value as v
@@ -11,6 +11,7 @@ use Rattle.wy_types.specs.Program.{Program, Scope}
 use Rattle.wy_types.specs.Fitting.{IsTypeOf}
 use Rattle.wy_types.specs.Core.{expr_vals, value_vals, values_vals, block_vals}
 use Rattle.wy_effects.specs.Members.{In}
+use Rattle.wy_effects.specs.EffSet.{IsSet}
 use Rattle.wy_rules.specs.Acceptance.{scope_reading}
 use Rattle.wy_rules.specs.Nodes.{Spot, block_nodes}
 use Rattle.wy_rules.specs.Failing.{IsExpected, FirstFailing}
@@ -22,9 +23,9 @@ use Rattle.wy_judge.specs.declared.outcomes.Fits.{Fits}
 use Rattle.wy_judge.specs.declared.outcomes.Fits.TheVariants as fits
 use Rattle.wy_judge.specs.declared.outcomes.Step.{Step}
 use Rattle.wy_judge.specs.declared.outcomes.Step.TheVariants as step
-use Rattle.wy_judge.specs.Judged.{Inferred, Fitted, BlockFitted, Probed, BlockProbed, AllFitted, AllProbed, Stated, Steps}
+use Rattle.wy_judge.specs.Judged.{Inferred, Fitted, BlockFitted, Probed, BlockProbed, AllFitted, AllProbed, Carries, CarriesProbed, Stated, Steps}
 use Rattle.wy_judge.specs.Outcomes.{NoneFails}
-use Rattle.wy_judge.specs.Tables.{Table, Agrees, Moves, BlockReady, ValueReady}
+use Rattle.wy_judge.specs.Tables.{Table, Agrees, IsPut, Moves, BlockReady, ValueReady, ValuesReady}
 use Rattle.wy_judge.specs.Targets.{IsInRangeOf}
 
 -- no node fails
@@ -49,6 +50,11 @@ StepStands (step.Fails fault) = ⊥
 abbrev pub step_fit : Step → Fit
 step_fit (step.Done e) = fit.Has e
 step_fit (step.Fails fault) = fit.Fails fault
+
+-- the table after a `val`: its type is put in where it stands
+abbrev pub IsAfter : Table → Table → ℕ → TypeRef → Step → Type 0
+IsAfter old new n t (step.Done e) = IsPut old new n t
+IsAfter old new n t (step.Fails fault) = new ≡ old
 
 -- the `val`s of a statement, and of several
 abbrev pub stmt_vals : st.Stmt → List ℕ
@@ -133,3 +139,27 @@ module _ (p : Program) (k : ℕ) (s : Scope) (owner : Option ℕ) where
       pub moves : Moves p k s old new (stmts_vals xs) (StepStands u)
       pub ready : LastReady last u
       pub judged : (locals : List (scope_reading p k s).Kind) → Agrees (scope_reading p k s) locals new → AllStated locals xs last u
+
+    ------------------------------------------------------------
+    -- One after the other
+
+    -- the values before a number are judged, each at its type, and no node of them fails
+    pub record Fitting (xs : List v.Value) (ts : List TypeRef) (i : ℕ) (sofar : Fits) : Type 0 where
+      pub as_many : length xs ≡ length ts
+      pub none_fails : NoneFails sofar
+      pub set : (e : List ℕ) → sofar ≡ fits.Have e → IsSet 512 e
+      pub moves : Moves p k s old new (values_vals (values_of (take i xs))) (Unit {0})
+      pub ready : ValuesReady p k s owner new (values_of (drop i xs))
+      pub judged : (locals : List (scope_reading p k s).Kind) → Agrees (scope_reading p k s) locals new → (spots : List Spot) → AreExpected locals spots ts → Carries p k s locals owner spots xs ts i sofar
+
+    -- .. where no types are expected
+    pub record Probing (xs : List v.Value) (i : ℕ) : Type 0 where
+      pub moves : Moves p k s old new (values_vals (values_of (take i xs))) (Unit {0})
+      pub ready : ValuesReady p k s owner new (values_of (drop i xs))
+      pub judged : (locals : List (scope_reading p k s).Kind) → Agrees (scope_reading p k s) locals new → (spots : List Spot) → AreUnexpected locals spots xs → CarriesProbed p k s locals owner spots xs i
+
+    -- the statements of a block before a number are judged, have this effect, and no node of them fails
+    pub record Stepping (xs : List st.Stmt) (last : Value) (i : ℕ) (effect : List ℕ) : Type 0 where
+      pub moves : Moves p k s old new (stmts_vals (take i xs)) (Unit {0})
+      pub ready : BlockReady p k s owner new (stmts_block (drop i xs) (Last last))
+      pub judged : (locals : List (scope_reading p k s).Kind) → Agrees (scope_reading p k s) locals new → Steps p k s locals owner xs last i effect

@@ -27,6 +27,8 @@ use Rattle.wy_judge.specs.declared.outcomes.Fit.{Fit}
 use Rattle.wy_judge.specs.declared.outcomes.Fit.TheVariants as fit
 use Rattle.wy_judge.specs.declared.outcomes.Fits.{Fits}
 use Rattle.wy_judge.specs.declared.outcomes.Fits.TheVariants as fits
+use Rattle.wy_judge.specs.declared.outcomes.Step.{Step}
+use Rattle.wy_judge.specs.declared.outcomes.Step.TheVariants as step
 
 -- a premise of a rule is false at a place; no atom is missing
 abbrev pub fault_at : Place → RuleName → ℕ → Fault
@@ -307,6 +309,12 @@ abbrev pub stated_fit : Place → RuleName → Fit → Fit
 stated_fit place rule (fit.Has e) = fit.Has e
 stated_fit place rule fit.Misfit = fit.Fails (fault_at place rule 1)
 stated_fit place rule (fit.Fails fault) = fit.Fails fault
+
+-- .. and the statement by it
+abbrev pub stated_step : Place → RuleName → Fit → Step
+stated_step place rule (fit.Has e) = step.Done e
+stated_step place rule fit.Misfit = step.Fails (fault_at place rule 1)
+stated_step place rule (fit.Fails fault) = step.Fails fault
 
 -- what a `val` without a type comes to whose initialiser is an `if`
 abbrev pub untyped_fault : Place → Option Fault → Fault

@@ -8,11 +8,11 @@ use Rattle.wy_types.specs.declared.types.TypeRef.TheVariants.{Own}
 use Rattle.wy_judge.specs.declared.outcomes.Inference.{Inference}
 use Rattle.wy_judge.specs.declared.outcomes.Inference.TheVariants as inferred
 use Rattle.wy_judge.specs.declared.outcomes.Fit.{Fit}
-use Rattle.wy_judge.specs.declared.outcomes.Fit.TheVariants as fit
 use Rattle.wy_judge.specs.declared.outcomes.Step.{Step}
 use Rattle.wy_judge.specs.declared.outcomes.Step.TheVariants as step
-use Rattle.wy_judge.specs.Outcomes.{fault_at, untyped_fault}
+use Rattle.wy_judge.specs.Outcomes.{untyped_fault, stated_step}
 use Rattle.wy_judge.specs.Tables.{Table, IsPut}
+use Rattle.wy_judge.specs.Judging.{IsAfter}
 
 -- a name's type is known
 abbrev pub IsNamed : Option TypeRef → Type 0
@@ -28,11 +28,9 @@ IsTypeOfThis owner u = (l : ℕ) × (owner ≡ Some l) × (u ≡ inferred.Least 
 abbrev pub untyped_step : Place → Option Fault → Step
 untyped_step place o = step.Fails (untyped_fault place o)
 
--- a `val` with a written type that its initialiser has gets it; else nothing is put in
+-- a `val` with a written type gets it where its initialiser has it; else nothing is put in
 abbrev pub SettlesWritten : Table → Table → Place → ℕ → TypeRef → Fit → Step → Type 0
-SettlesWritten old new place n t (fit.Has e) u = IsPut old new n t × (u ≡ step.Done e)
-SettlesWritten old new place n t fit.Misfit u = (new ≡ old) × (u ≡ step.Fails (fault_at place TVal 1))
-SettlesWritten old new place n t (fit.Fails fault) u = (new ≡ old) × (u ≡ step.Fails fault)
+SettlesWritten old new place n t value u = (u ≡ stated_step place TVal value) × IsAfter old new n t u
 
 abbrev pub SettlesLeast : Table → Table → ℕ → Inference → Step → Type 0
 SettlesLeast old new n (inferred.Least t e) u = IsPut old new n t × (u ≡ step.Done e)

@@ -5,10 +5,9 @@ ghost use Rattle.wy_text.specs.declared.fault.RuleName.TheVariants.{TSeq};
 ghost use Rattle.wy_effects.specs.EffSet.{union};
 ghost use Rattle.wy_types.specs.Program.{scope_of};
 ghost use Rattle.wy_types.specs.Core.{HasThis};
-ghost use Rattle.wy_judge.specs.Outcomes.{push_fit, pushed_value, misfit_stays, followed_fit, stated_fit};
+ghost use Rattle.wy_judge.specs.Outcomes.{push_fit, pushed_value, misfit_stays, followed_fit, stated_step};
 ghost use Rattle.wy_judge.specs.Tables.{IsKept, IsPut};
 ghost use Rattle.wy_judge.specs.Targets.{type_of_binding};
-ghost use Rattle.wy_judge.specs.Judging.{step_fit};
 ghost use Rattle.wy_judge.specs.Settling.{IsNamed, IsLeastOfName, IsTypeOfThis, SettlesWritten, SettlesLeast, untyped_step};
 
 use crate::combining::{fault_at, united};
@@ -107,7 +106,7 @@ pub fn followed(effect: EffSet, last: Fit) -> Result<Fit, Memory>
 
 /// What a statement comes to that is no `val`, marked at this place.
 pub fn stated(place: Place, value: Fit) -> Step
-    ensures { step_fit result ≡ stated_fit place TSeq value }
+    ensures { result ≡ stated_step place TSeq value }
 {
     match value {
         Fit::Has(effect) => Step::Done(effect),
