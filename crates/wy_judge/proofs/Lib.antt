@@ -28,6 +28,7 @@ pub mod Stepping
 pub mod Tabled
 pub mod Tables
 pub mod Texts
+pub mod Turns
 pub mod Unions
 pub mod ValueParts
 pub mod ValueWalks

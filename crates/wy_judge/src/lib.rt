@@ -4,6 +4,7 @@
 
 pub mod combining;
 pub mod faults;
+pub mod judging;
 pub mod outcomes;
 pub mod scopes;
 pub mod settling;

@@ -2,13 +2,12 @@
 
 ghost use Rattle.std.specs.Prelude.{◌≡◌, ◌<◌, [], IfOk, OnOk, length};
 ghost use Rattle.wy_text.specs.declared.fault.RuleName.TheVariants.{TSeq};
-ghost use Rattle.wy_effects.specs.EffSet.{union};
 ghost use Rattle.wy_types.specs.Program.{scope_of};
 ghost use Rattle.wy_types.specs.Core.{HasThis};
 ghost use Rattle.wy_judge.specs.Outcomes.{push_fit, pushed_value, misfit_stays, followed_fit, stated_step};
 ghost use Rattle.wy_judge.specs.Tables.{IsKept, IsPut};
 ghost use Rattle.wy_judge.specs.Targets.{type_of_binding};
-ghost use Rattle.wy_judge.specs.Settling.{IsNamed, IsLeastOfName, IsTypeOfThis, SettlesWritten, SettlesLeast, untyped_step};
+ghost use Rattle.wy_judge.specs.Settling.{IsNamed, HasSet, then_step, push_step, IsLeastOfName, IsTypeOfThis, SettlesWritten, SettlesLeast, untyped_step};
 
 use crate::combining::{fault_at, united};
 use crate::outcomes::{Fit, Fits, Inference, Step};
@@ -86,11 +85,32 @@ fn stays(first: usize, next: Fit) -> Fits
     }
 }
 
-/// The effect of statements with one more.
-pub fn add_step(effect: EffSet, more: EffSet) -> Result<EffSet, Memory>
-    ensures { IfOk result (λ e. e ≡ union effect more) }
+/// States that the effect of a value is a set.
+pub fn is_set(value: &Fit)
+    ensures { HasSet value.now }
 {
-    united(effect, more)
+    if let Fit::Has(effect) = value {
+        effect.is_set();
+    }
+}
+
+/// Statements with one more.
+pub fn push_step(sofar: Step, next: Step) -> Result<Step, Memory>
+    ensures { IfOk result (λ u. u ≡ push_step sofar next) }
+{
+    match sofar {
+        Step::Done(effect) => then_step(effect, next),
+        Step::Fails(fault) => Ok(Step::Fails(fault)),
+    }
+}
+
+fn then_step(effect: EffSet, next: Step) -> Result<Step, Memory>
+    ensures { IfOk result (λ u. u ≡ then_step effect next) }
+{
+    match next {
+        Step::Done(more) => Ok(Step::Done(united(effect, more)?)),
+        Step::Fails(fault) => Ok(Step::Fails(fault)),
+    }
 }
 
 /// What a block comes to whose statements have this effect.
