@@ -1,4 +1,7 @@
 pub mod Apart
+pub mod ArmsOfNames
+pub mod ArmsOfOperators
+pub mod ArmsOfTexts
 pub mod Bases
 pub mod Blocks
 pub mod Bodies
@@ -9,6 +12,7 @@ pub mod Contexts
 pub mod Dropping
 pub mod Ending
 pub mod FirstAndOthers
+pub mod Expecting
 pub mod Fitting
 pub mod Lacking
 pub mod Lists
