@@ -1,4 +1,5 @@
 pub mod Apart
+pub mod ArmsOfCalls
 pub mod ArmsOfNames
 pub mod ArmsOfOperators
 pub mod ArmsOfTexts
