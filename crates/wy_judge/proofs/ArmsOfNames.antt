@@ -1,10 +1,11 @@
 -- Literals and names as they are judged by themselves: nothing becomes known.
-use Rattle.std.proofs.Common.{◌≡◌, ℕ, ℤ, List, [], sym, ◌∙◌, subst, Option, Some, Bool as Truth}
+use Rattle.std.proofs.Common.{◌≡◌, ℕ, ℤ, List, [], refl, sym, ◌∙◌, subst, Option, Some, None, Bool as Truth}
 use Rattle.wy_text.specs.declared.fault.Place.{Place}
 use Rattle.wy_types.specs.declared.types.TypeRef.{TypeRef}
 use Rattle.wy_types.specs.declared.types.TypeRef.TheVariants.{Int, Bool, Text, Unit as Nothing}
 use Rattle.wy_types.specs.declared.code.Binding.{Binding}
-use Rattle.wy_types.specs.Code.{Number, Quoted, Truth as TruthOf, Nothing as NothingOf, Name}
+use Rattle.wy_types.specs.Code.{Number, Quoted, Truth as TruthOf, Nothing as NothingOf, This, Name}
+use Rattle.wy_types.specs.Core.{HasThis}
 use Rattle.wy_types.specs.Program.{Program, Scope}
 use Rattle.wy_types.specs.Fitting.{IsTypeOf}
 use Rattle.wy_judge.specs.declared.outcomes.Inference.TheVariants as inferred
@@ -50,6 +51,14 @@ module _ (p : Program) (k : ℕ) (s : Scope) (c : IsScopeOf p k s) (owner : Opti
 
   ------------------------------------------------------------
   -- Names
+
+  -- where `this` stands there is a current object
+  pub this_owned : (q : Place) → ExprReady p k s owner table (This q) → (l : ℕ) × (owner ≡ Some l)
+  this_owned q h = owned owner h.1
+    where
+      owned : (o : Option ℕ) → HasThis o → (l : ℕ) × (o ≡ Some l)
+      owned None there = absurd there
+      owned (Some l) there = (l, refl)
 
   some_same : (t u : TypeRef) → ◌≡◌ {A = Option TypeRef} (Some t) (Some u) → t ≡ u
   some_same t u e = cc

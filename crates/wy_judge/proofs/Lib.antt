@@ -1,6 +1,7 @@
 pub mod Apart
 pub mod ArmsOfCalls
 pub mod ArmsOfNames
+pub mod ArmsOfObjects
 pub mod ArmsOfOperators
 pub mod ArmsOfTexts
 pub mod Bases
