@@ -1,4 +1,9 @@
 pub mod Apart
+pub mod ArmsOfCalls
+pub mod ArmsOfNames
+pub mod ArmsOfObjects
+pub mod ArmsOfOperators
+pub mod ArmsOfTexts
 pub mod Bases
 pub mod Blocks
 pub mod BlockWalks
@@ -10,6 +15,7 @@ pub mod Contexts
 pub mod Dropping
 pub mod Ending
 pub mod FirstAndOthers
+pub mod Expecting
 pub mod Fitting
 pub mod Lacking
 pub mod Lists
