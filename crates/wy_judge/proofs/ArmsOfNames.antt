@@ -1,21 +1,21 @@
 -- Literals and names as they are judged by themselves: nothing becomes known.
-use Rattle.std.proofs.Common.{◌≡◌, ℕ, ℤ, List, [], refl, sym, ◌∙◌, subst, Option, Some, None, Bool as Truth}
+use Rattle.std.proofs.Common.{◌≡◌, ℕ, ℤ, ◌<◌, List, [], length, refl, sym, ◌∙◌, subst, Option, Some, None, Bool as Truth}
 use Rattle.wy_text.specs.declared.fault.Place.{Place}
 use Rattle.wy_types.specs.declared.types.TypeRef.{TypeRef}
-use Rattle.wy_types.specs.declared.types.TypeRef.TheVariants.{Int, Bool, Text, Unit as Nothing}
+use Rattle.wy_types.specs.declared.types.TypeRef.TheVariants.{Int, Bool, Text, Unit as Nothing, Own}
 use Rattle.wy_types.specs.declared.code.Binding.{Binding}
 use Rattle.wy_types.specs.Code.{Number, Quoted, Truth as TruthOf, Nothing as NothingOf, This, Name}
 use Rattle.wy_types.specs.Core.{HasThis}
 use Rattle.wy_types.specs.Program.{Program, Scope}
 use Rattle.wy_types.specs.Fitting.{IsTypeOf}
 use Rattle.wy_judge.specs.declared.outcomes.Inference.TheVariants as inferred
-use Rattle.wy_judge.specs.Tables.{Table, IsScopeOf, ExprReady}
+use Rattle.wy_judge.specs.Tables.{Table, IsScopeOf, HasOwner, ExprReady}
 use Rattle.wy_judge.specs.Targets.{type_of_binding}
 use Rattle.wy_judge.specs.Judging.{InferenceStands, InfersTo}
-use Rattle.wy_judge.proofs.Contexts.{lawful, reflexive}
+use Rattle.wy_judge.proofs.Contexts.{lawful, reflexive, own_in_range}
 use Rattle.wy_judge.proofs.Moving.{moves_none}
 use Rattle.wy_judge.proofs.Naming.{name_known, name_reads}
-use Rattle.wy_judge.proofs.Simple.{number_inferred, quoted_inferred, truth_inferred, nothing_inferred, name_inferred}
+use Rattle.wy_judge.proofs.Simple.{number_inferred, quoted_inferred, truth_inferred, nothing_inferred, name_inferred, this_inferred}
 
 module _ (p : Program) (k : ℕ) (s : Scope) (c : IsScopeOf p k s) (owner : Option ℕ) (table : Table) where
   ------------------------------------------------------------
@@ -77,3 +77,13 @@ module _ (p : Program) (k : ℕ) (s : Scope) (c : IsScopeOf p k s) (owner : Opti
     judged = λ locals a.
         name_inferred p k s (lawful p k s) locals owner q name t (name_reads p k s owner table locals a name t e) (reflexive p k s c t (name_type_in_range q name t h e));
   }
+
+  pub this_to : (q : Place) (l : ℕ) → owner ≡ Some l → HasOwner s owner → ExprReady p k s owner table (This q) → InfersTo p k s owner table table (This q) (inferred.Least (Own l) [])
+  this_to q l e there h = record {
+    moves = moves_none p k s table (InferenceStands (inferred.Least (Own l) [])) h.2.range;
+    range = own_in_range p k s c l below;
+    judged = λ locals a. this_inferred p k s (lawful p k s) locals owner q l e (reflexive p k s c (Own l) (own_in_range p k s c l below));
+  }
+    where
+      below : l < length s.literals
+      below = subst (HasOwner s) e there

@@ -1,4 +1,5 @@
 pub mod Apart
+pub mod ArmOfCalls
 pub mod ArmsOfCalls
 pub mod ArmsOfNames
 pub mod ArmsOfObjects
@@ -33,9 +34,11 @@ pub mod Statements
 pub mod Stepping
 pub mod Tabled
 pub mod Tables
+pub mod Telling
 pub mod Texts
 pub mod Turns
 pub mod Unions
+pub mod ValStates
 pub mod ValueParts
 pub mod ValueWalks
 pub mod Whole

@@ -1,6 +1,7 @@
 -- What judging a part does: what it comes to over all types of `val`s that go on from those that are known afterwards, and which
 -- `val`s become known.
 use Rattle.std.specs.Prelude.{◌≡◌, ℕ, List, [], ◌∷◌, ◌++◌, Option, Some, None, length, take, drop, slice_get}
+use Rattle.wy_text.specs.declared.fault.Place.{Place}
 use Rattle.wy_text.specs.declared.fault.Fault.{Fault}
 use Rattle.wy_types.specs.declared.types.TypeRef.{TypeRef}
 use Rattle.wy_types.specs.declared.code.Value as v
@@ -21,10 +22,12 @@ use Rattle.wy_judge.specs.declared.outcomes.Fit.{Fit}
 use Rattle.wy_judge.specs.declared.outcomes.Fit.TheVariants as fit
 use Rattle.wy_judge.specs.declared.outcomes.Fits.{Fits}
 use Rattle.wy_judge.specs.declared.outcomes.Fits.TheVariants as fits
+use Rattle.wy_judge.specs.declared.targets.Target.{Target}
+use Rattle.wy_judge.specs.declared.targets.Target.TheVariants.{Failed, Without, Found}
 use Rattle.wy_judge.specs.declared.outcomes.Step.{Step}
 use Rattle.wy_judge.specs.declared.outcomes.Step.TheVariants as step
 use Rattle.wy_judge.specs.Judged.{Inferred, Fitted, BlockFitted, Probed, BlockProbed, AllFitted, AllProbed, Carries, CarriesProbed, Stated, Steps}
-use Rattle.wy_judge.specs.Outcomes.{NoneFails}
+use Rattle.wy_judge.specs.Outcomes.{NoneFails, uncalled_outcome, call_outcome}
 use Rattle.wy_judge.specs.Tables.{Table, Agrees, IsPut, Moves, BlockReady, ValueReady, ValuesReady}
 use Rattle.wy_judge.specs.Targets.{IsInRangeOf}
 
@@ -74,6 +77,12 @@ module _ (p : Program) (k : ℕ) (s : Scope) (owner : Option ℕ) where
   abbrev pub StmtReady : Table → st.Stmt → Type 0
   StmtReady table x = (rest : Block) × BlockReady p k s owner table (stmt_block x rest)
 
+  -- the method of a call has as many parameters as there are arguments, of types in range
+  abbrev pub IsCallable : List v.Value → Target → Type 0
+  IsCallable xs (Failed fault) = Unit {0}
+  IsCallable xs (Without premise) = Unit {0}
+  IsCallable xs (Found effect m) = TypesInRange m.params × (length xs ≡ length m.params)
+
   -- each place expects its type, or none
   pub record AreExpected (locals : List (scope_reading p k s).Kind) (spots : List Spot) (ts : List TypeRef) : Type 0 where
     pub as_many : length spots ≡ length ts
@@ -119,6 +128,12 @@ module _ (p : Program) (k : ℕ) (s : Scope) (owner : Option ℕ) where
       pub moves : Moves p k s old new (block_vals b) (NoFault o)
       pub judged : (locals : List (scope_reading p k s).Kind) → Agrees (scope_reading p k s) locals new → (spot : Spot) →
           IsExpected (scope_reading p k s) s locals owner spot None → BlockProbed p k s locals owner spot b o
+
+    -- the arguments of a call, by what its receiver offers, and what the call comes to by them
+    abbrev pub ArgumentsTo : Place → Target → List v.Value → Inference → Type 0
+    ArgumentsTo place (Failed fault) xs u = (new ≡ old) × (u ≡ inferred.Fails fault)
+    ArgumentsTo place (Without premise) xs u = (o : Option Fault) × AllProbeTo xs o × (u ≡ uncalled_outcome place premise o)
+    ArgumentsTo place (Found effect m) xs u = (w : Fits) × AllFitTo xs m.params w × (u ≡ call_outcome place m.result m.effect effect w)
 
     -- a statement, after which the rest of its block can be judged
     pub record StatesTo (x : st.Stmt) (u : Step) : Type 0 where

@@ -1,5 +1,5 @@
 -- The types of `val`s that are known so far, by their numbers, and which parts of a scope can be judged over them.
-use Rattle.std.specs.Prelude.{◌≡◌, ℕ, ◌↔◌, List, ◌⊎◌, Option, Some, slice_get}
+use Rattle.std.specs.Prelude.{◌≡◌, ℕ, ◌<◌, ◌↔◌, List, ◌⊎◌, Option, Some, None, length, slice_get}
 use Rattle.wy_effects.specs.Members.{In, Apart}
 use Rattle.wy_types.specs.declared.types.TypeRef.{TypeRef}
 use Rattle.wy_types.specs.declared.code.Variable.{Variable}
@@ -33,6 +33,11 @@ Agrees y locals table = (n : ℕ) (t : TypeRef) → slice_get table n ≡ Some (
 pub record IsScopeOf (p : Program) (k : ℕ) (s : Scope) : Type 0 where
   pub core : IsCore p
   pub there : slice_get p.scopes k ≡ Some s
+
+-- the current object, where there is one, is that of a literal of the scope
+abbrev pub HasOwner : Scope → Option ℕ → Type 0
+HasOwner s None = Unit {0}
+HasOwner s (Some l) = l < length s.literals
 
 module _ (p : Program) (k : ℕ) (s : Scope) where
   -- the types that are known are in range

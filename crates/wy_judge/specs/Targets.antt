@@ -2,7 +2,6 @@
 use Rattle.std.specs.Prelude.{◌≡◌, ℕ, ◌↔◌, List, ◌⊎◌, Option, Some, None, Bool as Truth, true, length, slice_get}
 use Rattle.std.specs.Option.{option_map}
 use Rattle.wy_types.specs.declared.types.TypeRef.{TypeRef}
-use Rattle.wy_types.specs.declared.types.TypeRef.TheVariants.{Own}
 use Rattle.wy_types.specs.declared.types.Method.{Method}
 use Rattle.wy_types.specs.declared.code.Variable.{Variable}
 use Rattle.wy_types.specs.declared.code.Variable.TheVariants.{Parameter, Local}
@@ -12,7 +11,7 @@ use Rattle.wy_types.specs.declared.resolved.Field.{Field}
 use Rattle.wy_types.specs.declared.resolved.OwnName.{OwnName}
 use Rattle.wy_types.specs.Program.{Program, Scope}
 use Rattle.wy_types.specs.Signature.{find_method}
-use Rattle.wy_types.specs.Types.{IsObject, is_plain, methods_of, signature}
+use Rattle.wy_types.specs.Types.{IsObject, methods_of, signature}
 use Rattle.wy_types.specs.Fitting.{IsTypeOf}
 use Rattle.wy_subtype.specs.declared.verdict.Mode.{Mode}
 use Rattle.wy_subtype.specs.declared.verdict.Mode.TheVariants.{Annotated, Plain}

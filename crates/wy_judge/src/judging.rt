@@ -1,13 +1,14 @@
 //! Judging a value or a block: a walk that types each part at its least type, or stops at the first failing node
 //! (docs/LANGUAGE.md, "First failing node"). The types of `val`s stand in a table, by their numbers.
 
-ghost use Rattle.std.specs.Prelude.{◌≡◌, IfOk, length};
+ghost use Rattle.std.specs.Prelude.{◌≡◌, IfOk, None, Some, length};
 ghost use Rattle.wy_types.specs.Program.{program_of, scope_of};
 ghost use Rattle.wy_types.specs.View.{expr_of, value_of, values_of, block_of};
-ghost use Rattle.wy_types.specs.Code.{Call, Assign};
+ghost use Rattle.wy_types.specs.Code.{Assign};
+ghost use Rattle.wy_types.specs.declared.code.Stmt.TheVariants.{Val};
 ghost use Rattle.wy_types.specs.Fitting.{IsTypeOf};
-ghost use Rattle.wy_judge.specs.Tables.{IsScopeOf, ExprReady, ValueReady, ValuesReady, BlockReady};
-ghost use Rattle.wy_judge.specs.Judging.{TypesInRange, StmtReady, InfersTo, FitsTo, AllFitTo, BlockFitsTo, ProbesTo, AllProbeTo, BlockProbesTo, StatesTo, StepsTo};
+ghost use Rattle.wy_judge.specs.Tables.{IsScopeOf, HasOwner, ExprReady, ValueReady, ValuesReady, BlockReady};
+ghost use Rattle.wy_judge.specs.Judging.{TypesInRange, StmtReady, IsCallable, ArgumentsTo, InfersTo, FitsTo, AllFitTo, BlockFitsTo, ProbesTo, AllProbeTo, BlockProbesTo, StatesTo, StepsTo};
 
 use crate::combining::{
     ascribed_outcome, assigned_outcome, binary_outcome, call_outcome, chosen_fault, chosen_fit,
@@ -23,7 +24,7 @@ use crate::targets::{Target, field_types, fitted, mark, mode_of, target_of, var_
 use std::alloc::Global;
 use wy_effects::set::EffSet;
 use wy_text::fault::{Fault, Place};
-use wy_text::text::{Memory, Text};
+use wy_text::text::Memory;
 use wy_types::code::{Binding, Block, Expr, Stmt, Value};
 use wy_types::resolved::{Core, Scope};
 use wy_types::types::TypeRef;
@@ -40,6 +41,7 @@ pub fn infer(
     expr: &Expr,
 ) -> Result<Inference, Memory>
     requires context { IsScopeOf (program_of core.now) number (scope_of scope.now) }
+    requires owner { HasOwner (scope_of scope.now) owner }
     requires ready { ExprReady (program_of core.now) number (scope_of scope.now) owner table.old.items (expr_of expr.now) }
     ensures { IfOk result (λ u. InfersTo (program_of core.now) number (scope_of scope.now) owner table.old.items table.new.items (expr_of expr.now) u) }
 {
@@ -73,9 +75,13 @@ pub fn infer(
             )?;
             Ok(text_outcome(*place, *operator, operands))
         }
-        Expr::Call(place, receiver, name, values) => infer_call(
-            alloc, core, number, scope, owner, table, *place, receiver, name, values,
-        ),
+        Expr::Call(place, receiver, name, values) => {
+            let by_itself = infer(alloc, core, number, scope, owner, table, receiver)?;
+            let target = target_of(alloc, core, number, by_itself, name, values.len())?;
+            infer_arguments(
+                alloc, core, number, scope, owner, table, *place, target, values,
+            )
+        }
         Expr::New(place, literal, values) => {
             let types = field_types(alloc, scope, *literal)?;
             let initialisers = fit_all(
@@ -102,9 +108,9 @@ pub fn infer(
     }
 }
 
-/// A call by itself.
+/// The arguments of a call, by what its receiver offers.
 #[cycle(judging)]
-fn infer_call(
+fn infer_arguments(
     alloc: Global,
     core: &Core,
     number: u16,
@@ -112,16 +118,15 @@ fn infer_call(
     owner: Option<u32>,
     table: &mut Vec<Option<TypeRef>>,
     place: Place,
-    receiver: &Expr,
-    name: &Text,
+    target: Target,
     values: &Vec<Value>,
 ) -> Result<Inference, Memory>
     requires context { IsScopeOf (program_of core.now) number (scope_of scope.now) }
-    requires ready { ExprReady (program_of core.now) number (scope_of scope.now) owner table.old.items (Call place (expr_of receiver.now) name.now (values_of values.now.items)) }
-    ensures { IfOk result (λ u. InfersTo (program_of core.now) number (scope_of scope.now) owner table.old.items table.new.items (Call place (expr_of receiver.now) name.now (values_of values.now.items)) u) }
+    requires owner { HasOwner (scope_of scope.now) owner }
+    requires target { IsCallable (program_of core.now) number (scope_of scope.now) owner values.now.items target }
+    requires ready { ValuesReady (program_of core.now) number (scope_of scope.now) owner table.old.items (values_of values.now.items) }
+    ensures { IfOk result (λ u. ArgumentsTo (program_of core.now) number (scope_of scope.now) owner table.old.items table.new.items place target values.now.items u) }
 {
-    let by_itself = infer(alloc, core, number, scope, owner, table, receiver)?;
-    let target = target_of(alloc, core, number, by_itself, name, values.len())?;
     match target {
         Target::Failed(fault) => Ok(Inference::Fails(fault)),
         Target::Without(premise) => {
@@ -158,6 +163,7 @@ fn infer_assignment(
     value: &Value,
 ) -> Result<Inference, Memory>
     requires context { IsScopeOf (program_of core.now) number (scope_of scope.now) }
+    requires owner { HasOwner (scope_of scope.now) owner }
     requires ready { ExprReady (program_of core.now) number (scope_of scope.now) owner table.old.items (Assign place binding (value_of value.now)) }
     ensures { IfOk result (λ u. InfersTo (program_of core.now) number (scope_of scope.now) owner table.old.items table.new.items (Assign place binding (value_of value.now)) u) }
 {
@@ -186,6 +192,7 @@ pub fn fit(
     typ: &TypeRef,
 ) -> Result<Fit, Memory>
     requires context { IsScopeOf (program_of core.now) number (scope_of scope.now) }
+    requires owner { HasOwner (scope_of scope.now) owner }
     requires expected { IsTypeOf (program_of core.now) number typ.now }
     requires ready { ValueReady (program_of core.now) number (scope_of scope.now) owner table.old.items (value_of value.now) }
     ensures { IfOk result (λ u. FitsTo (program_of core.now) number (scope_of scope.now) owner table.old.items table.new.items (value_of value.now) typ.now u) }
@@ -224,6 +231,7 @@ fn probe(
     value: &Value,
 ) -> Result<Option<Fault>, Memory>
     requires context { IsScopeOf (program_of core.now) number (scope_of scope.now) }
+    requires owner { HasOwner (scope_of scope.now) owner }
     requires ready { ValueReady (program_of core.now) number (scope_of scope.now) owner table.old.items (value_of value.now) }
     ensures { IfOk result (λ o. ProbesTo (program_of core.now) number (scope_of scope.now) owner table.old.items table.new.items (value_of value.now) o) }
 {
@@ -262,6 +270,7 @@ pub fn fit_all(
     types: &[TypeRef],
 ) -> Result<Fits, Memory>
     requires context { IsScopeOf (program_of core.now) number (scope_of scope.now) }
+    requires owner { HasOwner (scope_of scope.now) owner }
     requires expected { TypesInRange (program_of core.now) number (scope_of scope.now) owner types.now }
     requires as_many { length values.now.items ≡ length types.now }
     requires ready { ValuesReady (program_of core.now) number (scope_of scope.now) owner table.old.items (values_of values.now.items) }
@@ -293,6 +302,7 @@ fn probe_all(
     values: &Vec<Value>,
 ) -> Result<Option<Fault>, Memory>
     requires context { IsScopeOf (program_of core.now) number (scope_of scope.now) }
+    requires owner { HasOwner (scope_of scope.now) owner }
     requires ready { ValuesReady (program_of core.now) number (scope_of scope.now) owner table.old.items (values_of values.now.items) }
     ensures { IfOk result (λ o. AllProbeTo (program_of core.now) number (scope_of scope.now) owner table.old.items table.new.items values.now.items o) }
 {
@@ -317,22 +327,17 @@ fn step(
     statement: &Stmt,
 ) -> Result<Step, Memory>
     requires context { IsScopeOf (program_of core.now) number (scope_of scope.now) }
+    requires owner { HasOwner (scope_of scope.now) owner }
     requires ready { StmtReady (program_of core.now) number (scope_of scope.now) owner table.old.items statement.now }
     ensures { IfOk result (λ u. StatesTo (program_of core.now) number (scope_of scope.now) owner table.old.items table.new.items statement.now u) }
 {
     match statement {
-        Stmt::Val(place, val, Some(typ), value) => {
-            let at_type = fit(alloc, core, number, scope, owner, table, value, typ)?;
-            settle_written(alloc, table, *place, *val, typ, at_type)
-        }
-        Stmt::Val(_, val, None, Value::Plain(expr)) => {
-            let by_itself = infer(alloc, core, number, scope, owner, table, expr)?;
-            settle_least(table, *val, by_itself)
-        }
-        Stmt::Val(place, _, None, value) => {
-            let fault = probe(alloc, core, number, scope, owner, table, value)?;
-            Ok(untyped(*place, fault))
-        }
+        Stmt::Val(place, val, Some(typ), value) => step_typed(
+            alloc, core, number, scope, owner, table, *place, *val, typ, value,
+        ),
+        Stmt::Val(place, val, None, value) => step_untyped(
+            alloc, core, number, scope, owner, table, *place, *val, value,
+        ),
         Stmt::Do(value) => {
             let at_unit = fit(
                 alloc,
@@ -349,6 +354,59 @@ fn step(
     }
 }
 
+/// A `val` with a type.
+#[cycle(judging)]
+fn step_typed(
+    alloc: Global,
+    core: &Core,
+    number: u16,
+    scope: &Scope,
+    owner: Option<u32>,
+    table: &mut Vec<Option<TypeRef>>,
+    place: Place,
+    val: u32,
+    typ: &TypeRef,
+    value: &Value,
+) -> Result<Step, Memory>
+    requires context { IsScopeOf (program_of core.now) number (scope_of scope.now) }
+    requires owner { HasOwner (scope_of scope.now) owner }
+    requires ready { StmtReady (program_of core.now) number (scope_of scope.now) owner table.old.items (Val place val (Some typ.now) value.now) }
+    ensures { IfOk result (λ u. StatesTo (program_of core.now) number (scope_of scope.now) owner table.old.items table.new.items (Val place val (Some typ.now) value.now) u) }
+{
+    let at_type = fit(alloc, core, number, scope, owner, table, value, typ)?;
+    settle_written(alloc, table, place, val, typ, at_type)
+}
+
+/// A `val` without a type.
+#[cycle(judging)]
+fn step_untyped(
+    alloc: Global,
+    core: &Core,
+    number: u16,
+    scope: &Scope,
+    owner: Option<u32>,
+    table: &mut Vec<Option<TypeRef>>,
+    place: Place,
+    val: u32,
+    value: &Value,
+) -> Result<Step, Memory>
+    requires context { IsScopeOf (program_of core.now) number (scope_of scope.now) }
+    requires owner { HasOwner (scope_of scope.now) owner }
+    requires ready { StmtReady (program_of core.now) number (scope_of scope.now) owner table.old.items (Val place val None value.now) }
+    ensures { IfOk result (λ u. StatesTo (program_of core.now) number (scope_of scope.now) owner table.old.items table.new.items (Val place val None value.now) u) }
+{
+    match value {
+        Value::Plain(expr) => {
+            let by_itself = infer(alloc, core, number, scope, owner, table, expr)?;
+            settle_least(table, val, by_itself)
+        }
+        Value::If(_, _, _, _) => {
+            let fault = probe(alloc, core, number, scope, owner, table, value)?;
+            Ok(untyped(place, fault))
+        }
+    }
+}
+
 /// The statements of a block that stand before its last value.
 #[cycle(judging)]
 fn steps(
@@ -361,6 +419,7 @@ fn steps(
     block: &Block,
 ) -> Result<Step, Memory>
     requires context { IsScopeOf (program_of core.now) number (scope_of scope.now) }
+    requires owner { HasOwner (scope_of scope.now) owner }
     requires ready { BlockReady (program_of core.now) number (scope_of scope.now) owner table.old.items (block_of block.now) }
     ensures { IfOk result (λ u. StepsTo (program_of core.now) number (scope_of scope.now) owner table.old.items table.new.items block.now.statements.items (value_of block.now.last.value) u) }
 {
@@ -396,6 +455,7 @@ pub fn fit_block(
     typ: &TypeRef,
 ) -> Result<Fit, Memory>
     requires context { IsScopeOf (program_of core.now) number (scope_of scope.now) }
+    requires owner { HasOwner (scope_of scope.now) owner }
     requires expected { IsTypeOf (program_of core.now) number typ.now }
     requires ready { BlockReady (program_of core.now) number (scope_of scope.now) owner table.old.items (block_of block.now) }
     ensures { IfOk result (λ u. BlockFitsTo (program_of core.now) number (scope_of scope.now) owner table.old.items table.new.items (block_of block.now) typ.now u) }
@@ -422,6 +482,7 @@ fn probe_block(
     block: &Block,
 ) -> Result<Option<Fault>, Memory>
     requires context { IsScopeOf (program_of core.now) number (scope_of scope.now) }
+    requires owner { HasOwner (scope_of scope.now) owner }
     requires ready { BlockReady (program_of core.now) number (scope_of scope.now) owner table.old.items (block_of block.now) }
     ensures { IfOk result (λ o. BlockProbesTo (program_of core.now) number (scope_of scope.now) owner table.old.items table.new.items (block_of block.now) o) }
 {

@@ -1,4 +1,4 @@
-use Rattle.std.proofs.Common.{◌≡◌, sym, subst}
+use Rattle.std.proofs.Common.{sym, subst}
 use Rattle.wy_judge.specs.Tables.{Table, IsKept}
 use Rattle.wy_judge.proofs.Tabled.{kept_more}
 use Rattle.wy_judge.proofs.settling.make_room.Goals as goal

@@ -1,4 +1,4 @@
-use Rattle.std.proofs.Common.{ℕ, ◌+◌, ◌-◌, length}
+use Rattle.std.proofs.Common.{◌+◌, ◌-◌, length}
 use Rattle.wy_judge.specs.Tables.{IsKept}
 use Rattle.wy_judge.proofs.settling.make_room.Given as goal
 

@@ -1,4 +1,4 @@
-use Rattle.std.proofs.Common.{◌≡◌, List, map, take}
+use Rattle.std.proofs.Common.{◌≡◌, map, take}
 use Rattle.wy_types.specs.declared.resolved.Field.{Field}
 use Rattle.wy_judge.proofs.targets.field_types.Given as goal
 
