@@ -1,9 +1,11 @@
+pub mod Apart
 pub mod Bases
 pub mod Blocks
 pub mod Bodies
 pub mod Calling
 pub mod Carrying
 pub mod Choosing
+pub mod Contexts
 pub mod Dropping
 pub mod Ending
 pub mod FirstAndOthers
@@ -11,6 +13,8 @@ pub mod Fitting
 pub mod Lacking
 pub mod Lists
 pub mod Making
+pub mod Moving
+pub mod Naming
 pub mod Operating
 pub mod ReadTypes
 pub mod Refitting
