@@ -2,6 +2,7 @@ pub mod Apart
 pub mod Bases
 pub mod Blocks
 pub mod Bodies
+pub mod BodyVals
 pub mod Calling
 pub mod Carrying
 pub mod Choosing
