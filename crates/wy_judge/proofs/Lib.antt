@@ -21,6 +21,7 @@ pub mod ReadTypes
 pub mod Refitting
 pub mod Several
 pub mod Simple
+pub mod Starting
 pub mod Stepping
 pub mod Tabled
 pub mod Tables
