@@ -27,4 +27,5 @@ pub mod Tabled
 pub mod Tables
 pub mod Texts
 pub mod Unions
+pub mod Walks
 pub mod Whole
