@@ -3,6 +3,7 @@ pub mod Bases
 pub mod Blocks
 pub mod Bodies
 pub mod BodyVals
+pub mod BodyWalks
 pub mod Calling
 pub mod Carrying
 pub mod Choosing
