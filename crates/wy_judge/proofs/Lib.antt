@@ -12,6 +12,7 @@ pub mod Dropping
 pub mod Ending
 pub mod FirstAndOthers
 pub mod Fitting
+pub mod Judgings
 pub mod Lacking
 pub mod Lists
 pub mod Making
