@@ -1,3 +1,4 @@
+pub mod Accepting
 pub mod Apart
 pub mod Bases
 pub mod Blocks
