@@ -1,8 +1,7 @@
 -- The `val`s of a scope's bodies by the numbers of the bodies, and what a body captures.
-use Rattle.std.proofs.Common.{◌≡◌, ℕ, zero, suc, ◌+◌, ◌<◌, ◌≤◌, List, [], ◌∷◌, ◌++◌, ◌⊎◌, inl, inr, subst, arith, Some, take, length}
+use Rattle.std.proofs.Common.{◌≡◌, ℕ, zero, suc, ◌+◌, ◌<◌, List, [], ◌∷◌, ◌++◌, ◌⊎◌, inl, inr, subst, arith, Some, take, length}
 use Rattle.std.specs.Prelude.{slice_get}
 use Rattle.std.specs.List.{range_with_len}
-use Rattle.std.proofs.lemmas.List.{take_all}
 use Rattle.wy_effects.specs.Members.{In, Apart}
 use Rattle.wy_effects.proofs.Lists.{In-left, In-right, In-cases, In-unmap}
 use Rattle.wy_types.specs.declared.code.Variable.TheVariants.{Parameter, Local}
@@ -68,10 +67,6 @@ vals_here n (x ∷ xs) zero b e h = let same : b ≡ x = cc in In-left n (block_
 vals_here n (x ∷ xs) (suc i) b e h =
     let same : suc (i + 1) ≡ suc i + 1 = omega arith in
     subst (λ m. In n (bodies_vals (take m (x ∷ xs)))) same (In-right n (block_vals x.block) (bodies_vals (take (i + 1) xs)) (vals_here n xs i b e h))
-
--- all bodies
-pub vals_all : (bodies : List Body) (i : ℕ) → length bodies ≤ i → take i bodies ≡ bodies
-vals_all bodies i short = take_all i bodies short
 
 ------------------------------------------------------------
 -- What a body sees

@@ -2,7 +2,7 @@
 use Rattle.std.proofs.Common.{◌≡◌, ℕ, ◌+◌, ◌≤◌, List, ◌++◌, sym, ap, ◌∙◌, subst, arith, Some, None, map, take, length}
 use Rattle.std.specs.Prelude.{slice_get}
 use Rattle.std.specs.Option.{option_map}
-use Rattle.std.proofs.lemmas.List.{length-map}
+use Rattle.std.proofs.lemmas.List.{length-map, take_all}
 use Rattle.std.proofs.lemmas.Option.{slice_get-map}
 use Rattle.wy_text.specs.declared.fault.Fault.{Fault}
 use Rattle.wy_effects.specs.Members.{In}
@@ -18,7 +18,6 @@ use Rattle.wy_judge.specs.Judging.{NoFault}
 use Rattle.wy_judge.specs.Tables.{Table, IsScopeOf, BlockReady}
 use Rattle.wy_judge.specs.Walking.{Walked, BodyTo, BodiesTo, BodiesWalked}
 use Rattle.wy_judge.proofs.Bodies.{bodies_start, bodies_more, bodies_fail, bodies_end}
-use Rattle.wy_judge.proofs.BodyVals.{vals_all}
 use Rattle.wy_judge.proofs.Moving.{agrees_before}
 use Rattle.wy_judge.proofs.Walks.{body_ready, walked_more}
 
@@ -64,7 +63,7 @@ module _ (p : Program) (k : ℕ) (s : Scope) (c : IsScopeOf p k s) (bodies : Lis
   -- past the last body
   walked_all : (table : Table) (i : ℕ) → length s.bodies ≤ i → Walked p k s table i → Walked p k s table (length s.bodies)
   walked_all table i short w =
-      let all : take i s.bodies ≡ take (length s.bodies) s.bodies = vals_all s.bodies i short ∙ sym (vals_all s.bodies (length s.bodies) (omega arith)) in
+      let all : take i s.bodies ≡ take (length s.bodies) s.bodies = take_all i s.bodies short ∙ sym (take_all (length s.bodies) s.bodies (omega arith)) in
       record {
         range = w.range;
         known = λ n h. w.known n (subst (λ (l : List Body). In n (start_vals s.start ++ bodies_vals l)) (sym all) h);
