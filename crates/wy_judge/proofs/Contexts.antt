@@ -26,6 +26,8 @@ use Rattle.wy_subtype.specs.Verdict.{IsSubtypeIn}
 use Rattle.wy_rules.specs.Readings.{IsBelow}
 use Rattle.wy_rules.specs.Typing.{fields_of, field_types}
 use Rattle.wy_rules.specs.Acceptance.{reading_of, scope_reading}
+use Rattle.wy_rules.proofs.Forms.{Lawful}
+use Rattle.wy_rules.proofs.Standing.{reading_lawful}
 use Rattle.wy_judge.specs.Tables.{IsScopeOf}
 use Rattle.wy_judge.specs.Targets.{mode_of}
 
@@ -44,6 +46,9 @@ sealed_fits p s Pure d a = (a.0, inl a.1)
 sealed_fits p s Resource d a = (a.0, inl a.1)
 sealed_fits p s Plain d a = (a.0, inr a.1)
 sealed_fits p s Main d a = absurd a
+
+pub lawful : (p : Program) (k : ℕ) (s : Scope) → Lawful (scope_reading p k s)
+lawful p k s = reading_lawful p k (is_plain s.kind)
 
 module _ (p : Program) (k : ℕ) (s : Scope) (c : IsScopeOf p k s) where
   pub scope_fits : ScopeFits p s

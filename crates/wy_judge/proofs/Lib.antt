@@ -1,5 +1,10 @@
 pub mod Accepting
 pub mod Apart
+pub mod ArmsOfCalls
+pub mod ArmsOfNames
+pub mod ArmsOfObjects
+pub mod ArmsOfOperators
+pub mod ArmsOfTexts
 pub mod Bases
 pub mod Blocks
 pub mod Bodies
@@ -12,6 +17,7 @@ pub mod Contexts
 pub mod Dropping
 pub mod Ending
 pub mod FirstAndOthers
+pub mod Expecting
 pub mod Fitting
 pub mod Judgings
 pub mod Lacking

@@ -30,7 +30,7 @@ use Rattle.wy_judge.proofs.Bases.{base_below}
 use Rattle.wy_judge.proofs.Lists.{pass_both, fail_left, fail_right}
 use Rattle.wy_judge.proofs.Ending.{ends_passing, ends_failing}
 use Rattle.wy_judge.proofs.Refitting.{refit, united_none, none_united}
-use Rattle.wy_judge.proofs.Tables.{row_at, no_others, same_other, IsTable, unary_table, binary_table}
+use Rattle.wy_judge.proofs.Tables.{row_at, no_others, same_other, IsTable, base_of, unary_table, binary_table}
 
 module _ (p : Program) (k : ℕ) (s : Scope) (w : Lawful (scope_reading p k s)) (locals : List (scope_reading p k s).Kind) (owner : Option ℕ) where
   -- an expression has no base type but its least one
@@ -106,12 +106,6 @@ module _ (p : Program) (k : ℕ) (s : Scope) (w : Lawful (scope_reading p k s)) 
     where
       none_some : (a : TypeRef) → ◌≡◌ {A = Option TypeRef} None (Some a) → ⊥
       none_some a q = cc
-
-  base_of : (others : TypeRef → List TypeRef) (rows : List Row) (result : TypeRef → Option TypeRef) (table : IsTable others rows result) (t c : TypeRef) → result t ≡ Some c → IsObject c → ⊥
-  base_of others rows result table t c g =
-      let m = table.rows_are (row_at others t c) (table.row_for t c g) in
-      let same : c ≡ m.typ = ap (λ (v : Row). v.result) m.is in
-      subst (λ v. IsObject v → ⊥) (sym same) m.base_result
 
   result_below : (others : TypeRef → List TypeRef) (rows : List Row) (result : TypeRef → Option TypeRef) (table : IsTable others rows result) (t c : TypeRef) → result t ≡ Some c →
       IsBelow (scope_reading p k s) ((scope_reading p k s).read c) ((scope_reading p k s).read c)

@@ -1,6 +1,6 @@
 -- The rows of the operators' tables, by the type of the first operand: there is at most one row for a type, and an operator's
 -- result is that row's.
-use Rattle.std.proofs.Common.{◌≡◌, List, [], ◌∷◌, inl, inr, refl, sym, ◌∙◌, Option, Some}
+use Rattle.std.proofs.Common.{◌≡◌, List, [], ◌∷◌, inl, inr, refl, sym, ◌∙◌, ap, subst, Option, Some}
 use Rattle.wy_effects.specs.Members.{In}
 use Rattle.wy_types.specs.declared.types.TypeRef.{TypeRef}
 use Rattle.wy_types.specs.declared.types.TypeRef.TheVariants.{Int, Bool, Text, Unit as Nothing, Named, At, Own}
@@ -37,6 +37,13 @@ pub record IsTable (others : TypeRef → List TypeRef) (rows : List Row) (result
   pub row_for : (t c : TypeRef) → result t ≡ Some c → In (row_at others t c) rows
   pub rows_are : (r : Row) → In r rows → IsRowOf others result r
   pub some_row : (r : Row) × In r rows
+
+-- the operator's result is of a base type
+pub base_of : (others : TypeRef → List TypeRef) (rows : List Row) (result : TypeRef → Option TypeRef) (table : IsTable others rows result) (t c : TypeRef) → result t ≡ Some c → IsObject c → ⊥
+base_of others rows result table t c g =
+    let m = table.rows_are (row_at others t c) (table.row_for t c g) in
+    let same : c ≡ m.typ = ap (λ (v : Row). v.result) m.is in
+    subst (λ v. IsObject v → ⊥) (sym same) m.base_result
 
 ------------------------------------------------------------
 -- What is asked of the first operand
