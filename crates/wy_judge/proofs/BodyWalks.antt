@@ -8,16 +8,15 @@ use Rattle.wy_text.specs.declared.fault.Fault.{Fault}
 use Rattle.wy_effects.specs.Members.{In}
 use Rattle.wy_types.specs.declared.resolved.Body as b
 use Rattle.wy_types.specs.Program.{Program, Scope, Body, body_of}
-use Rattle.wy_types.specs.Types.{is_plain}
 use Rattle.wy_types.specs.Core.{start_vals, bodies_vals, block_vals}
 use Rattle.wy_rules.specs.Acceptance.{scope_reading}
 use Rattle.wy_rules.specs.Nodes.{bodies_nodes}
-use Rattle.wy_rules.proofs.Standing.{reading_lawful}
 use Rattle.wy_judge.specs.Judged.{NodesJudged}
 use Rattle.wy_judge.specs.Judging.{NoFault}
 use Rattle.wy_judge.specs.Tables.{Table, IsScopeOf, BlockReady}
 use Rattle.wy_judge.specs.Walking.{Walked, BodyTo, BodiesTo, BodiesWalked}
 use Rattle.wy_judge.proofs.Bodies.{bodies_start, bodies_more, bodies_fail, bodies_end}
+use Rattle.wy_judge.proofs.Contexts.{lawful}
 use Rattle.wy_judge.proofs.Moving.{agrees_before}
 use Rattle.wy_judge.proofs.Walks.{body_ready, walked_more}
 
@@ -31,7 +30,7 @@ module _ (p : Program) (k : ℕ) (s : Scope) (c : IsScopeOf p k s) (bodies : Lis
   bodies_walked_start table w = record {
     keeps = λ n t e. e;
     walked = w;
-    judged = λ locals agrees. bodies_start p k s (reading_lawful p k (is_plain s.kind)) locals bodies;
+    judged = λ locals agrees. bodies_start p k s (lawful p k s) locals bodies;
   }
 
   module _ (old table : Table) (i : ℕ) (x : b.Body) (e : slice_get bodies i ≡ Some x) (w : BodiesWalked p k s bodies old table i) where
@@ -45,7 +44,7 @@ module _ (p : Program) (k : ℕ) (s : Scope) (c : IsScopeOf p k s) (bodies : Lis
       keeps = λ n t known. h.moves.keeps n t (w.keeps n t known);
       walked = walked_more p k s c table i (body_of x) w.walked (body_there i x e) new h;
       judged = λ locals agrees.
-          bodies_more p k s (reading_lawful p k (is_plain s.kind)) locals bodies i x e (h.judged locals agrees)
+          bodies_more p k s (lawful p k s) locals bodies i x e (h.judged locals agrees)
           (w.judged locals (agrees_before p k s (scope_reading p k s) locals table new (block_vals (body_of x).block) (NoFault None) h.moves agrees));
     }
 
@@ -56,7 +55,7 @@ module _ (p : Program) (k : ℕ) (s : Scope) (c : IsScopeOf p k s) (bodies : Lis
       walked = tt;
       judged = λ locals agrees.
           subst (λ l. NodesJudged p k s locals (bodies_nodes s l) (Some fault)) (sym same)
-          (bodies_fail p k s (reading_lawful p k (is_plain s.kind)) locals bodies i x fault e (h.judged locals agrees)
+          (bodies_fail p k s (lawful p k s) locals bodies i x fault e (h.judged locals agrees)
           (w.judged locals (agrees_before p k s (scope_reading p k s) locals table new (block_vals (body_of x).block) (NoFault (Some fault)) h.moves agrees)));
     }
 
@@ -76,5 +75,5 @@ module _ (p : Program) (k : ℕ) (s : Scope) (c : IsScopeOf p k s) (bodies : Lis
     walked = walked_all table i (let many : length s.bodies ≡ length bodies = ap (λ (l : List Body). length l) same ∙ length-map bodies body_of in omega (arith, short, many)) w.walked;
     judged = λ locals agrees.
         subst (λ l. NodesJudged p k s locals (bodies_nodes s l) None) (sym same)
-        (bodies_end p k s (reading_lawful p k (is_plain s.kind)) locals bodies i short (w.judged locals agrees));
+        (bodies_end p k s (lawful p k s) locals bodies i short (w.judged locals agrees));
   }

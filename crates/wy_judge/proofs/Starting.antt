@@ -12,27 +12,23 @@ use Rattle.wy_types.specs.declared.code.Value as v
 use Rattle.wy_types.specs.Code.{Values, Block}
 use Rattle.wy_types.specs.View.{values_of}
 use Rattle.wy_types.specs.Program.{Program, Scope, Body, Start, Init, Run}
-use Rattle.wy_types.specs.Types.{is_plain}
 use Rattle.wy_types.specs.Core.{StartFits, value_count, start_vals, bodies_vals, values_vals, block_vals}
 use Rattle.wy_rules.specs.Readings.{Reading}
 use Rattle.wy_rules.specs.Typing.{fields_of, field_types}
-use Rattle.wy_rules.specs.Acceptance.{scope_reading}
-use Rattle.wy_rules.specs.Nodes.{Spot, written, written_spots, start_nodes}
-use Rattle.wy_rules.specs.Failing.{IsExpected}
-use Rattle.wy_rules.proofs.Standing.{reading_lawful}
+use Rattle.wy_rules.specs.Nodes.{written, written_spots, start_nodes}
 use Rattle.wy_judge.specs.declared.outcomes.Fit.{Fit}
 use Rattle.wy_judge.specs.declared.outcomes.Fit.TheVariants as fit
 use Rattle.wy_judge.specs.declared.outcomes.Fits.{Fits}
 use Rattle.wy_judge.specs.declared.outcomes.Fits.TheVariants as fits
 use Rattle.wy_judge.specs.Outcomes.{NoneFails, body_fault, init_fault}
 use Rattle.wy_judge.specs.Judged.{FitLacks, FitsLack, NodesJudged}
-use Rattle.wy_judge.specs.Judging.{NoFault, FitStands, AreExpected, AllFitTo, BlockFitsTo}
+use Rattle.wy_judge.specs.Judging.{NoFault, FitStands, AllFitTo, BlockFitsTo}
 use Rattle.wy_judge.specs.Tables.{Table, IsKnown, Agrees, AllInRange, Moves, IsScopeOf, IsReady, ValuesReady, BlockReady}
 use Rattle.wy_judge.specs.Walking.{StartsTo, BodyTo}
 use Rattle.wy_judge.proofs.Apart.{Apart-left}
 use Rattle.wy_judge.proofs.Bodies.{body_judged, run_judged, init_judged}
-use Rattle.wy_judge.proofs.Contexts.{scope_fits}
-use Rattle.wy_judge.proofs.Dropping.{written_spot_at}
+use Rattle.wy_judge.proofs.Contexts.{scope_fits, lawful}
+use Rattle.wy_judge.proofs.Expecting.{count_values, written_expected}
 use Rattle.wy_judge.proofs.Moving.{moves_under}
 
 ------------------------------------------------------------
@@ -61,18 +57,6 @@ body_stands place atoms lack (fit.Has e) h = tt
 body_stands place atoms lack fit.Misfit h = tt
 body_stands place atoms lack (fit.Fails fault) h = h
 
--- fields' initialisers stand at their types
-spot_same : (spots : List Spot) (i : ℕ) (a b : Spot) → slice_get spots i ≡ Some a → slice_get spots i ≡ Some b → a ≡ b
-spot_same spots i a b e g = cc
-
-fields_expected : (p : Program) (k : ℕ) (s : Scope) (locals : List (scope_reading p k s).Kind) (ts : List TypeRef) → AreExpected p k s None locals (written_spots ts) ts
-fields_expected p k s locals ts = record {
-  as_many = length-map ts (λ t. written t);
-  each = λ i spot t e g.
-      let same : spot ≡ written t = spot_same (written_spots ts) i spot (written t) e (written_spot_at ts i t g) in
-      subst (λ (v : Spot). IsExpected (scope_reading p k s) s locals None v (Some ((scope_reading p k s).read t))) (sym same) refl;
-}
-
 module _ (p : Program) (k : ℕ) (s : Scope) (c : IsScopeOf p k s) where
   ------------------------------------------------------------
   -- The start can be judged
@@ -98,6 +82,10 @@ module _ (p : Program) (k : ℕ) (s : Scope) (c : IsScopeOf p k s) where
   pub values_as_many : (xs : Values) → s.start ≡ Init xs → value_count xs ≡ length (field_types s 0)
   values_as_many xs e = (start_fits (Init xs) e).0 ∙ sym (length-map (fields_of s 0) (λ (f : Field). f.typ))
 
+  -- .. as the code has them
+  pub initialisers_as_many : (xs : List v.Value) → s.start ≡ Init (values_of xs) → length xs ≡ length (field_types s 0)
+  initialisers_as_many xs e = sym (count_values xs) ∙ values_as_many (values_of xs) e
+
   pub block_start : (x : Block) → s.start ≡ Run x → BlockReady p k s None [] x
   block_start x e = ([], start_fits (Run x) e, empty_ready (block_vals x) (start_differ (Run x) e))
 
@@ -112,7 +100,7 @@ module _ (p : Program) (k : ℕ) (s : Scope) where
         (moves_under p k s [] new (values_vals (values_of xs)) (NoneFails u) (NoFault (init_fault s.start_place s.atoms lack u)) h.moves (init_stands s.start_place s.atoms lack u));
     judged = λ locals agrees.
         subst (λ (v : Start). NodesJudged p k s locals (start_nodes s v) (init_fault s.start_place s.atoms lack u)) (sym e)
-        (init_judged p k s (reading_lawful p k (is_plain s.kind)) locals (values_of xs) u lack (h.judged locals agrees (written_spots (field_types s 0)) (fields_expected p k s locals (field_types s 0))) l);
+        (init_judged p k s (lawful p k s) locals (values_of xs) u lack (h.judged locals agrees (written_spots (field_types s 0)) (written_expected p k s None locals (field_types s 0))) l);
   }
 
   pub run_to : (x : Block) (new : Table) (u : Fit) (lack : Option ℕ) → s.start ≡ Run x → BlockFitsTo p k s None [] new x Nothing u → FitLacks p k s u s.start_effect lack →
@@ -122,12 +110,12 @@ module _ (p : Program) (k : ℕ) (s : Scope) where
         (moves_under p k s [] new (block_vals x) (FitStands u) (NoFault (body_fault s.start_place s.atoms lack u)) h.moves (body_stands s.start_place s.atoms lack u));
     judged = λ locals agrees.
         subst (λ (v : Start). NodesJudged p k s locals (start_nodes s v) (body_fault s.start_place s.atoms lack u)) (sym e)
-        (run_judged p k s (reading_lawful p k (is_plain s.kind)) locals x u lack (h.judged locals agrees (written Nothing) refl) l);
+        (run_judged p k s (lawful p k s) locals x u lack (h.judged locals agrees (written Nothing) refl) l);
   }
 
   pub body_to : (b : Body) (old new : Table) (u : Fit) (lack : Option ℕ) → BlockFitsTo p k s (Some b.owner) old new b.block b.signature.result u → FitLacks p k s u b.signature.effect lack →
       BodyTo p k s old new b (body_fault b.place s.atoms lack u)
   body_to b old new u lack h l = record {
     moves = moves_under p k s old new (block_vals b.block) (FitStands u) (NoFault (body_fault b.place s.atoms lack u)) h.moves (body_stands b.place s.atoms lack u);
-    judged = λ locals agrees. body_judged p k s (reading_lawful p k (is_plain s.kind)) locals b u lack (h.judged locals agrees (written b.signature.result) refl) l;
+    judged = λ locals agrees. body_judged p k s (lawful p k s) locals b u lack (h.judged locals agrees (written b.signature.result) refl) l;
   }
