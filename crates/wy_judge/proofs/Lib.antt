@@ -1,3 +1,4 @@
+pub mod Accepting
 pub mod Apart
 pub mod ArmOfCalls
 pub mod ArmsOfCalls
@@ -9,6 +10,8 @@ pub mod Bases
 pub mod Blocks
 pub mod BlockWalks
 pub mod Bodies
+pub mod BodyVals
+pub mod BodyWalks
 pub mod Calling
 pub mod Carrying
 pub mod Choosing
@@ -18,6 +21,7 @@ pub mod Ending
 pub mod FirstAndOthers
 pub mod Expecting
 pub mod Fitting
+pub mod Judgings
 pub mod Lacking
 pub mod Lists
 pub mod Making
@@ -28,9 +32,11 @@ pub mod PartVals
 pub mod Putting
 pub mod ReadTypes
 pub mod Refitting
+pub mod ScopeParts
 pub mod Several
 pub mod Simple
 pub mod Statements
+pub mod Starting
 pub mod Stepping
 pub mod Tabled
 pub mod Tables
@@ -41,4 +47,5 @@ pub mod Unions
 pub mod ValStates
 pub mod ValueParts
 pub mod ValueWalks
+pub mod Walks
 pub mod Whole

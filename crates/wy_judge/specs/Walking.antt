@@ -1,9 +1,10 @@
 -- Judging a scope: its start, its bodies in their order, and what is known after each; and what the whole comes to.
-use Rattle.std.specs.Prelude.{ℕ, List, ◌++◌, map, take, length, Option, Some, None}
+use Rattle.std.specs.Prelude.{◌≡◌, ℕ, List, ◌++◌, map, take, length, slice_get, Option, Some, None, Bool as Truth}
 use Rattle.wy_text.specs.declared.fault.Fault.{Fault}
 use Rattle.wy_effects.specs.Members.{In}
 use Rattle.wy_types.specs.declared.types.TypeRef.{TypeRef}
 use Rattle.wy_types.specs.declared.types.TypeRef.TheVariants.{Unit as Nothing}
+use Rattle.wy_types.specs.declared.resolved.Body as b
 use Rattle.wy_types.specs.Program.{Program, Scope, Body}
 use Rattle.wy_types.specs.Core.{start_vals, bodies_vals, block_vals}
 use Rattle.wy_rules.specs.Acceptance.{scope_reading}
@@ -11,7 +12,8 @@ use Rattle.wy_rules.specs.Nodes.{start_nodes, body_nodes, bodies_nodes, scope_no
 use Rattle.wy_rules.specs.Failing.{AllPass, IsScopeFault}
 use Rattle.wy_judge.specs.declared.scopes.Judged.{Judged}
 use Rattle.wy_judge.specs.declared.scopes.Judged.TheVariants.{Passes, Fails}
-use Rattle.wy_judge.specs.Judged.{NodesJudged}
+use Rattle.wy_judge.specs.Judged.{NodesJudged, BodiesPassed, IsSealed}
+use Rattle.wy_judge.specs.Outcomes.{ascribed_fault}
 use Rattle.wy_judge.specs.Judging.{NoFault}
 use Rattle.wy_judge.specs.Tables.{Table, IsKnown, Agrees, AllInRange, Moves}
 
@@ -44,11 +46,35 @@ module _ (p : Program) (k : ℕ) (s : Scope) where
   WalkedAll table None = Walked table (length s.bodies)
   WalkedAll table (Some fault) = Unit {0}
 
-  pub record BodiesTo (new : Table) (o : Option Fault) : Type 0 where
+  -- .. which keep the types that are known after it
+  pub record BodiesTo (old new : Table) (o : Option Fault) : Type 0 where
+    pub keeps : (n : ℕ) (t : TypeRef) → slice_get old n ≡ Some (Some t) → slice_get new n ≡ Some (Some t)
     pub walked : WalkedAll new o
     pub judged : (locals : List (scope_reading p k s).Kind) → Agrees (scope_reading p k s) locals new → NodesJudged p k s locals (bodies_nodes s s.bodies) o
+
+  -- the bodies before a number, after the start: no node of them fails
+  pub record BodiesWalked (bodies : List b.Body) (old new : Table) (i : ℕ) : Type 0 where
+    pub keeps : (n : ℕ) (t : TypeRef) → slice_get old n ≡ Some (Some t) → slice_get new n ≡ Some (Some t)
+    pub walked : Walked new i
+    pub judged : (locals : List (scope_reading p k s).Kind) → Agrees (scope_reading p k s) locals new → BodiesPassed p k s locals bodies i
+
+  -- the seal
+  abbrev pub IsSealFault : Option Fault → Type 0
+  IsSealFault o = (below : Truth) × IsSealed p k s s.ascribed below × (o ≡ ascribed_fault s.place s.ascribed below)
+
+  -- .. after the bodies, where no node of them fails
+  abbrev pub SealAfter : Option Fault → Option Fault → Type 0
+  SealAfter None o = IsSealFault o
+  SealAfter (Some fault) o = o ≡ Some fault
+
+  abbrev pub RestTo : Table → Table → Option Fault → Type 0
+  RestTo old new o = (bodies : Option Fault) × BodiesTo old new bodies × SealAfter bodies o
 
   -- a scope whose nodes all pass over these types of its `val`s, or its fault
   abbrev pub IsJudged : Judged → Type 0
   IsJudged (Passes types) = AllPass p k s (map (scope_reading p k s).read types) (scope_nodes s)
   IsJudged (Fails fault) = IsScopeFault p k s fault
+
+-- .. the scope of a number
+abbrev pub IsJudgedAt : Program → ℕ → Judged → Type 0
+IsJudgedAt p k j = (s : Scope) × (slice_get p.scopes k ≡ Some s) × IsJudged p k s j

@@ -1,7 +1,24 @@
 //! Judging a scope: what a pure module may not have, its start, its bodies in their order, and its seal.
 
-use wy_text::fault::Fault;
-use wy_types::types::TypeList;
+ghost use Rattle.std.specs.Prelude.{◌≡◌, ◌<◌, [], IfOk, Some, length};
+ghost use Rattle.wy_effects.specs.Members.{In};
+ghost use Rattle.wy_types.specs.Program.{program_of, scope_of, body_of};
+ghost use Rattle.wy_types.specs.Core.{IsCore};
+ghost use Rattle.wy_judge.specs.Outcomes.{seal_fault};
+ghost use Rattle.wy_judge.specs.Tables.{IsScopeOf, BlockReady};
+ghost use Rattle.wy_judge.specs.Walking.{Walked, StartsTo, BodyTo, BodiesTo, RestTo, settled, settled_types, IsSealFault, IsJudgedAt};
+
+use crate::combining::fault_at;
+use crate::faults::{body_fault, init_fault, pure_fault};
+use crate::judging::{fit_all, fit_block};
+use crate::targets::{field_types, is_below, mode_of};
+use std::alloc::Global;
+use wy_effects::set::copy_sets;
+use wy_text::fault::{Fault, Place, RuleName};
+use wy_text::list::Items;
+use wy_text::text::Memory;
+use wy_types::resolved::{Body, Core, Scope, Start};
+use wy_types::types::{TypeList, TypeRef};
 
 /// What judging a scope comes to.
 #[derive(Debug, Drop)]
@@ -10,4 +27,213 @@ pub enum Judged {
     Passes(TypeList),
     /// The first failing node.
     Fails(Fault),
+}
+
+/// The first failing node of a scope's start.
+fn judge_start(
+    alloc: Global,
+    core: &Core,
+    number: u16,
+    scope: &Scope,
+    table: &mut Vec<Option<TypeRef>>,
+) -> Result<Option<Fault>, Memory>
+    requires context { IsScopeOf (program_of core.now) number (scope_of scope.now) }
+    requires empty { table.old.items ≡ [] }
+    ensures { IfOk result (λ o. StartsTo (program_of core.now) number (scope_of scope.now) [] table.new.items o) }
+{
+    match &scope.start {
+        Start::Init(values) => {
+            let types = field_types(alloc, scope, 0)?;
+            let initialisers = fit_all(
+                alloc,
+                core,
+                number,
+                scope,
+                None,
+                table,
+                values,
+                types.as_slice(),
+            )?;
+            init_fault(
+                mode_of(scope),
+                scope.start_place,
+                &scope.atoms,
+                &scope.start_effect,
+                initialisers,
+            )
+        }
+        Start::Run(block) => {
+            let at_unit = fit_block(
+                alloc,
+                core,
+                number,
+                scope,
+                None,
+                table,
+                block,
+                &TypeRef::Unit,
+            )?;
+            body_fault(
+                mode_of(scope),
+                scope.start_place,
+                &scope.atoms,
+                &scope.start_effect,
+                at_unit,
+            )
+        }
+    }
+}
+
+/// The first failing node of a body.
+fn judge_body(
+    alloc: Global,
+    core: &Core,
+    number: u16,
+    scope: &Scope,
+    table: &mut Vec<Option<TypeRef>>,
+    body: &Body,
+) -> Result<Option<Fault>, Memory>
+    requires context { IsScopeOf (program_of core.now) number (scope_of scope.now) }
+    requires in_scope { In (body_of body.now) (scope_of scope.now).bodies }
+    requires ready { BlockReady (program_of core.now) number (scope_of scope.now) (Some body.now.owner) table.old.items (body_of body.now).block }
+    ensures { IfOk result (λ o. BodyTo (program_of core.now) number (scope_of scope.now) table.old.items table.new.items (body_of body.now) o) }
+{
+    let block = fit_block(
+        alloc,
+        core,
+        number,
+        scope,
+        Some(body.owner),
+        table,
+        &body.block,
+        &body.signature.result,
+    )?;
+    body_fault(
+        mode_of(scope),
+        body.place,
+        &scope.atoms,
+        &body.signature.effect,
+        block,
+    )
+}
+
+/// The first failing node of a scope's bodies.
+fn judge_bodies(
+    alloc: Global,
+    core: &Core,
+    number: u16,
+    scope: &Scope,
+    table: &mut Vec<Option<TypeRef>>,
+) -> Result<Option<Fault>, Memory>
+    requires context { IsScopeOf (program_of core.now) number (scope_of scope.now) }
+    requires walked { Walked (program_of core.now) number (scope_of scope.now) table.old.items 0 }
+    ensures { IfOk result (λ o. BodiesTo (program_of core.now) number (scope_of scope.now) table.old.items table.new.items o) }
+{
+    let bodies = scope.bodies.as_slice();
+    for i in 0..bodies.len() {
+        let next = judge_body(alloc, core, number, scope, table, &bodies[i])?;
+        if next.is_some() {
+            return Ok(next);
+        }
+    }
+    Ok(None)
+}
+
+/// M-Ascribe, unless the module's own type is a subtype of the one that it is sealed at.
+fn unless_below(place: Place, below: bool) -> Option<Fault>
+    ensures { result ≡ seal_fault place below }
+{
+    if below {
+        None
+    } else {
+        Some(fault_at(place, RuleName::MAscribe, 1))
+    }
+}
+
+/// M-Ascribe: whether the module's own type is a subtype of the type that it is sealed at, with what it defines.
+fn seal_fault(
+    alloc: Global,
+    core: &Core,
+    number: u16,
+    scope: &Scope,
+) -> Result<Option<Fault>, Memory>
+    requires context { IsScopeOf (program_of core.now) number (scope_of scope.now) }
+    ensures { IfOk result (λ o. IsSealFault (program_of core.now) number (scope_of scope.now) o) }
+{
+    let Some(decl) = scope.ascribed else {
+        return Ok(None);
+    };
+    let own = TypeRef::Own { literal: 0 };
+    let sealed = TypeRef::Named {
+        decl,
+        members: copy_sets(alloc, scope.definitions.as_slice())?,
+    };
+    let below = is_below(alloc, core, number, mode_of(scope), &own, &sealed)?;
+    Ok(unless_below(scope.place, below))
+}
+
+/// The first failing node of a scope's bodies and its seal, after its start.
+fn judge_rest(
+    alloc: Global,
+    core: &Core,
+    number: u16,
+    scope: &Scope,
+    table: &mut Vec<Option<TypeRef>>,
+) -> Result<Option<Fault>, Memory>
+    requires context { IsScopeOf (program_of core.now) number (scope_of scope.now) }
+    requires walked { Walked (program_of core.now) number (scope_of scope.now) table.old.items 0 }
+    ensures { IfOk result (λ o. RestTo (program_of core.now) number (scope_of scope.now) table.old.items table.new.items o) }
+{
+    let bodies = judge_bodies(alloc, core, number, scope, table)?;
+    match bodies {
+        Some(fault) => Ok(Some(fault)),
+        None => seal_fault(alloc, core, number, scope),
+    }
+}
+
+/// The type of a `val`; one that is not known has none that matters.
+fn settled(alloc: Global, known: &Option<TypeRef>) -> Result<TypeRef, Memory>
+    ensures { IfOk result (λ t. t ≡ settled known.now) }
+{
+    match known {
+        Some(typ) => typ.copy(alloc),
+        None => Ok(TypeRef::Unit),
+    }
+}
+
+/// The types of all `val`s.
+fn settled_types(alloc: Global, table: &[Option<TypeRef>]) -> Result<TypeList, Memory>
+    ensures { IfOk result (λ ts. ts ≡ settled_types table.now) }
+{
+    let mut types = Items::new(alloc);
+    for known in table {
+        types.push(settled(alloc, known)?)?;
+    }
+    Ok(types)
+}
+
+/// Judges the scope of a number: a module, or the program's own block, but for its instance and import lines. `Fails` comes
+/// exactly where some node of it has no derivation, and carries the first such node, the first of its premises that is
+/// false at its least types, and for an effect the least missing atom. The one error is want of memory
+/// (docs/LANGUAGE.md, "First failing node").
+pub fn judge_scope(alloc: Global, core: &Core, number: u16) -> Result<Judged, Memory>
+    requires core { IsCore (program_of core.now) }
+    requires there { number < length core.now.scopes }
+    ensures { IfOk result (λ j. IsJudgedAt (program_of core.now) number j) }
+{
+    let scope = &core.scopes.as_slice()[number as usize];
+    if let Some(fault) = pure_fault(scope) {
+        return Ok(Judged::Fails(fault));
+    }
+    let mut table = Vec::new(alloc);
+    let start = judge_start(alloc, core, number, scope, &mut table)?;
+    if let Some(fault) = start {
+        return Ok(Judged::Fails(fault));
+    }
+    let rest = judge_rest(alloc, core, number, scope, &mut table)?;
+    if let Some(fault) = rest {
+        return Ok(Judged::Fails(fault));
+    }
+    let types = settled_types(alloc, table.as_slice())?;
+    Ok(Judged::Passes(types))
 }

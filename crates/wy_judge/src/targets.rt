@@ -202,7 +202,7 @@ fn is_yes(verdict: Verdict) -> bool
 }
 
 /// Whether a type is a subtype of another.
-fn is_below(
+pub fn is_below(
     alloc: Global,
     core: &Core,
     number: u16,

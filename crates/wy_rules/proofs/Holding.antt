@@ -15,12 +15,12 @@ use Rattle.wy_types.specs.declared.resolved.ScopeKind.{ScopeKind}
 use Rattle.wy_types.specs.declared.resolved.ScopeKind.TheVariants.{Pure, Resource, Plain, Program as Main}
 use Rattle.wy_types.specs.Program.{Program, Scope, Body, Start, Init, Run}
 use Rattle.wy_types.specs.Types.{is_plain}
-use Rattle.wy_types.specs.Core.{StartFits, BodyFits, CapturesBefore, literal_captures, body_parameters, start_vals, block_vals}
+use Rattle.wy_types.specs.Core.{ScopeFits, StartFits, BodyFits, CapturesBefore, literal_captures, body_parameters, start_vals, block_vals}
 use Rattle.wy_rules.specs.Derivations.{BodyDerivation, T-Body, T-Body-Init, effects_of}
-use Rattle.wy_rules.specs.Typing.{BlockHas, fields_of, field_types, DerivesStart, DerivesBodies}
+use Rattle.wy_rules.specs.Typing.{BlockHas, fields_of, field_types, DerivesStart, DerivesBodies, ScopeHolds}
 use Rattle.wy_rules.specs.Acceptance.{scope_reading, IsLine, PureHolds, SealHolds}
 use Rattle.wy_rules.specs.Nodes.{nothing, written, impure, Node, node, written_spots, values_nodes, block_nodes, start_nodes, body_nodes, bodies_nodes, var_nodes, impure_line, impure_lines, pure_nodes, seal_nodes}
-use Rattle.wy_rules.specs.Failing.{FirstFailing, AllPass}
+use Rattle.wy_rules.specs.Failing.{FirstFailing, AllPass, IsScopeFault}
 use Rattle.wy_rules.specs.Refusals.{AcceptedScopesHold}
 use Rattle.wy_rules.proofs.Forms.{Lawful}
 use Rattle.wy_rules.proofs.Narrowing.{Narrower, AllNarrower, narrow_values, narrow_block}
@@ -171,19 +171,23 @@ module _ (p : Program) (k : ℕ) (s : Scope) (w : Lawful (scope_reading p k s)) 
             )
       ]
 
-pub accepted_scopes_hold : AcceptedScopesHold
-accepted_scopes_hold p k s fault fits a f =
-    let bodies : BodiesScoped p s (start_vals s.start) 0 s.bodies = bodies_scoped p s (start_vals s.start) 0 s.bodies (λ j b e. (let same : j ≡ 0 + j = omega arith in subst (λ v. BodyFits p s v b) same (fits.bodies j b e))) fits.captured in
+-- what is asked of a scope but for its lines holds
+pub holding_scope_stands : (p : Program) (k : ℕ) (s : Scope) (fault : Fault) → ScopeFits p s → PureHolds s.kind s → ScopeHolds (scope_reading p k s) s → SealHolds (scope_reading p k s) s s.ascribed → IsScopeFault p k s fault → ⊥
+holding_scope_stands p k s fault fits pure holds seal f =
+    let scoped : BodiesScoped p s (start_vals s.start) 0 s.bodies = bodies_scoped p s (start_vals s.start) 0 s.bodies (λ j b e. (let same : j ≡ 0 + j = omega arith in subst (λ v. BodyFits p s v b) same (fits.bodies j b e))) fits.captured in
     let w = reading_lawful p k (is_plain s.kind) in
-    let d = a.bodies.derivation in
-    let h = a.bodies.derives in
+    let d = holds.derivation in
+    let h = holds.derives in
     elim (either_fails p k s w f.locals d.locals (pure_nodes s s.kind) (start_nodes s s.start ++ (bodies_nodes s s.bodies ++ seal_nodes s s.ascribed)) fault f.first) [
-      | inl e ↦ pure_stands p k s w f.locals d.locals s.kind a.pure fault e
+      | inl e ↦ pure_stands p k s w f.locals d.locals s.kind pure fault e
       | inr e ↦ elim (either_fails p k s w f.locals d.locals (start_nodes s s.start) (bodies_nodes s s.bodies ++ seal_nodes s s.ascribed) fault e.1) [
         | inl i ↦ start_stands p k s w f.locals d.locals s.start d.start fits.starts.1 h.0 fault i
         | inr i ↦ elim (either_fails p k s w f.locals d.locals (bodies_nodes s s.bodies) (seal_nodes s s.ascribed) fault i.1) [
-          | inl j ↦ bodies_stand p k s w f.locals d.locals s.bodies d.bodies (start_vals s.start) 0 bodies (start_narrower p k s w f.locals d.locals s.start d.start fits.starts.1 h.0 i.0) h.1 fault j
-          | inr j ↦ seal_stands p k s w f.locals d.locals s.ascribed a.seal fault j.1
+          | inl j ↦ bodies_stand p k s w f.locals d.locals s.bodies d.bodies (start_vals s.start) 0 scoped (start_narrower p k s w f.locals d.locals s.start d.start fits.starts.1 h.0 i.0) h.1 fault j
+          | inr j ↦ seal_stands p k s w f.locals d.locals s.ascribed seal fault j.1
         ]
       ]
     ]
+
+pub accepted_scopes_hold : AcceptedScopesHold
+accepted_scopes_hold p k s fault fits a f = holding_scope_stands p k s fault fits a.pure a.bodies a.seal f

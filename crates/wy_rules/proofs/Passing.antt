@@ -90,7 +90,8 @@ module _ (p : Program) (k : ℕ) (s : Scope) (locals : List (scope_reading p k s
   seal_holds None e h = subst (SealHolds (scope_reading p k s) s) e tt
   seal_holds (Some d) e h = h.0.stands
 
-  scope_holds : AllPass p k s locals (scope_nodes s) → PureHolds s.kind s × ScopeHolds (scope_reading p k s) s × SealHolds (scope_reading p k s) s s.ascribed
+  -- what is asked of a scope but for its lines
+  pub scope_holds : AllPass p k s locals (scope_nodes s) → PureHolds s.kind s × ScopeHolds (scope_reading p k s) s × SealHolds (scope_reading p k s) s s.ascribed
   scope_holds h =
       let rest = right (pure_nodes s s.kind) (start_nodes s s.start ++ (bodies_nodes s s.bodies ++ seal_nodes s s.ascribed)) h in
       let others = right (start_nodes s s.start) (bodies_nodes s s.bodies ++ seal_nodes s s.ascribed) rest in

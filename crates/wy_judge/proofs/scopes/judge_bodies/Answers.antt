@@ -1,0 +1,91 @@
+use Rattle.std.proofs.Common.{◌≡◌, ◌<◌, ◌≤◌, Some, length, map, refl, sym, ap, rules}
+use Rattle.std.specs.Prelude.{slice_get}
+use Rattle.std.proofs.lemmas.Option.{slice_get_read}
+use Rattle.wy_types.specs.Program.{program_of, scope_of, body_of}
+use Rattle.wy_judge.proofs.BodyWalks.{bodies_walked_start, bodies_walked_end, next_ready}
+use Rattle.wy_judge.proofs.ScopeParts.{body_in, bodies_stop, bodies_go_on}
+use Rattle.wy_judge.proofs.scopes.judge_bodies.Goals as goal
+
+pub loop-i-init : goal.loop-i-init
+loop-i-init c =
+    let p = program_of c.args.core.now in
+    let k = c.args.number in
+    let s = scope_of c.args.scope.now in
+    let old = c.args.table.now.items in
+    let h = c.requires.context in
+    let bodies = c.as_slice-bodies.result.now in
+    bodies_walked_start p k s h bodies (ap (map body_of) (sym c.as_slice-bodies.ensures)) old c.requires.walked
+
+pub judge_body-requires-clause-in_scope : goal.judge_body-requires-clause-in_scope
+judge_body-requires-clause-in_scope c =
+    let p = program_of c.args.core.now in
+    let k = c.args.number in
+    let s = scope_of c.args.scope.now in
+    let old = c.args.table.now.items in
+    let h = c.requires.context in
+    let bodies = c.as_slice-bodies.result.now in
+    let same = ap (map body_of) (sym c.as_slice-bodies.ensures) in
+    let i = c.loop-i.i in
+    let mid = c.loop-i.table.items in
+    let lt : i < length bodies = search rules in
+    let there : slice_get bodies i ≡ Some c.index-bodies-i.result = slice_get_read bodies _ i c.index-bodies-i.result refl lt c.index-bodies-i.is in
+    body_in p k s h bodies same i c.index-bodies-i.result there
+
+pub judge_body-requires-clause-ready : goal.judge_body-requires-clause-ready
+judge_body-requires-clause-ready c =
+    let p = program_of c.args.core.now in
+    let k = c.args.number in
+    let s = scope_of c.args.scope.now in
+    let old = c.args.table.now.items in
+    let h = c.requires.context in
+    let bodies = c.as_slice-bodies.result.now in
+    let same = ap (map body_of) (sym c.as_slice-bodies.ensures) in
+    let i = c.loop-i.i in
+    let mid = c.loop-i.table.items in
+    let lt : i < length bodies = search rules in
+    let there : slice_get bodies i ≡ Some c.index-bodies-i.result = slice_get_read bodies _ i c.index-bodies-i.result refl lt c.index-bodies-i.is in
+    next_ready p k s h bodies same old mid i c.index-bodies-i.result there c.loop-i.invariant
+
+pub returns-then-is_some : goal.returns-then-is_some
+returns-then-is_some c =
+    let p = program_of c.args.core.now in
+    let k = c.args.number in
+    let s = scope_of c.args.scope.now in
+    let old = c.args.table.now.items in
+    let h = c.requires.context in
+    let bodies = c.as_slice-bodies.result.now in
+    let same = ap (map body_of) (sym c.as_slice-bodies.ensures) in
+    let i = c.loop-i.i in
+    let mid = c.loop-i.table.items in
+    let lt : i < length bodies = search rules in
+    let there : slice_get bodies i ≡ Some c.index-bodies-i.result = slice_get_read bodies _ i c.index-bodies-i.result refl lt c.index-bodies-i.is in
+    bodies_stop p k s h bodies same old mid c.judge_body.new.table.items i c.index-bodies-i.result c.in_ok-next.next there c.loop-i.invariant c.in_ok-next.ensures (search rules)
+
+pub loop-i-preserved : goal.loop-i-preserved
+loop-i-preserved c =
+    let p = program_of c.args.core.now in
+    let k = c.args.number in
+    let s = scope_of c.args.scope.now in
+    let old = c.args.table.now.items in
+    let h = c.requires.context in
+    let bodies = c.as_slice-bodies.result.now in
+    let same = ap (map body_of) (sym c.as_slice-bodies.ensures) in
+    let i = c.loop-i.i in
+    let mid = c.loop-i.table.items in
+    let lt : i < length bodies = search rules in
+    let there : slice_get bodies i ≡ Some c.index-bodies-i.result = slice_get_read bodies _ i c.index-bodies-i.result refl lt c.index-bodies-i.is in
+    bodies_go_on p k s h bodies same old mid c.judge_body.new.table.items i c.index-bodies-i.result c.in_ok-next.next there c.loop-i.invariant c.in_ok-next.ensures (search rules)
+
+pub returns : goal.returns
+returns c =
+    let p = program_of c.args.core.now in
+    let k = c.args.number in
+    let s = scope_of c.args.scope.now in
+    let old = c.args.table.now.items in
+    let h = c.requires.context in
+    let bodies = c.as_slice-bodies.result.now in
+    let same = ap (map body_of) (sym c.as_slice-bodies.ensures) in
+    let i = c.loop-i.i in
+    let mid = c.loop-i.table.items in
+    let short : length bodies ≤ i = search rules in
+    bodies_walked_end p k s h bodies same old mid i short c.loop-i.invariant
