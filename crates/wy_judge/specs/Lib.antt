@@ -1,3 +1,4 @@
+pub mod Accepting
 pub mod Judged
 pub mod Judging
 pub mod Lacks

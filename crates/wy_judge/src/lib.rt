@@ -5,6 +5,7 @@
 pub mod combining;
 pub mod faults;
 pub mod judging;
+pub mod laws;
 pub mod outcomes;
 pub mod scopes;
 pub mod settling;

@@ -1,0 +1,21 @@
+-- What the judgement of a scope says of the rules: one that passes keeps them all but for its instance and import lines, which are
+-- judged by themselves, and one that fails does not.
+use Rattle.std.specs.Prelude.{ℕ, List}
+use Rattle.wy_text.specs.declared.fault.Fault.{Fault}
+use Rattle.wy_types.specs.declared.types.TypeRef.{TypeRef}
+use Rattle.wy_types.specs.Program.{Program, Scope}
+use Rattle.wy_rules.specs.Typing.{ScopeHolds}
+use Rattle.wy_rules.specs.Acceptance.{scope_reading, PureHolds, SealHolds}
+use Rattle.wy_judge.specs.declared.scopes.Judged.TheVariants.{Passes, Fails}
+use Rattle.wy_judge.specs.Tables.{IsScopeOf}
+use Rattle.wy_judge.specs.Walking.{IsJudged}
+
+-- the rules for a scope but for its lines
+abbrev pub KeepsRules : Program → ℕ → Scope → Type 0
+KeepsRules p k s = PureHolds s.kind s × ScopeHolds (scope_reading p k s) s × SealHolds (scope_reading p k s) s s.ascribed
+
+abbrev pub PassingKeepsRules : Type 0
+PassingKeepsRules = (p : Program) (k : ℕ) (s : Scope) (types : List TypeRef) → IsJudged p k s (Passes types) → KeepsRules p k s
+
+abbrev pub FailingBreaksRules : Type 0
+FailingBreaksRules = (p : Program) (k : ℕ) (s : Scope) (fault : Fault) → IsScopeOf p k s → IsJudged p k s (Fails fault) → KeepsRules p k s → ⊥
