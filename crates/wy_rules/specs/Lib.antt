@@ -1,5 +1,6 @@
 pub mod Acceptance
 pub mod Derivations
+pub mod Ends
 pub mod Failing
 pub mod GroundTypes
 pub mod GroundTyping
