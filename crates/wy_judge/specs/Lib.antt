@@ -1,4 +1,5 @@
 pub mod Accepting
+pub mod Checking
 pub mod Judged
 pub mod Judging
 pub mod Lacks

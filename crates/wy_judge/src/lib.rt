@@ -2,6 +2,7 @@
 //! has none (docs/LANGUAGE.md, "First failing node").
 #![tactic(auto)]
 
+pub mod checking;
 pub mod combining;
 pub mod faults;
 pub mod judging;
