@@ -6,10 +6,14 @@ use Rattle.wy_device.specs.Devices.{DevicesState}
 use Rattle.wy_syntax.specs.Canonical.{canonical_form}
 use Rattle.wy_syntax.specs.Trees.{ItemTree}
 use Rattle.wy_names.specs.Declarations.{all_items}
-use Rattle.wy_names.specs.Names.{Refused}
+use Rattle.wy_names.specs.Names.{Refused, Resolves}
 use Rattle.wy_names.specs.declared.refusal.NameRefusal.{NameRefusal}
+use Rattle.wy_types.specs.Program as core
+use Rattle.wy_judge.specs.Checking as checking
+use Rattle.wy_judge.specs.declared.checking.CheckRefusal.{CheckRefusal}
+use Rattle.wy_judge.specs.declared.checking.CheckRefusal.TheVariants as refusal
 use Rattle.wy_engine.specs.FileTrees.{HaveTrees}
-use Rattle.wy_engine.specs.Judgement.{IsAccepted, Stops, fault_of}
+use Rattle.wy_engine.specs.Judgement.{IsAccepted, PassesCheck, Stops, accepted_text, fault_of}
 use Rattle.wy_engine.specs.LiteralForm.{program_of}
 use Rattle.wy_engine.specs.NameFaults.{NamesResolve, names_status}
 use Rattle.wy_engine.specs.Running.{Ran}
@@ -24,6 +28,20 @@ pub data Wrote (text : List ℕ) (out out' : SinkState) (end : Status) : Type 0 
   whole : WritesUpTo text [] out out' → end ≡ status.Ended → Wrote text out out' end
   cut : StopsShort text out out' → Rose out.faults out'.faults → end ≡ status.Unwritten → Wrote text out out' end
   starved : (rest : List ℕ) → WritesUpTo text rest out out' → end ≡ status.Memory → Wrote text out out' end
+
+-- the status of a call whose program is not accepted
+abbrev pub check_status : CheckRefusal → Status
+check_status (refusal.Fails fault) = status.Refused fault
+check_status (refusal.Limit name) = status.Limit name
+check_status refusal.Memory = status.Memory
+
+-- what checking trees did: nothing, since their names are refused, their program has lines, or it is not accepted; or it was said that it is
+pub data ChecksTrees (trees : List (List ItemTree)) (out out' : SinkState) (end : Status) : Type 0 where
+  nameless : (why : NameRefusal) → Refused (all_items trees) why → out' ≡ out → end ≡ names_status why → ChecksTrees trees out out' end
+  with_lines : (program : core.Program) → Resolves (all_items trees) program → checking.any_lines program ≡ true → out' ≡ out → end ≡ status.Unbuilt → ChecksTrees trees out out' end
+  not_accepted : (program : core.Program) → Resolves (all_items trees) program → checking.any_lines program ≡ false → (why : CheckRefusal) → checking.IsRefusalOf program why → out' ≡ out → end ≡ check_status why
+      → ChecksTrees trees out out' end
+  accepted : (program : core.Program) → Resolves (all_items trees) program → checking.any_lines program ≡ false → checking.IsAccepted program → Wrote accepted_text out out' end → ChecksTrees trees out out' end
 
 -- what judging a file's tree did: nothing, since memory was wanting, the tree is of no form that is built, or its
 -- program is refused; or the program was run
@@ -45,10 +63,12 @@ pub data RunsTrees (trees : List (List ItemTree)) (report report' : SinkState) (
   unresolved : (why : NameRefusal) → Refused (all_items trees) why → report' ≡ report → devices' ≡ devices → end ≡ names_status why → RunsTrees trees report report' devices devices' end
   resolved : NamesResolve trees → RunsForm trees report report' devices devices' end → RunsTrees trees report report' devices devices' end
 
--- what was done with texts: nothing, since memory was wanting or they stop the call; a program was run; or the
--- canonical form of a file was written
+-- what was done with texts: nothing, since memory was wanting or they stop the call; it was said that they are accepted;
+-- a program was run; or the canonical form of a file was written
 pub data Answered (asked : Command) (texts : List (List ℕ)) (out out' report report' : SinkState) (devices devices' : DevicesState) (end : Status) : Type 0 where
   declined : (end ≡ status.Memory) ⊎ Stops asked texts end → out' ≡ out → report' ≡ report → devices' ≡ devices
+      → Answered asked texts out out' report report' devices devices' end
+  checked : asked ≡ command.Check → PassesCheck texts → Wrote accepted_text out out' end → report' ≡ report → devices' ≡ devices
       → Answered asked texts out out' report report' devices devices' end
   ran : (program : Program) → asked ≡ command.Run → IsAccepted texts program → Ran program report report' devices devices' end → out' ≡ out
       → Answered asked texts out out' report report' devices devices' end

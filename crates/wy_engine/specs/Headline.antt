@@ -13,7 +13,7 @@ use Rattle.wy_meaning.specs.Bounds.{Bounded}
 use Rattle.wy_meaning.specs.Meaning.{Meaning}
 use Rattle.wy_syntax.specs.Canonical.{canonical_form}
 use Rattle.wy_syntax.specs.Trees.{ItemTree}
-use Rattle.wy_engine.specs.Judgement.{Asks, Did, Stops, authority_of, formatted, meaning_of, nothing, ran}
+use Rattle.wy_engine.specs.Judgement.{Asks, Did, Stops, accepted_text, authority_of, checked, formatted, meaning_of, nothing, ran}
 use Rattle.wy_engine.specs.LastLine.{last_line}
 use Rattle.wy_engine.specs.Report.{allowed_by, report_text}
 use Rattle.wy_engine.specs.Status.{IsOfOut, IsOfRun, IsOfTexts, status_of}
@@ -72,14 +72,14 @@ pub record Runs (call : TopCall) (program : Program) : Type 0 where
   pub ends : TellsDeeds call.devices → call.status ≢ status.Memory → call.status ≢ status.Unwritten → call.status ≡ status_of (meaning_in call program).end
   pub failed : (grant : List ℕ) (op : OpName) → call.status ≡ status.DeviceFailed grant op → Rose (device_of call.devices (kind_named op)).faults (device_of call.devices_after (kind_named op)).faults
 
--- The canonical form of a file was written to `out`, and nothing else was done. Where it could not be written whole, a
--- part of it stands there.
-pub record Formats (call : TopCall) (tree : List ItemTree) : Type 0 where
-  pub asked : HasCommand call command.Format
+-- A command's text was written to `out`, and nothing else was done. Where it could not be written whole, a part of it
+-- stands there.
+pub record Writes (call : TopCall) (command : Command) (text : List ℕ) : Type 0 where
+  pub asked : HasCommand call command
   pub reached : IsOfOut call.status
   pub front : List ℕ
   pub rest : List ℕ
-  pub split : canonical_form tree ≡ front ++ rest
+  pub split : text ≡ front ++ rest
   pub taken : call.out_after.taken ≡ gained call.out.taken front
   pub whole : call.status ≡ status.Ended → rest ≡ []
   pub proper : call.status ≡ status.Unwritten → (0 < length rest) × Rose call.out.faults call.out_after.faults
@@ -94,7 +94,8 @@ pub record Settles (call : TopCall) : Type 0 where
   pub quiet : did ≡ nothing → IsQuiet call
   pub idle : did ≡ nothing → call.status ≢ status.Memory → ¬ IsOfRun call.status
   pub runs : (program : Program) → did ≡ ran program → Runs call program
-  pub formats : (tree : List ItemTree) → did ≡ formatted tree → Formats call tree
+  pub checks : did ≡ checked → Writes call command.Check accepted_text
+  pub formats : (tree : List ItemTree) → did ≡ formatted tree → Writes call command.Format (canonical_form tree)
   pub counted : call.report.faults ≤ call.report_after.faults
 
 -- The last line of a settled status was written, whole unless the sink counted a fault; a fault changes no status.

@@ -4,13 +4,17 @@ use Rattle.std.specs.Prelude.{codes, ◌≡◌, ◌⊎◌, List, [], ◌∷◌, 
 use Rattle.wy_text.specs.declared.fault.AtomName.{AtomName}
 use Rattle.wy_text.specs.declared.fault.Fault.{Fault}
 use Rattle.wy_text.specs.declared.fault.RuleName.TheVariants.{TBody}
+use Rattle.wy_text.specs.declared.limit.LimitName.TheVariants.{ReachedTypes}
 use Rattle.wy_device.specs.Tapes.{Tapes}
 use Rattle.wy_meaning.specs.Literals.{literal_meaning}
 use Rattle.wy_meaning.specs.Meaning.{Meaning}
 use Rattle.wy_syntax.specs.Trees.{ItemTree}
+use Rattle.wy_types.specs.Program as core
+use Rattle.wy_rules.specs.Ends.{End, IsEnd, too_many_types, refused}
+use Rattle.wy_judge.specs.Checking as checking
 use Rattle.wy_engine.specs.FileTrees.{FirstNoTree, HaveTrees}
 use Rattle.wy_engine.specs.LiteralForm.{program_of}
-use Rattle.wy_engine.specs.NameFaults.{NamesResolve, NamesStop}
+use Rattle.wy_engine.specs.NameFaults.{NamesResolve, NamesStop, ResolveTo}
 use Rattle.wy_engine.specs.Report.{InstanceRow}
 use Rattle.wy_engine.specs.declared.literal_form.Program.{Program}
 use Rattle.wy_engine.specs.declared.settings.Command.{Command}
@@ -51,25 +55,62 @@ pub record IsUnbuilt (texts : List (List ℕ)) : Type 0 where
   pub names : NamesResolve trees
   pub formless : (program : Program) → ¬ ReadsAs texts program
 
+-- ---- what is checked
+
+-- the texts are those of a program that has no `use`, `instance` or `import` line
+pub record IsChecked (texts : List (List ℕ)) (program : core.Program) : Type 0 where
+  pub read : ResolveTo texts program
+  pub lines : checking.any_lines program ≡ false
+
+-- .. which is accepted by the rules, within the limits
+pub record PassesCheck (texts : List (List ℕ)) : Type 0 where
+  pub program : core.Program
+  pub checked : IsChecked texts program
+  pub accepted : checking.IsAccepted program
+
+-- .. which is not, and why
+pub record EndsCheck (texts : List (List ℕ)) (end : End) : Type 0 where
+  pub program : core.Program
+  pub checked : IsChecked texts program
+  pub ends : IsEnd program end
+
+-- the texts are those of a program that has such a line
+pub record HasLines (texts : List (List ℕ)) : Type 0 where
+  pub program : core.Program
+  pub read : ResolveTo texts program
+  pub lines : checking.any_lines program ≡ true
+
+-- what is written where texts are accepted
+abbrev pub accepted_text : List ℕ
+accepted_text = codes "accepted\n"
+
+-- ---- what a command does with texts
+
 -- The status with which texts end a call before anything is run or written to `out`: some file has no tree; or, of
--- texts that are to run, the names are refused, the program is refused, or they are of no form that is built. What is
--- formatted may have any names.
+-- texts that are to be checked or to run, the names are refused, the program is refused, or they are of no form that
+-- is built. What is formatted may have any names.
 abbrev pub Stops : Command → List (List ℕ) → Status → Type 0
 Stops command texts (status.Syntax place kind) = FirstNoTree 1 texts (status.Syntax place kind)
+Stops command.Check texts (status.Limit name) =
+    FirstNoTree 1 texts (status.Limit name) ⊎ (NamesStop texts (status.Limit name) ⊎ ((name ≡ ReachedTypes) × EndsCheck texts too_many_types))
 Stops command.Run texts (status.Limit name) = FirstNoTree 1 texts (status.Limit name) ⊎ NamesStop texts (status.Limit name)
 Stops command.Format texts (status.Limit name) = FirstNoTree 1 texts (status.Limit name)
+Stops command.Check texts (status.Refused fault) = NamesStop texts (status.Refused fault) ⊎ EndsCheck texts (refused fault)
 Stops command.Run texts (status.Refused fault) = NamesStop texts (status.Refused fault) ⊎ IsRefused texts fault
+Stops command.Check texts status.Unbuilt = HasLines texts
 Stops command.Run texts status.Unbuilt = IsUnbuilt texts
 Stops command texts other = ⊥
 
--- what a call did: nothing, or it ran a program, or it wrote the canonical form of a file
+-- what a call did: nothing, or it said that texts are accepted, or it ran a program, or it wrote the canonical form of a file
 pub data Did : Type 0 where
   nothing : Did
+  checked : Did
   ran : Program → Did
   formatted : List ItemTree → Did
 
 -- what a command does with texts that do not stop it
 abbrev pub Asks : Command → List (List ℕ) → Did → Type 0
+Asks command.Check texts checked = PassesCheck texts
 Asks command.Run texts (ran program) = IsAccepted texts program
 Asks command.Format texts (formatted tree) = HaveTrees 1 texts (tree ∷ [])
 Asks command texts other = ⊥

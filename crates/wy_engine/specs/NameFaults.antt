@@ -43,6 +43,12 @@ pub record NamesStop (texts : List (List ℕ)) (end : Status) : Type 0 where
   pub refused : Refused (all_items trees) why
   pub gives : end ≡ names_status why
 
+-- the texts have trees in which the names resolve, and this is the program that they are of
+pub record ResolveTo (texts : List (List ℕ)) (program : core.Program) : Type 0 where
+  pub trees : List (List ItemTree)
+  pub have : HaveTrees 1 texts trees
+  pub resolves : Resolves (all_items trees) program
+
 -- the names in the trees resolve
 pub record NamesResolve (trees : List (List ItemTree)) : Type 0 where
   pub program : core.Program

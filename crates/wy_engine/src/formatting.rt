@@ -3,11 +3,11 @@ ghost use Rattle.wy_syntax.specs.Views.{file_tree};
 ghost use Rattle.wy_engine.specs.Answering.{Wrote};
 
 use crate::status::Status;
+use crate::writing::write_out;
 use std::alloc::Global;
 use wy_syntax::items::Tree;
 use wy_syntax::printing::print;
-use wy_text::sink::{Sink, WriteError};
-use wy_text::writing::write_all;
+use wy_text::sink::Sink;
 
 /// Writes the canonical form of a file's tree to `out`.
 pub fn write_form<O: Sink>(alloc: Global, tree: &Tree, out: &mut O) -> Status
@@ -16,9 +16,5 @@ pub fn write_form<O: Sink>(alloc: Global, tree: &Tree, out: &mut O) -> Status
     let Ok(text) = print(alloc, tree) else {
         return Status::Memory;
     };
-    match write_all(out, text.as_bytes()) {
-        Ok(()) => Status::Ended,
-        Err(WriteError::Failed) => Status::Unwritten,
-        Err(WriteError::Memory) => Status::Memory,
-    }
+    write_out(out, text.as_bytes())
 }

@@ -39,7 +39,7 @@ fn name_fault(rule: RuleName, place: Place) -> Fault
 }
 
 /// The status of a call whose names are refused (docs/LANGUAGE.md, "Names"). It takes no memory.
-fn names_status(why: NameRefusal) -> Status
+pub fn names_status(why: NameRefusal) -> Status
     ensures { result ≡ names_status why }
 {
     match why {

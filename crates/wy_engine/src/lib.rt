@@ -1,8 +1,10 @@
 //! The top call: it reads the files that the words name, judges them, prints the authority of what it
-//! accepts, and runs it on the devices that were handed in; or it writes a file's canonical form.
+//! accepts, and runs it on the devices that were handed in; or it says whether they are accepted, or writes a file's
+//! canonical form.
 #![tactic(auto)]
 
 pub mod answering;
+pub mod checking;
 pub mod formatting;
 pub mod judging;
 pub mod last_line;
@@ -16,5 +18,6 @@ pub mod status;
 #[cfg(test)]
 mod tests;
 pub mod top;
+pub mod writing;
 
 pub use wy_device::{devices, handing_in};

@@ -7,6 +7,8 @@ ghost use Rattle.wy_engine.specs.TopCall.{files_of};
 /// What the program is to do with its files (docs/LANGUAGE.md, "The command line").
 #[derive(Clone, Copy, Debug, PartialEq, Eq)]
 pub enum Command {
+    /// Judge the files, and say whether they are accepted.
+    Check,
     /// Judge the files, print the report, and run the program.
     Run,
     /// Write the canonical form of one file.
@@ -25,6 +27,7 @@ fn command_of(word: &str) -> Option<Command>
     ensures { result ≡ command_named word.now }
 {
     match word {
+        "check" => Some(Command::Check),
         "run" => Some(Command::Run),
         "format" => Some(Command::Format),
         _ => None,
@@ -49,7 +52,7 @@ fn takes(command: Command, count: usize) -> bool
     ensures { result ≡ takes command count }
 {
     match command {
-        Command::Run => count >= 1,
+        Command::Check | Command::Run => count >= 1,
         Command::Format => count == 1,
     }
 }

@@ -69,9 +69,9 @@ fn close<E: Sink>(alloc: Global, names: &[String], report: &mut E, settled: Stat
     }
 }
 
-/// Does what the words say: reads the files that they name, and parses them. `run` judges their names and their
-/// program, prints the authority of what is accepted on `report`, and runs it on the devices; `format` writes the
-/// canonical form of its one file to `out`. The report ends with a line that says how the call ended, unless all
+/// Does what the words say: reads the files that they name, and parses them. `check` judges their names and their
+/// program by the rules, and says on `out` that it is accepted; `run` judges both, prints the authority of what is
+/// accepted on `report`, and runs it on the devices; `format` writes the canonical form of its one file to `out`. The report ends with a line that says how the call ended, unless all
 /// was done (docs/LANGUAGE.md, "The command line" and "Statuses").
 ///
 /// The devices are of the four kinds in their order, which `devices` gives.
