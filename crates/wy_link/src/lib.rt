@@ -1,0 +1,6 @@
+//! Lines: whether the uses, instances and imports of a program are as the rules ask (docs/LANGUAGE.md, "Modules and
+//! lines").
+#![tactic(auto)]
+
+pub mod lines;
+pub mod members;
