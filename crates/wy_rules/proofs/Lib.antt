@@ -1,4 +1,5 @@
 pub mod Agreeing
+pub mod AlikeFails
 pub mod Carrying
 pub mod Closed
 pub mod Each
