@@ -202,7 +202,7 @@ module _ (y : Reading) (w : Lawful y) (s : Scope) (owner : Option ℕ) where
         (arguments_move one other t u name xs all_there below above o q) (arguments_move other one u t name xs all_back above below q o) (λ c d e l. absurd e))))
         a b
 
-    if_same : (test : Expr) (first second : Block) (t u : y.Kind) (m n : ℕ) → Moves one other (Plain test) → Moves other one (Plain test) → BlockMoves one other first → BlockMoves other one first →
+    pub if_same : (test : Expr) (first second : Block) (t u : y.Kind) (m n : ℕ) → Moves one other (Plain test) → Moves other one (Plain test) → BlockMoves one other first → BlockMoves other one first →
         BlockMoves one other second → BlockMoves other one second → Above y t u → Above y u t → IfFails y s one owner test first second t m → IfFails y s other owner test first second u n → m ≡ n
     if_same test first second t u m n a b c d e f up down h k =
         first_same 1 (HasAt y s one owner (Plain test) (y.read Bool)) (HasAt y s other owner (Plain test) (y.read Bool)) _ _ m n (a (y.read Bool)) (b (y.read Bool))

@@ -1,4 +1,5 @@
 pub mod Agreeing
+pub mod Alike
 pub mod AlikeFails
 pub mod Carrying
 pub mod Closed
