@@ -1,6 +1,7 @@
 pub mod Agreeing
 pub mod Alike
 pub mod AlikeFails
+pub mod AlikeScopes
 pub mod Carrying
 pub mod Closed
 pub mod Each
