@@ -1,6 +1,6 @@
 -- The first failing node of a list is one, whatever the types of its `val`s are said to be: over two lists of these, each narrower than
 -- the other where `val`s have passed, the same nodes pass, and the same one fails, by the same premise.
-use Rattle.std.proofs.Common.{◌≡◌, ℕ, ◌+◌, List, [], ◌∷◌, ◌++◌, map, inl, inr, refl, sym, ◌∙◌, ap, subst, Option, Some, None}
+use Rattle.std.proofs.Common.{◌≡◌, ℕ, List, [], ◌∷◌, ◌++◌, map, inl, inr, refl, sym, ◌∙◌, ap, subst, Option, Some, None}
 use Rattle.std.specs.Prelude.{slice_get}
 use Rattle.std.specs.List.{range_with_len}
 use Rattle.wy_text.specs.declared.fault.Place.{Place}
@@ -9,7 +9,7 @@ use Rattle.wy_text.specs.declared.fault.Fault.{Fault}
 use Rattle.wy_text.specs.declared.fault.RuleName.{RuleName}
 use Rattle.wy_text.specs.declared.fault.RuleName.TheVariants.{TIf, TSeq, TVal}
 use Rattle.wy_types.specs.declared.types.TypeRef.{TypeRef}
-use Rattle.wy_types.specs.declared.types.TypeRef.TheVariants.{Bool, Unit as Nothing}
+use Rattle.wy_types.specs.declared.types.TypeRef.TheVariants.{Unit as Nothing}
 use Rattle.wy_types.specs.declared.code.Variable.{Variable}
 use Rattle.wy_types.specs.declared.code.Variable.TheVariants.{Local}
 use Rattle.wy_types.specs.declared.resolved.Field.{Field}
@@ -23,10 +23,10 @@ use Rattle.wy_rules.specs.Derivations.{mark}
 use Rattle.wy_rules.specs.Typing.{field_types, var_field, HasAt, HasSome}
 use Rattle.wy_rules.specs.Acceptance.{scope_reading}
 use Rattle.wy_rules.specs.Nodes.{Spot, nothing, written, argument, part, statement, val, Node, node, row_types, written_spots, val_spot, field_spot, argument_spots, expr_nodes, value_nodes, values_nodes, block_nodes}
-use Rattle.wy_rules.specs.Failing.{IsTarget, IsParameter, IsExpected, ValueStands, ValueFails, ValStands, ValSettles, named_atom, Stands, Fails, Passes, FailsBy, FirstFailing, AllPass}
+use Rattle.wy_rules.specs.Failing.{IsParameter, IsExpected, ValueStands, ValueFails, ValStands, ValSettles, named_atom, Stands, Fails, Passes, FailsBy, FirstFailing, AllPass}
 use Rattle.wy_rules.proofs.Forms.{Lawful, Above}
 use Rattle.wy_rules.proofs.Needs.{has_under}
-use Rattle.wy_rules.proofs.Narrowing.{Narrower, AllNarrower, ExprReady, ValueReady, ValuesReady, BlockReady, narrow_expr, narrow_value, narrow_values, narrow_block, one_more_seen}
+use Rattle.wy_rules.proofs.Narrowing.{Narrower, AllNarrower, ExprReady, ValueReady, ValuesReady, BlockReady, narrow_expr, narrow_value, narrow_block, one_more_seen}
 use Rattle.wy_rules.proofs.Standing.{expr_ready, value_ready, values_ready, block_ready, params_below}
 use Rattle.wy_rules.proofs.AlikeFails.{Moves, BlockMoves, EachMoves, PartsMove, least_below, raised, same_method, target_below, only_same, if_same, expr_same, val_same}
 

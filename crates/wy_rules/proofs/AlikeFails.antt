@@ -1,23 +1,21 @@
 -- The first false premise of a node over two lists of the types of `val`s: it has one number, where what has a type over one list has
 -- it over the other.
-use Rattle.std.proofs.Common.{◌≡◌, ℕ, zero, suc, ◌+◌, ◌-◌, ◌≤◌, ◌<◌, ◌⊎◌, List, [], ◌∷◌, inl, inr, refl, sym, ◌∙◌, ap, subst, Option, Some, None, map, take, length, Bool as Truth, true, false, le_antisymm, arith}
-use Rattle.std.specs.Prelude.{slice_get}
+use Rattle.std.proofs.Common.{◌≡◌, ℕ, zero, suc, ◌+◌, ◌-◌, ◌≤◌, ◌⊎◌, List, [], ◌∷◌, inl, inr, refl, sym, ◌∙◌, ap, subst, Option, Some, None, map, take, length, Bool as Truth, true, false, le_antisymm, arith}
 use Rattle.std.proofs.lemmas.Bool.{cases_lt}
 use Rattle.wy_effects.specs.Members.{In, Within}
 use Rattle.wy_types.specs.declared.types.TypeRef.{TypeRef}
-use Rattle.wy_types.specs.declared.types.TypeRef.TheVariants.{Bool, Unit as Nothing}
+use Rattle.wy_types.specs.declared.types.TypeRef.TheVariants.{Bool}
 use Rattle.wy_types.specs.declared.code.Binding.{Binding}
-use Rattle.wy_types.specs.declared.resolved.Field.{Field}
-use Rattle.wy_types.specs.Code.{Expr, Number, Quoted, Truth as TruthOf, Nothing as NothingOf, This, Name, Unary, Binary, TextCall, Call, New, Ascribe, Assign, Value, Plain, If, Values, none, more, Block}
+use Rattle.wy_types.specs.Code.{Expr, Call, New, Ascribe, Assign, Value, Plain, If, Values, none, more, Block}
 use Rattle.wy_types.specs.Program.{Program, Scope}
 use Rattle.wy_types.specs.Signature.{Signature, find_method}
 use Rattle.wy_types.specs.Subtyping.{ParamsIn}
 use Rattle.wy_types.specs.Core.{value_count}
 use Rattle.wy_rules.specs.Readings.{Reading, IsBelow}
-use Rattle.wy_rules.specs.Operators.{Row, Operation, operation_of}
+use Rattle.wy_rules.specs.Operators.{Operation, operation_of}
 use Rattle.wy_rules.specs.Derivations.{Derivations, none as no_derivations, more as one_more}
-use Rattle.wy_rules.specs.Typing.{field_types, var_field, DerivesAll, HasAt, BlockHas, BlockHasAt, AllHave, AllHaveAt}
-use Rattle.wy_rules.specs.Failing.{FirstFalse, IsLeastMissing, IsLeast, IsLeastAt, AreLeastAt, IsTarget, HasMethod, HasNumber, HasArguments, CallFails, IfFails, IsVar, IsFieldValue, SetFails, first_values, OperandsHave, OperationFails, ExprFails, ValFails, BodyStands, BodyFails, InitStands, InitFails}
+use Rattle.wy_rules.specs.Typing.{field_types, DerivesAll, HasAt, BlockHas, BlockHasAt, AllHave, AllHaveAt}
+use Rattle.wy_rules.specs.Failing.{FirstFalse, IsLeastMissing, IsLeast, IsTarget, HasMethod, HasNumber, HasArguments, CallFails, IfFails, IsVar, IsFieldValue, SetFails, first_values, OperandsHave, OperationFails, ExprFails, ValFails, BodyStands, BodyFails, InitStands, InitFails}
 use Rattle.wy_rules.specs.Acceptance.{reading_of}
 use Rattle.wy_rules.proofs.Forms.{Lawful, Above}
 use Rattle.wy_rules.proofs.Least.{raise, raise_block, all_raised}
@@ -259,7 +257,7 @@ module _ (y : Reading) (w : Lawful y) (s : Scope) (owner : Option ℕ) where
         Shrinks (BlockHas y s other owner b (y.read t)) (BlockHas y s one owner b (y.read t)) → (BodyStands y s one owner b t e → ⊥) → BodyFails y s one owner b t e m i → BodyFails y s other owner b t e n j → (m ≡ n) × (i ≡ j)
     body_same b t e m n i j there back false_there (inl h) (inl k) = (
       only_same (BlockHasAt y s one owner b (y.read t)) (BlockHasAt y s other owner b (y.read t)) m n
-      (λ v. (let r = there v.effect v.has in record { effect = r.0; has = r.1 })) (λ v. (let r = back v.effect v.has in record { effect = r.0; has = r.1 })) h.0 k.0,
+          (λ v. (let r = there v.effect v.has in record { effect = r.0; has = r.1 })) (λ v. (let r = back v.effect v.has in record { effect = r.0; has = r.1 })) h.0 k.0,
       h.1 ∙ sym k.1,
     )
     body_same b t e m n i j there back false_there (inl h) (inr k) = (let r = back k.0 k.2.has in absurd (not_false (BlockHasAt y s one owner b (y.read t)) m h.0 (record { effect = r.0; has = r.1 })))
@@ -273,7 +271,7 @@ module _ (y : Reading) (w : Lawful y) (s : Scope) (owner : Option ℕ) where
         (m ≡ n) × (i ≡ j)
     init_same xs e m n i j there back false_there (inl h) (inl k) = (
       only_same (AllHaveAt y s one owner xs (map y.read (field_types s 0))) (AllHaveAt y s other owner xs (map y.read (field_types s 0))) m n
-      (λ v. (let r = there v.effect v.have in record { effect = r.0; have = r.1 })) (λ v. (let r = back v.effect v.have in record { effect = r.0; have = r.1 })) h.0 k.0,
+          (λ v. (let r = there v.effect v.have in record { effect = r.0; have = r.1 })) (λ v. (let r = back v.effect v.have in record { effect = r.0; have = r.1 })) h.0 k.0,
       h.1 ∙ sym k.1,
     )
     init_same xs e m n i j there back false_there (inl h) (inr k) = (let r = back k.0 k.2.have in absurd (not_false (AllHaveAt y s one owner xs (map y.read (field_types s 0))) m h.0 (record { effect = r.0; have = r.1 })))

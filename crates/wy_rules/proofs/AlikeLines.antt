@@ -1,5 +1,5 @@
 -- The nodes of lines: what fails of a line, and the atom that is missing there, is one.
-use Rattle.std.proofs.Common.{◌≡◌, ℕ, ◌≤◌, List, [], ◌∷◌, inl, inr, refl, sym, ◌∙◌, ap, Option, Some, None, le_antisymm}
+use Rattle.std.proofs.Common.{◌≡◌, ℕ, List, [], ◌∷◌, inl, inr, refl, sym, ◌∙◌, ap, Option, Some, None, le_antisymm}
 use Rattle.wy_text.specs.declared.fault.RuleName.TheVariants.{MUse, MInst, MImport, IImport}
 use Rattle.wy_effects.specs.Members.{In}
 use Rattle.wy_types.specs.declared.resolved.OwnName.{OwnName}
@@ -10,7 +10,7 @@ use Rattle.wy_rules.specs.Acceptance.{scope_reading, Handed, EffectsBounded, IsH
 use Rattle.wy_rules.specs.Nodes.{nothing, use_line, instance_line, import_line, bound_line, node, line_nodes, lines_nodes}
 use Rattle.wy_rules.specs.Failing.{FirstFalse, FirstOf, LacksInBound, LacksInMethod, Arguments, InstanceFails, ImportMisfits, BoundFails}
 use Rattle.wy_rules.proofs.AlikeFails.{first_same}
-use Rattle.wy_rules.proofs.Alike.{NodeAlike, Alike, append, alone, node_alike, nothing_alike}
+use Rattle.wy_rules.proofs.Alike.{Alike, append, alone, node_alike, nothing_alike}
 
 -- the same premises have one first false one
 still_same : (k : ℕ) (A C D : Type 0) (m n : ℕ) → (C → D → m ≡ n) → FirstFalse k A C m → FirstFalse k A D n → m ≡ n

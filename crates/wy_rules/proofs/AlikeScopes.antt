@@ -20,7 +20,7 @@ use Rattle.wy_types.specs.Types.{is_plain}
 use Rattle.wy_types.specs.Core.{ScopeFits, StartFits, BodyFits, ValuesFit, BlockFits, literal_captures, body_parameters, start_vals, block_vals}
 use Rattle.wy_rules.specs.Typing.{BlockHas, AllHave, fields_of, field_types}
 use Rattle.wy_rules.specs.Acceptance.{scope_reading}
-use Rattle.wy_rules.specs.Nodes.{nothing, written, body, init, impure, seal, Node, node, written_spots, values_nodes, block_nodes, start_nodes, body_nodes, bodies_nodes, var_nodes, impure_line, impure_lines, pure_nodes, seal_nodes, scope_nodes}
+use Rattle.wy_rules.specs.Nodes.{nothing, written, body, init, impure, seal, node, written_spots, values_nodes, block_nodes, start_nodes, body_nodes, bodies_nodes, var_nodes, impure_line, impure_lines, pure_nodes, seal_nodes, scope_nodes}
 use Rattle.wy_rules.specs.Failing.{BodyStands, InitStands, AllPass}
 use Rattle.wy_rules.proofs.Forms.{Lawful}
 use Rattle.wy_rules.proofs.Narrowing.{Narrower, AllNarrower, ValuesReady, BlockReady, narrow_values, narrow_block}

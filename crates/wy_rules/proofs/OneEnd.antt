@@ -6,7 +6,7 @@ use Rattle.wy_effects.specs.Members.{In}
 use Rattle.wy_effects.proofs.Lists.{In-slice_get}
 use Rattle.wy_types.specs.Program.{Program, Scope}
 use Rattle.wy_types.specs.Core.{IsCore, ScopeFits}
-use Rattle.wy_rules.specs.Acceptance.{Accepted, ScopeAccepted}
+use Rattle.wy_rules.specs.Acceptance.{ScopeAccepted}
 use Rattle.wy_rules.specs.Nodes.{scope_nodes, lines_nodes}
 use Rattle.wy_rules.specs.Failing.{IsScopeFault, IsLineFaultFrom}
 use Rattle.wy_rules.specs.Refusals.{Turn, plain_modules, other_modules, the_program, Numbered, scopes_of, ScopePasses, FirstFault, LinesPassFrom}
