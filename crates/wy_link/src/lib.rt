@@ -3,4 +3,5 @@
 #![tactic(auto)]
 
 pub mod lines;
+pub mod linking;
 pub mod members;
