@@ -1,9 +1,10 @@
--- How judging a whole program ends where the program is not accepted: by the fault that refuses it, or by a scope that reaches more
--- types than the limit. A module's limit comes before its faults, and the program's before all lines (docs/LANGUAGE.md, "First failing
+-- How judging a whole program ends where the program is not accepted: by the fault that refuses it, or by a limit. A module's limit
+-- on types comes before its faults; the program's, and then the one on instances, before all lines (docs/LANGUAGE.md, "First failing
 -- node" and "Limits").
 use Rattle.std.specs.Prelude.{◌≡◌, ℕ, ◌<◌, List, [], ◌∷◌, ◌⊎◌, Some, Err, length, slice_get}
 use Rattle.wy_text.specs.declared.fault.Fault.{Fault}
-use Rattle.wy_text.specs.declared.limit.LimitName.TheVariants.{ReachedTypes}
+use Rattle.wy_text.specs.declared.limit.LimitName.{LimitName}
+use Rattle.wy_text.specs.declared.limit.LimitName.TheVariants.{ReachedTypes, Instances}
 use Rattle.wy_types.specs.declared.reach.ReachRefusal.TheVariants.{Limit}
 use Rattle.wy_types.specs.Program.{Program, Scope}
 use Rattle.wy_types.specs.Core.{IsCore}
@@ -14,7 +15,7 @@ use Rattle.wy_rules.specs.Failing.{IsScopeFault, IsLineFault}
 use Rattle.wy_rules.specs.Refusals.{Numbered, plain_modules, other_modules, the_program, scopes_of, ScopePasses, FirstFault, LinesPassFrom}
 
 pub data End : Type 0 where
-  too_many_types : End
+  limited : LimitName → End
   refused : Fault → End
 
 -- the scope of a number reaches more object types than the limit
@@ -25,13 +26,13 @@ ReachesTooMany p k = Reach p k (Err (Limit ReachedTypes))
 abbrev pub StartsTooMany : Program → Type 0
 StartsTooMany p = 1024 < length (start_list p)
 
--- no scope reaches too many types
-abbrev pub IsWithinLimits : Program → Type 0
-IsWithinLimits p = (k : ℕ) (s : Scope) → slice_get p.scopes k ≡ Some s → ReachesTooMany p k → ⊥
+pub record IsWithinLimits (p : Program) : Type 0 where
+  pub types : (k : ℕ) (s : Scope) → slice_get p.scopes k ≡ Some s → ReachesTooMany p k → ⊥
+  pub instances : StartsTooMany p → ⊥
 
 module _ (p : Program) where
   abbrev pub IsScopeEnd : Numbered → End → Type 0
-  IsScopeEnd n too_many_types = ReachesTooMany p n.number
+  IsScopeEnd n (limited name) = (name ≡ ReachedTypes) × ReachesTooMany p n.number
   IsScopeEnd n (refused fault) = (ReachesTooMany p n.number → ⊥) × IsScopeFault p n.number n.scope fault
 
   pub record ScopeGoesOn (n : Numbered) : Type 0 where
@@ -47,24 +48,27 @@ module _ (p : Program) where
   AllGoOn [] = Unit {0}
   AllGoOn (n ∷ ns) = ScopeGoesOn n × AllGoOn ns
 
-  -- the limit on the program's types
+  -- the limits on the program's types and on instances
   abbrev pub SomeReachTooMany : List Numbered → Type 0
   SomeReachTooMany [] = ⊥
   SomeReachTooMany (n ∷ ns) = ReachesTooMany p n.number ⊎ SomeReachTooMany ns
 
   abbrev pub IsLimitEnd : List Numbered → End → Type 0
-  IsLimitEnd ns too_many_types = SomeReachTooMany ns
+  IsLimitEnd ns (limited name) = ((name ≡ ReachedTypes) × SomeReachTooMany ns) ⊎ ((SomeReachTooMany ns → ⊥) × (name ≡ Instances) × StartsTooMany p)
   IsLimitEnd ns (refused fault) = ⊥
 
+  abbrev pub KeepsLimits : List Numbered → Type 0
+  KeepsLimits ns = (SomeReachTooMany ns → ⊥) × (StartsTooMany p → ⊥)
+
   abbrev pub IsLineEnd : End → Type 0
-  IsLineEnd too_many_types = ⊥
+  IsLineEnd (limited name) = ⊥
   IsLineEnd (refused fault) = IsLineFault p fault
 
   abbrev pub IsBodyEnd : List Numbered → End → Type 0
-  IsBodyEnd ns too_many_types = ⊥
+  IsBodyEnd ns (limited name) = ⊥
   IsBodyEnd ns (refused fault) = FirstFault p ns fault
 
-  -- the modules, plain ones first; the limit on the program's types; the lines; the program's body
+  -- the modules, plain ones first; the limits on the program's types and on instances; the lines; the program's body
   abbrev pub IsEnd : End → Type 0
   IsEnd end =
       FirstEnd (scopes_of plain_modules 0 p.scopes) end ⊎
@@ -72,7 +76,7 @@ module _ (p : Program) where
       (FirstEnd (scopes_of other_modules 0 p.scopes) end ⊎
       (AllGoOn (scopes_of other_modules 0 p.scopes) ×
       (IsLimitEnd (scopes_of the_program 0 p.scopes) end ⊎
-      ((SomeReachTooMany (scopes_of the_program 0 p.scopes) → ⊥) ×
+      (KeepsLimits (scopes_of the_program 0 p.scopes) ×
       (IsLineEnd end ⊎
       (LinesPassFrom p 0 p.scopes × IsBodyEnd (scopes_of the_program 0 p.scopes) end)))))))
 
