@@ -10,7 +10,7 @@ use Rattle.wy_rules.specs.Acceptance.{ScopeAccepted}
 use Rattle.wy_rules.specs.Nodes.{scope_nodes, lines_nodes}
 use Rattle.wy_rules.specs.Failing.{IsScopeFault, IsLineFaultFrom}
 use Rattle.wy_rules.specs.Refusals.{Turn, plain_modules, other_modules, the_program, Numbered, scopes_of, ScopePasses, FirstFault, LinesPassFrom}
-use Rattle.wy_rules.specs.Ends.{End, limited, refused, StartsTooMany, IsScopeEnd, ScopeGoesOn, FirstEnd, AllGoOn, SomeReachTooMany, IsLimitEnd, KeepsLimits, IsLineEnd, IsBodyEnd, IsWithinLimits, OneScopeFault, OneEnd, AcceptedHasNoEnd}
+use Rattle.wy_rules.specs.Ends.{End, limited, refused, IsScopeEnd, ScopeGoesOn, FirstEnd, AllGoOn, SomeReachTooMany, IsLimitEnd, KeepsLimits, IsLineEnd, IsBodyEnd, IsWithinLimits, OneScopeFault, OneEnd, AcceptedHasNoEnd}
 use Rattle.wy_rules.proofs.Holding.{accepted_scopes_hold}
 use Rattle.wy_rules.proofs.Passing.{accepted_lines_hold}
 use Rattle.wy_rules.proofs.Unrefused.{accepted_of_turn, each_of_turn, no_first_fault}
