@@ -29,6 +29,7 @@ pub mod Moving
 pub mod Naming
 pub mod Operating
 pub mod PartVals
+pub mod Programs
 pub mod Putting
 pub mod ReadTypes
 pub mod Refitting
