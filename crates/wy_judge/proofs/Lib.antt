@@ -14,6 +14,7 @@ pub mod BodyVals
 pub mod BodyWalks
 pub mod Calling
 pub mod Carrying
+pub mod Checks
 pub mod Choosing
 pub mod Contexts
 pub mod Dropping
