@@ -1,26 +1,17 @@
--- A program's scopes by their turns: what holds of those of a turn, the first at which judging ends, the program's own scope, and a
--- program without lines.
-use Rattle.std.proofs.Common.{◌≡◌, ℕ, zero, suc, ◌+◌, ◌-◌, ◌<◌, ◌≤◌, List, [], ◌∷◌, ◌||◌, inl, inr, length, map, get_or, refl, sym, ap, subst, ◌∙◌, Some, Bool as Truth, true, false, arith, below_more}
+-- A program's scopes by their turns: what holds of those of a turn, the first at which judging ends, and the program's own scope.
+use Rattle.std.proofs.Common.{◌≡◌, ℕ, zero, suc, ◌+◌, ◌-◌, ◌<◌, ◌≤◌, List, [], ◌∷◌, inl, inr, length, get_or, refl, sym, ap, subst, ◌∙◌, Some, true, false, arith, below_more}
 use Rattle.std.specs.Prelude.{slice_get, if◌then◌else◌}
-use Rattle.std.specs.List.{list_any}
 use Rattle.std.specs.Option.{option_map}
-use Rattle.std.proofs.lemmas.Bool.{or_parts}
 use Rattle.std.proofs.lemmas.List.{length-map}
 use Rattle.std.proofs.lemmas.Option.{slice_get-map, slice_get_read, slice_get_within}
 use Rattle.wy_types.specs.declared.resolved.ScopeKind.{ScopeKind}
 use Rattle.wy_types.specs.declared.resolved.ScopeKind.TheVariants.{Pure, Resource, Plain, Program as Main}
-use Rattle.wy_types.specs.declared.resolved.Origin.{Origin}
-use Rattle.wy_types.specs.declared.resolved.Origin.TheVariants.{Parameter, Grant, Use, Instance, Import}
-use Rattle.wy_types.specs.declared.resolved.OwnName.{OwnName}
 use Rattle.wy_types.specs.declared.resolved.Scope as sc
 use Rattle.wy_types.specs.declared.resolved.Core.{Core}
 use Rattle.wy_types.specs.Program.{Program, Scope, scope_of, program_of}
 use Rattle.wy_types.specs.Core.{IsCore, ProgramIsLast}
-use Rattle.wy_rules.specs.Nodes.{line_nodes, lines_nodes}
-use Rattle.wy_rules.specs.Failing.{AllPass}
-use Rattle.wy_rules.specs.Refusals.{Turn, the_program, turn_of, is_its_turn, Numbered, scopes_of, LinesPassFrom}
+use Rattle.wy_rules.specs.Refusals.{Turn, the_program, turn_of, is_its_turn, Numbered, scopes_of}
 use Rattle.wy_rules.specs.Ends.{End, IsScopeEnd, ScopeGoesOn, FirstEnd, AllGoOn}
-use Rattle.wy_judge.specs.Checking.{is_line, has_lines, any_lines}
 
 -- the scope of a number, as the code reads it
 pub scope_read : (core : Core) (scopes : List sc.Scope) (k : ℕ) (x : sc.Scope) → scopes ≡ core.scopes → k < length scopes → x ≡ get_or scopes k x → slice_get (program_of core).scopes k ≡ Some (scope_of x)
@@ -162,44 +153,3 @@ last_of core h =
       there = subst (λ v. slice_get scopes v ≡ Some r.scope) same r.there;
       alone = r.alone 0 ∙ ap (λ n. record { number = n; scope = r.scope } ∷ []) number;
     }
-
-------------------------------------------------------------
--- No lines
-
-no_line_node : (n : OwnName) (o : Origin) → is_line o ≡ false → line_nodes n o ≡ []
-no_line_node n (Parameter bare) e = refl
-no_line_node n Grant e = refl
-no_line_node n (Use m) e = cc
-no_line_node n (Instance m arguments) e = cc
-no_line_node n (Import m arguments bound) e = cc
-
-no_lines_nodes : (ns : List OwnName) → list_any (λ (n : OwnName). is_line n.origin) ns ≡ false → lines_nodes ns ≡ []
-no_lines_nodes [] h = refl
-no_lines_nodes (n ∷ ns) h =
-    let both = or_parts (is_line n.origin) (list_any (λ (m : OwnName). is_line m.origin) ns) h in
-    rw (no_line_node n n.origin both.0, no_lines_nodes ns both.1) refl
-
-pub has_none : (ss : List Scope) (k : ℕ) (s : Scope) → list_any has_lines ss ≡ false → slice_get ss k ≡ Some s → has_lines s ≡ false
-has_none [] k s h there = cc
-has_none (t ∷ ss) zero s h there =
-    let same : t ≡ s = cc in
-    subst (λ (v : Scope). has_lines v ≡ false) same (or_parts (has_lines t) (list_any has_lines ss) h).0
-has_none (t ∷ ss) (suc k) s h there = has_none ss k s (or_parts (has_lines t) (list_any has_lines ss) h).1 there
-
-module _ (p : Program) where
-  pub scope_lines_pass : (k : ℕ) (s : Scope) → has_lines s ≡ false → AllPass p k s [] (lines_nodes s.names)
-  scope_lines_pass k s h = subst (AllPass p k s []) (sym (no_lines_nodes s.names h)) tt
-
-  pub lines_pass : (k : ℕ) (ss : List Scope) → list_any has_lines ss ≡ false → LinesPassFrom p k ss
-  lines_pass k [] h = tt
-  lines_pass k (s ∷ ss) h =
-      let both = or_parts (has_lines s) (list_any has_lines ss) h in
-      (scope_lines_pass k s both.0, lines_pass (k + 1) ss both.1)
-
-any_map : {X Y : Type 0} (f : X → Y) (test : Y → Truth) (xs : List X) → list_any test (map f xs) ≡ list_any (λ x. test (f x)) xs
-any_map f test [] = refl
-any_map f test (x ∷ xs) = ap (λ b. test (f x) || b) (any_map f test xs)
-
--- the program's lines are those of the scopes as the code has them
-pub any_lines_of : (core : Core) → any_lines (program_of core) ≡ list_any (λ s. has_lines (scope_of s)) core.scopes
-any_lines_of core = any_map scope_of has_lines core.scopes

@@ -1,16 +1,12 @@
--- What checking comes to: of a scope by itself, and of a whole program that has no lines.
+-- What checking comes to: of a scope by itself, of modules in their turns, and of a whole program.
 use Rattle.std.specs.Prelude.{◌≡◌, ℕ, List, Some, map, slice_get, Bool as Truth, true, false}
-use Rattle.std.specs.List.{list_any}
 use Rattle.wy_text.specs.declared.limit.LimitName.TheVariants.{ReachedTypes}
-use Rattle.wy_types.specs.declared.resolved.Origin.{Origin}
-use Rattle.wy_types.specs.declared.resolved.Origin.TheVariants.{Parameter, Grant, Use, Instance, Import}
-use Rattle.wy_types.specs.declared.resolved.OwnName.{OwnName}
 use Rattle.wy_types.specs.Program.{Program, Scope}
 use Rattle.wy_rules.specs.Acceptance.{scope_reading, Accepted}
 use Rattle.wy_rules.specs.Nodes.{scope_nodes}
 use Rattle.wy_rules.specs.Failing.{AllPass, IsScopeFault}
 use Rattle.wy_rules.specs.Refusals.{Turn, plain_modules, other_modules, Numbered}
-use Rattle.wy_rules.specs.Ends.{too_many_types, refused, ReachesTooMany, IsWithinLimits, FirstEnd, IsEnd}
+use Rattle.wy_rules.specs.Ends.{limited, refused, ReachesTooMany, IsWithinLimits, FirstEnd, IsEnd}
 use Rattle.wy_judge.specs.declared.checking.Checked.{Checked}
 use Rattle.wy_judge.specs.declared.checking.CheckRefusal.{CheckRefusal}
 use Rattle.wy_judge.specs.declared.checking.CheckRefusal.TheVariants.{Fails, Limit, Memory}
@@ -26,7 +22,13 @@ pub record IsChecked (p : Program) (k : ℕ) (c : Checked) : Type 0 where
   pub within : ReachesTooMany p k → ⊥
   pub passes : AllPass p k scope (map (scope_reading p k scope).read c.locals) (scope_nodes scope)
 
--- .. it is not: the limit is looked at first
+-- it passes the limit
+abbrev pub IsLimitRefusal : Program → ℕ → CheckRefusal → Type 0
+IsLimitRefusal p k (Fails fault) = ⊥
+IsLimitRefusal p k (Limit name) = (name ≡ ReachedTypes) × ReachesTooMany p k
+IsLimitRefusal p k Memory = Unit {0}
+
+-- it is not so: the limit is looked at first
 abbrev pub IsCheckRefusal : Program → ℕ → CheckRefusal → Type 0
 IsCheckRefusal p k (Fails fault) = (ReachesTooMany p k → ⊥) × ((s : Scope) × (slice_get p.scopes k ≡ Some s) × IsScopeFault p k s fault)
 IsCheckRefusal p k (Limit name) = (name ≡ ReachedTypes) × ReachesTooMany p k
@@ -34,20 +36,6 @@ IsCheckRefusal p k Memory = Unit {0}
 
 ------------------------------------------------------------
 -- Programs
-
-abbrev pub is_line : Origin → Truth
-is_line (Parameter bare) = false
-is_line Grant = false
-is_line (Use m) = true
-is_line (Instance m arguments) = true
-is_line (Import m arguments bound) = true
-
-abbrev pub has_lines : Scope → Truth
-has_lines s = list_any (λ (n : OwnName). is_line n.origin) s.names
-
--- some scope has a `use`, `instance` or `import` line
-abbrev pub any_lines : Program → Truth
-any_lines p = list_any has_lines p.scopes
 
 -- the modules are judged in two turns
 abbrev pub module_turn : Truth → Turn
@@ -57,7 +45,7 @@ module_turn false = other_modules
 -- why judging scopes stops at one of them
 abbrev pub IsFirstRefusal : Program → List Numbered → CheckRefusal → Type 0
 IsFirstRefusal p ns (Fails fault) = FirstEnd p ns (refused fault)
-IsFirstRefusal p ns (Limit name) = (name ≡ ReachedTypes) × FirstEnd p ns too_many_types
+IsFirstRefusal p ns (Limit name) = FirstEnd p ns (limited name)
 IsFirstRefusal p ns Memory = Unit {0}
 
 -- the program is accepted, within the limits
@@ -68,5 +56,5 @@ pub record IsAccepted (p : Program) : Type 0 where
 -- .. or judging it ends
 abbrev pub IsRefusalOf : Program → CheckRefusal → Type 0
 IsRefusalOf p (Fails fault) = IsEnd p (refused fault)
-IsRefusalOf p (Limit name) = (name ≡ ReachedTypes) × IsEnd p too_many_types
+IsRefusalOf p (Limit name) = IsEnd p (limited name)
 IsRefusalOf p Memory = Unit {0}

@@ -1,0 +1,76 @@
+-- A whole program, once its modules go on: what a limit, a line or its own block make of it.
+use Rattle.std.proofs.Common.{◌≡◌, ℕ, zero, suc, ◌+◌, List, [], ◌∷◌, inl, inr, refl, sym, subst, ◌∙◌, Some, arith}
+use Rattle.std.specs.Prelude.{slice_get}
+use Rattle.wy_text.specs.declared.fault.Fault.{Fault}
+use Rattle.wy_text.specs.declared.limit.LimitName.{LimitName}
+use Rattle.wy_text.specs.declared.limit.LimitName.TheVariants.{Instances}
+use Rattle.wy_types.specs.Program.{Program, Scope}
+use Rattle.wy_rules.specs.Nodes.{lines_nodes}
+use Rattle.wy_rules.specs.Failing.{AllPass, IsScopeFault, IsLineFault}
+use Rattle.wy_rules.specs.Refusals.{Turn, plain_modules, other_modules, the_program, turn_of, scopes_of, ScopePasses, FirstFault, LinesPassFrom}
+use Rattle.wy_rules.specs.Ends.{ReachesTooMany, StartsTooMany, AllGoOn, SomeReachTooMany, KeepsLimits}
+use Rattle.wy_rules.proofs.Passing.{passing_is_accepted}
+use Rattle.wy_judge.specs.declared.checking.CheckRefusal.{CheckRefusal}
+use Rattle.wy_judge.specs.declared.checking.CheckRefusal.TheVariants.{Fails, Limit, Memory}
+use Rattle.wy_judge.specs.Checking.{IsLimitRefusal, IsAccepted, IsRefusalOf}
+use Rattle.wy_judge.proofs.Programs.{IsLastAt, each_goes_on}
+use Rattle.wy_judge.proofs.Checks.{its_turn}
+use Rattle.wy_link.specs.Checking.{IsBeforeLines}
+
+-- the lines of one scope, where those of all pass
+lines_pass_from : (p : Program) (j : ℕ) (ss : List Scope) → LinesPassFrom p j ss → (i : ℕ) (s : Scope) (n : ℕ) → slice_get ss i ≡ Some s → n ≡ j + i → AllPass p n s [] (lines_nodes s.names)
+lines_pass_from p j [] h i s n there e = cc
+lines_pass_from p j (t ∷ ss) h zero s n there e =
+    let same : t ≡ s = cc in
+    let number : j ≡ n = omega arith in
+    subst (λ v. AllPass p v s [] (lines_nodes s.names)) number (subst (λ (v : Scope). AllPass p j v [] (lines_nodes v.names)) same h.0)
+lines_pass_from p j (t ∷ ss) h (suc i) s n there e = lines_pass_from p (j + 1) ss h.1 i s n there (omega arith)
+
+module _ (p : Program) (k : ℕ) (last : IsLastAt p k) where
+  ------------------------------------------------------------
+  -- The limits
+
+  module _ (plain : AllGoOn p (scopes_of plain_modules 0 p.scopes)) (others : AllGoOn p (scopes_of other_modules 0 p.scopes)) where
+    pub types_refused : (r : CheckRefusal) → IsLimitRefusal p k r → IsRefusalOf p r
+    types_refused (Fails fault) h = absurd h
+    types_refused (Limit name) h = inr (plain, inr (others, inl (inl (h.0, subst (SomeReachTooMany p) (sym last.alone) (inl h.1)))))
+    types_refused Memory h = tt
+
+    none_reach : (ReachesTooMany p k → ⊥) → SomeReachTooMany p (scopes_of the_program 0 p.scopes) → ⊥
+    none_reach h = subst (λ ns. SomeReachTooMany p ns → ⊥) (sym last.alone) (λ many. elim many [ inl m ↦ h m | inr m ↦ absurd m ])
+
+    pub instances_refused : (name : LimitName) → (ReachesTooMany p k → ⊥) → (name ≡ Instances) × StartsTooMany p → IsRefusalOf p (Limit name)
+    instances_refused name within h = inr (plain, inr (others, inl (inr (none_reach within, h.0, h.1))))
+
+    pub before_lines : (ReachesTooMany p k → ⊥) → (StartsTooMany p → ⊥) → IsBeforeLines p
+    before_lines within few = record { plain = plain; others = others; limits = (none_reach within, few) }
+
+  ------------------------------------------------------------
+  -- Lines, and the program's own block
+
+  module _ (before : IsBeforeLines p) where
+    pub line_refused : (fault : Fault) → IsLineFault p fault → IsRefusalOf p (Fails fault)
+    line_refused fault h = inr (before.plain, inr (before.others, inr (before.limits, inl h)))
+
+    pub block_refused : (fault : Fault) → LinesPassFrom p 0 p.scopes → IsScopeFault p k last.scope fault → IsRefusalOf p (Fails fault)
+    block_refused fault lines h =
+        inr (before.plain, inr (before.others, inr (before.limits, inr (lines, subst (λ ns. FirstFault p ns fault) (sym last.alone) (inl h)))))
+
+    program_within : ReachesTooMany p k → ⊥
+    program_within many = before.limits.0 (subst (SomeReachTooMany p) (sym last.alone) (inl many))
+
+    pub all_accepted : LinesPassFrom p 0 p.scopes → ScopePasses p k last.scope → IsAccepted p
+    all_accepted lines h =
+        let all = λ (turn : Turn). elim turn as (λ v. AllGoOn p (scopes_of v 0 p.scopes)) [
+          | plain_modules ↦ before.plain
+          | other_modules ↦ before.others
+          | the_program ↦ subst (AllGoOn p) (sym last.alone) (record { within = program_within; passes = h }, tt)
+        ] in
+        let goes_on = λ (i : ℕ) (t : Scope) (at : slice_get p.scopes i ≡ Some t). each_goes_on p (turn_of t.kind) (all (turn_of t.kind)) i t at (its_turn t.kind) in
+        record {
+          accepted = passing_is_accepted p (record {
+            bodies = λ i t at. (let passes = (goes_on i t at).passes in (passes.locals, passes.nodes));
+            lines = λ i t at. lines_pass_from p 0 p.scopes lines i t i at (omega arith);
+          });
+          within = record { types = λ i t at. (goes_on i t at).within; instances = before.limits.1 };
+        }
