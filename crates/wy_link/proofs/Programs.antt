@@ -3,18 +3,23 @@ use Rattle.std.proofs.Common.{◌≡◌, ℕ, zero, suc, ◌+◌, List, [], ◌�
 use Rattle.std.specs.Prelude.{slice_get}
 use Rattle.wy_text.specs.declared.fault.Fault.{Fault}
 use Rattle.wy_text.specs.declared.limit.LimitName.{LimitName}
-use Rattle.wy_text.specs.declared.limit.LimitName.TheVariants.{Instances}
+use Rattle.wy_types.specs.declared.types.TypeRef.{TypeRef}
 use Rattle.wy_types.specs.Program.{Program, Scope}
 use Rattle.wy_rules.specs.Nodes.{lines_nodes}
-use Rattle.wy_rules.specs.Failing.{AllPass, IsScopeFault, IsLineFault}
+use Rattle.wy_rules.specs.Failing.{AllPass, IsLineFault}
 use Rattle.wy_rules.specs.Refusals.{Turn, plain_modules, other_modules, the_program, turn_of, scopes_of, ScopePasses, FirstFault, LinesPassFrom}
 use Rattle.wy_rules.specs.Ends.{ReachesTooMany, StartsTooMany, AllGoOn, SomeReachTooMany, KeepsLimits}
 use Rattle.wy_rules.proofs.Passing.{passing_is_accepted}
 use Rattle.wy_judge.specs.declared.checking.CheckRefusal.{CheckRefusal}
 use Rattle.wy_judge.specs.declared.checking.CheckRefusal.TheVariants.{Fails, Limit, Memory}
+use Rattle.wy_judge.specs.declared.scopes.Judged.TheVariants as judged
 use Rattle.wy_judge.specs.Checking.{IsLimitRefusal, IsAccepted, IsRefusalOf}
+use Rattle.wy_judge.specs.Walking.{IsJudgedAt}
 use Rattle.wy_judge.proofs.Programs.{IsLastAt, each_goes_on}
-use Rattle.wy_judge.proofs.Checks.{its_turn}
+use Rattle.wy_judge.proofs.Checks.{its_turn, fault_there}
+use Rattle.wy_link.specs.declared.linking.LinkRefusal.{LinkRefusal}
+use Rattle.wy_link.specs.declared.linking.LinkRefusal.TheVariants as linking
+use Rattle.wy_link.specs.Linking.{IsLinkRefusal}
 use Rattle.wy_link.specs.Checking.{IsBeforeLines}
 
 -- the lines of one scope, where those of all pass
@@ -39,8 +44,8 @@ module _ (p : Program) (k : ℕ) (last : IsLastAt p k) where
     none_reach : (ReachesTooMany p k → ⊥) → SomeReachTooMany p (scopes_of the_program 0 p.scopes) → ⊥
     none_reach h = subst (λ ns. SomeReachTooMany p ns → ⊥) (sym last.alone) (λ many. elim many [ inl m ↦ h m | inr m ↦ absurd m ])
 
-    pub instances_refused : (name : LimitName) → (ReachesTooMany p k → ⊥) → (name ≡ Instances) × StartsTooMany p → IsRefusalOf p (Limit name)
-    instances_refused name within h = inr (plain, inr (others, inl (inr (none_reach within, h.0, h.1))))
+    pub instances_refused : (name : LimitName) (r : LinkRefusal) → r ≡ linking.Limit name → (ReachesTooMany p k → ⊥) → IsLinkRefusal p r → IsRefusalOf p (Limit name)
+    instances_refused name r is within h = (let l = subst (IsLinkRefusal p) is h in inr (plain, inr (others, inl (inr (none_reach within, l.0, l.1)))))
 
     pub before_lines : (ReachesTooMany p k → ⊥) → (StartsTooMany p → ⊥) → IsBeforeLines p
     before_lines within few = record { plain = plain; others = others; limits = (none_reach within, few) }
@@ -52,19 +57,25 @@ module _ (p : Program) (k : ℕ) (last : IsLastAt p k) where
     pub line_refused : (fault : Fault) → IsLineFault p fault → IsRefusalOf p (Fails fault)
     line_refused fault h = inr (before.plain, inr (before.others, inr (before.limits, inl h)))
 
-    pub block_refused : (fault : Fault) → LinesPassFrom p 0 p.scopes → IsScopeFault p k last.scope fault → IsRefusalOf p (Fails fault)
+    pub block_refused : (fault : Fault) → LinesPassFrom p 0 p.scopes → IsJudgedAt p k (judged.Fails fault) → IsRefusalOf p (Fails fault)
     block_refused fault lines h =
-        inr (before.plain, inr (before.others, inr (before.limits, inr (lines, subst (λ ns. FirstFault p ns fault) (sym last.alone) (inl h)))))
+        let body = subst (λ ns. FirstFault p ns fault) (sym last.alone) (inl (fault_there p k last.scope fault last.there h)) in
+        inr (before.plain, inr (before.others, inr (before.limits, inr (lines, body))))
 
     program_within : ReachesTooMany p k → ⊥
     program_within many = before.limits.0 (subst (SomeReachTooMany p) (sym last.alone) (inl many))
 
-    pub all_accepted : LinesPassFrom p 0 p.scopes → ScopePasses p k last.scope → IsAccepted p
-    all_accepted lines h =
+    block_passes : (types : List TypeRef) → IsJudgedAt p k (judged.Passes types) → ScopePasses p k last.scope
+    block_passes types h =
+        let same : h.0 ≡ last.scope = (let e = sym h.1 ∙ last.there in cc) in
+        subst (ScopePasses p k) same (record { locals = _; nodes = h.2 })
+
+    pub all_accepted : LinesPassFrom p 0 p.scopes → (types : List TypeRef) → IsJudgedAt p k (judged.Passes types) → IsAccepted p
+    all_accepted lines types h =
         let all = λ (turn : Turn). elim turn as (λ v. AllGoOn p (scopes_of v 0 p.scopes)) [
           | plain_modules ↦ before.plain
           | other_modules ↦ before.others
-          | the_program ↦ subst (AllGoOn p) (sym last.alone) (record { within = program_within; passes = h }, tt)
+          | the_program ↦ subst (AllGoOn p) (sym last.alone) (record { within = program_within; passes = block_passes types h }, tt)
         ] in
         let goes_on = λ (i : ℕ) (t : Scope) (at : slice_get p.scopes i ≡ Some t). each_goes_on p (turn_of t.kind) (all (turn_of t.kind)) i t at (its_turn t.kind) in
         record {

@@ -19,6 +19,5 @@ pub fn judge_lines(alloc: Global, core: &Core) -> Result<Option<Fault>, Memory>
     requires plain { AllGoOn (program_of core.now) (scopes_of plain_modules 0 (program_of core.now).scopes) }
     ensures { IfOk result (λ o. LinesComeTo (program_of core.now) o) }
 {
-    let _ = (alloc, core);
     Err(Memory)
 }

@@ -37,6 +37,5 @@ pub fn link(alloc: Global, core: &Core) -> Result<Links, LinkRefusal>
     ensures links { IfOk result (λ l. IsLinked (program_of core.now) l) }
     ensures refusal { IfErr result (λ r. IsLinkRefusal (program_of core.now) r) }
 {
-    let _ = (alloc, core);
     Err(LinkRefusal::Memory)
 }

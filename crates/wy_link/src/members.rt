@@ -18,6 +18,5 @@ pub fn member_set(
 ) -> Result<Option<EffSet>, Memory>
     ensures { IfOk result (λ o. o ≡ member_set (program_of core.now) typ.now name.now) }
 {
-    let _ = (alloc, core, typ, name);
     Err(Memory)
 }
