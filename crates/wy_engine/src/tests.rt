@@ -5,6 +5,7 @@ mod canonical_table;
 mod checking;
 mod checking_table;
 mod files;
+mod lines_table;
 mod literals;
 mod names;
 mod names_table;

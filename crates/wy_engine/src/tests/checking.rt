@@ -1,4 +1,5 @@
-use crate::tests::checking_table::{ACCEPTED, BODIES, HEAD, REFUSED, WITH_LINES};
+use crate::tests::checking_table::{ACCEPTED, BODIES, HEAD, REFUSED};
+use crate::tests::lines_table;
 use crate::tests::support::outcome_of;
 use std::alloc::Global;
 use std::test::Fail;
@@ -75,11 +76,40 @@ fn each_rule_names_its_premise_and_place(rt: HostRuntime) -> Result<(), Fail> {
 }
 
 #[test]
-fn programs_with_lines_are_not_checked_yet(rt: HostRuntime) -> Result<(), Fail> {
+fn lines_are_judged_by_their_rules(rt: HostRuntime) -> Result<(), Fail> {
+    let alloc = rt.alloc();
+    let accepted = &lines_table::ACCEPTED;
     assert_eq!(rt;
-        first_otherwise(rt.alloc(), &WITH_LINES, 63, "", "unbuilt\n")?,
+        first_otherwise(alloc, accepted, 0, "accepted\n", "")?,
         None
     );
+    assert_eq!(rt; first_not_refused(alloc, "", &lines_table::REFUSED)?, None);
+    Ok(())
+}
+
+/// A program with 1,023 instances, of modules each of which has two of the next, and so many more.
+fn instances(alloc: Global, more: u32) -> Result<String, Fail> {
+    let mut text = String::from_str(alloc, "type N\nresource module m0(): N\n")?;
+    for at in 1..=9 {
+        let below = at - 1;
+        text.push_str(format!(in alloc; "resource module m{at}(): N\n")?.as_str())?;
+        text.push_str(format!(in alloc; "  instance a = m{below}()\n")?.as_str())?;
+        text.push_str(format!(in alloc; "  instance b = m{below}()\n")?.as_str())?;
+    }
+    text.push_str("program\n  instance x = m9()\n")?;
+    for at in 1..=more {
+        text.push_str(format!(in alloc; "  instance y{at} = m0()\n")?.as_str())?;
+    }
+    text.push_str("  run: {}\n    ()\n")?;
+    Ok(text)
+}
+
+#[test]
+fn a_program_has_no_more_instances_than_the_limit(rt: HostRuntime) -> Result<(), Fail> {
+    let alloc = rt.alloc();
+    assert!(rt; ends_so(alloc, instances(alloc, 1)?.as_str(), 0, "accepted\n", "")?);
+    let last = "limit: instances 1024\n";
+    assert!(rt; ends_so(alloc, instances(alloc, 2)?.as_str(), 5, "", last)?);
     Ok(())
 }
 

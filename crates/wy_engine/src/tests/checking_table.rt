@@ -204,11 +204,3 @@ pub static BODIES: [(&str, &str, &str); 32] = [
         "T-Body premise 1",
     ),
 ];
-
-/// Files with a `use`, `instance` or `import` line.
-pub static WITH_LINES: [&str; 4] = [
-    "type N\nmodule m: N\nprogram\n  use m\n  run: {}\n    ()\n",
-    "type N\nresource module r(): N\nprogram\n  instance x = r()\n  run: {}\n    ()\n",
-    "type N\nplain module p(): N\nprogram\n  import x = p() at {}\n  run: {}\n    ()\n",
-    "type N\nmodule m: N\nresource module r(): N\n  use m\nprogram\n  run: {}\n    ()\n",
-];
