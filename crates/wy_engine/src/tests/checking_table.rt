@@ -1,6 +1,6 @@
 /// Files that the rules accept.
 pub static ACCEPTED: [&str; 9] = [
-    "// A module that keeps a sum, and notes each amount in a folder that it is handed.\ntype Tally\n  effect Note\n  def add(amount: Int): {Note} Int\n\nresource module tally(disk: Folder): Tally\n  effect Note = {disk.Append}\n  var sum: Int = 0\n  def add(amount: Int): {Note} Int\n    sum = sum + amount\n    disk.append(\"tally\", text_show(amount) ++ \"\\n\")\n    sum\n\nprogram\n  run: {}\n    ()\n",
+    "// A module that keeps a sum, and notes each amount in a folder that it is handed.\ntype Tally\n  effect Note\n  def add(amount: Int): {Note} Int\n\nresource module tally(disk: Folder): Tally\n  effect Note = {disk.Append}\n  var sum: Int = 0\n  def add(amount: Int): {Note} Int\n    sum = sum + amount\n    disk.append(\"tally\", text_show(amount) ++ \"\\n\")\n    sum\n\nprogram\n  grant disk: Folder\n  instance hours = tally(disk)\n  run: {hours.Note}\n    val first = hours.add(2)\n    val second = hours.add(3)\n    ()\n",
     "program\n  run: {}\n    ()\n",
     "type A\n  def a(): {} Unit\ntype B\n  def a(): {} Unit\n  def b(): {} Unit\ntype Pick\n  def pick(c: Bool, x: B, y: A): {} A\nresource module pick(): Pick\n  def pick(c: Bool, x: B, y: A): {} A = if c then x else y\nprogram\n  run: {}\n    ()\n",
     "program\n  grant console: Console\n  run: {console.Out}\n    console.write(if 1 < 2 then \"a\" else \"b\")\n",
@@ -15,7 +15,7 @@ pub static ACCEPTED: [&str; 9] = [
 /// missing.
 pub static REFUSED: [(&str, &str, &str); 17] = [
     (
-        "// A module that keeps a sum, and notes each amount in a folder that it is handed.\ntype Tally\n  effect Note\n  def add(amount: Int): {Note} Int\n\nresource module tally(disk: Folder): Tally\n  effect Note = {disk.Append}\n  var sum: Int = 0\n  def add(amount: Int): {} Int\n    sum = sum + amount\n    disk.append(\"tally\", text_show(amount) ++ \"\\n\")\n    sum\n\nprogram\n  run: {}\n    ()\n",
+        "// A module that keeps a sum, and notes each amount in a folder that it is handed.\ntype Tally\n  effect Note\n  def add(amount: Int): {Note} Int\n\nresource module tally(disk: Folder): Tally\n  effect Note = {disk.Append}\n  var sum: Int = 0\n  def add(amount: Int): {} Int\n    sum = sum + amount\n    disk.append(\"tally\", text_show(amount) ++ \"\\n\")\n    sum\n\nprogram\n  grant disk: Folder\n  instance hours = tally(disk)\n  run: {hours.Note}\n    val first = hours.add(2)\n    val second = hours.add(3)\n    ()\n",
         "9:3",
         "T-Body premise 2 lacks disk.Append",
     ),
