@@ -2,6 +2,8 @@
 //! docs/LANGUAGE.md.
 
 mod canonical_table;
+mod checking;
+mod checking_table;
 mod files;
 mod literals;
 mod names;

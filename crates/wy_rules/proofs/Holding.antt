@@ -28,12 +28,12 @@ use Rattle.wy_rules.proofs.Passing.{left}
 use Rattle.wy_rules.proofs.Standing.{reading_lawful, either_fails, values_ready, block_ready, expects_all, expects_written, values_stand, block_stands}
 
 -- bodies that can be judged one after the other: names stand for what is there, and a literal's methods capture `val`s that stand before them
-abbrev BodiesScoped : Program → Scope → List ℕ → ℕ → List Body → Type 0
+abbrev pub BodiesScoped : Program → Scope → List ℕ → ℕ → List Body → Type 0
 BodiesScoped p s before i [] = Unit {0}
 BodiesScoped p s before i (b ∷ bs) =
     BodyFits p s i b × ((n : ℕ) → In (Local n) (literal_captures (slice_get s.literals b.owner)) → In n before) × BodiesScoped p s (before ++ block_vals b.block) (i + 1) bs
 
-bodies_scoped : (p : Program) (s : Scope) (before : List ℕ) (i : ℕ) (bs : List Body) → ((j : ℕ) (b : Body) → slice_get bs j ≡ Some b → BodyFits p s (i + j) b) → CapturesBefore s before bs → BodiesScoped p s before i bs
+pub bodies_scoped : (p : Program) (s : Scope) (before : List ℕ) (i : ℕ) (bs : List Body) → ((j : ℕ) (b : Body) → slice_get bs j ≡ Some b → BodyFits p s (i + j) b) → CapturesBefore s before bs → BodiesScoped p s before i bs
 bodies_scoped p s before i [] h c = tt
 bodies_scoped p s before i (b ∷ bs) h c = (
   (let same : i + 0 ≡ i = omega arith in subst (λ v. BodyFits p s v b) same (h 0 b refl)),
@@ -42,7 +42,7 @@ bodies_scoped p s before i (b ∷ bs) h c = (
 )
 
 module _ (p : Program) (k : ℕ) (s : Scope) (w : Lawful (scope_reading p k s)) (least given : List (scope_reading p k s).Kind) where
-  nothing_seen : AllNarrower (scope_reading p k s) w p s least given []
+  pub nothing_seen : AllNarrower (scope_reading p k s) w p s least given []
   nothing_seen n i = absurd i
 
   ------------------------------------------------------------
@@ -114,7 +114,7 @@ module _ (p : Program) (k : ℕ) (s : Scope) (w : Lawful (scope_reading p k s)) 
   start_stands (Run block) (T-Body-Init place ds) fit h fault g = absurd h
 
   -- the `val`s of a start that passes
-  start_narrower : (st : Start) (d : BodyDerivation (scope_reading p k s).Kind) → StartFits p s st → DerivesStart (scope_reading p k s) s given d st → AllPass p k s least (start_nodes s st) →
+  pub start_narrower : (st : Start) (d : BodyDerivation (scope_reading p k s).Kind) → StartFits p s st → DerivesStart (scope_reading p k s) s given d st → AllPass p k s least (start_nodes s st) →
       (n : ℕ) → In n (start_vals st) → Narrower (scope_reading p k s) w p s least given n
   start_narrower (Init values) (T-Body-Init place ds) fit h g =
       let y = scope_reading p k s in
@@ -134,7 +134,7 @@ module _ (p : Program) (k : ℕ) (s : Scope) (w : Lawful (scope_reading p k s)) 
       parameter_not_local : (i j n : ℕ) → Parameter i j ≡ Local n → ⊥
       parameter_not_local i j n e = absurd (cc)
 
-  seen_narrower : (i : ℕ) (b : Body) (before : List ℕ) → ((n : ℕ) → In (Local n) (literal_captures (slice_get s.literals b.owner)) → In n before) → ((n : ℕ) → In n before → Narrower (scope_reading p k s) w p s least given n) →
+  pub seen_narrower : (i : ℕ) (b : Body) (before : List ℕ) → ((n : ℕ) → In (Local n) (literal_captures (slice_get s.literals b.owner)) → In n before) → ((n : ℕ) → In n before → Narrower (scope_reading p k s) w p s least given n) →
       AllNarrower (scope_reading p k s) w p s least given (literal_captures (slice_get s.literals b.owner) ++ body_parameters i b)
   seen_narrower i b before c h n j =
       elim (In-cases (Local n) (literal_captures (slice_get s.literals b.owner)) (body_parameters i b) j) [

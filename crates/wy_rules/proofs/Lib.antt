@@ -1,4 +1,8 @@
 pub mod Agreeing
+pub mod Alike
+pub mod AlikeFails
+pub mod AlikeLines
+pub mod AlikeScopes
 pub mod Carrying
 pub mod Closed
 pub mod Each
@@ -27,6 +31,7 @@ pub mod Least
 pub mod Marks
 pub mod Narrowing
 pub mod Needs
+pub mod OneEnd
 pub mod Passing
 pub mod Rereadings
 mod Sources

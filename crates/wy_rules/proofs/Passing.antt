@@ -71,7 +71,7 @@ module _ (p : Program) (k : ℕ) (s : Scope) (locals : List (scope_reading p k s
   -- Bodies and the seal
 
   -- the node of a body is the last of its nodes
-  start_holds : (st : Start) → AllPass p k s locals (start_nodes s st) → (d : BodyDerivation (scope_reading p k s).Kind) × DerivesStart (scope_reading p k s) s locals d st
+  pub start_holds : (st : Start) → AllPass p k s locals (start_nodes s st) → (d : BodyDerivation (scope_reading p k s).Kind) × DerivesStart (scope_reading p k s) s locals d st
   start_holds (Init values) h =
       let b = (right (values_nodes s None (written_spots (field_types s 0)) values) _ h).0.stands in
       (T-Body-Init s.start_place b.1.derivations, (refl, b.1.derives, subst (λ v. (scope_reading p k s).Includes v ((scope_reading p k s).effect s.start_effect)) b.1.effects b.2))

@@ -51,7 +51,7 @@ module _ (p : Program) (k : ℕ) (s : Scope) (w : Lawful (scope_reading p k s)) 
     -- What passes is ready
 
     mutual
-      expr_ready : (x : Expr) → AllPass p k s least (expr_nodes s owner x) → ExprReady (scope_reading p k s) w p s least given owner x
+      pub expr_ready : (x : Expr) → AllPass p k s least (expr_nodes s owner x) → ExprReady (scope_reading p k s) w p s least given owner x
       expr_ready (Number q n) h = tt
       expr_ready (Quoted q bytes) h = tt
       expr_ready (TruthOf q b) h = tt
@@ -70,7 +70,7 @@ module _ (p : Program) (k : ℕ) (s : Scope) (w : Lawful (scope_reading p k s)) 
       expr_ready (Ascribe q x t) h = value_ready x (written t) (left p k s least (value_nodes s owner (written t) x) _ h)
       expr_ready (Assign q name x) h = value_ready x (field_spot (var_field s owner name)) (left p k s least (value_nodes s owner (field_spot (var_field s owner name)) x) _ h)
 
-      value_ready : (x : Value) (spot : Spot) → AllPass p k s least (value_nodes s owner spot x) → ValueReady (scope_reading p k s) w p s least given owner x
+      pub value_ready : (x : Value) (spot : Spot) → AllPass p k s least (value_nodes s owner spot x) → ValueReady (scope_reading p k s) w p s least given owner x
       value_ready (Plain x) spot h = expr_ready x h
       value_ready (If q test first second) spot h =
           let r = right p k s least (expr_nodes s owner test) _ h in
@@ -134,7 +134,7 @@ module _ (p : Program) (k : ℕ) (s : Scope) (w : Lawful (scope_reading p k s)) 
     expects_text Byte r i = expects_row _ r i
     expects_text Show r i = expects_row _ r i
 
-    params_below : (ps : List ((scope_reading p k s).Kind × (scope_reading p k s).Kind)) (xs ys : List (scope_reading p k s).Kind) (i : ℕ) (a b : (scope_reading p k s).Kind) →
+    pub params_below : (ps : List ((scope_reading p k s).Kind × (scope_reading p k s).Kind)) (xs ys : List (scope_reading p k s).Kind) (i : ℕ) (a b : (scope_reading p k s).Kind) →
         ParamsIn ps xs ys → slice_get xs i ≡ Some a → slice_get ys i ≡ Some b → In {X = (scope_reading p k s).Kind × (scope_reading p k s).Kind} (b, a) ps
     params_below ps [] ys i a b h e f = absurd (cc)
     params_below ps (x ∷ xs) [] i a b h e f = absurd (cc)

@@ -1,13 +1,14 @@
 -- How judging a whole program ends where the program is not accepted: by the fault that refuses it, or by a scope that reaches more
 -- types than the limit. A module's limit comes before its faults, and the program's before all lines (docs/LANGUAGE.md, "First failing
 -- node" and "Limits").
-use Rattle.std.specs.Prelude.{◌≡◌, ℕ, List, [], ◌∷◌, ◌⊎◌, Some, Err, slice_get}
+use Rattle.std.specs.Prelude.{◌≡◌, ℕ, ◌<◌, List, [], ◌∷◌, ◌⊎◌, Some, Err, length, slice_get}
 use Rattle.wy_text.specs.declared.fault.Fault.{Fault}
 use Rattle.wy_text.specs.declared.limit.LimitName.TheVariants.{ReachedTypes}
 use Rattle.wy_types.specs.declared.reach.ReachRefusal.TheVariants.{Limit}
 use Rattle.wy_types.specs.Program.{Program, Scope}
 use Rattle.wy_types.specs.Core.{IsCore}
 use Rattle.wy_types.specs.Reached.{Reach}
+use Rattle.wy_types.specs.Ground.{start_list}
 use Rattle.wy_rules.specs.Acceptance.{Accepted}
 use Rattle.wy_rules.specs.Failing.{IsScopeFault, IsLineFault}
 use Rattle.wy_rules.specs.Refusals.{Numbered, plain_modules, other_modules, the_program, scopes_of, ScopePasses, FirstFault, LinesPassFrom}
@@ -20,7 +21,11 @@ pub data End : Type 0 where
 abbrev pub ReachesTooMany : Program → ℕ → Type 0
 ReachesTooMany p k = Reach p k (Err (Limit ReachedTypes))
 
--- no scope does
+-- the program has more instances in its start list than the limit, whether or not the rules for lines hold
+abbrev pub StartsTooMany : Program → Type 0
+StartsTooMany p = 1024 < length (start_list p)
+
+-- no scope reaches too many types
 abbrev pub IsWithinLimits : Program → Type 0
 IsWithinLimits p = (k : ℕ) (s : Scope) → slice_get p.scopes k ≡ Some s → ReachesTooMany p k → ⊥
 

@@ -8,6 +8,7 @@ ghost use Rattle.wy_rules.specs.Rereading.{Erasure, Substitution, Retyping};
 ghost use Rattle.wy_rules.specs.Judging.{PassingIsAccepted, AcceptedLinesHold};
 ghost use Rattle.wy_rules.specs.GroundTyping.{GroundTyping};
 ghost use Rattle.wy_rules.specs.Refusals.{AcceptedScopesHold, AcceptedHasNoFault};
+ghost use Rattle.wy_rules.specs.Ends.{OneScopeFault, OneEnd, AcceptedHasNoEnd};
 
 /// Each type in range is a subtype of itself, with effects and without.
 pub fn subtyping_is_reflexive()
@@ -96,4 +97,21 @@ pub fn accepted_scopes_hold()
 /// An accepted core has no fault (docs/LANGUAGE.md, "First failing node").
 pub fn accepted_has_no_fault()
     ensures { AcceptedHasNoFault }
+{}
+
+/// A scope of a core has one fault, whatever types its `val`s are given (docs/LANGUAGE.md, "First failing node").
+pub fn one_scope_fault()
+    ensures { OneScopeFault }
+{}
+
+/// Judging a core ends in one way: by one fault, or by a scope that reaches more types than the limit
+/// (docs/LANGUAGE.md, "First failing node" and "Limits").
+pub fn one_end()
+    ensures { OneEnd }
+{}
+
+/// Judging an accepted core of which no scope reaches more types than the limit ends neither by a fault nor
+/// by the limit (docs/LANGUAGE.md, "First failing node" and "Limits").
+pub fn accepted_has_no_end()
+    ensures { AcceptedHasNoEnd }
 {}

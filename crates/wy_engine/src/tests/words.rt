@@ -3,8 +3,10 @@ use std::alloc::Global;
 use std::test::Fail;
 
 /// Words that are no command line.
-static FAULTY: [&[&str]; 10] = [
+static FAULTY: [&[&str]; 12] = [
     &[],
+    &["check"],
+    &["check", "-b.wy"],
     &["run"],
     &["b.wy"],
     &["walk", "b.wy"],

@@ -21,12 +21,10 @@ judge_body-requires-clause-in_scope c =
     let p = program_of c.args.core.now in
     let k = c.args.number in
     let s = scope_of c.args.scope.now in
-    let old = c.args.table.now.items in
     let h = c.requires.context in
     let bodies = c.as_slice-bodies.result.now in
     let same = ap (map body_of) (sym c.as_slice-bodies.ensures) in
     let i = c.loop-i.i in
-    let mid = c.loop-i.table.items in
     let lt : i < length bodies = search rules in
     let there : slice_get bodies i ≡ Some c.index-bodies-i.result = slice_get_read bodies _ i c.index-bodies-i.result refl lt c.index-bodies-i.is in
     body_in p k s h bodies same i c.index-bodies-i.result there

@@ -24,14 +24,12 @@ returns-in-Some c =
 
 pub judge_start-requires-clause-context : goal.judge_start-requires-clause-context
 judge_start-requires-clause-context c =
-    let p = program_of c.args.core.now in
     let k = c.args.number in
     let x = c.index-as_slice-number.result in
     let scopes = c.as_slice.result.now in
     let below : k < length scopes = subst (λ (l : List Scope). k < length l) (sym c.as_slice.ensures) c.requires.there in
     let there = ap (λ (l : List Scope). slice_get l k) (sym c.as_slice.ensures) ∙ slice_get_read scopes _ k x refl below c.index-as_slice-number.is in
     let h = scope_there c.args.core.now k x c.requires.core there in
-    let s = scope_of x in
     h
 
 pub returns-in-Some-start : goal.returns-in-Some-start
@@ -49,14 +47,12 @@ returns-in-Some-start c =
 
 pub judge_rest-requires-clause-context : goal.judge_rest-requires-clause-context
 judge_rest-requires-clause-context c =
-    let p = program_of c.args.core.now in
     let k = c.args.number in
     let x = c.index-as_slice-number.result in
     let scopes = c.as_slice.result.now in
     let below : k < length scopes = subst (λ (l : List Scope). k < length l) (sym c.as_slice.ensures) c.requires.there in
     let there = ap (λ (l : List Scope). slice_get l k) (sym c.as_slice.ensures) ∙ slice_get_read scopes _ k x refl below c.index-as_slice-number.is in
     let h = scope_there c.args.core.now k x c.requires.core there in
-    let s = scope_of x in
     h
 
 pub judge_rest-requires-clause-walked : goal.judge_rest-requires-clause-walked

@@ -16,7 +16,6 @@ fit_all-requires-clause-expected c =
     let p = program_of c.args.core.now in
     let k = c.args.number in
     let s = scope_of c.args.scope.now in
-    let old = c.args.table.now.items in
     let h = c.requires.context in
     let types = c.as_slice.ensures ∙ c.in_ok-types-in-Init.ensures in
     subst (λ ts. TypesInRange p k s None ts) (sym types) (new_types p k s h None 0)
@@ -26,7 +25,6 @@ fit_all-requires-clause-as_many c =
     let p = program_of c.args.core.now in
     let k = c.args.number in
     let s = scope_of c.args.scope.now in
-    let old = c.args.table.now.items in
     let h = c.requires.context in
     let types = c.as_slice.ensures ∙ c.in_ok-types-in-Init.ensures in
     initialisers_as_many p k s h c.in-Init.values.items (ap start_of c.in-Init.is) ∙ ap length (sym types)
@@ -36,7 +34,6 @@ fit_all-requires-clause-ready c =
     let p = program_of c.args.core.now in
     let k = c.args.number in
     let s = scope_of c.args.scope.now in
-    let old = c.args.table.now.items in
     let h = c.requires.context in
     subst (λ t. ValuesReady p k s None t (values_of c.in-Init.values.items)) (sym c.requires.empty) (values_start p k s h (values_of c.in-Init.values.items) (ap start_of c.in-Init.is))
 
@@ -45,7 +42,6 @@ fit_block-requires-clause-ready c =
     let p = program_of c.args.core.now in
     let k = c.args.number in
     let s = scope_of c.args.scope.now in
-    let old = c.args.table.now.items in
     let h = c.requires.context in
     subst (λ t. BlockReady p k s None t (block_of c.in-Run.block)) (sym c.requires.empty) (block_start p k s h (block_of c.in-Run.block) (ap start_of c.in-Run.is))
 
@@ -55,7 +51,6 @@ returns-in_ok-initialisers-in-Init c =
     let k = c.args.number in
     let s = scope_of c.args.scope.now in
     let old = c.args.table.now.items in
-    let h = c.requires.context in
     let new = c.fit_all.new.table.items in
     let u = c.in_ok-initialisers-in-Init.initialisers in
     let types = c.as_slice.ensures ∙ c.in_ok-types-in-Init.ensures in
@@ -70,7 +65,6 @@ returns-in_ok-at_unit-in-Run c =
     let k = c.args.number in
     let s = scope_of c.args.scope.now in
     let old = c.args.table.now.items in
-    let h = c.requires.context in
     let new = c.fit_block.new.table.items in
     let u = c.in_ok-at_unit-in-Run.at_unit in
     IfOk-weaker c.body_fault.result (λ o. IsBodyFault c.mode_of-in-Run.result s.start_place s.atoms s.start_effect u o) (λ o. StartsTo p k s [] new o)

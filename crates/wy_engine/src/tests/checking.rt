@@ -1,0 +1,119 @@
+use crate::tests::checking_table::{ACCEPTED, BODIES, HEAD, REFUSED, WITH_LINES};
+use crate::tests::support::outcome_of;
+use std::alloc::Global;
+use std::test::Fail;
+
+/// Whether a call of `check` with the text as `b.wy` ends with the status of the number, writes this to `out` and
+/// the report, and does nothing.
+fn ends_so(alloc: Global, text: &str, number: u8, out: &str, report: &str) -> Result<bool, Fail> {
+    let done = outcome_of(alloc, &["check", "b.wy"], &[("b.wy", text.as_bytes())])?;
+    Ok(
+        done.number == number
+            && done.deeds == 0
+            && done.out.bytes() == out.as_bytes()
+            && done.report.bytes() == report.as_bytes(),
+    )
+}
+
+/// Whether the text, behind what stands before it, is refused at the place by this rule and premise.
+fn is_refused(
+    alloc: Global,
+    head: &str,
+    text: &str,
+    place: &str,
+    fault: &str,
+) -> Result<bool, Fail> {
+    let whole = format!(in alloc; "{head}{text}")?;
+    let last = format!(in alloc; "b.wy:{place}: refused: {fault}\n")?;
+    ends_so(alloc, whole.as_str(), 4, "", last.as_str())
+}
+
+/// The number of the first text that is not refused so.
+fn first_not_refused(
+    alloc: Global,
+    head: &str,
+    cases: &[(&str, &str, &str)],
+) -> Result<Option<usize>, Fail> {
+    for (at, (text, place, fault)) in cases.iter().enumerate() {
+        if !is_refused(alloc, head, text, place, fault)? {
+            return Ok(Some(at));
+        }
+    }
+    Ok(None)
+}
+
+/// The number of the first text that does not end so.
+fn first_otherwise(
+    alloc: Global,
+    texts: &[&str],
+    number: u8,
+    out: &str,
+    report: &str,
+) -> Result<Option<usize>, Fail> {
+    for (at, text) in texts.iter().enumerate() {
+        if !ends_so(alloc, text, number, out, report)? {
+            return Ok(Some(at));
+        }
+    }
+    Ok(None)
+}
+
+#[test]
+fn what_the_rules_accept_is_accepted(rt: HostRuntime) -> Result<(), Fail> {
+    assert_eq!(rt;
+        first_otherwise(rt.alloc(), &ACCEPTED, 0, "accepted\n", "")?,
+        None
+    );
+    Ok(())
+}
+
+#[test]
+fn each_rule_names_its_premise_and_place(rt: HostRuntime) -> Result<(), Fail> {
+    assert_eq!(rt; first_not_refused(rt.alloc(), HEAD, &BODIES)?, None);
+    assert_eq!(rt; first_not_refused(rt.alloc(), "", &REFUSED)?, None);
+    Ok(())
+}
+
+#[test]
+fn programs_with_lines_are_not_checked_yet(rt: HostRuntime) -> Result<(), Fail> {
+    assert_eq!(rt;
+        first_otherwise(rt.alloc(), &WITH_LINES, 63, "", "unbuilt\n")?,
+        None
+    );
+    Ok(())
+}
+
+/// A module that reaches one type more than there are types in this ring, in which each method gives the next.
+fn ring(alloc: Global, count: u32) -> Result<String, Fail> {
+    let mut text = String::new(alloc);
+    for at in 1..=count {
+        let next = at % count + 1;
+        text.push_str(format!(in alloc; "type T{at}\n  def f(): {{}} T{next}\n")?.as_str())?;
+    }
+    text.push_str("resource module m(): T1\n  def f(): {} T2 = this.f()\n")?;
+    text.push_str("program\n  run: {}\n    ()\n")?;
+    Ok(text)
+}
+
+#[test]
+fn a_scope_reaches_no_more_types_than_the_limit(rt: HostRuntime) -> Result<(), Fail> {
+    let alloc = rt.alloc();
+    assert!(rt; ends_so(alloc, ring(alloc, 1023)?.as_str(), 0, "accepted\n", "")?);
+    let last = "limit: reached types 1024\n";
+    assert!(rt; ends_so(alloc, ring(alloc, 1024)?.as_str(), 5, "", last)?);
+    Ok(())
+}
+
+#[test]
+fn a_fault_names_its_file(rt: HostRuntime) -> Result<(), Fail> {
+    let program: (&str, &[u8]) = ("a.wy", b"program\n  run: {}\n    ()\n");
+    let module: (&str, &[u8]) = ("b.wy", b"type N\nmodule m: N\n  var f: Int = 1\n");
+    let words = ["check", "a.wy", "b.wy"];
+    let done = outcome_of(rt.alloc(), &words, &[program, module])?;
+    assert_eq!(rt; done.number, 4);
+    assert_eq!(rt;
+        done.report.bytes(),
+        b"b.wy:3:7: refused: M-Pure premise 1\n".as_slice()
+    );
+    Ok(())
+}
