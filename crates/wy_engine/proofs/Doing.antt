@@ -1,20 +1,26 @@
 -- What was done with texts, by what was done with their trees.
-use Rattle.std.proofs.Common.{◌≡◌, ◌≢◌, ◌⊎◌, inl, inr, ℕ, suc, List, [], ◌∷◌, Some, None, refl, sym, ◌∙◌, ap, subst, length}
+use Rattle.std.proofs.Common.{◌≡◌, ◌≢◌, ◌⊎◌, inl, inr, ℕ, suc, List, [], ◌∷◌, Some, None, false, refl, sym, ◌∙◌, ap, subst, length}
 use Rattle.wy_text.specs.Outside.{SinkState}
 use Rattle.wy_device.specs.Devices.{DevicesState}
 use Rattle.wy_syntax.specs.Canonical.{canonical_form}
 use Rattle.wy_syntax.specs.Trees.{ItemTree}
-use Rattle.wy_engine.specs.Answering.{Answered, RunsForm, RunsTrees, Wrote, alone, declined, formatted, formless, ran, ran_tree, refused, resolved, several, stopped, unresolved}
+use Rattle.wy_types.specs.Program as core
+use Rattle.wy_names.specs.Declarations.{all_items}
+use Rattle.wy_names.specs.Names.{Resolves}
+use Rattle.wy_judge.specs.Checking as checking
+use Rattle.wy_judge.specs.declared.checking.CheckRefusal.{CheckRefusal}
+use Rattle.wy_judge.specs.declared.checking.CheckRefusal.TheVariants as refusal
+use Rattle.wy_engine.specs.Answering.{Answered, ChecksTrees, RunsForm, RunsTrees, Wrote, accepted, alone, check_status, checked, declined, formatted, formless, nameless, not_accepted, ran, ran_tree, refused, resolved, several, stopped, unresolved, with_lines}
 use Rattle.wy_engine.specs.FileTrees.{FirstNoTree, HaveTrees}
-use Rattle.wy_engine.specs.Judgement.{IsUnbuilt, ReadsAs, Stops, fault_of}
+use Rattle.wy_engine.specs.Judgement.{IsChecked, IsUnbuilt, ReadsAs, Stops, fault_of}
 use Rattle.wy_engine.specs.LiteralForm.{program_of}
-use Rattle.wy_engine.specs.NameFaults.{NamesResolve, names_status}
+use Rattle.wy_engine.specs.NameFaults.{NamesResolve}
 use Rattle.wy_engine.specs.declared.literal_form.Program.{Program}
 use Rattle.wy_engine.specs.declared.settings.Command.{Command}
 use Rattle.wy_engine.specs.declared.settings.Command.TheVariants as command
 use Rattle.wy_engine.specs.declared.status.Status.{Status}
 use Rattle.wy_engine.specs.declared.status.Status.TheVariants as status
-use Rattle.wy_engine.proofs.NamesJudged.{names_stop}
+use Rattle.wy_engine.proofs.NamesJudged.{JudgesNames, names_stop}
 use Rattle.wy_engine.proofs.OneAnswer.{stops_treeless}
 use Rattle.wy_engine.proofs.OneTree.{same_trees}
 
@@ -53,14 +59,17 @@ formless_tree texts trees tree have names is form = record {
   formless = λ program reads. let e : Some program ≡ None = sym reads.form ∙ ap program_of (tree_is texts trees tree reads.tree have is reads.trees) ∙ form in cc;
 }
 
--- a run is stopped by a status that stops runs
-stops_run : (asked : Command) (texts : List (List ℕ)) (end other : Status) → asked ≡ command.Run → end ≡ other → Stops command.Run texts other → Stops asked texts end
-stops_run asked texts end other run is stops = subst (λ (c : Command). Stops c texts end) (sym run) (subst (λ (s : Status). Stops command.Run texts s) (sym is) stops)
+-- what stops a command that was asked for
+stops_as : (asked named : Command) (texts : List (List ℕ)) (end other : Status) → asked ≡ named → end ≡ other → Stops named texts other → Stops asked texts end
+stops_as asked named texts end other same is stops = subst (λ (c : Command). Stops c texts end) (sym same) (subst (λ (s : Status). Stops named texts s) (sym is) stops)
+
+judges_as : (asked named : Command) → asked ≡ named → JudgesNames named → JudgesNames asked
+judges_as asked named same judges = subst (λ (c : Command). JudgesNames c) (sym same) judges
 
 did_form : (asked : Command) (texts : List (List ℕ)) (trees : List (List ItemTree)) (out report report' : SinkState) (devices devices' : DevicesState) (end : Status)
     → asked ≡ command.Run → HaveTrees 1 texts trees → NamesResolve trees → RunsForm trees report report' devices devices' end → Answered asked texts out out report report' devices devices' end
 did_form asked texts trees out report report' devices devices' end run have names (several none r d is) =
-    declined (inr (stops_run asked texts end status.Unbuilt run is (record {
+    declined (inr (stops_as asked command.Run texts end status.Unbuilt run is (record {
       trees = trees;
       have = have;
       names = names;
@@ -68,9 +77,9 @@ did_form asked texts trees out report report' devices devices' end run have name
     }))) refl r d
 did_form asked texts trees out report report' devices devices' end run have names (alone tree one (stopped r d is)) = declined (inl is) refl r d
 did_form asked texts trees out report report' devices devices' end run have names (alone tree one (formless r d form is)) =
-    declined (inr (stops_run asked texts end status.Unbuilt run is (formless_tree texts trees tree have names one form))) refl r d
+    declined (inr (stops_as asked command.Run texts end status.Unbuilt run is (formless_tree texts trees tree have names one form))) refl r d
 did_form asked texts trees out report report' devices devices' end run have names (alone tree one (refused r d program form lacks is)) =
-    declined (inr (stops_run asked texts end (status.Refused (fault_of program)) run is (inr (record {
+    declined (inr (stops_as asked command.Run texts end (status.Refused (fault_of program)) run is (inr (record {
       program = program;
       read = reads_tree texts trees tree program have names one form;
       lacks = lacks;
@@ -79,14 +88,39 @@ did_form asked texts trees out report report' devices devices' end run have name
 did_form asked texts trees out report report' devices devices' end run have names (alone tree one (ran_tree program form allowed so)) =
     ran program run (record { read = reads_tree texts trees tree program have names one form; allowed = allowed }) so refl
 
-stopped_by : (asked : Command) (texts : List (List ℕ)) (end other : Status) → asked ≡ command.Run → end ≡ other → (other ≡ status.Memory) ⊎ Stops command.Run texts other → (end ≡ status.Memory) ⊎ Stops asked texts end
-stopped_by asked texts end other run is (inl starved) = inl (is ∙ starved)
-stopped_by asked texts end other run is (inr stops) = inr (stops_run asked texts end other run is stops)
-
 pub did_run : (asked : Command) (texts : List (List ℕ)) (trees : List (List ItemTree)) (out report report' : SinkState) (devices devices' : DevicesState) (end : Status)
     → asked ≡ command.Run → HaveTrees 1 texts trees → RunsTrees trees report report' devices devices' end → Answered asked texts out out report report' devices devices' end
-did_run asked texts trees out report report' devices devices' end run have (unresolved why names r d is) = declined (stopped_by asked texts end (names_status why) run is (names_stop texts trees why have names)) refl r d
+did_run asked texts trees out report report' devices devices' end run have (unresolved why names r d is) = declined (names_stop asked texts trees why end (judges_as asked command.Run run tt) have names is) refl r d
 did_run asked texts trees out report report' devices devices' end run have (resolved names so) = did_form asked texts trees out report report' devices devices' end run have names so
+
+-- the program of trees in which the names resolve, and which has no lines
+is_checked : (texts : List (List ℕ)) (trees : List (List ItemTree)) (program : core.Program) → HaveTrees 1 texts trees → Resolves (all_items trees) program → checking.any_lines program ≡ false → IsChecked texts program
+is_checked texts trees program have resolves lines = record { read = record { trees = trees; have = have; resolves = resolves }; lines = lines }
+
+-- what refuses a program stops a check, but for want of memory
+refused_check : (texts : List (List ℕ)) (program : core.Program) (why : CheckRefusal) → IsChecked texts program → checking.IsRefusalOf program why
+    → (check_status why ≡ status.Memory) ⊎ Stops command.Check texts (check_status why)
+refused_check texts program (refusal.Fails fault) is ends = inr (inr (record { program = program; checked = is; ends = ends }))
+refused_check texts program (refusal.Limit name) is ends = inr (inr (inr (ends.0, record { program = program; checked = is; ends = ends.1 })))
+refused_check texts program refusal.Memory is ends = inl refl
+
+stops_check : (asked : Command) (texts : List (List ℕ)) (end other : Status) → asked ≡ command.Check → end ≡ other → (other ≡ status.Memory) ⊎ Stops command.Check texts other → (end ≡ status.Memory) ⊎ Stops asked texts end
+stops_check asked texts end other check is (inl starved) = inl (is ∙ starved)
+stops_check asked texts end other check is (inr stops) = inr (stops_as asked command.Check texts end other check is stops)
+
+pub did_check : (asked : Command) (texts : List (List ℕ)) (trees : List (List ItemTree)) (out out' report : SinkState) (devices : DevicesState) (end : Status)
+    → asked ≡ command.Check → HaveTrees 1 texts trees → ChecksTrees trees out out' end → Answered asked texts out out' report report devices devices end
+did_check asked texts trees out out' report devices end check have (nameless why names o is) = declined (names_stop asked texts trees why end (judges_as asked command.Check check tt) have names is) o refl refl
+did_check asked texts trees out out' report devices end check have (with_lines program resolves lines o is) =
+    declined (inr (stops_as asked command.Check texts end status.Unbuilt check is (record {
+      program = program;
+      read = record { trees = trees; have = have; resolves = resolves };
+      lines = lines;
+    }))) o refl refl
+did_check asked texts trees out out' report devices end check have (not_accepted program resolves lines why ends o is) =
+    declined (stops_check asked texts end (check_status why) check is (refused_check texts program why (is_checked texts trees program have resolves lines) ends)) o refl refl
+did_check asked texts trees out out' report devices end check have (accepted program resolves lines passes wrote) =
+    checked check (record { program = program; checked = is_checked texts trees program have resolves lines; accepted = passes }) wrote refl refl
 
 pub did_format : (asked : Command) (texts : List (List ℕ)) (trees : List (List ItemTree)) (tree : List ItemTree) (out out' report : SinkState) (devices : DevicesState) (end : Status)
     → asked ≡ command.Format → HaveTrees 1 texts trees → trees ≡ tree ∷ [] → Wrote (canonical_form tree) out out' end → Answered asked texts out out' report report devices devices end

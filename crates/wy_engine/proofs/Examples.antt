@@ -1,6 +1,8 @@
 -- The definitions of the top call, tried on examples.
 use Rattle.std.proofs.Common.{codes, ◌≡◌, ℕ, pos, List, [], ◌∷◌, Some, None, Bool, true, false, refl}
 use Rattle.wy_text.specs.declared.fault.Place.{Place}
+use Rattle.wy_text.specs.declared.fault.RuleName.TheVariants.{TOp}
+use Rattle.wy_text.specs.declared.limit.LimitName.TheVariants.{ReachedTypes}
 use Rattle.wy_device.specs.declared.operation.OpName.TheVariants.{ConsoleWrite}
 use Rattle.wy_syntax.specs.Trees.{ExprTree, call, name, more, none, number, text, value, StmtTree, run, no_stmts, more_stmts, long, ItemTree, program_item}
 use Rattle.wy_syntax.specs.declared.types.AtomUse.{AtomUse}
@@ -69,6 +71,12 @@ failed_line = refl
 unread_line : last_line (codes "a.wy" ∷ codes "b.wy" ∷ []) (status.Unread 2) ≡ codes "b.wy: unread\n"
 unread_line = refl
 
+operator_line : last_line (codes "a.wy" ∷ []) (status.Refused (record { place = at 4 9; rule = TOp; premise = 2; atom = None })) ≡ codes "a.wy:4:9: refused: T-Op premise 2\n"
+operator_line = refl
+
+reached_line : last_line (codes "a.wy" ∷ []) (status.Limit ReachedTypes) ≡ codes "limit: reached types 1024\n"
+reached_line = refl
+
 -- ---- the words of a call
 
 one_file : settings_of (codes "run" ∷ codes "b.wy" ∷ []) ≡ Some (record { command = command.Run; files = codes "b.wy" ∷ [] })
@@ -76,6 +84,15 @@ one_file = refl
 
 two_files : settings_of (codes "run" ∷ codes "a.wy" ∷ codes "b.wy" ∷ []) ≡ Some (record { command = command.Run; files = codes "a.wy" ∷ codes "b.wy" ∷ [] })
 two_files = refl
+
+check_words : settings_of (codes "check" ∷ codes "a.wy" ∷ []) ≡ Some (record { command = command.Check; files = codes "a.wy" ∷ [] })
+check_words = refl
+
+two_checked : settings_of (codes "check" ∷ codes "a.wy" ∷ codes "b.wy" ∷ []) ≡ Some (record { command = command.Check; files = codes "a.wy" ∷ codes "b.wy" ∷ [] })
+two_checked = refl
+
+none_checked : settings_of (codes "check" ∷ []) ≡ None
+none_checked = refl
 
 format_words : settings_of (codes "format" ∷ codes "b.wy" ∷ []) ≡ Some (record { command = command.Format; files = codes "b.wy" ∷ [] })
 format_words = refl

@@ -4,6 +4,7 @@ mod Doing
 mod EndOnce
 mod Examples
 mod ExamplesNames
+mod FilesRead
 mod FormTexts
 mod Givens
 mod NamesJudged
@@ -12,7 +13,11 @@ mod OneBad
 mod OneItem
 mod OneText
 mod OneTree
+mod OutWritten
 mod Outcomes
 mod Performing
 mod ReadingOn
+mod RunsMade
 mod Settling
+mod Statuses
+mod TextsAnswered

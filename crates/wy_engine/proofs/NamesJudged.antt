@@ -1,5 +1,7 @@
--- Texts whose names are refused: they have one refusal, their names do not resolve, and no limit of reading is theirs.
+-- Texts whose names are refused: they have one refusal, which stops each command that judges names; their names do not
+-- resolve; and no limit of reading is theirs.
 use Rattle.std.proofs.Common.{◌≡◌, ◌≢◌, ◌⊎◌, inl, inr, ℕ, List, [], ◌∷◌, Some, Bool, true, false, if◌then◌else◌, refl, sym, ◌∙◌, ap, subst}
+use Rattle.wy_text.specs.declared.fault.Fault.{Fault}
 use Rattle.wy_text.specs.declared.limit.LimitName.{LimitName}
 use Rattle.wy_text.specs.declared.limit.LimitName.TheVariants as limit
 use Rattle.wy_syntax.specs.Trees.{ItemTree}
@@ -13,6 +15,7 @@ use Rattle.wy_names.proofs.OneAnswer.{one_refusal, resolved_or_refused}
 use Rattle.wy_engine.specs.FileTrees.{HaveTrees}
 use Rattle.wy_engine.specs.Judgement.{Stops}
 use Rattle.wy_engine.specs.NameFaults.{NamesResolve, NamesStop, names_status}
+use Rattle.wy_engine.specs.declared.settings.Command.{Command}
 use Rattle.wy_engine.specs.declared.settings.Command.TheVariants as command
 use Rattle.wy_engine.specs.declared.status.Status.{Status}
 use Rattle.wy_engine.specs.declared.status.Status.TheVariants as status
@@ -34,26 +37,44 @@ resolve_or_stop texts trees end have names stop full =
     let refused : Refused (all_items trees) stop.why = subst (λ (ts : List (List ItemTree)). Refused (all_items ts) stop.why) same stop.refused in
     not_starved end stop.why stop.gives full (resolved_or_refused (all_items trees) names.program stop.why names.resolves refused)
 
--- what a refusal of names gives stops a run, but for want of memory
-pub names_stop : (texts : List (List ℕ)) (trees : List (List ItemTree)) (why : NameRefusal) → HaveTrees 1 texts trees → Refused (all_items trees) why
-    → (names_status why ≡ status.Memory) ⊎ Stops command.Run texts (names_status why)
-names_stop texts trees (refusal.Unknown place) have is = inr (inl (record { trees = trees; have = have; why = refusal.Unknown place; refused = is; gives = refl }))
-names_stop texts trees (refusal.Twice place) have is = inr (inl (record { trees = trees; have = have; why = refusal.Twice place; refused = is; gives = refl }))
-names_stop texts trees (refusal.Cycle place) have is = inr (inl (record { trees = trees; have = have; why = refusal.Cycle place; refused = is; gives = refl }))
-names_stop texts trees refusal.NoProgram have is = inr (inl (record { trees = trees; have = have; why = refusal.NoProgram; refused = is; gives = refl }))
-names_stop texts trees (refusal.TwoPrograms place) have is = inr (inl (record { trees = trees; have = have; why = refusal.TwoPrograms place; refused = is; gives = refl }))
-names_stop texts trees (refusal.MemberUndefined place) have is = inr (inl (record { trees = trees; have = have; why = refusal.MemberUndefined place; refused = is; gives = refl }))
-names_stop texts trees (refusal.MemberUnknown place) have is = inr (inl (record { trees = trees; have = have; why = refusal.MemberUnknown place; refused = is; gives = refl }))
-names_stop texts trees (refusal.Limit name) have is = inr (inr (record { trees = trees; have = have; why = refusal.Limit name; refused = is; gives = refl }))
-names_stop texts trees refusal.Memory have is = inl refl
+-- whether a command judges the names of texts
+abbrev pub JudgesNames : Command → Type 0
+JudgesNames command.Check = Unit {0}
+JudgesNames command.Run = Unit {0}
+JudgesNames command.Format = ⊥
+
+stops_refused : (asked : Command) (texts : List (List ℕ)) (fault : Fault) → JudgesNames asked → NamesStop texts (status.Refused fault) → Stops asked texts (status.Refused fault)
+stops_refused command.Check texts fault judges stop = inl stop
+stops_refused command.Run texts fault judges stop = inl stop
+stops_refused command.Format texts fault judges stop = absurd judges
+
+stops_limit : (asked : Command) (texts : List (List ℕ)) (name : LimitName) → JudgesNames asked → NamesStop texts (status.Limit name) → Stops asked texts (status.Limit name)
+stops_limit command.Check texts name judges stop = inr (inl stop)
+stops_limit command.Run texts name judges stop = inr stop
+stops_limit command.Format texts name judges stop = absurd judges
+
+-- what a refusal of names gives stops a command that judges them, but for want of memory
+stops_by_names : (asked : Command) (texts : List (List ℕ)) (why : NameRefusal) → JudgesNames asked → NamesStop texts (names_status why) → (names_status why ≡ status.Memory) ⊎ Stops asked texts (names_status why)
+stops_by_names asked texts (refusal.Unknown place) judges stop = inr (stops_refused asked texts _ judges stop)
+stops_by_names asked texts (refusal.Twice place) judges stop = inr (stops_refused asked texts _ judges stop)
+stops_by_names asked texts (refusal.Cycle place) judges stop = inr (stops_refused asked texts _ judges stop)
+stops_by_names asked texts refusal.NoProgram judges stop = inr (stops_refused asked texts _ judges stop)
+stops_by_names asked texts (refusal.TwoPrograms place) judges stop = inr (stops_refused asked texts _ judges stop)
+stops_by_names asked texts (refusal.MemberUndefined place) judges stop = inr (stops_refused asked texts _ judges stop)
+stops_by_names asked texts (refusal.MemberUnknown place) judges stop = inr (stops_refused asked texts _ judges stop)
+stops_by_names asked texts (refusal.Limit name) judges stop = inr (stops_limit asked texts name judges stop)
+stops_by_names asked texts refusal.Memory judges stop = inl refl
+
+pub names_stop : (asked : Command) (texts : List (List ℕ)) (trees : List (List ItemTree)) (why : NameRefusal) (end : Status) → JudgesNames asked → HaveTrees 1 texts trees → Refused (all_items trees) why
+    → end ≡ names_status why → (end ≡ status.Memory) ⊎ Stops asked texts end
+names_stop asked texts trees why end judges have is gives =
+    subst (λ (s : Status). (s ≡ status.Memory) ⊎ Stops asked texts s) (sym gives)
+    (stops_by_names asked texts why judges (record { trees = trees; have = have; why = why; refused = is; gives = refl }))
 
 -- and so it does where it is given
-pub stops_names : (texts : List (List ℕ)) (end : Status) → NamesStop texts end → end ≢ status.Memory → Stops command.Run texts end
-stops_names texts end stop full = by (names_stop texts stop.trees stop.why stop.have stop.refused)
-  where
-    by : (names_status stop.why ≡ status.Memory) ⊎ Stops command.Run texts (names_status stop.why) → Stops command.Run texts end
-    by (inl is) = absurd (full (stop.gives ∙ is))
-    by (inr stops) = subst (λ (s : Status). Stops command.Run texts s) (sym stop.gives) stops
+pub stops_names : (asked : Command) (texts : List (List ℕ)) (end : Status) → JudgesNames asked → NamesStop texts end → end ≢ status.Memory → Stops asked texts end
+stops_names asked texts end judges stop full =
+    elim (names_stop asked texts stop.trees stop.why end judges stop.have stop.refused stop.gives) [ inl is ↦ absurd (full is) | inr stops ↦ stops ]
 
 -- ---- the limit on files is not one of names
 

@@ -15,6 +15,7 @@ use wy_text::limit::LimitName;
 use wy_text::shelf::Shelf;
 use wy_text::sink::{Sink, WriteError};
 use wy_text::writing::write_all;
+use wy_well_formed::resolved_is_core;
 
 /// The most files of a call.
 const MOST_FILES: usize = 64;
@@ -42,6 +43,7 @@ fn settle<S: Shelf, O: Sink, E: Sink, D: Device>(
       status = result;
     }) }
 {
+    resolved_is_core();
     let Some(line) = command_line(words) else {
         return Status::Usage;
     };
@@ -71,8 +73,9 @@ fn close<E: Sink>(alloc: Global, names: &[String], report: &mut E, settled: Stat
 
 /// Does what the words say: reads the files that they name, and parses them. `check` judges their names and their
 /// program by the rules, and says on `out` that it is accepted; `run` judges both, prints the authority of what is
-/// accepted on `report`, and runs it on the devices; `format` writes the canonical form of its one file to `out`. The report ends with a line that says how the call ended, unless all
-/// was done (docs/LANGUAGE.md, "The command line" and "Statuses").
+/// accepted on `report`, and runs it on the devices; `format` writes the canonical form of its one file to `out`. The
+/// report ends with a line that says how the call ended, unless all was done (docs/LANGUAGE.md, "The command line" and
+/// "Statuses").
 ///
 /// The devices are of the four kinds in their order, which `devices` gives.
 pub fn wyvern<S: Shelf, O: Sink, E: Sink, D: Device>(

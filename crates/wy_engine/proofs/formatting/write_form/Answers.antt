@@ -1,11 +1,7 @@
 use Rattle.std.proofs.Common.{rules}
 use Rattle.wy_text.proofs.Gains.{wrote_nothing}
 use Rattle.wy_engine.specs.Answering.{starved}
-use Rattle.wy_engine.proofs.Outcomes.{wrote_part}
 use Rattle.wy_engine.proofs.formatting.write_form.Goals as goal
 
 pub returns-in_default : goal.returns-in_default
 returns-in_default g c = starved _ (wrote_nothing _ _) (search rules)
-
-pub returns : goal.returns
-returns g c = wrote_part _ _ _ (search rules)

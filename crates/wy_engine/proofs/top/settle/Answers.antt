@@ -19,5 +19,5 @@ returns-in-Err-Memory g c =
 
 pub returns-in-Ok : goal.returns-in-Ok
 returns-in-Ok g c =
-    settles_answered _ (record { command = c.in-Some.line.command; files = map string_bytes c.in-Some.line.files.now }) c.in-Ok.texts (search rules) (rw length-map (search rules)) (rw length-map c.in-Ok.ensures.all)
+    settles_answered c.resolved_is_core.ensures _ (record { command = c.in-Some.line.command; files = map string_bytes c.in-Some.line.files.now }) c.in-Ok.texts (search rules) (rw length-map (search rules)) (rw length-map c.in-Ok.ensures.all)
     (rw c.as_slice.ensures at c.answer.ensures)

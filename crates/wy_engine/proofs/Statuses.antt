@@ -1,0 +1,109 @@
+-- Which statuses come when: once files were read, of texts that stop a call, of a run, and of what was written.
+use Rattle.std.proofs.Common.{◌≡◌, ◌≢◌, ◌⊎◌, inl, inr, ℕ, List, sym, subst}
+use Rattle.wy_text.specs.Outside.{SinkState}
+use Rattle.wy_text.specs.declared.limit.LimitName.TheVariants as limit
+use Rattle.wy_device.specs.Devices.{DevicesState}
+use Rattle.wy_device.specs.Ends.{End, Ended, DeviceFailed, Waiting}
+use Rattle.wy_engine.specs.Answering.{Wrote}
+use Rattle.wy_engine.specs.Answering as answering
+use Rattle.wy_engine.specs.Judgement.{Stops}
+use Rattle.wy_engine.specs.Running.{Ran, performed, stopped}
+use Rattle.wy_engine.specs.Status.{IsOfOut, IsOfRun, IsOfTexts, status_of}
+use Rattle.wy_engine.specs.declared.literal_form.Program.{Program}
+use Rattle.wy_engine.specs.declared.settings.Command.{Command}
+use Rattle.wy_engine.specs.declared.settings.Command.TheVariants as command
+use Rattle.wy_engine.specs.declared.status.Status.{Status}
+use Rattle.wy_engine.specs.declared.status.Status.TheVariants as status
+use Rattle.wy_engine.proofs.NamesJudged.{uncrowded}
+use Rattle.wy_engine.proofs.OneAnswer.{never}
+
+-- a status that comes once the files were read
+pub record IsPastReading (end : Status) : Type 0 where
+  pub usage : end ≢ status.Usage
+  pub unread : (file : ℕ) → end ≢ status.Unread file
+  pub crowd : end ≢ status.Limit limit.Files
+
+crowds_none : (asked : Command) (texts : List (List ℕ)) → Stops asked texts (status.Limit limit.Files) → ⊥
+crowds_none command.Check texts (inl none) = never (status.Limit limit.Files) (λ file bytes h. h) 1 texts none
+crowds_none command.Check texts (inr (inl stop)) = uncrowded texts stop
+crowds_none command.Check texts (inr (inr stop)) = let e : limit.Files ≡ limit.ReachedTypes = stop.0 in cc
+crowds_none command.Run texts (inl none) = never (status.Limit limit.Files) (λ file bytes h. h) 1 texts none
+crowds_none command.Run texts (inr stop) = uncrowded texts stop
+crowds_none command.Format texts none = never (status.Limit limit.Files) (λ file bytes h. h) 1 texts none
+
+stops_past : (asked : Command) (texts : List (List ℕ)) (end : Status) → Stops asked texts end → IsPastReading end
+stops_past asked texts end stops = record {
+  usage = λ is. subst (λ (s : Status). Stops asked texts s) is stops;
+  unread = λ file is. subst (λ (s : Status). Stops asked texts s) is stops;
+  crowd = λ is. crowds_none asked texts (subst (λ (s : Status). Stops asked texts s) is stops);
+}
+
+pub run_past : (end : Status) → IsOfRun end → IsPastReading end
+run_past end run = record { usage = λ is. subst IsOfRun is run; unread = λ file is. subst IsOfRun is run; crowd = λ is. subst IsOfRun is run }
+
+pub out_past : (end : Status) → IsOfOut end → IsPastReading end
+out_past end out = record { usage = λ is. subst IsOfOut is out; unread = λ file is. subst IsOfOut is out; crowd = λ is. subst IsOfOut is out }
+
+stops_idle : (asked : Command) (texts : List (List ℕ)) (end : Status) → Stops asked texts end → ¬ IsOfRun end
+stops_idle asked texts status.Ended stops run = stops
+stops_idle asked texts status.Usage stops run = run
+stops_idle asked texts (status.Unread file) stops run = run
+stops_idle asked texts (status.Syntax place kind) stops run = run
+stops_idle asked texts (status.Refused fault) stops run = run
+stops_idle asked texts (status.Limit name) stops run = run
+stops_idle asked texts (status.DeviceFailed grant op) stops run = stops
+stops_idle asked texts status.Unwritten stops run = stops
+stops_idle asked texts status.Memory stops run = stops
+stops_idle asked texts status.Unbuilt stops run = run
+
+pub run_or_texts : (end : Status) → IsOfRun end → ¬ IsOfTexts end
+run_or_texts status.Ended run texts = texts
+run_or_texts status.Usage run texts = run
+run_or_texts (status.Unread file) run texts = run
+run_or_texts (status.Syntax place kind) run texts = run
+run_or_texts (status.Refused fault) run texts = run
+run_or_texts (status.Limit name) run texts = run
+run_or_texts (status.DeviceFailed grant op) run texts = texts
+run_or_texts status.Unwritten run texts = texts
+run_or_texts status.Memory run texts = texts
+run_or_texts status.Unbuilt run texts = run
+
+pub out_run : (end : Status) → IsOfOut end → IsOfRun end
+out_run status.Ended out = tt
+out_run status.Usage out = out
+out_run (status.Unread file) out = out
+out_run (status.Syntax place kind) out = out
+out_run (status.Refused fault) out = out
+out_run (status.Limit name) out = out
+out_run (status.DeviceFailed grant op) out = tt
+out_run status.Unwritten out = tt
+out_run status.Memory out = tt
+out_run status.Unbuilt out = out
+
+run_of_end : (end : End) → IsOfRun (status_of end)
+run_of_end Ended = tt
+run_of_end (DeviceFailed grant op) = tt
+run_of_end Waiting = tt
+
+-- a status that a run's end gives, or want of memory
+pub run_status : (end : Status) (of : End) → (end ≡ status.Memory) ⊎ (end ≡ status_of of) → IsOfRun end
+run_status end of (inl is) = subst IsOfRun (sym is) tt
+run_status end of (inr is) = subst IsOfRun (sym is) (run_of_end of)
+
+pub run_ran : (program : Program) (report report' : SinkState) (devices devices' : DevicesState) (end : Status) → Ran program report report' devices devices' end → IsOfRun end
+run_ran program report report' devices devices' end (stopped short same (inl is)) = subst IsOfRun (sym is) tt
+run_ran program report report' devices devices' end (stopped short same (inr is)) = subst IsOfRun (sym is.0) tt
+run_ran program report report' devices devices' end (performed written performs only) = run_status end _ performs.ends
+
+pub out_wrote : (text : List ℕ) (out out' : SinkState) (end : Status) → Wrote text out out' end → IsOfOut end
+out_wrote text out out' end (answering.whole written is) = subst IsOfOut (sym is) tt
+out_wrote text out out' end (answering.cut short rose is) = subst IsOfOut (sym is) tt
+out_wrote text out out' end (answering.starved rest written is) = subst IsOfOut (sym is) tt
+
+pub past_declined : (asked : Command) (texts : List (List ℕ)) (end : Status) → (end ≡ status.Memory) ⊎ Stops asked texts end → IsPastReading end
+past_declined asked texts end (inl is) = run_past end (subst IsOfRun (sym is) tt)
+past_declined asked texts end (inr stops) = stops_past asked texts end stops
+
+pub idle_declined : (asked : Command) (texts : List (List ℕ)) (end : Status) → (end ≡ status.Memory) ⊎ Stops asked texts end → end ≢ status.Memory → ¬ IsOfRun end
+idle_declined asked texts end (inl is) full run = full is
+idle_declined asked texts end (inr stops) full run = stops_idle asked texts end stops run
