@@ -10,11 +10,11 @@ use Rattle.wy_names.specs.Names.{Resolves}
 use Rattle.wy_judge.specs.Checking as checking
 use Rattle.wy_judge.specs.declared.checking.CheckRefusal.{CheckRefusal}
 use Rattle.wy_judge.specs.declared.checking.CheckRefusal.TheVariants as refusal
-use Rattle.wy_engine.specs.Answering.{Answered, ChecksTrees, RunsForm, RunsTrees, Wrote, accepted, alone, check_status, checked, declined, formatted, formless, nameless, not_accepted, ran, ran_tree, refused, resolved, several, stopped, unresolved, with_lines}
+use Rattle.wy_engine.specs.Answering.{Answered, ChecksTrees, RunsForm, RunsTrees, Wrote, accepted, alone, check_status, checked, declined, formatted, formless, nameless, not_accepted, ran, ran_tree, refused, resolved, several, stopped, unresolved}
 use Rattle.wy_engine.specs.FileTrees.{FirstNoTree, HaveTrees}
-use Rattle.wy_engine.specs.Judgement.{IsChecked, IsUnbuilt, ReadsAs, Stops, fault_of}
+use Rattle.wy_engine.specs.Judgement.{IsUnbuilt, ReadsAs, Stops, fault_of}
 use Rattle.wy_engine.specs.LiteralForm.{program_of}
-use Rattle.wy_engine.specs.NameFaults.{NamesResolve}
+use Rattle.wy_engine.specs.NameFaults.{NamesResolve, ResolveTo}
 use Rattle.wy_engine.specs.declared.literal_form.Program.{Program}
 use Rattle.wy_engine.specs.declared.settings.Command.{Command}
 use Rattle.wy_engine.specs.declared.settings.Command.TheVariants as command
@@ -93,15 +93,15 @@ pub did_run : (asked : Command) (texts : List (List ℕ)) (trees : List (List It
 did_run asked texts trees out report report' devices devices' end run have (unresolved why names r d is) = declined (names_stop asked texts trees why end (judges_as asked command.Run run tt) have names is) refl r d
 did_run asked texts trees out report report' devices devices' end run have (resolved names so) = did_form asked texts trees out report report' devices devices' end run have names so
 
--- the program of trees in which the names resolve, and which has no lines
-is_checked : (texts : List (List ℕ)) (trees : List (List ItemTree)) (program : core.Program) → HaveTrees 1 texts trees → Resolves (all_items trees) program → checking.any_lines program ≡ false → IsChecked texts program
-is_checked texts trees program have resolves lines = record { read = record { trees = trees; have = have; resolves = resolves }; lines = lines }
+-- the program of trees in which the names resolve
+resolve_to : (texts : List (List ℕ)) (trees : List (List ItemTree)) (program : core.Program) → HaveTrees 1 texts trees → Resolves (all_items trees) program → ResolveTo texts program
+resolve_to texts trees program have resolves = record { trees = trees; have = have; resolves = resolves }
 
 -- what refuses a program stops a check, but for want of memory
-refused_check : (texts : List (List ℕ)) (program : core.Program) (why : CheckRefusal) → IsChecked texts program → checking.IsRefusalOf program why
+refused_check : (texts : List (List ℕ)) (program : core.Program) (why : CheckRefusal) → ResolveTo texts program → checking.IsRefusalOf program why
     → (check_status why ≡ status.Memory) ⊎ Stops command.Check texts (check_status why)
-refused_check texts program (refusal.Fails fault) is ends = inr (inr (record { program = program; checked = is; ends = ends }))
-refused_check texts program (refusal.Limit name) is ends = inr (inr (inr (ends.0, record { program = program; checked = is; ends = ends.1 })))
+refused_check texts program (refusal.Fails fault) is ends = inr (inr (record { program = program; read = is; ends = ends }))
+refused_check texts program (refusal.Limit name) is ends = inr (inr (inr (record { program = program; read = is; ends = ends })))
 refused_check texts program refusal.Memory is ends = inl refl
 
 stops_check : (asked : Command) (texts : List (List ℕ)) (end other : Status) → asked ≡ command.Check → end ≡ other → (other ≡ status.Memory) ⊎ Stops command.Check texts other → (end ≡ status.Memory) ⊎ Stops asked texts end
@@ -111,16 +111,10 @@ stops_check asked texts end other check is (inr stops) = inr (stops_as asked com
 pub did_check : (asked : Command) (texts : List (List ℕ)) (trees : List (List ItemTree)) (out out' report : SinkState) (devices : DevicesState) (end : Status)
     → asked ≡ command.Check → HaveTrees 1 texts trees → ChecksTrees trees out out' end → Answered asked texts out out' report report devices devices end
 did_check asked texts trees out out' report devices end check have (nameless why names o is) = declined (names_stop asked texts trees why end (judges_as asked command.Check check tt) have names is) o refl refl
-did_check asked texts trees out out' report devices end check have (with_lines program resolves lines o is) =
-    declined (inr (stops_as asked command.Check texts end status.Unbuilt check is (record {
-      program = program;
-      read = record { trees = trees; have = have; resolves = resolves };
-      lines = lines;
-    }))) o refl refl
-did_check asked texts trees out out' report devices end check have (not_accepted program resolves lines why ends o is) =
-    declined (stops_check asked texts end (check_status why) check is (refused_check texts program why (is_checked texts trees program have resolves lines) ends)) o refl refl
-did_check asked texts trees out out' report devices end check have (accepted program resolves lines passes wrote) =
-    checked check (record { program = program; checked = is_checked texts trees program have resolves lines; accepted = passes }) wrote refl refl
+did_check asked texts trees out out' report devices end check have (not_accepted program resolves why ends o is) =
+    declined (stops_check asked texts end (check_status why) check is (refused_check texts program why (resolve_to texts trees program have resolves) ends)) o refl refl
+did_check asked texts trees out out' report devices end check have (accepted program resolves passes wrote) =
+    checked check (record { program = program; read = resolve_to texts trees program have resolves; accepted = passes }) wrote refl refl
 
 pub did_format : (asked : Command) (texts : List (List ℕ)) (trees : List (List ItemTree)) (tree : List ItemTree) (out out' report : SinkState) (devices : DevicesState) (end : Status)
     → asked ≡ command.Format → HaveTrees 1 texts trees → trees ≡ tree ∷ [] → Wrote (canonical_form tree) out out' end → Answered asked texts out out' report report devices devices end

@@ -10,7 +10,7 @@ use Rattle.wy_syntax.specs.Trees.{ItemTree}
 use Rattle.wy_types.specs.Program as core
 use Rattle.wy_canonical.specs.Printed.{HasTree}
 use Rattle.wy_engine.specs.FileTrees.{FirstNoTree, HasNoTree, HaveTrees}
-use Rattle.wy_engine.specs.Judgement.{IsAccepted, IsChecked, PassesCheck, ReadsAs, Stops}
+use Rattle.wy_engine.specs.Judgement.{IsAccepted, PassesCheck, ReadsAs, Stops}
 use Rattle.wy_engine.specs.NameFaults.{NamesStop, ResolveTo}
 use Rattle.wy_engine.specs.Reading.{GivesFiles}
 use Rattle.wy_engine.specs.TopCall.{texts_of}
@@ -18,7 +18,7 @@ use Rattle.wy_engine.specs.declared.literal_form.Program.{Program}
 use Rattle.wy_engine.specs.declared.settings.Command.{Command}
 use Rattle.wy_engine.specs.declared.settings.Command.TheVariants as command
 use Rattle.wy_engine.specs.declared.status.Status.{Status}
-use Rattle.wy_engine.proofs.OneAnswer.{Late, StopsBy, late, not_accepted, refusal, stops_by, stops_of, treeless, unbuilt, unresolved, with_lines}
+use Rattle.wy_engine.proofs.OneAnswer.{Late, StopsBy, late, not_accepted, refusal, stops_by, stops_of, treeless, unbuilt, unresolved}
 use Rattle.wy_engine.proofs.OneTree.{IsWhy, Why, large, none_of, reason_of, unexpected, wrong}
 
 -- what is read of a text
@@ -112,12 +112,8 @@ names_of_cut texts end stop = record { trees = stop.trees; have = trees_of_cut 1
 core_of_cut : (texts : List (List ℕ)) (program : core.Program) → ResolveTo (map cut texts) program → ResolveTo texts program
 core_of_cut texts program read = record { trees = read.trees; have = trees_of_cut 1 texts read.trees read.have; resolves = read.resolves }
 
-checked_of_cut : (texts : List (List ℕ)) (program : core.Program) → IsChecked (map cut texts) program → IsChecked texts program
-checked_of_cut texts program is = record { read = core_of_cut texts program is.read; lines = is.lines }
-
 late_of_cut : (asked : Command) (texts : List (List ℕ)) (end : Status) → Late asked (map cut texts) end → Late asked texts end
-late_of_cut command.Check texts end (with_lines has named) = with_lines (record { program = has.program; read = core_of_cut texts has.program has.read; lines = has.lines }) named
-late_of_cut command.Check texts end (not_accepted why is named) = not_accepted why (record { program = is.program; checked = checked_of_cut texts is.program is.checked; ends = is.ends }) named
+late_of_cut command.Check texts end (not_accepted why is named) = not_accepted why (record { program = is.program; read = core_of_cut texts is.program is.read; ends = is.ends }) named
 late_of_cut command.Run texts end (refusal fault is named) = refusal fault (record { program = is.program; read = reads_of_cut texts is.program is.read; lacks = is.lacks; named = is.named }) named
 late_of_cut command.Run texts end (unbuilt is named) = unbuilt (record { trees = is.trees; have = trees_of_cut 1 texts is.trees is.have; names = is.names; formless = λ program reads. is.formless program (reads_cut texts program reads) }) named
 late_of_cut command.Format texts end stop = absurd stop
@@ -131,7 +127,7 @@ pub stops_of_cut : (asked : Command) (texts : List (List ℕ)) (end : Status) �
 stops_of_cut asked texts end stops = stops_of asked texts end (stop_of_cut asked texts end (stops_by asked (map cut texts) end stops))
 
 pub passes_of_cut : (texts : List (List ℕ)) → PassesCheck (map cut texts) → PassesCheck texts
-passes_of_cut texts is = record { program = is.program; checked = checked_of_cut texts is.program is.checked; accepted = is.accepted }
+passes_of_cut texts is = record { program = is.program; read = core_of_cut texts is.program is.read; accepted = is.accepted }
 
 pub accepted_of_cut : (texts : List (List ℕ)) (program : Program) → IsAccepted (map cut texts) program → IsAccepted texts program
 accepted_of_cut texts program is = record { read = reads_of_cut texts program is.read; allowed = is.allowed }

@@ -1,8 +1,6 @@
 -- Texts have one answer: a status that ends the call, or one thing that is done with them.
 use Rattle.std.proofs.Common.{◌≡◌, ◌≢◌, inl, inr, ℕ, List, [], ◌∷◌, Some, Bool, true, false, refl, sym, ◌∙◌, ap, subst}
 use Rattle.wy_text.specs.declared.fault.Fault.{Fault}
-use Rattle.wy_text.specs.declared.limit.LimitName.{LimitName}
-use Rattle.wy_text.specs.declared.limit.LimitName.TheVariants.{ReachedTypes}
 use Rattle.wy_syntax.specs.Trees.{ItemTree}
 use Rattle.wy_types.specs.Core.{IsCore}
 use Rattle.wy_types.specs.Program as core
@@ -10,11 +8,10 @@ use Rattle.wy_names.specs.Declarations.{all_items}
 use Rattle.wy_names.specs.Names.{Resolves}
 use Rattle.wy_names.proofs.OneAnswer as names
 use Rattle.wy_well_formed.specs.WellFormed.{ResolvedIsCore}
-use Rattle.wy_rules.specs.Ends.{End, IsEnd, refused, too_many_types}
+use Rattle.wy_rules.specs.Ends.{End, IsEnd, limited, refused}
 use Rattle.wy_rules.proofs.OneEnd.{accepted_has_no_end, one_end}
-use Rattle.wy_judge.specs.Checking as checking
 use Rattle.wy_engine.specs.FileTrees.{FirstNoTree, HasNoTree, HaveTrees}
-use Rattle.wy_engine.specs.Judgement.{Asks, Did, EndsCheck, HasLines, IsAccepted, IsRefused, IsUnbuilt, PassesCheck, ReadsAs, Stops, checked, fault_of, formatted, ran}
+use Rattle.wy_engine.specs.Judgement.{Asks, Did, EndsCheck, IsAccepted, IsRefused, IsUnbuilt, PassesCheck, ReadsAs, Stops, checked, fault_of, formatted, ran}
 use Rattle.wy_engine.specs.LiteralForm.{program_of}
 use Rattle.wy_engine.specs.NameFaults.{NamesResolve, NamesStop, ResolveTo}
 use Rattle.wy_engine.specs.declared.literal_form.Program.{Program}
@@ -41,7 +38,7 @@ one_core texts p q a b =
 
 -- the status of texts whose program is not accepted
 abbrev pub end_status : End → Status
-end_status too_many_types = status.Limit ReachedTypes
+end_status (limited name) = status.Limit name
 end_status (refused fault) = status.Refused fault
 
 -- what stops a run of texts whose names resolve
@@ -51,7 +48,6 @@ pub data LateRun (texts : List (List ℕ)) (end : Status) : Type 0 where
 
 -- .. and what stops a check of them
 pub data LateCheck (texts : List (List ℕ)) (end : Status) : Type 0 where
-  with_lines : HasLines texts → end ≡ status.Unbuilt → LateCheck texts end
   not_accepted : (why : End) → EndsCheck texts why → end ≡ end_status why → LateCheck texts end
 
 abbrev pub Late : Command → List (List ℕ) → Status → Type 0
@@ -68,7 +64,7 @@ pub stops_by : (asked : Command) (texts : List (List ℕ)) (end : Status) → St
 stops_by asked texts (status.Syntax place kind) stop = treeless stop
 stops_by command.Check texts (status.Limit name) (inl stop) = treeless stop
 stops_by command.Check texts (status.Limit name) (inr (inl stop)) = unresolved tt stop (λ e. cc)
-stops_by command.Check texts (status.Limit name) (inr (inr stop)) = late (not_accepted too_many_types stop.1 (ap (λ (l : LimitName). status.Limit l) stop.0))
+stops_by command.Check texts (status.Limit name) (inr (inr stop)) = late (not_accepted (limited name) stop refl)
 stops_by command.Run texts (status.Limit name) (inl stop) = treeless stop
 stops_by command.Run texts (status.Limit name) (inr stop) = unresolved tt stop (λ e. cc)
 stops_by command.Format texts (status.Limit name) stop = treeless stop
@@ -77,7 +73,7 @@ stops_by command.Check texts (status.Refused fault) (inr stop) = late (not_accep
 stops_by command.Run texts (status.Refused fault) (inl stop) = unresolved tt stop (λ e. cc)
 stops_by command.Run texts (status.Refused fault) (inr stop) = late (refusal fault stop refl)
 stops_by command.Format texts (status.Refused fault) stop = absurd stop
-stops_by command.Check texts status.Unbuilt stop = late (with_lines stop refl)
+stops_by command.Check texts status.Unbuilt stop = absurd stop
 stops_by command.Run texts status.Unbuilt stop = late (unbuilt stop refl)
 stops_by command.Format texts status.Unbuilt stop = absurd stop
 stops_by asked texts status.Ended stop = absurd stop
@@ -108,11 +104,10 @@ stops_treeless asked texts status.Unwritten first = absurd (never status.Unwritt
 stops_treeless asked texts status.Memory first = absurd (never status.Memory (λ file bytes h. h) 1 texts first)
 
 stops_ended : (texts : List (List ℕ)) (why : End) → EndsCheck texts why → Stops command.Check texts (end_status why)
-stops_ended texts too_many_types is = inr (inr (refl, is))
+stops_ended texts (limited name) is = inr (inr is)
 stops_ended texts (refused fault) is = inr is
 
 stops_late : (asked : Command) (texts : List (List ℕ)) (end : Status) → Late asked texts end → Stops asked texts end
-stops_late command.Check texts end (with_lines has named) = subst (λ (s : Status). Stops command.Check texts s) (sym named) has
 stops_late command.Check texts end (not_accepted why is named) = subst (λ (s : Status). Stops command.Check texts s) (sym named) (stops_ended texts why is)
 stops_late command.Run texts end (refusal fault is named) = subst (λ (s : Status). Stops command.Run texts s) (sym named) (inr is)
 stops_late command.Run texts end (unbuilt is named) = subst (λ (s : Status). Stops command.Run texts s) (sym named) is
@@ -137,8 +132,7 @@ core_holds : (texts : List (List ℕ)) (program : core.Program) → ResolveTo te
 core_holds texts program read = record { trees = read.trees; have = read.have; names = record { program = program; resolves = read.resolves } }
 
 late_holds : (asked : Command) (texts : List (List ℕ)) (end : Status) → Late asked texts end → NamesHold texts
-late_holds command.Check texts end (with_lines has named) = core_holds texts has.program has.read
-late_holds command.Check texts end (not_accepted why is named) = core_holds texts is.program is.checked.read
+late_holds command.Check texts end (not_accepted why is named) = core_holds texts is.program is.read
 late_holds command.Run texts end (refusal fault is named) = reads_hold texts is.program is.read
 late_holds command.Run texts end (unbuilt is named) = record { trees = is.trees; have = is.have; names = is.names }
 late_holds command.Format texts end stop = absurd stop
@@ -152,9 +146,6 @@ hold_or_stop texts end hold stop full = resolve_or_stop texts hold.trees end hol
 flag : (b : Bool) → b ≡ true → b ≡ false → ⊥
 flag b set unset = let e : true ≡ false = sym set ∙ unset in cc
 
-lines_or_none : (texts : List (List ℕ)) (p q : core.Program) → ResolveTo texts p → ResolveTo texts q → checking.any_lines p ≡ true → checking.any_lines q ≡ false → ⊥
-lines_or_none texts p q a b some none = flag (checking.any_lines p) some (ap checking.any_lines (one_core texts p q a b) ∙ none)
-
 -- ---- texts have one answer
 
 is_core : ResolvedIsCore → (texts : List (List ℕ)) (program : core.Program) → ResolveTo texts program → IsCore program
@@ -162,18 +153,15 @@ is_core law texts program read = law (all_items read.trees) program read.resolve
 
 same_end : ResolvedIsCore → (texts : List (List ℕ)) (why other : End) → EndsCheck texts why → EndsCheck texts other → why ≡ other
 same_end law texts why other a b =
-    let same : b.program ≡ a.program = one_core texts b.program a.program b.checked.read a.checked.read in
-    one_end a.program why other (is_core law texts a.program a.checked.read) a.ends (subst (λ (p : core.Program). IsEnd p other) same b.ends)
+    let same : b.program ≡ a.program = one_core texts b.program a.program b.read a.read in
+    one_end a.program why other (is_core law texts a.program a.read) a.ends (subst (λ (p : core.Program). IsEnd p other) same b.ends)
 
 pass_or_end : ResolvedIsCore → (texts : List (List ℕ)) (end : End) → PassesCheck texts → EndsCheck texts end → ⊥
 pass_or_end law texts end a b =
-    let same : b.program ≡ a.program = one_core texts b.program a.program b.checked.read a.checked.read in
-    accepted_has_no_end a.program end (is_core law texts a.program a.checked.read) a.accepted.accepted a.accepted.within (subst (λ (p : core.Program). IsEnd p end) same b.ends)
+    let same : b.program ≡ a.program = one_core texts b.program a.program b.read a.read in
+    accepted_has_no_end a.program end (is_core law texts a.program a.read) a.accepted.accepted a.accepted.within (subst (λ (p : core.Program). IsEnd p end) same b.ends)
 
 same_late : ResolvedIsCore → (asked : Command) (texts : List (List ℕ)) (end other : Status) → Late asked texts end → Late asked texts other → end ≡ other
-same_late law command.Check texts end other (with_lines a named) (with_lines b named') = named ∙ sym named'
-same_late law command.Check texts end other (with_lines a named) (not_accepted why b named') = absurd (lines_or_none texts a.program b.program a.read b.checked.read a.lines b.checked.lines)
-same_late law command.Check texts end other (not_accepted why a named) (with_lines b named') = absurd (lines_or_none texts b.program a.program b.read a.checked.read b.lines a.checked.lines)
 same_late law command.Check texts end other (not_accepted why a named) (not_accepted why' b named') = named ∙ ap end_status (same_end law texts why why' a b) ∙ sym named'
 same_late law command.Run texts end other (refusal fault a named) (refusal fault' b named') =
     named ∙ ap status.Refused (a.named ∙ ap fault_of (one_program texts a.program b.program a.read b.read) ∙ sym b.named) ∙ sym named'
@@ -210,9 +198,8 @@ asks_by command.Format texts (formatted tree) asks = (tree, asks, refl)
 asks_by asked texts other asks = absurd asks
 
 asks_or_stops : ResolvedIsCore → (asked : Command) (texts : List (List ℕ)) (did : Did) (end : Status) → AsksBy asked texts did → StopsBy asked texts end → ⊥
-asks_or_stops law command.Check texts did end a (treeless b) = hold_or_treeless texts end (core_holds texts a.0.program a.0.checked.read) b
-asks_or_stops law command.Check texts did end a (unresolved judges b full) = hold_or_stop texts end (core_holds texts a.0.program a.0.checked.read) b full
-asks_or_stops law command.Check texts did end a (late (with_lines b named)) = lines_or_none texts b.program a.0.program b.read a.0.checked.read b.lines a.0.checked.lines
+asks_or_stops law command.Check texts did end a (treeless b) = hold_or_treeless texts end (core_holds texts a.0.program a.0.read) b
+asks_or_stops law command.Check texts did end a (unresolved judges b full) = hold_or_stop texts end (core_holds texts a.0.program a.0.read) b full
 asks_or_stops law command.Check texts did end a (late (not_accepted why b named)) = pass_or_end law texts why a.0 b
 asks_or_stops law command.Run texts did end a (treeless b) = hold_or_treeless texts end (reads_hold texts a.0 a.1.read) b
 asks_or_stops law command.Run texts did end a (unresolved judges b full) = hold_or_stop texts end (reads_hold texts a.0 a.1.read) b full

@@ -35,13 +35,12 @@ check_status (refusal.Fails fault) = status.Refused fault
 check_status (refusal.Limit name) = status.Limit name
 check_status refusal.Memory = status.Memory
 
--- what checking trees did: nothing, since their names are refused, their program has lines, or it is not accepted; or it was said that it is
+-- what checking trees did: nothing, since their names are refused or their program is not accepted; or it was said that it is
 pub data ChecksTrees (trees : List (List ItemTree)) (out out' : SinkState) (end : Status) : Type 0 where
   nameless : (why : NameRefusal) → Refused (all_items trees) why → out' ≡ out → end ≡ names_status why → ChecksTrees trees out out' end
-  with_lines : (program : core.Program) → Resolves (all_items trees) program → checking.any_lines program ≡ true → out' ≡ out → end ≡ status.Unbuilt → ChecksTrees trees out out' end
-  not_accepted : (program : core.Program) → Resolves (all_items trees) program → checking.any_lines program ≡ false → (why : CheckRefusal) → checking.IsRefusalOf program why → out' ≡ out → end ≡ check_status why
+  not_accepted : (program : core.Program) → Resolves (all_items trees) program → (why : CheckRefusal) → checking.IsRefusalOf program why → out' ≡ out → end ≡ check_status why
       → ChecksTrees trees out out' end
-  accepted : (program : core.Program) → Resolves (all_items trees) program → checking.any_lines program ≡ false → checking.IsAccepted program → Wrote accepted_text out out' end → ChecksTrees trees out out' end
+  accepted : (program : core.Program) → Resolves (all_items trees) program → checking.IsAccepted program → Wrote accepted_text out out' end → ChecksTrees trees out out' end
 
 -- what judging a file's tree did: nothing, since memory was wanting, the tree is of no form that is built, or its
 -- program is refused; or the program was run

@@ -4,13 +4,12 @@ use Rattle.std.specs.Prelude.{codes, ◌≡◌, ◌⊎◌, List, [], ◌∷◌, 
 use Rattle.wy_text.specs.declared.fault.AtomName.{AtomName}
 use Rattle.wy_text.specs.declared.fault.Fault.{Fault}
 use Rattle.wy_text.specs.declared.fault.RuleName.TheVariants.{TBody}
-use Rattle.wy_text.specs.declared.limit.LimitName.TheVariants.{ReachedTypes}
 use Rattle.wy_device.specs.Tapes.{Tapes}
 use Rattle.wy_meaning.specs.Literals.{literal_meaning}
 use Rattle.wy_meaning.specs.Meaning.{Meaning}
 use Rattle.wy_syntax.specs.Trees.{ItemTree}
 use Rattle.wy_types.specs.Program as core
-use Rattle.wy_rules.specs.Ends.{End, IsEnd, too_many_types, refused}
+use Rattle.wy_rules.specs.Ends.{End, IsEnd, limited, refused}
 use Rattle.wy_judge.specs.Checking as checking
 use Rattle.wy_engine.specs.FileTrees.{FirstNoTree, HaveTrees}
 use Rattle.wy_engine.specs.LiteralForm.{program_of}
@@ -57,28 +56,17 @@ pub record IsUnbuilt (texts : List (List ℕ)) : Type 0 where
 
 -- ---- what is checked
 
--- the texts are those of a program that has no `use`, `instance` or `import` line
-pub record IsChecked (texts : List (List ℕ)) (program : core.Program) : Type 0 where
-  pub read : ResolveTo texts program
-  pub lines : checking.any_lines program ≡ false
-
--- .. which is accepted by the rules, within the limits
+-- the texts are those of a program that is accepted by the rules, within the limits
 pub record PassesCheck (texts : List (List ℕ)) : Type 0 where
   pub program : core.Program
-  pub checked : IsChecked texts program
+  pub read : ResolveTo texts program
   pub accepted : checking.IsAccepted program
 
--- .. which is not, and why
+-- .. of one that is not, and why
 pub record EndsCheck (texts : List (List ℕ)) (end : End) : Type 0 where
   pub program : core.Program
-  pub checked : IsChecked texts program
-  pub ends : IsEnd program end
-
--- the texts are those of a program that has such a line
-pub record HasLines (texts : List (List ℕ)) : Type 0 where
-  pub program : core.Program
   pub read : ResolveTo texts program
-  pub lines : checking.any_lines program ≡ true
+  pub ends : IsEnd program end
 
 -- what is written where texts are accepted
 abbrev pub accepted_text : List ℕ
@@ -92,12 +80,11 @@ accepted_text = codes "accepted\n"
 abbrev pub Stops : Command → List (List ℕ) → Status → Type 0
 Stops command texts (status.Syntax place kind) = FirstNoTree 1 texts (status.Syntax place kind)
 Stops command.Check texts (status.Limit name) =
-    FirstNoTree 1 texts (status.Limit name) ⊎ (NamesStop texts (status.Limit name) ⊎ ((name ≡ ReachedTypes) × EndsCheck texts too_many_types))
+    FirstNoTree 1 texts (status.Limit name) ⊎ (NamesStop texts (status.Limit name) ⊎ EndsCheck texts (limited name))
 Stops command.Run texts (status.Limit name) = FirstNoTree 1 texts (status.Limit name) ⊎ NamesStop texts (status.Limit name)
 Stops command.Format texts (status.Limit name) = FirstNoTree 1 texts (status.Limit name)
 Stops command.Check texts (status.Refused fault) = NamesStop texts (status.Refused fault) ⊎ EndsCheck texts (refused fault)
 Stops command.Run texts (status.Refused fault) = NamesStop texts (status.Refused fault) ⊎ IsRefused texts fault
-Stops command.Check texts status.Unbuilt = HasLines texts
 Stops command.Run texts status.Unbuilt = IsUnbuilt texts
 Stops command texts other = ⊥
 

@@ -6,7 +6,8 @@ use crate::judging::names_status;
 use crate::status::Status;
 use crate::writing::write_out;
 use std::alloc::Global;
-use wy_judge::checking::{CheckRefusal, any_lines, check_all};
+use wy_judge::checking::CheckRefusal;
+use wy_link::checking::check;
 use wy_names::resolving::resolve;
 use wy_syntax::items::Tree;
 use wy_text::sink::Sink;
@@ -23,8 +24,8 @@ fn check_status(why: CheckRefusal) -> Status
     }
 }
 
-/// Judges the names in the trees of texts, and where they resolve their program, which has no lines yet; and says on
-/// `out` that it is accepted (docs/LANGUAGE.md, "Names" and "First failing node").
+/// Judges the names in the trees of texts, and where they resolve their program; and says on `out` that it is accepted
+/// (docs/LANGUAGE.md, "Names" and "What is checked").
 pub fn check_trees<O: Sink>(alloc: Global, trees: &[Tree], out: &mut O) -> Status
     ensures { ChecksTrees (map file_tree trees.now) (O.state out.old) (O.state out.new) result }
 {
@@ -33,11 +34,8 @@ pub fn check_trees<O: Sink>(alloc: Global, trees: &[Tree], out: &mut O) -> Statu
         Ok(core) => core,
         Err(why) => return names_status(why),
     };
-    if any_lines(&core) {
-        return Status::Unbuilt;
-    }
-    match check_all(alloc, &core) {
-        Ok(()) => write_out(out, b"accepted\n"),
+    match check(alloc, &core) {
+        Ok(_) => write_out(out, b"accepted\n"),
         Err(why) => check_status(why),
     }
 }

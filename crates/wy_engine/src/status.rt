@@ -38,7 +38,7 @@ pub enum Status {
     Unwritten,
     /// Memory was wanting.
     Memory,
-    /// The names in the texts resolve, and what the command asks of such texts is not built yet.
+    /// The names in the texts resolve, and the texts are of no form that runs yet.
     Unbuilt,
 }
 
