@@ -1,5 +1,6 @@
 -- The definitions of the top call, tried on examples.
 use Rattle.std.proofs.Common.{codes, ◌≡◌, ℕ, pos, List, [], ◌∷◌, Some, None, Bool, true, false, refl}
+use Rattle.std.specs.Fmt.{digits}
 use Rattle.wy_text.specs.declared.fault.Place.{Place}
 use Rattle.wy_text.specs.declared.fault.RuleName.TheVariants.{TOp}
 use Rattle.wy_text.specs.declared.limit.LimitName.TheVariants.{ReachedTypes}
@@ -72,9 +73,11 @@ unread_line : last_line (codes "a.wy" ∷ codes "b.wy" ∷ []) (status.Unread 2)
 unread_line = refl
 
 operator_line : last_line (codes "a.wy" ∷ []) (status.Refused (record { place = at 4 9; rule = TOp; premise = 2; atom = None })) ≡ codes "a.wy:4:9: refused: T-Op premise 2\n"
+unfolding digits
 operator_line = refl
 
 reached_line : last_line (codes "a.wy" ∷ []) (status.Limit ReachedTypes) ≡ codes "limit: reached types 1024\n"
+unfolding digits
 reached_line = refl
 
 -- ---- the words of a call

@@ -8,7 +8,6 @@ use Rattle.wy_engine.specs.Reading.{GivesFiles, ReadsWell}
 use Rattle.wy_engine.specs.Settings.{Settings}
 use Rattle.wy_engine.specs.TopCall.{IsGiven, IsSet, ReadsFiles, ReadsInOrder, TopCall, most_files, reads_of, texts_of}
 use Rattle.wy_engine.specs.declared.settings.Command.{Command}
-use Rattle.wy_engine.specs.declared.status.Status.{Status}
 use Rattle.wy_engine.specs.declared.status.Status.TheVariants as status
 use Rattle.wy_engine.proofs.Givens.{cut, cut_texts}
 use Rattle.wy_engine.proofs.Statuses.{IsPastReading}

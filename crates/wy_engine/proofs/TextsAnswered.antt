@@ -12,7 +12,6 @@ use Rattle.wy_engine.specs.TopCall.{IsGiven, IsSet, TopCall}
 use Rattle.wy_engine.specs.declared.literal_form.Program.{Program}
 use Rattle.wy_engine.specs.declared.settings.Command.{Command}
 use Rattle.wy_engine.specs.declared.settings.Command.TheVariants as command
-use Rattle.wy_engine.specs.declared.status.Status.{Status}
 use Rattle.wy_engine.specs.declared.status.Status.TheVariants as status
 use Rattle.wy_engine.proofs.FilesRead.{IsRead, given_read}
 use Rattle.wy_engine.proofs.Givens.{cut, stops_of_cut}
