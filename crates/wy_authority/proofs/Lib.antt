@@ -1,4 +1,5 @@
 mod ExamplesCallbacks
 mod ExamplesFiles
 mod ExamplesModules
+pub mod Reports
 mod Sources

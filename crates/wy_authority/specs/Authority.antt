@@ -1,6 +1,6 @@
 -- The authority of each body of each instance: its declared effect at the instance's ground sets. For an instance of a plain
 -- module it is the ground of the import's bound, for every body (docs/LANGUAGE.md, "Authority and report").
-use Rattle.std.specs.Prelude.{codes, ℕ, List, [], ◌∷◌, ◌++◌, Option, Some, None, if◌then◌else◌, map, nat_eq, slice_get}
+use Rattle.std.specs.Prelude.{codes, ℕ, ◌<◌, List, [], ◌∷◌, ◌++◌, Option, Some, None, if◌then◌else◌, length, map, nat_eq, slice_get}
 use Rattle.std.specs.Fmt.{decimal}
 use Rattle.wy_text.specs.declared.fault.AtomName.{AtomName}
 use Rattle.wy_effects.specs.AtomTable.{atom_name}
@@ -74,3 +74,11 @@ set_in_row (Some r) body = set_of_body (slice_get r.bodies body)
 -- the authority of one body, by the numbers of its instance and of itself
 abbrev pub bound_of : Authority → ℕ → ℕ → List ℕ
 bound_of a instance body = set_in_row (slice_get a.rows instance) body
+
+-- there is a body of these numbers
+abbrev pub RowHas : Option InstanceRow → ℕ → Type 0
+RowHas None body = ⊥
+RowHas (Some r) body = body < length r.bodies
+
+abbrev pub HasBody : Authority → ℕ → ℕ → Type 0
+HasBody a instance body = RowHas (slice_get a.rows instance) body

@@ -33,5 +33,9 @@ instance_lines atoms [] = []
 instance_lines atoms (r ∷ rs) =
     codes "authority of " ++ (r.name ++ (codes ": " ++ (set_text (named_atoms atoms (whole_set r.bodies)) ++ (codes "\n" ++ (body_lines atoms r.bodies ++ instance_lines atoms rs)))))
 
+-- the lines of one instance
+abbrev pub instance_text : List AtomName → InstanceRow → List ℕ
+instance_text atoms r = codes "authority of " ++ (r.name ++ (codes ": " ++ (set_text (named_atoms atoms (whole_set r.bodies)) ++ (codes "\n" ++ body_lines atoms r.bodies))))
+
 abbrev pub report_text : Authority → List ℕ
 report_text a = instance_lines a.atoms a.rows

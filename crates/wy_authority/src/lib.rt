@@ -2,4 +2,8 @@
 //! in `specs/`; the types here are those that they speak of.
 #![tactic(auto)]
 
+pub mod authority;
+pub mod report;
 pub mod rows;
+#[cfg(test)]
+mod tests;

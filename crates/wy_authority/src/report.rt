@@ -1,0 +1,103 @@
+ghost use Rattle.std.specs.Prelude.{◌≡◌, ◌++◌, [], map, IfOk, OnOk, slice_index_or};
+ghost use Rattle.wy_effects.specs.AtomTable.{atom_name};
+ghost use Rattle.wy_authority.specs.Authority.{whole_set};
+ghost use Rattle.wy_authority.specs.Report.{atom_text, atoms_after, body_lines, instance_text, named_atoms, report_text, set_text};
+
+use crate::rows::{Authority, BodyRow, InstanceRow};
+use std::alloc::Global;
+use wy_effects::atom::Atom;
+use wy_effects::set::EffSet;
+use wy_text::fault::AtomName;
+use wy_text::text::{Memory, Text, from_vec};
+
+/// The authority of all these bodies.
+fn whole_set(alloc: Global, bodies: &[BodyRow]) -> Result<EffSet, Memory>
+    ensures { IfOk result (λ s. s ≡ whole_set bodies.now) }
+{
+    let mut whole = EffSet::empty(alloc);
+    for i in (0..bodies.len()).rev() {
+        bodies[i].set.union_into(&mut whole)?;
+    }
+    Ok(whole)
+}
+
+fn push_atom(text: &mut Vec<u8>, atoms: &[AtomName], atom: Atom) -> Result<(), Memory>
+    ensures { OnOk result (text.new.items ≡ text.old.items ++ atom_text (slice_index_or atoms.now atom.0 (atom_name [] []))) }
+{
+    match atoms.get(atom.0 as usize) {
+        None => text.extend_from_slice(b".")?,
+        Some(name) => {
+            text.extend_from_slice(name.owner.as_bytes())?;
+            text.extend_from_slice(b".")?;
+            text.extend_from_slice(name.member.as_bytes())?;
+        }
+    }
+    Ok(())
+}
+
+/// Adds the atoms that stand behind another, each after a comma.
+fn push_others(text: &mut Vec<u8>, atoms: &[AtomName], others: &[Atom]) -> Result<(), Memory>
+    ensures { OnOk result (text.new.items ≡ text.old.items ++ atoms_after (named_atoms atoms.now (map (λ a. a.0) others.now))) }
+{
+    for atom in others {
+        text.extend_from_slice(b", ")?;
+        push_atom(text, atoms, *atom)?;
+    }
+    Ok(())
+}
+
+fn push_set(text: &mut Vec<u8>, atoms: &[AtomName], set: &EffSet) -> Result<(), Memory>
+    ensures { OnOk result (text.new.items ≡ text.old.items ++ set_text (named_atoms atoms.now set.now)) }
+{
+    let numbers = set.atoms()?;
+    match numbers.as_slice().split_first() {
+        None => text.extend_from_slice(b"-")?,
+        Some((first, others)) => {
+            push_atom(text, atoms, *first)?;
+            push_others(text, atoms, others)?;
+        }
+    }
+    Ok(())
+}
+
+fn push_bodies(text: &mut Vec<u8>, atoms: &[AtomName], bodies: &[BodyRow]) -> Result<(), Memory>
+    ensures { OnOk result (text.new.items ≡ text.old.items ++ body_lines atoms.now bodies.now) }
+{
+    for body in bodies {
+        text.extend_from_slice(b"  ")?;
+        text.extend_from_slice(body.name.as_bytes())?;
+        text.extend_from_slice(b": ")?;
+        push_set(text, atoms, &body.set)?;
+        text.extend_from_slice(b"\n")?;
+    }
+    Ok(())
+}
+
+fn push_instance(
+    alloc: Global,
+    text: &mut Vec<u8>,
+    atoms: &[AtomName],
+    row: &InstanceRow,
+) -> Result<(), Memory>
+    ensures { OnOk result (text.new.items ≡ text.old.items ++ instance_text atoms.now row.now) }
+{
+    text.extend_from_slice(b"authority of ")?;
+    text.extend_from_slice(row.name.as_bytes())?;
+    text.extend_from_slice(b": ")?;
+    let whole = whole_set(alloc, row.bodies.as_slice())?;
+    push_set(text, atoms, &whole)?;
+    text.extend_from_slice(b"\n")?;
+    push_bodies(text, atoms, row.bodies.as_slice())
+}
+
+/// The report of an authority: for each row a line with its authority, and a line for each of its bodies
+/// (docs/LANGUAGE.md, "Authority and report"). `Err` comes only where memory is wanting.
+pub fn report(alloc: Global, authority: &Authority) -> Result<Text, Memory>
+    ensures { IfOk result (λ t. t ≡ report_text authority.now) }
+{
+    let mut text = Vec::new(alloc);
+    for row in authority.rows.as_slice() {
+        push_instance(alloc, &mut text, authority.atoms.as_slice(), row)?;
+    }
+    Ok(from_vec(text))
+}
