@@ -1,1 +1,6 @@
+pub mod Bounds
 pub mod MemberSets
+pub mod Premises
+pub mod Ranges
+pub mod ScopeKinds
+pub mod Trying
