@@ -1,4 +1,5 @@
 pub mod Bounds
+pub mod LineNodes
 pub mod MemberSets
 pub mod Premises
 pub mod Ranges
