@@ -1,1 +1,8 @@
+pub mod Bounds
+pub mod LineNodes
+pub mod MemberSets
+pub mod Premises
 pub mod Programs
+pub mod Ranges
+pub mod ScopeKinds
+pub mod Trying

@@ -1,3 +1,5 @@
 pub mod Checking
 pub mod Lines
 pub mod Linking
+pub mod Sets
+pub mod Tried

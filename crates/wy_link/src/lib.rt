@@ -3,6 +3,8 @@
 #![tactic(auto)]
 
 pub mod checking;
+pub mod imports;
+pub mod instances;
 pub mod lines;
 pub mod linking;
 pub mod members;
