@@ -14,6 +14,7 @@ pub mod BodyVals
 pub mod BodyWalks
 pub mod Calling
 pub mod Carrying
+pub mod Checks
 pub mod Choosing
 pub mod Contexts
 pub mod Dropping
@@ -29,6 +30,7 @@ pub mod Moving
 pub mod Naming
 pub mod Operating
 pub mod PartVals
+pub mod Programs
 pub mod Putting
 pub mod ReadTypes
 pub mod Refitting
