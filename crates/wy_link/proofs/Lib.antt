@@ -1,1 +1,2 @@
 pub mod MemberSets
+pub mod Visits
