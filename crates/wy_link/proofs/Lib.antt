@@ -6,3 +6,4 @@ pub mod Programs
 pub mod Ranges
 pub mod ScopeKinds
 pub mod Trying
+pub mod Visits

@@ -1,10 +1,13 @@
 -- The start list of a program.
-use Rattle.std.specs.Prelude.{◌≡◌, ◌≤◌, length}
+use Rattle.std.specs.Prelude.{◌≡◌, ◌<◌, ◌≤◌, List, [], ◌∷◌, ◌++◌, length, Result, Ok, Err}
 use Rattle.wy_text.specs.declared.limit.LimitName.TheVariants.{Instances}
 use Rattle.wy_types.specs.Program.{Program}
-use Rattle.wy_types.specs.Ground.{start_list, program_sets}
+use Rattle.wy_types.specs.declared.linked.Instance.{Instance}
+use Rattle.wy_types.specs.declared.linked.Actual.TheVariants as actual
+use Rattle.wy_types.specs.Ground.{Visited, start_list, program_sets}
 use Rattle.wy_rules.specs.Ends.{StartsTooMany}
 use Rattle.wy_link.specs.declared.linking.Links.{Links}
+use Rattle.wy_link.specs.declared.linking.Settled.{Settled}
 use Rattle.wy_link.specs.declared.linking.LinkRefusal.{LinkRefusal}
 use Rattle.wy_link.specs.declared.linking.LinkRefusal.TheVariants.{Limit, Memory}
 
@@ -17,3 +20,17 @@ pub record IsLinked (p : Program) (l : Links) : Type 0 where
 abbrev pub IsLinkRefusal : Program → LinkRefusal → Type 0
 IsLinkRefusal p (Limit name) = (name ≡ Instances) × StartsTooMany p
 IsLinkRefusal p Memory = Unit {0}
+
+-- what visits have come to: the instances so far, and what is settled of the scope that is visited
+abbrev pub visited : List Instance → Settled → Visited
+visited started own = record { started = started; actuals = own.actuals; sets = own.sets }
+
+-- visits come to this, within the limit, or they are refused because of it
+abbrev pub ComesTo : Visited → List Instance → Settled → Result (Unit {0}) LinkRefusal → Type 0
+ComesTo v started own (Ok u) = (visited started own ≡ v) × (length started ≤ 1024)
+ComesTo v started own (Err (Limit name)) = (name ≡ Instances) × (1024 < length v.started)
+ComesTo v started own (Err Memory) = Unit {0}
+
+-- an instance that is added last, and the own name that stands for it
+abbrev pub with_instance : Visited → Instance → Visited
+with_instance v i = record { started = v.started ++ i ∷ []; actuals = v.actuals ++ actual.Instance (length v.started) ∷ []; sets = v.sets }

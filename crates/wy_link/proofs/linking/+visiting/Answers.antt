@@ -1,0 +1,70 @@
+use Rattle.std.proofs.Common.{◌≡◌, ◌-◌, Err, rules, sym, subst}
+use Rattle.std.specs.Prelude.{Result}
+use Rattle.wy_types.specs.Program.{program_of}
+use Rattle.wy_types.specs.Ground.{visit, visit_name}
+use Rattle.wy_link.specs.declared.linking.LinkRefusal.{LinkRefusal}
+use Rattle.wy_link.specs.Linking.{ComesTo, visited}
+use Rattle.wy_link.proofs.Visits.{name_refused, instance_comes, instance_refused, import_comes, import_refused}
+use Rattle.wy_link.proofs.linking.+visiting.Goals as goal
+
+pub visit-returns-in_err-visit_name : goal.visit-returns-in_err-visit_name
+visit-returns-in_err-visit_name t c =
+    let p = program_of c.args.core.now in
+    let whole = visit p c.args.scopes c.args.outer.now c.args.prefix.now c.args.outer.now (visited c.args.started.now c.args.own.now) in
+    let e : c.from_residual.result ≡ Err c.in_err-visit_name.field-0.0 = search rules in
+    let P : Result (Unit {0}) LinkRefusal → Type 0 = λ r. ComesTo whole c.visit_name.new.started c.visit_name.new.own r in
+    subst P (sym e)
+    (name_refused p (c.args.scopes - 1) c.args.outer.now c.args.prefix.now (visited c.loop-name.started c.loop-name.own) whole c.loop-name.name-index c.name-item.result c.loop-name-test.true c.name-item.is
+    c.visit_name.new.started c.visit_name.new.started c.visit_name.new.own c.visit_name.new.own c.in_err-visit_name.field-0.0 c.loop-name.invariant.0 c.in_err-visit_name.ensures)
+
+pub visit_name-returns-in_err-visit-in-Instance : goal.visit_name-returns-in_err-visit-in-Instance
+visit_name-returns-in_err-visit-in-Instance t c =
+    let p = program_of c.args.core.now in
+    let n = c.args.name.now in
+    let m = c.in-Instance.module in
+    let whole = visit_name p (visit p c.args.scopes) c.args.outer.now c.args.prefix.now n n.origin (visited c.args.started.now c.args.own.now) in
+    let refusal = c.in_err-visit-in-Instance.field-0.0 in
+    let e : c.from_residual-in_err-visit-in-Instance.result ≡ Err refusal = search rules in
+    let P : Result (Unit {0}) LinkRefusal → Type 0 = λ r. ComesTo whole c.visit.new.started c.args.own.now r in
+    subst P (sym e)
+    (instance_refused p c.args.scopes c.args.outer.now c.args.prefix.now n m c.in-Instance.arguments c.as_slice.result.now c.args.started.now c.args.own.now c.in_ok-inner-in-Instance.inner
+    c.names_of-names.result.now c.in_ok-inside-in-Instance.inside c.as_slice.ensures c.names_of-names.ensures c.in_ok-inside-in-Instance.ensures
+    (c.in_ok-inner-in-Instance.ensures.actuals) (c.in_ok-inner-in-Instance.ensures.sets)
+    c.visit.new.started c.visit.new.started c.visit.new.own c.args.own.now n.origin refusal c.in-Instance.is c.in_err-visit-in-Instance.ensures)
+
+pub visit_name-returns-in_ok-line-in-Instance : goal.visit_name-returns-in_ok-line-in-Instance
+visit_name-returns-in_ok-line-in-Instance t c =
+    let p = program_of c.args.core.now in
+    let n = c.args.name.now in
+    let m = c.in-Instance.module in
+    instance_comes p c.args.scopes c.args.outer.now c.args.prefix.now n m c.in-Instance.arguments c.as_slice.result.now c.args.started.now c.args.own.now c.in_ok-inner-in-Instance.inner
+    c.names_of-names.result.now c.in_ok-inside-in-Instance.inside c.as_slice.ensures c.names_of-names.ensures c.in_ok-inside-in-Instance.ensures
+    (c.in_ok-inner-in-Instance.ensures.actuals) (c.in_ok-inner-in-Instance.ensures.sets)
+    c.visit.new.started c.settle_line.new.started c.visit.new.own c.settle_line.new.own n.origin c.settle_line.result c.in_ok-line-in-Instance.line c.in_ok-line-in-Instance.ensures c.in-Instance.is
+    c.in_ok-visit-in-Instance.ensures.0 c.settle_line.ensures
+
+pub visit_name-returns-in_err-visit-in-Import : goal.visit_name-returns-in_err-visit-in-Import
+visit_name-returns-in_err-visit-in-Import t c =
+    let p = program_of c.args.core.now in
+    let n = c.args.name.now in
+    let m = c.in-Import.module in
+    let whole = visit_name p (visit p c.args.scopes) c.args.outer.now c.args.prefix.now n n.origin (visited c.args.started.now c.args.own.now) in
+    let refusal = c.in_err-visit-in-Import.field-0.0 in
+    let e : c.from_residual-in_err-visit-in-Import.result ≡ Err refusal = search rules in
+    let P : Result (Unit {0}) LinkRefusal → Type 0 = λ r. ComesTo whole c.visit-in-Import.new.started c.args.own.now r in
+    subst P (sym e)
+    (import_refused p c.args.scopes c.args.outer.now c.args.prefix.now n m c.in-Import.arguments c.as_slice-in-Import.result.now c.args.started.now c.args.own.now c.in_ok-inner-in-Import.inner
+    c.names_of-names-in-Import.result.now c.in_ok-inside-in-Import.inside c.as_slice-in-Import.ensures c.names_of-names-in-Import.ensures c.in_ok-inside-in-Import.ensures
+    (c.in_ok-inner-in-Import.ensures.actuals) (c.in_ok-inner-in-Import.ensures.sets)
+    c.visit-in-Import.new.started c.visit-in-Import.new.started c.visit-in-Import.new.own c.args.own.now n.origin c.in-Import.bound refusal c.in-Import.is c.in_err-visit-in-Import.ensures)
+
+pub visit_name-returns-in_ok-line-in-Import : goal.visit_name-returns-in_ok-line-in-Import
+visit_name-returns-in_ok-line-in-Import t c =
+    let p = program_of c.args.core.now in
+    let n = c.args.name.now in
+    let m = c.in-Import.module in
+    import_comes p c.args.scopes c.args.outer.now c.args.prefix.now n m c.in-Import.arguments c.as_slice-in-Import.result.now c.args.started.now c.args.own.now c.in_ok-inner-in-Import.inner
+    c.names_of-names-in-Import.result.now c.in_ok-inside-in-Import.inside c.as_slice-in-Import.ensures c.names_of-names-in-Import.ensures c.in_ok-inside-in-Import.ensures
+    (c.in_ok-inner-in-Import.ensures.actuals) (c.in_ok-inner-in-Import.ensures.sets)
+    c.visit-in-Import.new.started c.settle_import.new.started c.visit-in-Import.new.own c.settle_import.new.own n.origin c.in-Import.bound c.settle_import.result c.in_ok-line-in-Import.line c.in_ok-line-in-Import.ensures c.in-Import.is
+    c.in_ok-visit-in-Import.ensures.0 c.settle_import.ensures
