@@ -19,8 +19,8 @@ use wy_text::fault::{AtomName, Fault, Place, RuleName};
 use wy_text::text::Memory;
 use wy_types::resolved::{Field, Origin, OwnName, Scope, ScopeKind};
 
-/// The least atom of an effect that the declared one lacks.
-fn least_missing(effect: &EffSet, declared: &EffSet) -> Result<Option<Atom>, Memory>
+/// The least atom of an effect that another lacks.
+pub fn least_missing(effect: &EffSet, declared: &EffSet) -> Result<Option<Atom>, Memory>
     ensures none { IfOk result (λ o. IfNone o (Within effect.now declared.now)) }
     ensures some { IfOk result (λ o. IfSome o (λ a. IsLeastMissing a.0 effect.now declared.now)) }
 {
@@ -42,8 +42,8 @@ fn lack(mode: Mode, effect: &EffSet, declared: &EffSet) -> Result<Option<Atom>, 
     }
 }
 
-/// The name of an atom.
-fn atom_name(atoms: &AtomTable, atom: Atom) -> Result<Option<AtomName>, Memory>
+/// The name of an atom; none where the table has no such number.
+pub fn atom_name(atoms: &AtomTable, atom: Atom) -> Result<Option<AtomName>, Memory>
     ensures { IfOk result (λ o. o ≡ slice_get atoms.now atom.0) }
 {
     match atoms.name(atom) {

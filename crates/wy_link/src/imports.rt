@@ -1,11 +1,9 @@
 //! I-Import: whether the bound of an import is one for its arguments.
 
-ghost use Rattle.std.specs.Prelude.{◌≡◌, ◌↔◌, IfOk, IfSome, IfNone, true, length};
-ghost use Rattle.wy_effects.specs.Members.{Within};
+ghost use Rattle.std.specs.Prelude.{◌≡◌, ◌↔◌, IfOk, true, length};
 ghost use Rattle.wy_types.specs.Program.{program_of, scope_of};
 ghost use Rattle.wy_types.specs.Fitting.{FitsType};
 ghost use Rattle.wy_rules.specs.Acceptance.{handed_to, IsPlainArgument, NumbersAgree, PlainHolds};
-ghost use Rattle.wy_subtype.specs.Verdict.{IsLeastMissing};
 ghost use Rattle.wy_judge.specs.Tables.{IsScopeOf};
 ghost use Rattle.wy_link.specs.Tried.{handed_pair, OfEach, AreWritten, OrLacks, FirstLack, missing_atom, Bounded, Exceeds, Safe, Unsafe, BoundComesTo};
 
@@ -15,6 +13,7 @@ use wy_bounds::effects::effects;
 use wy_bounds::safety::{Safety, ho_safe};
 use wy_effects::atom::Atom;
 use wy_effects::set::EffSet;
+use wy_judge::faults::least_missing;
 use wy_judge::targets::is_below;
 use wy_subtype::verdict::Mode;
 use wy_text::text::Memory;
@@ -30,16 +29,6 @@ pub struct Misfit {
 
 // ----------------------------------------------------------------------------
 // Effects
-
-/// The least atom of a set that another lacks.
-fn least_missing(set: &EffSet, other: &EffSet) -> Result<Option<Atom>, Memory>
-    ensures none { IfOk result (λ o. IfNone o (Within set.now other.now)) }
-    ensures some { IfOk result (λ o. IfSome o (λ a. IsLeastMissing a.0 set.now other.now)) }
-{
-    set.is_set();
-    let atoms = set.without(other)?.atoms()?;
-    Ok(atoms.first().copied())
-}
 
 /// The least effect of an argument's type that is not in the bound.
 fn excess(

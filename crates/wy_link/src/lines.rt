@@ -15,6 +15,7 @@ use std::alloc::Global;
 use wy_effects::atom::{Atom, AtomTable};
 use wy_effects::set::EffSet;
 use wy_judge::combining::fault_at;
+use wy_judge::faults::atom_name;
 use wy_text::fault::{AtomName, Fault, Place, RuleName};
 use wy_text::text::Memory;
 use wy_types::resolved::{Core, Origin, OwnName, Scope, ScopeKind};
@@ -29,13 +30,7 @@ fn missing_name(atoms: &AtomTable, missing: Option<Atom>) -> Result<Option<AtomN
     let Some(atom) = missing else {
         return Ok(None);
     };
-    match atoms.name(atom) {
-        None => Ok(None),
-        Some(name) => Ok(Some(AtomName {
-            owner: name.owner.copy()?,
-            member: name.member.copy()?,
-        })),
-    }
+    atom_name(atoms, atom)
 }
 
 /// The fault of a bound.
