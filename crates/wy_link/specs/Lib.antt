@@ -1,3 +1,4 @@
 pub mod Lines
 pub mod Linking
 pub mod Sets
+pub mod Tried

@@ -2,6 +2,8 @@
 //! lines").
 #![tactic(auto)]
 
+pub mod imports;
+pub mod instances;
 pub mod lines;
 pub mod linking;
 pub mod members;

@@ -1,14 +1,175 @@
-ghost use Rattle.std.specs.Prelude.{IfOk};
-ghost use Rattle.wy_types.specs.Program.{program_of};
+//! Lines: the first fault of the uses, instances and imports of a program.
+
+ghost use Rattle.std.specs.Prelude.{◌≡◌, IfOk};
+ghost use Rattle.wy_types.specs.Program.{program_of, scope_of};
 ghost use Rattle.wy_types.specs.Core.{IsCore};
 ghost use Rattle.wy_rules.specs.Refusals.{plain_modules, scopes_of};
 ghost use Rattle.wy_rules.specs.Ends.{AllGoOn};
-ghost use Rattle.wy_link.specs.Lines.{LinesComeTo};
+ghost use Rattle.wy_judge.specs.Tables.{IsScopeOf};
+ghost use Rattle.wy_link.specs.Tried.{missing_atom};
+ghost use Rattle.wy_link.specs.Lines.{missing_name, bound_fault, UseTo, InstanceTo, ImportTo, NameComesTo, ScopeComesTo, LinesComeTo};
 
+use crate::imports::{Misfit, bound_misfit};
+use crate::instances::{disagreement, instance_premise, is_of_kind};
 use std::alloc::Global;
-use wy_text::fault::Fault;
+use wy_effects::atom::{Atom, AtomTable};
+use wy_effects::set::EffSet;
+use wy_judge::combining::fault_at;
+use wy_text::fault::{AtomName, Fault, Place, RuleName};
 use wy_text::text::Memory;
-use wy_types::resolved::Core;
+use wy_types::resolved::{Core, Origin, OwnName, Scope, ScopeKind};
+
+// ----------------------------------------------------------------------------
+// Faults
+
+/// The name of an atom that is missing.
+fn missing_name(atoms: &AtomTable, missing: Option<Atom>) -> Result<Option<AtomName>, Memory>
+    ensures { IfOk result (λ o. o ≡ missing_name atoms.now (missing_atom missing)) }
+{
+    let Some(atom) = missing else {
+        return Ok(None);
+    };
+    match atoms.name(atom) {
+        None => Ok(None),
+        Some(name) => Ok(Some(AtomName {
+            owner: name.owner.copy()?,
+            member: name.member.copy()?,
+        })),
+    }
+}
+
+/// The fault of a bound.
+fn bound_fault(place: Place, atoms: &AtomTable, misfit: Misfit) -> Result<Fault, Memory>
+    ensures { IfOk result (λ f. f ≡ bound_fault place atoms.now misfit) }
+{
+    Ok(Fault {
+        place,
+        rule: RuleName::IImport,
+        premise: misfit.premise,
+        atom: missing_name(atoms, misfit.missing)?,
+    })
+}
+
+// ----------------------------------------------------------------------------
+// Lines
+
+/// M-Use: whether the module is a pure one.
+fn use_fault(core: &Core, name: &OwnName, target: u16) -> Option<Fault>
+    ensures { UseTo (program_of core.now) name.now target result }
+{
+    if is_of_kind(core, ScopeKind::Pure, target) {
+        return None;
+    }
+    Some(fault_at(name.place, RuleName::MUse, 1))
+}
+
+/// M-Inst.
+fn instance_fault(
+    alloc: Global,
+    core: &Core,
+    number: u16,
+    scope: &Scope,
+    name: &OwnName,
+    target: u16,
+    arguments: &[u32],
+) -> Result<Option<Fault>, Memory>
+    requires context { IsScopeOf (program_of core.now) number (scope_of scope.now) }
+    ensures { IfOk result (λ o. InstanceTo (program_of core.now) number (scope_of scope.now) name.now target arguments.now o) }
+{
+    match instance_premise(alloc, core, number, scope, target, arguments)? {
+        None => Ok(None),
+        Some(premise) => Ok(Some(fault_at(name.place, RuleName::MInst, premise))),
+    }
+}
+
+/// M-Import, and then I-Import.
+fn import_fault(
+    alloc: Global,
+    core: &Core,
+    number: u16,
+    scope: &Scope,
+    name: &OwnName,
+    target: u16,
+    arguments: &[u32],
+    bound: &EffSet,
+) -> Result<Option<Fault>, Memory>
+    requires context { IsScopeOf (program_of core.now) number (scope_of scope.now) }
+    requires plain { AllGoOn (program_of core.now) (scopes_of plain_modules 0 (program_of core.now).scopes) }
+    ensures { IfOk result (λ o. ImportTo (program_of core.now) number (scope_of scope.now) name.now target arguments.now bound.now o) }
+{
+    if let Some(premise) = disagreement(core, ScopeKind::Plain, target, arguments) {
+        return Ok(Some(fault_at(name.place, RuleName::MImport, premise)));
+    }
+    match bound_misfit(alloc, core, number, scope, target, arguments, bound)? {
+        None => Ok(None),
+        Some(misfit) => Ok(Some(bound_fault(name.place, &scope.atoms, misfit)?)),
+    }
+}
+
+/// The first fault of one of a scope's own names; a parameter or a grant has none.
+fn name_fault(
+    alloc: Global,
+    core: &Core,
+    number: u16,
+    scope: &Scope,
+    name: &OwnName,
+) -> Result<Option<Fault>, Memory>
+    requires context { IsScopeOf (program_of core.now) number (scope_of scope.now) }
+    requires plain { AllGoOn (program_of core.now) (scopes_of plain_modules 0 (program_of core.now).scopes) }
+    ensures { IfOk result (λ o. NameComesTo (program_of core.now) number (scope_of scope.now) name.now o) }
+{
+    match &name.origin {
+        Origin::Parameter { .. } | Origin::Grant => Ok(None),
+        Origin::Use { module } => Ok(use_fault(core, name, *module)),
+        Origin::Instance { module, arguments } => instance_fault(
+            alloc,
+            core,
+            number,
+            scope,
+            name,
+            *module,
+            arguments.as_slice(),
+        ),
+        Origin::Import {
+            module,
+            arguments,
+            bound,
+        } => import_fault(
+            alloc,
+            core,
+            number,
+            scope,
+            name,
+            *module,
+            arguments.as_slice(),
+            bound,
+        ),
+    }
+}
+
+// ----------------------------------------------------------------------------
+// Scopes and programs
+
+/// The first fault of a scope's lines.
+fn scope_fault(
+    alloc: Global,
+    core: &Core,
+    number: u16,
+    scope: &Scope,
+) -> Result<Option<Fault>, Memory>
+    requires context { IsScopeOf (program_of core.now) number (scope_of scope.now) }
+    requires plain { AllGoOn (program_of core.now) (scopes_of plain_modules 0 (program_of core.now).scopes) }
+    ensures { IfOk result (λ o. ScopeComesTo (program_of core.now) number (scope_of scope.now) o) }
+{
+    let names = scope.names.as_slice();
+    for name in names {
+        let next = name_fault(alloc, core, number, scope, name)?;
+        if next.is_some() {
+            return Ok(next);
+        }
+    }
+    Ok(None)
+}
 
 /// The first fault of the lines of all modules in file order, and then of the program's, each where it stands: M-Use,
 /// M-Inst, and M-Import before I-Import. Each premise is tried for all arguments before the next one. `None` comes
@@ -19,6 +180,12 @@ pub fn judge_lines(alloc: Global, core: &Core) -> Result<Option<Fault>, Memory>
     requires plain { AllGoOn (program_of core.now) (scopes_of plain_modules 0 (program_of core.now).scopes) }
     ensures { IfOk result (λ o. LinesComeTo (program_of core.now) o) }
 {
-    let _ = (alloc, core);
-    Err(Memory)
+    let scopes = core.scopes.as_slice();
+    for number in 0..scopes.len() {
+        let next = scope_fault(alloc, core, number as u16, &scopes[number])?;
+        if next.is_some() {
+            return Ok(next);
+        }
+    }
+    Ok(None)
 }

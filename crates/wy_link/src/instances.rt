@@ -1,0 +1,178 @@
+//! M-Inst: an instance of a resource module, with own names of the scope where the line stands as its arguments.
+
+ghost use Rattle.std.specs.Prelude.{◌≡◌, ◌↔◌, IfOk, true, length};
+ghost use Rattle.wy_effects.specs.EffSet.{AreSets};
+ghost use Rattle.wy_types.specs.Program.{program_of, scope_of};
+ghost use Rattle.wy_types.specs.Fitting.{FitsType};
+ghost use Rattle.wy_rules.specs.Acceptance.{handed_to, IsOfKind, IsArgument};
+ghost use Rattle.wy_judge.specs.Tables.{IsScopeOf};
+ghost use Rattle.wy_link.specs.Tried.{handed_pair, OfEach, AreWritten, HasAll, HasOpened, OrFails, Agrees, Disagrees, InstanceComesTo};
+
+use crate::members::{argument_type, arguments_sets, member_set, names_of, opened, parameters_of};
+use std::alloc::Global;
+use wy_effects::set::EffSet;
+use wy_judge::targets::is_below;
+use wy_subtype::verdict::Mode;
+use wy_text::text::{Memory, Text};
+use wy_types::reading::substitute;
+use wy_types::resolved::{Core, OwnName, Scope, ScopeKind};
+use wy_types::types::TypeRef;
+
+// ----------------------------------------------------------------------------
+// The module
+
+/// Whether the scope of a number is of a kind.
+pub fn is_of_kind(core: &Core, kind: ScopeKind, target: u16) -> bool
+    ensures { (result ≡ true) ↔ IsOfKind (program_of core.now) kind target }
+{
+    match core.scopes.get(target as usize) {
+        Some(scope) => scope.kind == kind,
+        None => false,
+    }
+}
+
+/// The first premise that is false of the two that M-Inst and M-Import have in common: the module's kind, and that there
+/// are as many arguments as it has parameters.
+pub fn disagreement(core: &Core, kind: ScopeKind, target: u16, arguments: &[u32]) -> Option<u8>
+    ensures { OrFails (Agrees (program_of core.now) kind target arguments.now) (Disagrees (program_of core.now) kind target arguments.now) result }
+{
+    if !is_of_kind(core, kind, target) {
+        return Some(1);
+    }
+    if arguments.len() != parameters_of(core, target).len() {
+        return Some(2);
+    }
+    None
+}
+
+// ----------------------------------------------------------------------------
+// Members
+
+/// Whether a type has the members of these names.
+fn has_all(core: &Core, typ: &TypeRef, members: &[Text]) -> Result<bool, Memory>
+    ensures { IfOk result (λ b. (b ≡ true) ↔ HasAll (program_of core.now) typ.now members.now) }
+{
+    for member in members {
+        if member_set(core, typ, member)?.is_none() {
+            return Ok(false);
+        }
+    }
+    Ok(true)
+}
+
+/// Whether the argument's type has the members that the parameter opens.
+fn has_opened(
+    alloc: Global,
+    core: &Core,
+    outer: &[OwnName],
+    parameter: &OwnName,
+    argument: u32,
+) -> Result<bool, Memory>
+    ensures { IfOk result (λ b. (b ≡ true) ↔ HasOpened (program_of core.now) outer.now (handed_pair parameter.now argument)) }
+{
+    let typ = argument_type(alloc, outer, argument)?;
+    has_all(core, &typ, opened(core, parameter))
+}
+
+/// Whether each argument's type has the members that its parameter opens.
+fn all_have_opened(
+    alloc: Global,
+    core: &Core,
+    outer: &[OwnName],
+    parameters: &[OwnName],
+    arguments: &[u32],
+) -> Result<bool, Memory>
+    requires numbers { length arguments.now ≡ length parameters.now }
+    ensures { IfOk result (λ b. (b ≡ true) ↔ OfEach (HasOpened (program_of core.now) outer.now) (handed_to parameters.now arguments.now)) }
+{
+    for (i, parameter) in parameters.iter().enumerate() {
+        if !has_opened(alloc, core, outer, parameter, arguments[i])? {
+            return Ok(false);
+        }
+    }
+    Ok(true)
+}
+
+// ----------------------------------------------------------------------------
+// Types
+
+/// Whether the argument's type is a subtype of the parameter's, with the sets put in.
+fn is_argument(
+    alloc: Global,
+    core: &Core,
+    number: u16,
+    scope: &Scope,
+    sets: &[EffSet],
+    parameter: &OwnName,
+    argument: u32,
+) -> Result<bool, Memory>
+    requires context { IsScopeOf (program_of core.now) number (scope_of scope.now) }
+    requires written { FitsType (program_of core.now) 512 0 parameter.now.typ }
+    requires sets { AreSets 512 sets.now }
+    ensures { IfOk result (λ b. (b ≡ true) ↔ IsArgument (program_of core.now) number scope.now.names sets.now (handed_pair parameter.now argument)) }
+{
+    let typ = argument_type(alloc, scope.names.as_slice(), argument)?;
+    let expected = substitute(alloc, &parameter.typ, sets)?;
+    is_below(alloc, core, number, Mode::Annotated, &typ, &expected)
+}
+
+/// Whether each argument's type is a subtype of its parameter's, with the sets put in.
+fn all_are_arguments(
+    alloc: Global,
+    core: &Core,
+    number: u16,
+    scope: &Scope,
+    sets: &[EffSet],
+    parameters: &[OwnName],
+    arguments: &[u32],
+) -> Result<bool, Memory>
+    requires context { IsScopeOf (program_of core.now) number (scope_of scope.now) }
+    requires written { AreWritten (program_of core.now) parameters.now }
+    requires sets { AreSets 512 sets.now }
+    requires numbers { length arguments.now ≡ length parameters.now }
+    ensures { IfOk result (λ b. (b ≡ true) ↔ OfEach (IsArgument (program_of core.now) number scope.now.names sets.now) (handed_to parameters.now arguments.now)) }
+{
+    for (i, parameter) in parameters.iter().enumerate() {
+        if !is_argument(alloc, core, number, scope, sets, parameter, arguments[i])? {
+            return Ok(false);
+        }
+    }
+    Ok(true)
+}
+
+/// The first premise of M-Inst that is false; each is tried for all arguments before the next one.
+pub fn instance_premise(
+    alloc: Global,
+    core: &Core,
+    number: u16,
+    scope: &Scope,
+    target: u16,
+    arguments: &[u32],
+) -> Result<Option<u8>, Memory>
+    requires context { IsScopeOf (program_of core.now) number (scope_of scope.now) }
+    ensures { IfOk result (λ o. InstanceComesTo (program_of core.now) number scope.now.names target arguments.now o) }
+{
+    let start = disagreement(core, ScopeKind::Resource, target, arguments);
+    if start.is_some() {
+        return Ok(start);
+    }
+    let outer = scope.names.as_slice();
+    let parameters = parameters_of(core, target);
+    if !all_have_opened(alloc, core, outer, parameters, arguments)? {
+        return Ok(Some(3));
+    }
+    let sets = arguments_sets(alloc, core, outer, names_of(core, target), arguments)?;
+    let below = all_are_arguments(
+        alloc,
+        core,
+        number,
+        scope,
+        sets.as_slice(),
+        parameters,
+        arguments,
+    )?;
+    if !below {
+        return Ok(Some(4));
+    }
+    Ok(None)
+}
