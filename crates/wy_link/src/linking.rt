@@ -7,8 +7,7 @@ ghost use Rattle.wy_effects.specs.EffSet.{replace};
 ghost use Rattle.wy_types.specs.declared.linked.Actual.TheVariants as actual;
 ghost use Rattle.wy_types.specs.Program.{program_of};
 ghost use Rattle.wy_types.specs.Core.{IsCore};
-ghost use Rattle.wy_types.specs.Ground as ground;
-ghost use Rattle.wy_types.specs.Ground.{visit, visit_name, used, lined, number_from, single_sets, defined_sets, definitions_of, instance_of, program_number, uses_among, ground_sets};
+ghost use Rattle.wy_types.specs.Ground.{arguments_sets, members_of, names_of, visit, visit_name, used, lined, number_from, single_sets, defined_sets, definitions_of, instance_of, program_number, uses_among, ground_sets};
 ghost use Rattle.wy_link.specs.Linking.{IsLinked, IsLinkRefusal, ComesTo, visited, with_instance};
 
 use crate::members::{arguments_sets, members_of, names_of};
@@ -80,7 +79,7 @@ fn add_single_sets(alloc: Global, sets: &mut SetList, members: &[Text]) -> Resul
 /// Settles a grant: it stands for itself, and each of its atoms too.
 fn settle_grant(alloc: Global, core: &Core, name: &OwnName, own: &mut Settled) -> Result<(), Memory>
     ensures actuals { OnOk result (own.new.actuals ≡ own.old.actuals ++ actual.Grant (length own.old.actuals) ∷ []) }
-    ensures sets { OnOk result (own.new.sets ≡ own.old.sets ++ single_sets (length own.old.sets) (ground.members_of (program_of core.now) name.now.typ)) }
+    ensures sets { OnOk result (own.new.sets ≡ own.old.sets ++ single_sets (length own.old.sets) (members_of (program_of core.now) name.now.typ)) }
 {
     // a program has at most 64 grants, which stand first: only a core that no text gives has this one so late
     let Ok(number) = u16::try_from(own.actuals.len()) else {
@@ -142,7 +141,7 @@ fn handed(
     arguments: &[u32],
 ) -> Result<Settled, Memory>
     ensures actuals { IfOk result (λ s. s.actuals ≡ map (λ a. slice_index_or own.now.actuals a (actual.Grant 0)) arguments.now) }
-    ensures sets { IfOk result (λ s. s.sets ≡ map (replace own.now.sets) (ground.arguments_sets (program_of core.now) outer.now (ground.names_of (slice_get (program_of core.now).scopes scope)) arguments.now)) }
+    ensures sets { IfOk result (λ s. s.sets ≡ map (replace own.now.sets) (arguments_sets (program_of core.now) outer.now (names_of (slice_get (program_of core.now).scopes scope)) arguments.now)) }
 {
     let opened = arguments_sets(alloc, core, outer, names_of(core, scope), arguments)?;
     Ok(Settled {
@@ -381,7 +380,7 @@ fn visit_uses(
 
 /// The program's own names; none where there is no scope.
 fn program_names(core: &Core) -> &[OwnName]
-    ensures { result.now ≡ ground.names_of (slice_get (program_of core.now).scopes (program_number (program_of core.now))) }
+    ensures { result.now ≡ names_of (slice_get (program_of core.now).scopes (program_number (program_of core.now))) }
 {
     match core.scopes.get(core.scopes.len().saturating_sub(1)) {
         Some(scope) => scope.names.as_slice(),
