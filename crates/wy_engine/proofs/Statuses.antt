@@ -27,6 +27,9 @@ crowds_none : (asked : Command) (texts : List (List ℕ)) → Stops asked texts 
 crowds_none command.Check texts (inl none) = never (status.Limit limit.Files) (λ file bytes h. h) 1 texts none
 crowds_none command.Check texts (inr (inl stop)) = uncrowded texts stop
 crowds_none command.Check texts (inr (inr stop)) = let e : limit.Files ≡ limit.ReachedTypes = stop.0 in cc
+crowds_none command.Authority texts (inl none) = never (status.Limit limit.Files) (λ file bytes h. h) 1 texts none
+crowds_none command.Authority texts (inr (inl stop)) = uncrowded texts stop
+crowds_none command.Authority texts (inr (inr stop)) = let e : limit.Files ≡ limit.ReachedTypes = stop.0 in cc
 crowds_none command.Run texts (inl none) = never (status.Limit limit.Files) (λ file bytes h. h) 1 texts none
 crowds_none command.Run texts (inr stop) = uncrowded texts stop
 crowds_none command.Format texts none = never (status.Limit limit.Files) (λ file bytes h. h) 1 texts none
