@@ -20,12 +20,6 @@ use Rattle.wy_engine.specs.declared.status.Status.TheVariants as status
 use Rattle.wy_engine.proofs.NamesJudged.{uncrowded}
 use Rattle.wy_engine.proofs.OneAnswer.{never}
 
--- a status that comes once the files were read
-pub record IsPastReading (end : Status) : Type 0 where
-  pub usage : end ≢ status.Usage
-  pub unread : (file : ℕ) → end ≢ status.Unread file
-  pub crowd : end ≢ status.Limit limit.Files
-
 -- ---- the limit on files is not one of judging programs
 
 first_files : (program : core.Program) (ns : List Numbered) → FirstEnd program ns (limited limit.Files) → ⊥
@@ -47,6 +41,14 @@ ends_uncrowded program (inr rest) =
         | inr last ↦ elim last.1 [ inl line ↦ line | inr body ↦ body.1 ]
       ]
     ]
+
+-- ---- when a status comes
+
+-- a status that comes once the files were read
+pub record IsPastReading (end : Status) : Type 0 where
+  pub usage : end ≢ status.Usage
+  pub unread : (file : ℕ) → end ≢ status.Unread file
+  pub crowd : end ≢ status.Limit limit.Files
 
 crowds_none : (asked : Command) (texts : List (List ℕ)) → Stops asked texts (status.Limit limit.Files) → ⊥
 crowds_none command.Check texts (inl none) = never (status.Limit limit.Files) (λ file bytes h. h) 1 texts none

@@ -1,4 +1,4 @@
-use Rattle.std.proofs.Common.{refl, ◌≡◌}
+use Rattle.std.proofs.Common.{refl}
 use Rattle.wy_text.proofs.Gains.{wrote_nothing}
 use Rattle.wy_types.specs.Program.{program_of}
 use Rattle.wy_engine.specs.Answering.{accepted, fails, starved}
