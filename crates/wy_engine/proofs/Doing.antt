@@ -1,5 +1,5 @@
 -- What was done with texts, by what was done with their trees.
-use Rattle.std.proofs.Common.{◌≡◌, ◌≢◌, ◌⊎◌, inl, inr, ℕ, suc, List, [], ◌∷◌, Some, None, false, refl, sym, ◌∙◌, ap, subst, length}
+use Rattle.std.proofs.Common.{◌≡◌, ◌≢◌, ◌⊎◌, inl, inr, ℕ, suc, List, [], ◌∷◌, Some, None, refl, sym, ◌∙◌, ap, subst, length}
 use Rattle.wy_text.specs.Outside.{SinkState}
 use Rattle.wy_device.specs.Devices.{DevicesState}
 use Rattle.wy_syntax.specs.Canonical.{canonical_form}
@@ -7,12 +7,13 @@ use Rattle.wy_syntax.specs.Trees.{ItemTree}
 use Rattle.wy_types.specs.Program as core
 use Rattle.wy_names.specs.Declarations.{all_items}
 use Rattle.wy_names.specs.Names.{Resolves}
+use Rattle.wy_rules.specs.Ends as ends
 use Rattle.wy_judge.specs.Checking as checking
 use Rattle.wy_judge.specs.declared.checking.CheckRefusal.{CheckRefusal}
 use Rattle.wy_judge.specs.declared.checking.CheckRefusal.TheVariants as refusal
-use Rattle.wy_engine.specs.Answering.{Answered, ChecksTrees, RunsForm, RunsTrees, Wrote, accepted, alone, check_status, checked, declined, formatted, formless, nameless, not_accepted, ran, ran_tree, refused, resolved, several, stopped, unresolved}
+use Rattle.wy_engine.specs.Answering.{Answered, ChecksTrees, FailsCheck, RunsForm, RunsTrees, Wrote, accepted, alone, check_status, checked, declined, fails, formatted, formless, nameless, not_accepted, ran, ran_tree, refused, reported, resolved, several, stopped, unresolved}
 use Rattle.wy_engine.specs.FileTrees.{FirstNoTree, HaveTrees}
-use Rattle.wy_engine.specs.Judgement.{IsUnbuilt, ReadsAs, Stops, fault_of}
+use Rattle.wy_engine.specs.Judgement.{IsUnbuilt, PassesCheck, ReadsAs, Stops, accepted_text, authority_text, fault_of}
 use Rattle.wy_engine.specs.LiteralForm.{program_of}
 use Rattle.wy_engine.specs.NameFaults.{NamesResolve, ResolveTo}
 use Rattle.wy_engine.specs.declared.literal_form.Program.{Program}
@@ -21,7 +22,7 @@ use Rattle.wy_engine.specs.declared.settings.Command.TheVariants as command
 use Rattle.wy_engine.specs.declared.status.Status.{Status}
 use Rattle.wy_engine.specs.declared.status.Status.TheVariants as status
 use Rattle.wy_engine.proofs.NamesJudged.{JudgesNames, names_stop}
-use Rattle.wy_engine.proofs.OneAnswer.{stops_treeless}
+use Rattle.wy_engine.proofs.OneAnswer.{JudgesPrograms, names_too, stops_ended, stops_treeless}
 use Rattle.wy_engine.proofs.OneTree.{same_trees}
 
 stops_unless : (asked : Command) (texts : List (List ℕ)) (end : Status) → (end ≢ status.Memory → FirstNoTree 1 texts end) → (end ≡ status.Memory) ⊎ Stops asked texts end
@@ -97,24 +98,37 @@ did_run asked texts trees out report report' devices devices' end run have (reso
 resolve_to : (texts : List (List ℕ)) (trees : List (List ItemTree)) (program : core.Program) → HaveTrees 1 texts trees → Resolves (all_items trees) program → ResolveTo texts program
 resolve_to texts trees program have resolves = record { trees = trees; have = have; resolves = resolves }
 
--- what refuses a program stops a check, but for want of memory
-refused_check : (texts : List (List ℕ)) (program : core.Program) (why : CheckRefusal) → ResolveTo texts program → checking.IsRefusalOf program why
-    → (check_status why ≡ status.Memory) ⊎ Stops command.Check texts (check_status why)
-refused_check texts program (refusal.Fails fault) is ends = inr (inr (record { program = program; read = is; ends = ends }))
-refused_check texts program (refusal.Limit name) is ends = inr (inr (inr (record { program = program; read = is; ends = ends })))
-refused_check texts program refusal.Memory is ends = inl refl
+-- what refuses a program stops a command that judges it, but for want of memory
+refused_program : (asked : Command) (texts : List (List ℕ)) (program : core.Program) (why : CheckRefusal) → JudgesPrograms asked → ResolveTo texts program → checking.IsRefusalOf program why
+    → (check_status why ≡ status.Memory) ⊎ Stops asked texts (check_status why)
+refused_program asked texts program (refusal.Fails fault) judges is of = inr (stops_ended asked texts (ends.refused fault) judges (record { program = program; read = is; ends = of }))
+refused_program asked texts program (refusal.Limit name) judges is of = inr (stops_ended asked texts (ends.limited name) judges (record { program = program; read = is; ends = of }))
+refused_program asked texts program refusal.Memory judges is of = inl refl
 
-stops_check : (asked : Command) (texts : List (List ℕ)) (end other : Status) → asked ≡ command.Check → end ≡ other → (other ≡ status.Memory) ⊎ Stops command.Check texts other → (end ≡ status.Memory) ⊎ Stops asked texts end
-stops_check asked texts end other check is (inl starved) = inl (is ∙ starved)
-stops_check asked texts end other check is (inr stops) = inr (stops_as asked command.Check texts end other check is stops)
+failed_check : (asked : Command) (texts : List (List ℕ)) (trees : List (List ItemTree)) (end : Status) → JudgesPrograms asked → HaveTrees 1 texts trees → FailsCheck trees end
+    → (end ≡ status.Memory) ⊎ Stops asked texts end
+failed_check asked texts trees end judges have (nameless why names is) = names_stop asked texts trees why end (names_too asked judges) have names is
+failed_check asked texts trees end judges have (not_accepted program resolves why of is) =
+    subst (λ (s : Status). (s ≡ status.Memory) ⊎ Stops asked texts s) (sym is) (refused_program asked texts program why judges (resolve_to texts trees program have resolves) of)
+
+programs_as : (asked named : Command) → asked ≡ named → JudgesPrograms named → JudgesPrograms asked
+programs_as asked named same judges = subst (λ (c : Command). JudgesPrograms c) (sym same) judges
+
+passes_check : (texts : List (List ℕ)) (trees : List (List ItemTree)) (program : core.Program) → HaveTrees 1 texts trees → Resolves (all_items trees) program → checking.IsAccepted program
+    → PassesCheck texts program
+passes_check texts trees program have resolves passes = record { read = resolve_to texts trees program have resolves; accepted = passes }
 
 pub did_check : (asked : Command) (texts : List (List ℕ)) (trees : List (List ItemTree)) (out out' report : SinkState) (devices : DevicesState) (end : Status)
-    → asked ≡ command.Check → HaveTrees 1 texts trees → ChecksTrees trees out out' end → Answered asked texts out out' report report devices devices end
-did_check asked texts trees out out' report devices end check have (nameless why names o is) = declined (names_stop asked texts trees why end (judges_as asked command.Check check tt) have names is) o refl refl
-did_check asked texts trees out out' report devices end check have (not_accepted program resolves why ends o is) =
-    declined (stops_check asked texts end (check_status why) check is (refused_check texts program why (resolve_to texts trees program have resolves) ends)) o refl refl
+    → asked ≡ command.Check → HaveTrees 1 texts trees → ChecksTrees (λ (program : core.Program). accepted_text) trees out out' end → Answered asked texts out out' report report devices devices end
+did_check asked texts trees out out' report devices end check have (fails why o) = declined (failed_check asked texts trees end (programs_as asked command.Check check tt) have why) o refl refl
 did_check asked texts trees out out' report devices end check have (accepted program resolves passes wrote) =
-    checked check (record { program = program; read = resolve_to texts trees program have resolves; accepted = passes }) wrote refl refl
+    checked program check (passes_check texts trees program have resolves passes) wrote refl refl
+
+pub did_report : (asked : Command) (texts : List (List ℕ)) (trees : List (List ItemTree)) (out out' report : SinkState) (devices : DevicesState) (end : Status)
+    → asked ≡ command.Authority → HaveTrees 1 texts trees → ChecksTrees authority_text trees out out' end → Answered asked texts out out' report report devices devices end
+did_report asked texts trees out out' report devices end asks have (fails why o) = declined (failed_check asked texts trees end (programs_as asked command.Authority asks tt) have why) o refl refl
+did_report asked texts trees out out' report devices end asks have (accepted program resolves passes wrote) =
+    reported program asks (passes_check texts trees program have resolves passes) wrote refl refl
 
 pub did_format : (asked : Command) (texts : List (List ℕ)) (trees : List (List ItemTree)) (tree : List ItemTree) (out out' report : SinkState) (devices : DevicesState) (end : Status)
     → asked ≡ command.Format → HaveTrees 1 texts trees → trees ≡ tree ∷ [] → Wrote (canonical_form tree) out out' end → Answered asked texts out out' report report devices devices end

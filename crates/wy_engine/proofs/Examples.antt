@@ -94,6 +94,12 @@ check_words = refl
 two_checked : settings_of (codes "check" ∷ codes "a.wy" ∷ codes "b.wy" ∷ []) ≡ Some (record { command = command.Check; files = codes "a.wy" ∷ codes "b.wy" ∷ [] })
 two_checked = refl
 
+authority_words : settings_of (codes "authority" ∷ codes "a.wy" ∷ codes "b.wy" ∷ []) ≡ Some (record { command = command.Authority; files = codes "a.wy" ∷ codes "b.wy" ∷ [] })
+authority_words = refl
+
+none_reported : settings_of (codes "authority" ∷ []) ≡ None
+none_reported = refl
+
 none_checked : settings_of (codes "check" ∷ []) ≡ None
 none_checked = refl
 

@@ -114,6 +114,7 @@ core_of_cut texts program read = record { trees = read.trees; have = trees_of_cu
 
 late_of_cut : (asked : Command) (texts : List (List ℕ)) (end : Status) → Late asked (map cut texts) end → Late asked texts end
 late_of_cut command.Check texts end (not_accepted why is named) = not_accepted why (record { program = is.program; read = core_of_cut texts is.program is.read; ends = is.ends }) named
+late_of_cut command.Authority texts end (not_accepted why is named) = not_accepted why (record { program = is.program; read = core_of_cut texts is.program is.read; ends = is.ends }) named
 late_of_cut command.Run texts end (refusal fault is named) = refusal fault (record { program = is.program; read = reads_of_cut texts is.program is.read; lacks = is.lacks; named = is.named }) named
 late_of_cut command.Run texts end (unbuilt is named) = unbuilt (record { trees = is.trees; have = trees_of_cut 1 texts is.trees is.have; names = is.names; formless = λ program reads. is.formless program (reads_cut texts program reads) }) named
 late_of_cut command.Format texts end stop = absurd stop
@@ -126,8 +127,8 @@ stop_of_cut asked texts end (late stop) = late (late_of_cut asked texts end stop
 pub stops_of_cut : (asked : Command) (texts : List (List ℕ)) (end : Status) → Stops asked (map cut texts) end → Stops asked texts end
 stops_of_cut asked texts end stops = stops_of asked texts end (stop_of_cut asked texts end (stops_by asked (map cut texts) end stops))
 
-pub passes_of_cut : (texts : List (List ℕ)) → PassesCheck (map cut texts) → PassesCheck texts
-passes_of_cut texts is = record { program = is.program; read = core_of_cut texts is.program is.read; accepted = is.accepted }
+pub passes_of_cut : (texts : List (List ℕ)) (program : core.Program) → PassesCheck (map cut texts) program → PassesCheck texts program
+passes_of_cut texts program is = record { read = core_of_cut texts program is.read; accepted = is.accepted }
 
 pub accepted_of_cut : (texts : List (List ℕ)) (program : Program) → IsAccepted (map cut texts) program → IsAccepted texts program
 accepted_of_cut texts program is = record { read = reads_of_cut texts program is.read; allowed = is.allowed }

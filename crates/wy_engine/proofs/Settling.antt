@@ -5,12 +5,13 @@ use Rattle.wy_text.specs.Outside.{gained}
 use Rattle.wy_text.specs.declared.limit.LimitName.TheVariants as limit
 use Rattle.wy_syntax.specs.Canonical.{canonical_form}
 use Rattle.wy_syntax.specs.Trees.{ItemTree}
+use Rattle.wy_types.specs.Program as core
 use Rattle.wy_well_formed.specs.WellFormed.{ResolvedIsCore}
 use Rattle.wy_engine.specs.Answering.{Answered}
 use Rattle.wy_engine.specs.Answering as answering
 use Rattle.wy_engine.specs.FileTrees.{HaveTrees}
 use Rattle.wy_engine.specs.Headline.{HasCommand, Runs, Settles, Writes}
-use Rattle.wy_engine.specs.Judgement.{IsAccepted, PassesCheck, accepted_text, checked, formatted, nothing, ran}
+use Rattle.wy_engine.specs.Judgement.{IsAccepted, PassesCheck, accepted_text, authority_text, checked, formatted, nothing, ran, reported}
 use Rattle.wy_engine.specs.Reading.{ReadsWell, StopsAfter, StopsAt}
 use Rattle.wy_engine.specs.Settings.{Settings}
 use Rattle.wy_engine.specs.Status.{IsOfOut, IsOfRun, IsOfTexts}
@@ -25,7 +26,7 @@ use Rattle.wy_engine.proofs.Givens.{accepted_of_cut, passes_of_cut, tree_of_cuts
 use Rattle.wy_engine.proofs.OutWritten.{writes_by}
 use Rattle.wy_engine.proofs.RunsMade.{ran_counted, runs_by}
 use Rattle.wy_engine.proofs.Statuses.{idle_declined, out_past, out_run, out_wrote, past_declined, run_past, run_ran}
-use Rattle.wy_engine.proofs.TextsAnswered.{accepts_none, accepts_some, asks_check, asks_format, asks_run}
+use Rattle.wy_engine.proofs.TextsAnswered.{accepts_none, accepts_some, asks_check, asks_format, asks_report, asks_run}
 
 -- a file was not read
 pub settles_unread : (call : TopCall) (settings : Settings) (file : ℕ) → IsSet call settings → length settings.files ≤ most_files → StopsAt settings.files file call.shelf call.shelf_after
@@ -45,6 +46,7 @@ settles_unread call settings file set few stops out report devices is = record {
   idle = λ _ full run. subst IsOfRun is run;
   runs = λ program none. absurd (cc);
   checks = λ none. absurd (cc);
+  reports = λ program none. absurd (cc);
   formats = λ tree none. absurd (cc);
   counted = rw report (omega arith);
 }
@@ -72,6 +74,7 @@ settles_starved call settings set few stops out report devices is = record {
   idle = λ _ full run. full is;
   runs = λ program none. absurd (cc);
   checks = λ none. absurd (cc);
+  reports = λ program none. absurd (cc);
   formats = λ tree none. absurd (cc);
   counted = rw report (omega arith);
 }
@@ -91,20 +94,38 @@ settles_answered law call settings read set few so (answering.declined why out r
   idle = λ _. idle_declined settings.command read call.status why;
   runs = λ program none. absurd (cc);
   checks = λ none. absurd (cc);
+  reports = λ program none. absurd (cc);
   formats = λ tree none. absurd (cc);
   counted = rw report (omega arith);
 }
-settles_answered law call settings read set few so (answering.checked check passes wrote report devices) =
+settles_answered law call settings read set few so (answering.checked program check passes wrote report devices) =
     let reached : IsOfOut call.status = out_wrote accepted_text call.out call.out_after call.status wrote in
     record {
       reads = reads_all call settings read set few so (out_past call.status reached);
       did = checked;
       accepts = λ other texts given none. accepts_some law call settings read checked set so
-          (λ told cuts. asks_check settings.command told check (passes_of_cut told (subst (λ (ts : List (List ℕ)). PassesCheck ts) cuts passes))) (out_run call.status reached) other texts given;
+          (λ told cuts. asks_check settings.command told program check (passes_of_cut told program (subst (λ (ts : List (List ℕ)). PassesCheck ts program) cuts passes))) (out_run call.status reached) other texts given;
       quiet = λ none. absurd (cc);
       idle = λ none. absurd (cc);
       runs = λ program none. absurd (cc);
       checks = λ _. writes_by call command.Check accepted_text (has_command call settings command.Check set check) report devices wrote;
+      reports = λ program none. absurd (cc);
+      formats = λ tree none. absurd (cc);
+      counted = rw report (omega arith);
+    }
+settles_answered law call settings read set few so (answering.reported program asks passes wrote report devices) =
+    let reached : IsOfOut call.status = out_wrote (authority_text program) call.out call.out_after call.status wrote in
+    record {
+      reads = reads_all call settings read set few so (out_past call.status reached);
+      did = reported program;
+      accepts = λ other texts given none. accepts_some law call settings read (reported program) set so
+          (λ told cuts. asks_report settings.command told program asks (passes_of_cut told program (subst (λ (ts : List (List ℕ)). PassesCheck ts program) cuts passes))) (out_run call.status reached) other texts given;
+      quiet = λ none. absurd (cc);
+      idle = λ none. absurd (cc);
+      runs = λ program none. absurd (cc);
+      checks = λ none. absurd (cc);
+      reports = λ other same. let e : program ≡ other = cc in subst (λ (p : core.Program). Writes call command.Authority (authority_text p)) e
+          (writes_by call command.Authority (authority_text program) (has_command call settings command.Authority set asks) report devices wrote);
       formats = λ tree none. absurd (cc);
       counted = rw report (omega arith);
     }
@@ -119,6 +140,7 @@ settles_answered law call settings read set few so (answering.ran program run is
       idle = λ none. absurd (cc);
       runs = λ other same. let e : program ≡ other = cc in subst (λ (p : Program). Runs call p) e (runs_by call program (has_command call settings command.Run set run) out (some_of_form is.read.tree program is.read.form) ended);
       checks = λ none. absurd (cc);
+      reports = λ program none. absurd (cc);
       formats = λ tree none. absurd (cc);
       counted = ran_counted program call.report call.report_after call.devices call.devices_after call.status ended;
     }
@@ -133,6 +155,7 @@ settles_answered law call settings read set few so (answering.formatted tree for
       idle = λ none. absurd (cc);
       runs = λ program none. absurd (cc);
       checks = λ none. absurd (cc);
+      reports = λ program none. absurd (cc);
       formats = λ other same. let e : tree ≡ other = cc in subst (λ (t : List ItemTree). Writes call command.Format (canonical_form t)) e
           (writes_by call command.Format (canonical_form tree) (has_command call settings command.Format set format) report devices wrote);
       counted = rw report (omega arith);

@@ -1,9 +1,12 @@
 -- Which statuses come when: once files were read, of texts that stop a call, of a run, and of what was written.
-use Rattle.std.proofs.Common.{◌≡◌, ◌≢◌, ◌⊎◌, inl, inr, ℕ, List, sym, subst}
+use Rattle.std.proofs.Common.{◌≡◌, ◌≢◌, ◌⊎◌, inl, inr, ℕ, List, [], ◌∷◌, sym, subst}
 use Rattle.wy_text.specs.Outside.{SinkState}
 use Rattle.wy_text.specs.declared.limit.LimitName.TheVariants as limit
 use Rattle.wy_device.specs.Devices.{DevicesState}
 use Rattle.wy_device.specs.Ends.{End, Ended, DeviceFailed, Waiting}
+use Rattle.wy_types.specs.Program as core
+use Rattle.wy_rules.specs.Ends.{FirstEnd, IsEnd, IsLimitEnd, limited}
+use Rattle.wy_rules.specs.Refusals.{Numbered}
 use Rattle.wy_engine.specs.Answering.{Wrote}
 use Rattle.wy_engine.specs.Answering as answering
 use Rattle.wy_engine.specs.Judgement.{Stops}
@@ -17,6 +20,30 @@ use Rattle.wy_engine.specs.declared.status.Status.TheVariants as status
 use Rattle.wy_engine.proofs.NamesJudged.{uncrowded}
 use Rattle.wy_engine.proofs.OneAnswer.{never}
 
+-- ---- the limit on files is not one of judging programs
+
+first_files : (program : core.Program) (ns : List Numbered) → FirstEnd program ns (limited limit.Files) → ⊥
+first_files program [] first = first
+first_files program (n ∷ ns) (inl here) = let e : limit.Files ≡ limit.ReachedTypes = here.0 in cc
+first_files program (n ∷ ns) (inr later) = first_files program ns later.1
+
+many_files : (program : core.Program) (ns : List Numbered) → IsLimitEnd program ns (limited limit.Files) → ⊥
+many_files program ns (inl types) = let e : limit.Files ≡ limit.ReachedTypes = types.0 in cc
+many_files program ns (inr instances) = let e : limit.Files ≡ limit.Instances = instances.1 in cc
+
+ends_uncrowded : (program : core.Program) → IsEnd program (limited limit.Files) → ⊥
+ends_uncrowded program (inl plain) = first_files program _ plain
+ends_uncrowded program (inr rest) =
+    elim rest.1 [
+      | inl others ↦ first_files program _ others
+      | inr limits ↦ elim limits.1 [
+        | inl many ↦ many_files program _ many
+        | inr last ↦ elim last.1 [ inl line ↦ line | inr body ↦ body.1 ]
+      ]
+    ]
+
+-- ---- when a status comes
+
 -- a status that comes once the files were read
 pub record IsPastReading (end : Status) : Type 0 where
   pub usage : end ≢ status.Usage
@@ -26,7 +53,10 @@ pub record IsPastReading (end : Status) : Type 0 where
 crowds_none : (asked : Command) (texts : List (List ℕ)) → Stops asked texts (status.Limit limit.Files) → ⊥
 crowds_none command.Check texts (inl none) = never (status.Limit limit.Files) (λ file bytes h. h) 1 texts none
 crowds_none command.Check texts (inr (inl stop)) = uncrowded texts stop
-crowds_none command.Check texts (inr (inr stop)) = let e : limit.Files ≡ limit.ReachedTypes = stop.0 in cc
+crowds_none command.Check texts (inr (inr stop)) = ends_uncrowded stop.program stop.ends
+crowds_none command.Authority texts (inl none) = never (status.Limit limit.Files) (λ file bytes h. h) 1 texts none
+crowds_none command.Authority texts (inr (inl stop)) = uncrowded texts stop
+crowds_none command.Authority texts (inr (inr stop)) = ends_uncrowded stop.program stop.ends
 crowds_none command.Run texts (inl none) = never (status.Limit limit.Files) (λ file bytes h. h) 1 texts none
 crowds_none command.Run texts (inr stop) = uncrowded texts stop
 crowds_none command.Format texts none = never (status.Limit limit.Files) (λ file bytes h. h) 1 texts none

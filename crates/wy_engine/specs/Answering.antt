@@ -13,7 +13,7 @@ use Rattle.wy_judge.specs.Checking as checking
 use Rattle.wy_judge.specs.declared.checking.CheckRefusal.{CheckRefusal}
 use Rattle.wy_judge.specs.declared.checking.CheckRefusal.TheVariants as refusal
 use Rattle.wy_engine.specs.FileTrees.{HaveTrees}
-use Rattle.wy_engine.specs.Judgement.{IsAccepted, PassesCheck, Stops, accepted_text, fault_of}
+use Rattle.wy_engine.specs.Judgement.{IsAccepted, PassesCheck, Stops, accepted_text, authority_text, fault_of}
 use Rattle.wy_engine.specs.LiteralForm.{program_of}
 use Rattle.wy_engine.specs.NameFaults.{NamesResolve, names_status}
 use Rattle.wy_engine.specs.Running.{Ran}
@@ -35,12 +35,15 @@ check_status (refusal.Fails fault) = status.Refused fault
 check_status (refusal.Limit name) = status.Limit name
 check_status refusal.Memory = status.Memory
 
--- what checking trees did: nothing, since their names are refused or their program is not accepted; or it was said that it is
-pub data ChecksTrees (trees : List (List ItemTree)) (out out' : SinkState) (end : Status) : Type 0 where
-  nameless : (why : NameRefusal) → Refused (all_items trees) why → out' ≡ out → end ≡ names_status why → ChecksTrees trees out out' end
-  not_accepted : (program : core.Program) → Resolves (all_items trees) program → (why : CheckRefusal) → checking.IsRefusalOf program why → out' ≡ out → end ≡ check_status why
-      → ChecksTrees trees out out' end
-  accepted : (program : core.Program) → Resolves (all_items trees) program → checking.IsAccepted program → Wrote accepted_text out out' end → ChecksTrees trees out out' end
+-- trees do not pass: their names are refused, or their program is not accepted; and this is the status that it gives
+pub data FailsCheck (trees : List (List ItemTree)) (end : Status) : Type 0 where
+  nameless : (why : NameRefusal) → Refused (all_items trees) why → end ≡ names_status why → FailsCheck trees end
+  not_accepted : (program : core.Program) → Resolves (all_items trees) program → (why : CheckRefusal) → checking.IsRefusalOf program why → end ≡ check_status why → FailsCheck trees end
+
+-- what checking trees did: nothing, since they do not pass; or what is to be said of their program was written
+pub data ChecksTrees (text : core.Program → List ℕ) (trees : List (List ItemTree)) (out out' : SinkState) (end : Status) : Type 0 where
+  fails : FailsCheck trees end → out' ≡ out → ChecksTrees text trees out out' end
+  accepted : (program : core.Program) → Resolves (all_items trees) program → checking.IsAccepted program → Wrote (text program) out out' end → ChecksTrees text trees out out' end
 
 -- what judging a file's tree did: nothing, since memory was wanting, the tree is of no form that is built, or its
 -- program is refused; or the program was run
@@ -63,11 +66,13 @@ pub data RunsTrees (trees : List (List ItemTree)) (report report' : SinkState) (
   resolved : NamesResolve trees → RunsForm trees report report' devices devices' end → RunsTrees trees report report' devices devices' end
 
 -- what was done with texts: nothing, since memory was wanting or they stop the call; it was said that they are accepted;
--- a program was run; or the canonical form of a file was written
+-- the report of what their program may do was written; a program was run; or the canonical form of a file was written
 pub data Answered (asked : Command) (texts : List (List ℕ)) (out out' report report' : SinkState) (devices devices' : DevicesState) (end : Status) : Type 0 where
   declined : (end ≡ status.Memory) ⊎ Stops asked texts end → out' ≡ out → report' ≡ report → devices' ≡ devices
       → Answered asked texts out out' report report' devices devices' end
-  checked : asked ≡ command.Check → PassesCheck texts → Wrote accepted_text out out' end → report' ≡ report → devices' ≡ devices
+  checked : (program : core.Program) → asked ≡ command.Check → PassesCheck texts program → Wrote accepted_text out out' end → report' ≡ report → devices' ≡ devices
+      → Answered asked texts out out' report report' devices devices' end
+  reported : (program : core.Program) → asked ≡ command.Authority → PassesCheck texts program → Wrote (authority_text program) out out' end → report' ≡ report → devices' ≡ devices
       → Answered asked texts out out' report report' devices devices' end
   ran : (program : Program) → asked ≡ command.Run → IsAccepted texts program → Ran program report report' devices devices' end → out' ≡ out
       → Answered asked texts out out' report report' devices devices' end

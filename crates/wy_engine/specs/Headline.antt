@@ -13,7 +13,8 @@ use Rattle.wy_meaning.specs.Bounds.{Bounded}
 use Rattle.wy_meaning.specs.Meaning.{Meaning}
 use Rattle.wy_syntax.specs.Canonical.{canonical_form}
 use Rattle.wy_syntax.specs.Trees.{ItemTree}
-use Rattle.wy_engine.specs.Judgement.{Asks, Did, Stops, accepted_text, authority_of, checked, formatted, meaning_of, nothing, ran}
+use Rattle.wy_types.specs.Program as core
+use Rattle.wy_engine.specs.Judgement.{Asks, Did, Stops, accepted_text, authority_of, authority_text, checked, formatted, meaning_of, nothing, ran, reported}
 use Rattle.wy_engine.specs.LastLine.{last_line}
 use Rattle.wy_engine.specs.Report.{allowed_by, report_text}
 use Rattle.wy_engine.specs.Status.{IsOfOut, IsOfRun, IsOfTexts, status_of}
@@ -95,6 +96,7 @@ pub record Settles (call : TopCall) : Type 0 where
   pub idle : did ≡ nothing → call.status ≢ status.Memory → ¬ IsOfRun call.status
   pub runs : (program : Program) → did ≡ ran program → Runs call program
   pub checks : did ≡ checked → Writes call command.Check accepted_text
+  pub reports : (program : core.Program) → did ≡ reported program → Writes call command.Authority (authority_text program)
   pub formats : (tree : List ItemTree) → did ≡ formatted tree → Writes call command.Format (canonical_form tree)
   pub counted : call.report.faults ≤ call.report_after.faults
 

@@ -11,6 +11,8 @@ use Rattle.wy_syntax.specs.Trees.{ItemTree}
 use Rattle.wy_types.specs.Program as core
 use Rattle.wy_rules.specs.Ends.{End, IsEnd, limited, refused}
 use Rattle.wy_judge.specs.Checking as checking
+use Rattle.wy_authority.specs.Authority as authority
+use Rattle.wy_authority.specs.Report as report
 use Rattle.wy_engine.specs.FileTrees.{FirstNoTree, HaveTrees}
 use Rattle.wy_engine.specs.LiteralForm.{program_of}
 use Rattle.wy_engine.specs.NameFaults.{NamesResolve, NamesStop, ResolveTo}
@@ -56,9 +58,8 @@ pub record IsUnbuilt (texts : List (List ℕ)) : Type 0 where
 
 -- ---- what is checked
 
--- the texts are those of a program that is accepted by the rules, within the limits
-pub record PassesCheck (texts : List (List ℕ)) : Type 0 where
-  pub program : core.Program
+-- the texts are those of the program, which is accepted by the rules, within the limits
+pub record PassesCheck (texts : List (List ℕ)) (program : core.Program) : Type 0 where
   pub read : ResolveTo texts program
   pub accepted : checking.IsAccepted program
 
@@ -72,32 +73,42 @@ pub record EndsCheck (texts : List (List ℕ)) (end : End) : Type 0 where
 abbrev pub accepted_text : List ℕ
 accepted_text = codes "accepted\n"
 
+-- what is written where the authority of texts is asked for: the report of their program's
+abbrev pub authority_text : core.Program → List ℕ
+authority_text program = report.report_text (authority.authority_of program)
+
 -- ---- what a command does with texts
 
 -- The status with which texts end a call before anything is run or written to `out`: some file has no tree; or, of
--- texts that are to be checked or to run, the names are refused, the program is refused, or they are of no form that
--- is built. What is formatted may have any names.
+-- texts that are to be checked, to be reported on or to run, the names are refused, the program is refused, or they are
+-- of no form that is built. What is formatted may have any names.
 abbrev pub Stops : Command → List (List ℕ) → Status → Type 0
 Stops command texts (status.Syntax place kind) = FirstNoTree 1 texts (status.Syntax place kind)
 Stops command.Check texts (status.Limit name) =
     FirstNoTree 1 texts (status.Limit name) ⊎ (NamesStop texts (status.Limit name) ⊎ EndsCheck texts (limited name))
+Stops command.Authority texts (status.Limit name) =
+    FirstNoTree 1 texts (status.Limit name) ⊎ (NamesStop texts (status.Limit name) ⊎ EndsCheck texts (limited name))
 Stops command.Run texts (status.Limit name) = FirstNoTree 1 texts (status.Limit name) ⊎ NamesStop texts (status.Limit name)
 Stops command.Format texts (status.Limit name) = FirstNoTree 1 texts (status.Limit name)
 Stops command.Check texts (status.Refused fault) = NamesStop texts (status.Refused fault) ⊎ EndsCheck texts (refused fault)
+Stops command.Authority texts (status.Refused fault) = NamesStop texts (status.Refused fault) ⊎ EndsCheck texts (refused fault)
 Stops command.Run texts (status.Refused fault) = NamesStop texts (status.Refused fault) ⊎ IsRefused texts fault
 Stops command.Run texts status.Unbuilt = IsUnbuilt texts
 Stops command texts other = ⊥
 
--- what a call did: nothing, or it said that texts are accepted, or it ran a program, or it wrote the canonical form of a file
+-- what a call did: nothing, or it said that texts are accepted, or it reported what a program may do, or it ran a program,
+-- or it wrote the canonical form of a file
 pub data Did : Type 0 where
   nothing : Did
   checked : Did
+  reported : core.Program → Did
   ran : Program → Did
   formatted : List ItemTree → Did
 
 -- what a command does with texts that do not stop it
 abbrev pub Asks : Command → List (List ℕ) → Did → Type 0
-Asks command.Check texts checked = PassesCheck texts
+Asks command.Check texts checked = (program : core.Program) × PassesCheck texts program
+Asks command.Authority texts (reported program) = PassesCheck texts program
 Asks command.Run texts (ran program) = IsAccepted texts program
 Asks command.Format texts (formatted tree) = HaveTrees 1 texts (tree ∷ [])
 Asks command texts other = ⊥

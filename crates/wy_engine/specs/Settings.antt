@@ -18,11 +18,13 @@ begins_with_dash (byte ∷ bytes) = bytes_eq (byte ∷ []) (codes "-")
 abbrev pub command_named : List ℕ → Option Command
 command_named word =
     if bytes_eq word (codes "check") then Some command.Check else
-    (if bytes_eq word (codes "run") then Some command.Run else (if bytes_eq word (codes "format") then Some command.Format else None))
+    (if bytes_eq word (codes "authority") then Some command.Authority else
+    (if bytes_eq word (codes "run") then Some command.Run else (if bytes_eq word (codes "format") then Some command.Format else None)))
 
--- whether a command takes so many files: `check` and `run` one or more, `format` one
+-- whether a command takes so many files: `check`, `authority` and `run` one or more, `format` one
 abbrev pub takes : Command → ℕ → Bool
 takes command.Check count = nat_le 1 count
+takes command.Authority count = nat_le 1 count
 takes command.Run count = nat_le 1 count
 takes command.Format count = count == 1
 

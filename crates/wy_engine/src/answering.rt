@@ -2,7 +2,7 @@ ghost use Rattle.std.specs.Prelude.{◌≡◌, ◌≤◌, length};
 ghost use Rattle.wy_device.specs.Devices.{states};
 ghost use Rattle.wy_engine.specs.Answering.{Answered};
 
-use crate::checking::check_trees;
+use crate::checking::{check_trees, report_trees};
 use crate::formatting::write_form;
 use crate::judging::run_trees;
 use crate::parsing::parse_all;
@@ -15,8 +15,8 @@ use wy_device::operation::Kind;
 use wy_text::sink::Sink;
 use wy_text::text::Text;
 
-/// Does with texts what a command asks: parses them, and then checks or runs their program, or writes the canonical
-/// form of the one text.
+/// Does with texts what a command asks: parses them, and then checks their program, reports what it may do or runs it,
+/// or writes the canonical form of the one text.
 pub fn answer<O: Sink, E: Sink, D: Device>(
     alloc: Global,
     command: Command,
@@ -36,6 +36,7 @@ pub fn answer<O: Sink, E: Sink, D: Device>(
     };
     match command {
         Command::Check => check_trees(alloc, trees.as_slice(), out),
+        Command::Authority => report_trees(alloc, trees.as_slice(), out),
         Command::Run => run_trees(alloc, trees.as_slice(), report, devices),
         Command::Format => write_form(alloc, &trees[0], out),
     }

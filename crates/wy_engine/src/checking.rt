@@ -1,17 +1,34 @@
-ghost use Rattle.std.specs.Prelude.{◌≡◌, map};
+ghost use Rattle.std.specs.Prelude.{◌≡◌, map, IfOk, IfErr};
 ghost use Rattle.wy_syntax.specs.Views.{file_tree};
-ghost use Rattle.wy_engine.specs.Answering.{ChecksTrees, check_status};
+ghost use Rattle.wy_types.specs.Program.{program_of};
+ghost use Rattle.wy_names.specs.Declarations.{all_items};
+ghost use Rattle.wy_names.specs.Names.{Resolves};
+ghost use Rattle.wy_link.specs.Checking.{IsCheckedProgram};
+ghost use Rattle.wy_engine.specs.Answering.{ChecksTrees, FailsCheck, check_status};
+ghost use Rattle.wy_engine.specs.Judgement.{accepted_text, authority_text};
 
 use crate::judging::names_status;
 use crate::status::Status;
 use crate::writing::write_out;
 use std::alloc::Global;
+use wy_authority::authority::authority;
+use wy_authority::report::report;
 use wy_judge::checking::CheckRefusal;
 use wy_link::checking::check;
+use wy_link::linking::Links;
 use wy_names::resolving::resolve;
 use wy_syntax::items::Tree;
 use wy_text::sink::Sink;
+use wy_text::text::{Memory, Text};
+use wy_types::resolved::Core;
 use wy_well_formed::resolved_is_core;
+
+/// A program that is accepted, with its links.
+#[derive(Drop)]
+struct Accepted {
+    core: Core,
+    links: Links,
+}
 
 /// The status of a call whose program is not accepted. It takes no memory.
 fn check_status(why: CheckRefusal) -> Status
@@ -24,18 +41,60 @@ fn check_status(why: CheckRefusal) -> Status
     }
 }
 
-/// Judges the names in the trees of texts, and where they resolve their program; and says on `out` that it is accepted
-/// (docs/LANGUAGE.md, "Names" and "What is checked").
-pub fn check_trees<O: Sink>(alloc: Global, trees: &[Tree], out: &mut O) -> Status
-    ensures { ChecksTrees (map file_tree trees.now) (O.state out.old) (O.state out.new) result }
+/// Judges the names in the trees of texts, and where they resolve their program: gives the program with its links where
+/// it is accepted, and else the status that ends the call (docs/LANGUAGE.md, "Names" and "What is checked").
+fn judge_trees(alloc: Global, trees: &[Tree]) -> Result<Accepted, Status>
+    ensures resolved { IfOk result (λ a. Resolves (all_items (map file_tree trees.now)) (program_of a.core)) }
+    ensures accepted { IfOk result (λ a. IsCheckedProgram (program_of a.core) a.links) }
+    ensures fails { IfErr result (λ end. FailsCheck (map file_tree trees.now) end) }
 {
     resolved_is_core();
     let core = match resolve(alloc, trees) {
         Ok(core) => core,
-        Err(why) => return names_status(why),
+        Err(why) => return Err(names_status(why)),
     };
     match check(alloc, &core) {
-        Ok(_) => write_out(out, b"accepted\n"),
-        Err(why) => check_status(why),
+        Ok(links) => Ok(Accepted { core, links }),
+        Err(why) => Err(check_status(why)),
     }
+}
+
+/// Judges trees, and says on `out` that their program is accepted, where it is.
+pub fn check_trees<O: Sink>(alloc: Global, trees: &[Tree], out: &mut O) -> Status
+    ensures { ChecksTrees (λ program. accepted_text) (map file_tree trees.now) (O.state out.old) (O.state out.new) result }
+{
+    match judge_trees(alloc, trees) {
+        Ok(_) => write_out(out, b"accepted\n"),
+        Err(end) => end,
+    }
+}
+
+/// The report of the authority of a program that is accepted.
+fn report_of(alloc: Global, accepted: &Accepted) -> Result<Text, Memory>
+    requires { IsCheckedProgram (program_of accepted.now.core) accepted.now.links }
+    ensures { IfOk result (λ t. t ≡ authority_text (program_of accepted.now.core)) }
+{
+    let links = &accepted.links;
+    let authority = authority(
+        alloc,
+        &accepted.core,
+        links.instances.as_slice(),
+        links.sets.as_slice(),
+    )?;
+    report(alloc, &authority)
+}
+
+/// Judges trees, and writes the report of the authority of their program to `out`, where it is accepted
+/// (docs/LANGUAGE.md, "Authority and report").
+pub fn report_trees<O: Sink>(alloc: Global, trees: &[Tree], out: &mut O) -> Status
+    ensures { ChecksTrees authority_text (map file_tree trees.now) (O.state out.old) (O.state out.new) result }
+{
+    let accepted = match judge_trees(alloc, trees) {
+        Ok(accepted) => accepted,
+        Err(end) => return end,
+    };
+    let Ok(text) = report_of(alloc, &accepted) else {
+        return Status::Memory;
+    };
+    write_out(out, text.as_bytes())
 }

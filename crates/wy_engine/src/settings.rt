@@ -9,6 +9,8 @@ ghost use Rattle.wy_engine.specs.TopCall.{files_of};
 pub enum Command {
     /// Judge the files, and say whether they are accepted.
     Check,
+    /// Judge the files, and write the report of the authority of what is accepted.
+    Authority,
     /// Judge the files, print the report, and run the program.
     Run,
     /// Write the canonical form of one file.
@@ -28,6 +30,7 @@ fn command_of(word: &str) -> Option<Command>
 {
     match word {
         "check" => Some(Command::Check),
+        "authority" => Some(Command::Authority),
         "run" => Some(Command::Run),
         "format" => Some(Command::Format),
         _ => None,
@@ -52,7 +55,7 @@ fn takes(command: Command, count: usize) -> bool
     ensures { result ≡ takes command count }
 {
     match command {
-        Command::Check | Command::Run => count >= 1,
+        Command::Check | Command::Authority | Command::Run => count >= 1,
         Command::Format => count == 1,
     }
 }

@@ -1,6 +1,8 @@
 //! Whole calls, with the outside in memory. The expected reports, lines and statuses are those of
 //! docs/LANGUAGE.md.
 
+mod authority;
+mod authority_table;
 mod canonical_table;
 mod checking;
 mod checking_table;

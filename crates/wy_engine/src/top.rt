@@ -72,10 +72,11 @@ fn close<E: Sink>(alloc: Global, names: &[String], report: &mut E, settled: Stat
 }
 
 /// Does what the words say: reads the files that they name, and parses them. `check` judges their names and their
-/// program by the rules, and says on `out` that it is accepted; `run` judges both, prints the authority of what is
+/// program by the rules, and says on `out` that it is accepted; `authority` judges as `check` does, and writes the
+/// report of what the program's bodies may do to `out`; `run` judges names and program, prints the authority of what is
 /// accepted on `report`, and runs it on the devices; `format` writes the canonical form of its one file to `out`. The
-/// report ends with a line that says how the call ended, unless all was done (docs/LANGUAGE.md, "The command line" and
-/// "Statuses").
+/// report ends with a line that says how the call ended, unless all was done (docs/LANGUAGE.md, "The command line",
+/// "Authority and report" and "Statuses").
 ///
 /// The devices are of the four kinds in their order, which `devices` gives.
 pub fn wyvern<S: Shelf, O: Sink, E: Sink, D: Device>(

@@ -1,19 +1,13 @@
 use crate::tests::checking_table::{ACCEPTED, BODIES, HEAD, REFUSED};
 use crate::tests::lines_table;
-use crate::tests::support::outcome_of;
+use crate::tests::support::{judged_so, outcome_of};
 use std::alloc::Global;
 use std::test::Fail;
 
 /// Whether a call of `check` with the text as `b.wy` ends with the status of the number, writes this to `out` and
 /// the report, and does nothing.
 fn ends_so(alloc: Global, text: &str, number: u8, out: &str, report: &str) -> Result<bool, Fail> {
-    let done = outcome_of(alloc, &["check", "b.wy"], &[("b.wy", text.as_bytes())])?;
-    Ok(
-        done.number == number
-            && done.deeds == 0
-            && done.out.bytes() == out.as_bytes()
-            && done.report.bytes() == report.as_bytes(),
-    )
+    judged_so(alloc, "check", text, number, out, report)
 }
 
 /// Whether the text, behind what stands before it, is refused at the place by this rule and premise.

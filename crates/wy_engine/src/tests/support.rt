@@ -121,3 +121,22 @@ pub fn outcome_of(alloc: Global, words: &[&str], files: &[(&str, &[u8])]) -> Res
         report,
     })
 }
+
+/// Whether a call of the command with the text as `b.wy` ends with the status of the number, writes this to `out` and
+/// the report, and does nothing.
+pub fn judged_so(
+    alloc: Global,
+    command: &str,
+    text: &str,
+    number: u8,
+    out: &str,
+    report: &str,
+) -> Result<bool, Fail> {
+    let done = outcome_of(alloc, &[command, "b.wy"], &[("b.wy", text.as_bytes())])?;
+    Ok(
+        done.number == number
+            && done.deeds == 0
+            && done.out.bytes() == out.as_bytes()
+            && done.report.bytes() == report.as_bytes(),
+    )
+}

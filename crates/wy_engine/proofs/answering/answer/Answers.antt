@@ -1,7 +1,7 @@
 use Rattle.std.proofs.Common.{arith, map, length, ◌≡◌, ◌∙◌, sym}
 use Rattle.std.proofs.lemmas.List.{length-map}
 use Rattle.wy_syntax.specs.Views.{file_tree}
-use Rattle.wy_engine.proofs.Doing.{as_many, did_check, did_format, did_none, did_run}
+use Rattle.wy_engine.proofs.Doing.{as_many, did_check, did_format, did_none, did_report, did_run}
 use Rattle.wy_engine.proofs.OneItem.{one_mapped}
 use Rattle.wy_engine.proofs.answering.answer.Goals as goal
 
@@ -10,6 +10,9 @@ returns-in-Err g c = did_none _ _ _ _ _ _ c.in-Err.ensures.none
 
 pub returns-in-Check : goal.returns-in-Check
 returns-in-Check g c = did_check _ _ (map file_tree c.in-Ok.trees.items) _ _ _ _ _ c.in-Check.is c.in-Ok.ensures.trees (rw (← c.as_slice.ensures.value) c.check_trees.ensures)
+
+pub returns-in-Authority : goal.returns-in-Authority
+returns-in-Authority g c = did_report _ _ (map file_tree c.in-Ok.trees.items) _ _ _ _ _ c.in-Authority.is c.in-Ok.ensures.trees (rw (← c.as_slice-in-Authority.ensures.value) c.report_trees.ensures)
 
 pub returns-in-Run : goal.returns-in-Run
 returns-in-Run g c = did_run _ _ (map file_tree c.in-Ok.trees.items) _ _ _ _ _ _ c.in-Run.is c.in-Ok.ensures.trees (rw (← c.as_slice-in-Run.ensures.value) c.run_trees.ensures)
