@@ -1,13 +1,17 @@
 #!/usr/bin/env python3
-"""Writes an accepted program of modules that stand on one another, each with methods of several statements.
+"""Writes the files of an accepted program into a folder: modules that stand on one another, each with methods of several
+statements.
 
-    python3 bench/check_programs.py 255 20 20 > /tmp/big.wy
-    time wyvern check /tmp/big.wy
+    python3 bench/check_programs.py /tmp/big 255 20 10
+    cd /tmp/big && time wyvern check f*.wy
 
 The numbers are those of modules, of the methods of each, and of the statements of each method, in threes.
 """
 
+import pathlib
 import sys
+
+FILES = 32
 
 
 def type_text(methods: int) -> str:
@@ -40,13 +44,18 @@ def module_text(number: int, methods: int, statements: int) -> str:
 
 
 def main() -> None:
-    modules, methods, statements = (int(word) for word in sys.argv[1:4])
-    text = type_text(methods)
-    text += "".join(module_text(n, methods, statements) for n in range(1, modules + 1))
-    text += "program\n  grant console: Console\n  instance x1 = m1(console)\n"
-    text += "".join(f"  instance x{n} = m{n}(x{n - 1})\n" for n in range(2, modules + 1))
-    text += f"  run: {{x{modules}.E}}\n    val t = x{modules}.m0(1)\n    ()\n"
-    sys.stdout.write(text)
+    folder = pathlib.Path(sys.argv[1])
+    modules, methods, statements = (int(word) for word in sys.argv[2:5])
+    folder.mkdir(parents=True, exist_ok=True)
+    parts = [type_text(methods)]
+    parts += [module_text(n, methods, statements) for n in range(1, modules + 1)]
+    lines = ["program", "  grant console: Console", "  instance x1 = m1(console)"]
+    lines += [f"  instance x{n} = m{n}(x{n - 1})" for n in range(2, modules + 1)]
+    lines += [f"  run: {{x{modules}.E}}", f"    val t = x{modules}.m0(1)", "    ()"]
+    parts.append("\n".join(lines) + "\n")
+    each = (len(parts) + FILES - 1) // FILES
+    for n in range(FILES):
+        (folder / f"f{n:02}.wy").write_text("".join(parts[n * each : (n + 1) * each]))
 
 
 main()
