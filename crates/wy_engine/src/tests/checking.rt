@@ -84,8 +84,8 @@ fn lines_are_judged_by_their_rules(rt: HostRuntime) -> Result<(), Fail> {
 /// A program with 1,023 instances, of modules each of which has two of the next, and so many more.
 fn instances(alloc: Global, more: u32) -> Result<String, Fail> {
     let mut text = String::from_str(alloc, "type N\nresource module m0(): N\n")?;
-    for at in 1..=9 {
-        let below = at - 1;
+    for at in 1..=9u32 {
+        let below = at.saturating_sub(1);
         text.push_str(format!(in alloc; "resource module m{at}(): N\n")?.as_str())?;
         text.push_str(format!(in alloc; "  instance a = m{below}()\n")?.as_str())?;
         text.push_str(format!(in alloc; "  instance b = m{below}()\n")?.as_str())?;
