@@ -60,9 +60,17 @@ module _ (p : Program) where
     AllHave h [] (k ∷ ks) = ⊥
     AllHave h (v ∷ vs) [] = ⊥
 
-    -- the variables in sight, by their names
+    -- a variable has a type, and a value of it
+    pub record VariableHas (h : List Thing) (x : ℕ) (pl : Placed p x) (named : Named) (v : Variable) : Type 0 where
+      pub kind : GroundType
+      pub typed : variable_at x pl v ≡ Some kind
+      pub value : Value
+      pub here : value_named named v ≡ Some value
+      pub has : ValueHas h value kind
+
+    -- .. and so has each in sight
     pub record NamesHave (h : List Thing) (x : ℕ) (pl : Placed p x) (seen : List Variable) (named : Named) : Type 0 where
-      pub by : (v : Variable) → In v seen → (k : GroundType) → variable_at x pl v ≡ Some k → (value : Value) × (value_named named v ≡ Some value) × ValueHas h value k
+      pub by : (v : Variable) → In v seen → VariableHas h x pl named v
 
     pub record ThingHas (h : List Thing) (t : Thing) : Type 0 where
       pub place : Placed p t.instance
@@ -114,7 +122,7 @@ module _ (p : Program) where
     all_grow h h' (v ∷ vs) [] x q = absurd q
 
     pub names_grow : (h h' : List Thing) (x : ℕ) (pl : Placed p x) (seen : List Variable) (named : Named) → Grows h h' → NamesHave h x pl seen named → NamesHave h' x pl seen named
-    names_grow h h' x pl seen named g q = record { by = λ v i k e. let r = q.by v i k e in (r.0, r.1, value_grows h h' r.0 k g r.2) }
+    names_grow h h' x pl seen named g q = record { by = λ v i. let r = q.by v i in record { kind = r.kind; typed = r.typed; value = r.value; here = r.here; has = value_grows h h' r.value r.kind g r.has } }
 
     pub thing_grows : (h h' : List Thing) (t : Thing) → Grows h h' → ThingHas h t → ThingHas h' t
     thing_grows h h' t g q = record {
@@ -193,14 +201,20 @@ module _ (p : Program) where
     -- one more `val` in sight
     local_named : (h : List Thing) (x : ℕ) (pl : Placed p x) (seen : List Variable) (named : Named) (n : ℕ) (v : Value) (k : GroundType) →
         slice_get pl.holds.derivation.locals n ≡ Some k → ValueHas h v k → NamesHave h x pl seen named →
-        (w : Variable) → In w (Local n ∷ seen) → (j : GroundType) → variable_at x pl w ≡ Some j → (value : Value) × (value_named ((Local n, v) ∷ named) w ≡ Some value) × ValueHas h value j
-    local_named h x pl seen named n v k e q r (Parameter b i) (inl f) j g = absurd cc
-    local_named h x pl seen named n v k e q r (Parameter b i) (inr f) j g = r.by (Parameter b i) f j g
-    local_named h x pl seen named n v k e q r (Local m) i j g = ⊎_elim
-        (λ same. (v, ap (λ c. if c then Some v else value_named named (Local m)) (eq-eqb n m same), subst (λ (u : GroundType). ValueHas h v u) (some_same (sym e ∙ ap (slice_get pl.holds.derivation.locals) same ∙ g)) q))
+        (w : Variable) → In w (Local n ∷ seen) → VariableHas h x pl ((Local n, v) ∷ named) w
+    local_named h x pl seen named n v k e q r (Parameter b i) (inl f) = absurd cc
+    local_named h x pl seen named n v k e q r (Parameter b i) (inr f) = let s = r.by (Parameter b i) f in record { kind = s.kind; typed = s.typed; value = s.value; here = s.here; has = s.has }
+    local_named h x pl seen named n v k e q r (Local m) i = ⊎_elim
+        (λ same. record {
+          kind = k;
+          typed = ap (slice_get pl.holds.derivation.locals) (sym same) ∙ e;
+          value = v;
+          here = ap (λ c. if c then Some v else value_named named (Local m)) (eq-eqb n m same);
+          has = q;
+        })
         (λ ne. let old : In (Local m) seen = elim i [ inl f ↦ absurd (ne (local_same n m f)) | inr f ↦ f ] in
-          let s = r.by (Local m) old j g in
-          (s.0, ap (λ c. if c then Some v else value_named named (Local m)) (ne_eqb n m ne) ∙ s.1, s.2))
+          let s = r.by (Local m) old in
+          record { kind = s.kind; typed = s.typed; value = s.value; here = ap (λ c. if c then Some v else value_named named (Local m)) (ne_eqb n m ne) ∙ s.here; has = s.has })
         (cases_eq n m)
       where
         local_same : (n m : ℕ) → Local n ≡ Local m → n ≡ m
