@@ -1,10 +1,9 @@
 -- What a body declares is among what is allowed to its calls.
-use Rattle.std.proofs.Common.{◌≡◌, codes, ℕ, zero, suc, ◌<◌, Bool, true, false, List, [], ◌∷◌, ◌++◌, length, map, inl, inr, refl, sym, ap, ◌∙◌, subst, Option, Some, None, Contains, arith, lt_irrefl}
+use Rattle.std.proofs.Common.{◌≡◌, codes, ℕ, suc, Bool, true, false, List, [], ◌∷◌, ◌++◌, length, map, inl, inr, refl, sym, ap, ◌∙◌, subst, Option, Some, None, Contains, arith, lt_irrefl}
 use Rattle.std.specs.Prelude.{slice_get, slice_index_or, bytes_eq, if◌then◌else◌}
 use Rattle.std.proofs.lemmas.Slice.Eq.{bytes_eq-Decides}
 use Rattle.wy_text.specs.declared.fault.AtomName.{AtomName}
 use Rattle.wy_effects.specs.Members.{In}
-use Rattle.wy_effects.specs.EffSet.{replace}
 use Rattle.wy_effects.specs.AtomTable.{atom_name}
 use Rattle.wy_effects.proofs.Lists.{In-left, In-right, In-map, In-slice_get}
 use Rattle.wy_types.specs.declared.linked.Instance.{Instance}

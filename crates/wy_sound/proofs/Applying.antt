@@ -1,5 +1,5 @@
 -- Choices, calls on values and new objects, where the parts have their types.
-use Rattle.std.proofs.Common.{◌≡◌, ◌≢◌, ℕ, zero, suc, ◌+◌, ◌<◌, ◌≤◌, Bool, true, false, List, [], ◌∷◌, ◌++◌, length, map, inl, inr, refl, sym, ap, ◌∙◌, subst, Option, Some, None, arith, nat_eq, nat_lt}
+use Rattle.std.proofs.Common.{◌≡◌, ℕ, ◌+◌, ◌<◌, Bool, true, false, List, [], ◌∷◌, ◌++◌, length, inr, refl, sym, ap, ◌∙◌, subst, Option, Some, nat_eq, nat_lt}
 use Rattle.std.specs.Prelude.{slice_get, if◌then◌else◌}
 use Rattle.std.proofs.lemmas.Bool.{eq-eqb}
 use Rattle.wy_effects.specs.Members.{In, Within}
@@ -8,25 +8,24 @@ use Rattle.wy_types.specs.declared.code.Variable.{Variable}
 use Rattle.wy_types.specs.declared.types.TypeRef.TheVariants as of
 use Rattle.wy_types.specs.declared.linked.Actual.TheVariants as actual
 use Rattle.wy_types.specs.declared.resolved.Field.{Field}
-use Rattle.wy_types.specs.declared.resolved.Literal.{Literal}
-use Rattle.wy_types.specs.Program.{Program, Scope}
+use Rattle.wy_types.specs.Program.{Program}
 use Rattle.wy_types.specs.Signature.{Signature, find_method}
 use Rattle.wy_types.specs.Core.{IsCore, literal_fields, literal_captures}
 use Rattle.wy_rules.specs.GroundTypes.{GroundType, Int as Ints, Bool as Truths, Text as Texts, Nothing as Nothings, Own, ground_methods}
 use Rattle.wy_rules.specs.Typing.{fields_of, field_types}
 use Rattle.wy_device.specs.RunEnds.{Trap, Wrong}
 use Rattle.wy_device.specs.Traps.{most_objects, Crowded}
-use Rattle.wy_meaning.specs.Values.{Value, Int as Number, Truth, Nothing, Text, Object, Grant, Named, value_named, Thing, World, Reply, replied, stopped, object_made}
+use Rattle.wy_meaning.specs.Values.{Value, Int as Number, Truth, Nothing, Text, Object, Grant, Thing, World, Reply, replied, stopped, object_made}
 use Rattle.wy_meaning.specs.Starts.{literal_in, scope_of_instance, grant_of}
-use Rattle.wy_meaning.specs.Results.{Result, stop}
+use Rattle.wy_meaning.specs.Results.{Result}
 use Rattle.wy_meaning.specs.Eval.{Sight, Calls, choose, apply, captured_from, object_with, object_new}
 use Rattle.wy_meaning.specs.Performing.{perform}
 use Rattle.wy_sound.specs.Arguments.{actual_type}
 use Rattle.wy_sound.specs.Programs.{program_starts}
 use Rattle.wy_sound.specs.Laws.{IsLinked}
 use Rattle.wy_sound.proofs.Lists.{pick_true, get_below, get_last, map_length}
-use Rattle.wy_sound.proofs.Below.{Below, StandsFor, HasMethodFor, method_below}
-use Rattle.wy_sound.proofs.Heaps.{Placed, kind_at, fields_at, many, Ready, ValueHas, AllHave, VariableHas, NamesHave, ThingHas, WellHeap, SightHas, all_below, all_length, value_below, heap_more}
+use Rattle.wy_sound.proofs.Below.{Below, StandsFor, method_below}
+use Rattle.wy_sound.proofs.Heaps.{Placed, kind_at, fields_at, Ready, ValueHas, AllHave, VariableHas, ThingHas, WellHeap, SightHas, all_below, all_length, value_below, heap_more}
 use Rattle.wy_sound.proofs.BaseTypes.{truth_at, own_kind}
 use Rattle.wy_sound.proofs.Results.{Sound, Answers, Valued, wider_sound, more_sound, trap_answers}
 use Rattle.wy_sound.proofs.Performing.{perform_sound}

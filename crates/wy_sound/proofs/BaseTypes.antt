@@ -1,5 +1,5 @@
 -- The types of a run that a scope's base types and own types are read as, grants' types, and which values are of a base type.
-use Rattle.std.proofs.Common.{◌≡◌, ℕ, ◌<◌, ℤ, Bool, List, [], ◌∷◌, length, map, inl, inr, refl, sym, ap, ◌∙◌, subst, Option, Some, None}
+use Rattle.std.proofs.Common.{◌≡◌, ℕ, ◌<◌, ℤ, Bool, List, length, map, inl, refl, sym, ap, ◌∙◌, subst, Option, Some, None}
 use Rattle.std.specs.Prelude.{slice_get}
 use Rattle.wy_effects.specs.EffSet.{replace}
 use Rattle.wy_effects.proofs.Lists.{In-slice_get}
@@ -9,15 +9,13 @@ use Rattle.wy_types.specs.declared.linked.Actual.TheVariants as actual
 use Rattle.wy_types.specs.declared.resolved.Origin.{Origin}
 use Rattle.wy_types.specs.declared.resolved.Origin.TheVariants as origin
 use Rattle.wy_types.specs.declared.resolved.OwnName.{OwnName}
-use Rattle.wy_types.specs.declared.resolved.ScopeKind.TheVariants.{Program as Main}
 use Rattle.wy_types.specs.Program.{Program, Scope}
 use Rattle.wy_types.specs.Core.{IsCore, IsPrimitive, OriginFits}
 use Rattle.wy_types.specs.Ground.{names_of, type_of, program_number, program_sets, start_list}
-use Rattle.wy_rules.specs.GroundTypes.{GroundType, Int as Ints, Bool as Truths, Text as Texts, Nothing as Nothings, Named, At, Own, IsGroundObject, type_at, read_by}
+use Rattle.wy_rules.specs.GroundTypes.{GroundType, Int as Ints, Bool as Truths, Text as Texts, Nothing as Nothings, Named, Own, IsGroundObject, type_at, read_by}
 use Rattle.wy_meaning.specs.Values.{Value, Int as Number, Truth, Nothing, Text, Object, Grant, Thing}
 use Rattle.wy_sound.specs.Arguments.{program_names, actual_type, IsThere}
 use Rattle.wy_sound.proofs.Below.{Below, below_base}
-use Rattle.wy_sound.proofs.Lists.{some_same}
 use Rattle.wy_sound.proofs.Heaps.{Placed, kind_at, ValueHas}
 
 ------------------------------------------------------------

@@ -1,11 +1,11 @@
 -- Equal or a subtype, over the types of a run: reflexive, transitive, base types below themselves alone, and what is known of methods.
-use Rattle.std.proofs.Common.{◌≡◌, ℕ, List, [], ◌∷◌, ◌⊎◌, inl, inr, refl, sym, ap, ◌∙◌, subst, Option, Some, None}
+use Rattle.std.proofs.Common.{◌≡◌, ℕ, List, [], ◌∷◌, inl, inr, refl, sym, ap, ◌∙◌, subst, Option, Some, None}
 use Rattle.wy_effects.specs.Members.{In, Within}
 use Rattle.wy_effects.proofs.Closure.{Decided}
 use Rattle.wy_effects.proofs.SetLaws.{cases_equal}
 use Rattle.wy_types.specs.Program.{Program}
 use Rattle.wy_types.specs.Signature.{Signature, find_method}
-use Rattle.wy_types.specs.Subtyping.{ParamsIn, Covers, HasCover, IsClosed, IsSubtype}
+use Rattle.wy_types.specs.Subtyping.{ParamsIn, HasCover, IsClosed, IsSubtype}
 use Rattle.wy_types.proofs.Closing.{find_in, find_named}
 use Rattle.wy_types.proofs.Composing.{transitive}
 use Rattle.wy_types.proofs.Deciding.{decide_list}

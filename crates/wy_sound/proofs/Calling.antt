@@ -1,13 +1,11 @@
 -- Calls on objects are sound, however many may be open at once.
-use Rattle.std.proofs.Common.{◌≡◌, ◌≢◌, ℕ, zero, suc, ◌≤◌, Bool, true, false, List, [], ◌∷◌, ◌++◌, length, map, refl, sym, ap, ◌∙◌, subst, Option, Some, None, arith, nat_eq, append_assoc, lt_irrefl}
+use Rattle.std.proofs.Common.{◌≡◌, ℕ, zero, suc, ◌≤◌, List, ◌++◌, length, map, refl, sym, ap, ◌∙◌, subst, Some, arith, nat_eq, append_assoc, lt_irrefl}
 use Rattle.std.specs.Prelude.{codes, decimal, slice_get, if◌then◌else◌}
 use Rattle.std.proofs.lemmas.Bool.{eq-eqb, ne_eqb}
-use Rattle.wy_effects.specs.Members.{In, Within}
 use Rattle.wy_effects.proofs.Lists.{In-slice_get}
-use Rattle.wy_types.specs.declared.code.Variable.{Variable}
-use Rattle.wy_types.specs.Program.{Program, Scope, Body}
+use Rattle.wy_types.specs.Program.{Program, Body}
 use Rattle.wy_types.specs.Signature.{Signature, find_method}
-use Rattle.wy_types.specs.Core.{BlockFits, literal_captures, body_parameters}
+use Rattle.wy_types.specs.Core.{literal_captures, body_parameters}
 use Rattle.wy_rules.specs.GroundTypes.{GroundType, Own, ground_methods, ground_reading, effect_by}
 use Rattle.wy_rules.specs.Derivations.{BodyDerivation, T-Body, T-Body-Init}
 use Rattle.wy_rules.specs.Typing.{DerivesBody}
@@ -17,7 +15,7 @@ use Rattle.wy_device.specs.RunEnds.{TooDeep, Wrong}
 use Rattle.wy_meaning.specs.Values.{Value, Thing, World}
 use Rattle.wy_meaning.specs.Starts.{scope_of_instance}
 use Rattle.wy_meaning.specs.Results.{Result, stop, whole}
-use Rattle.wy_meaning.specs.Eval.{Sight, Calls, Method, method_in, parameters, body_text, instance_name, eval_block, called, called_on, open_calls}
+use Rattle.wy_meaning.specs.Eval.{Calls, Method, method_in, parameters, body_text, instance_name, eval_block, called, called_on, open_calls}
 use Rattle.wy_sound.specs.Programs.{program_starts}
 use Rattle.wy_sound.specs.Laws.{IsLinked}
 use Rattle.wy_sound.proofs.Lists.{pick_true, pick_false, map_length}
@@ -26,7 +24,7 @@ use Rattle.wy_sound.proofs.Allowing.{may_method}
 use Rattle.wy_sound.proofs.Heaps.{Placed, kind_at, many, Ready, AllHave, WellHeap, ThingHas, SightHas, NamesHave, all_length}
 use Rattle.wy_sound.proofs.Results.{Sound, Valued, stop_sound, whole_sound}
 use Rattle.wy_sound.proofs.Placing.{scope_there, name_there, scope_fits}
-use Rattle.wy_sound.proofs.Methods.{HasBodyFor, signature_at, own_body, body_derivation}
+use Rattle.wy_sound.proofs.Methods.{signature_at, own_body, body_derivation}
 use Rattle.wy_sound.proofs.Names.{method_names}
 use Rattle.wy_sound.proofs.Applying.{CallsSound}
 use Rattle.wy_sound.proofs.Evaluating.{block_sound}

@@ -1,6 +1,5 @@
 -- Preservation: what evaluates a value, values in their order or a block that has a derivation over the types of a run is sound.
-use Rattle.std.proofs.Common.{◌≡◌, ◌≢◌, ℕ, zero, suc, ◌+◌, ◌<◌, ◌≤◌, Bool, true, false, List, [], ◌∷◌, ◌++◌, length, map, inl, inr, refl, sym, ap, ◌∙◌, subst, Option, Some, None, arith}
-use Rattle.std.specs.Prelude.{slice_get, if◌then◌else◌}
+use Rattle.std.proofs.Common.{◌≡◌, ℕ, ◌≤◌, true, false, List, [], ◌∷◌, map, inl, inr, refl, sym, ap, ◌∙◌, subst, Option, Some}
 use Rattle.wy_effects.specs.Members.{In, Within}
 use Rattle.wy_effects.specs.EffSet.{union}
 use Rattle.wy_effects.proofs.SetLaws.{In-union-left, In-union-right}
@@ -11,17 +10,15 @@ use Rattle.wy_types.specs.declared.code.BinaryOperator.{BinaryOperator}
 use Rattle.wy_types.specs.declared.code.BinaryOperator.TheVariants as binary
 use Rattle.wy_types.specs.declared.types.TypeRef.{TypeRef}
 use Rattle.wy_types.specs.declared.types.TypeRef.TheVariants as of
-use Rattle.wy_types.specs.declared.resolved.Field.{Field}
 use Rattle.wy_types.specs.Code as code
 use Rattle.wy_types.specs.Code.{Expr, Number, Quoted, Truth as TruthOf, Nothing as NothingOf, This, Name, Unary, Binary, TextCall, Call, New, Ascribe, Assign, Plain, If, Values, none, more, Block, Last, Then, Val}
-use Rattle.wy_types.specs.Program.{Program, Scope}
-use Rattle.wy_types.specs.Signature.{Signature, find_method}
+use Rattle.wy_types.specs.Program.{Program}
+use Rattle.wy_types.specs.Signature.{Signature}
 use Rattle.wy_types.specs.Core.{ExprFits, ValueFits, ValuesFit, BlockFits}
-use Rattle.wy_rules.specs.GroundTypes.{GroundType, Int as Ints, Bool as Truths, Text as Texts, Nothing as Nothings, Own, ground_methods, ground_reading}
-use Rattle.wy_rules.specs.Readings.{Reading}
+use Rattle.wy_rules.specs.GroundTypes.{GroundType, Int as Ints, Bool as Truths, Text as Texts, Nothing as Nothings, Own, ground_reading}
 use Rattle.wy_rules.specs.Operators.{Row, two, unary_rows, binary_rows, text_rows, Operation, literal_type}
 use Rattle.wy_rules.specs.Derivations.{Derivation, T-Lit, T-Var, T-This, T-Call, T-New, T-If, T-Set, T-Op, T-Asc, T-Sub, Derivations, none as no_derivations, more as one_more, BlockDerivation, Result as OfResult, T-Seq, T-Val, Block-Sub, effects_of}
-use Rattle.wy_rules.specs.Typing.{Derives, DerivesAll, DerivesBlock, field_types}
+use Rattle.wy_rules.specs.Typing.{Derives, DerivesAll, DerivesBlock}
 use Rattle.wy_meaning.specs.Values.{Value, Int as NumberValue, Truth, Nothing, Text, Object, Thing, World}
 use Rattle.wy_meaning.specs.Results.{Result, give, tick, settle, bind}
 use Rattle.wy_meaning.specs.Operating.{binary_operator, operated}
@@ -32,7 +29,7 @@ use Rattle.wy_sound.specs.Laws.{IsLinked}
 use Rattle.wy_sound.proofs.Lists.{some_same}
 use Rattle.wy_sound.proofs.Below.{Below}
 use Rattle.wy_sound.proofs.Heaps.{Placed, kind_at, fields_at, many, ValueHas, AllHave, WellHeap, ThisHas, SightHas, sight_grows, sight_more, value_grows, value_below}
-use Rattle.wy_sound.proofs.BaseTypes.{number_kind, truth_kind, text_kind, nothing_kind, own_kind, truth_at}
+use Rattle.wy_sound.proofs.BaseTypes.{number_kind, truth_kind, text_kind, nothing_kind, own_kind}
 use Rattle.wy_sound.proofs.Results.{Sound, Answers, Valued, give_sound, node_sound, tick_sound, more_sound, bind_sound, settle_sound, found_answers}
 use Rattle.wy_sound.proofs.Operating.{IsStrict, unary_answers, text_answers, binary_answers}
 use Rattle.wy_sound.proofs.Names.{name_value, assigned_answers}

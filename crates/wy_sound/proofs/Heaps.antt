@@ -1,6 +1,6 @@
 -- Values and objects that have their types, while the instance of a number starts, or `main` runs: the objects of the instances before it
 -- and those that `new` made are ready; of the others nothing is known, and nobody holds them.
-use Rattle.std.proofs.Common.{◌≡◌, ◌≢◌, ℕ, zero, suc, ◌+◌, ◌<◌, ◌≤◌, Bool, true, false, List, [], ◌∷◌, ◌++◌, length, map, ◌⊎◌, inl, inr, ⊎_elim, refl, sym, ap, ◌∙◌, subst, Option, Some, None, arith}
+use Rattle.std.proofs.Common.{◌≡◌, ℕ, zero, suc, ◌<◌, ◌≤◌, List, [], ◌∷◌, ◌++◌, length, map, ◌⊎◌, inl, inr, ⊎_elim, refl, sym, ap, ◌∙◌, subst, Option, Some, None, arith}
 use Rattle.std.specs.Prelude.{slice_get, slice_set, if◌then◌else◌}
 use Rattle.std.proofs.lemmas.Bool.{cases_eq, eq-eqb, ne_eqb}
 use Rattle.wy_effects.specs.Members.{In}
@@ -18,7 +18,7 @@ use Rattle.wy_rules.specs.Typing.{field_types, variable_type, ScopeHolds}
 use Rattle.wy_meaning.specs.Values.{Value, Int as Number, Truth, Nothing, Text, Object, Grant, Named, value_named, Thing}
 use Rattle.wy_meaning.specs.Eval.{Sight, with_local}
 use Rattle.wy_sound.specs.Arguments.{IsThere, actual_type}
-use Rattle.wy_sound.proofs.Lists.{some_same, get_within, get_set_same, get_set_other, length_set, get_left, get_last, get_either}
+use Rattle.wy_sound.proofs.Lists.{some_same, get_within, get_set_same, get_set_other, length_set, get_left, get_either}
 use Rattle.wy_sound.proofs.Below.{Below, below_trans, AllBelow}
 
 -- an instance of a number with its scope, and derivations of the scope's bodies over the types of the run

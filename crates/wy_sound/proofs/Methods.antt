@@ -1,5 +1,5 @@
 -- A method that a type of a run has is that of a body of the instance's scope, which a call finds.
-use Rattle.std.proofs.Common.{◌≡◌, ℕ, zero, suc, ◌+◌, Bool, true, false, ◌&&◌, List, [], ◌∷◌, length, map, refl, sym, ap, ◌∙◌, subst, Option, Some, None, arith, nat_eq}
+use Rattle.std.proofs.Common.{◌≡◌, ℕ, zero, suc, ◌+◌, Bool, true, false, ◌&&◌, List, [], ◌∷◌, map, refl, sym, ap, ◌∙◌, subst, Option, Some, None, arith, nat_eq}
 use Rattle.std.specs.Prelude.{slice_get, bytes_eq, if◌then◌else◌}
 use Rattle.std.specs.Option.{option_map}
 use Rattle.std.proofs.lemmas.Bool.Decides.{nat_tests}
@@ -9,7 +9,7 @@ use Rattle.wy_types.specs.Program.{Program, Scope, Body}
 use Rattle.wy_types.specs.Signature.{Signature, mapped_signature, find_method}
 use Rattle.wy_types.specs.Types.{signature, methods_of_owner, scope_bodies}
 use Rattle.wy_types.proofs.FindingMethods.{find_mapped}
-use Rattle.wy_rules.specs.GroundTypes.{GroundType, Own, type_at, read_by, effect_by, own_methods, ground_methods}
+use Rattle.wy_rules.specs.GroundTypes.{GroundType, Own, effect_by, own_methods, ground_methods}
 use Rattle.wy_rules.specs.Typing.{DerivesBody, DerivesBodies}
 use Rattle.wy_rules.specs.Derivations.{BodyDerivation}
 use Rattle.wy_rules.specs.Readings.{Reading}

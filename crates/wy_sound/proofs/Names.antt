@@ -1,5 +1,5 @@
 -- What names stand for has their types: variables, fields of the current object, own names; and a method's parameters and a literal's captured variables.
-use Rattle.std.proofs.Common.{◌≡◌, ◌≢◌, ℕ, zero, suc, ◌+◌, ◌<◌, ◌≤◌, Bool, true, false, ◌&&◌, List, [], ◌∷◌, ◌++◌, length, map, ◌⊎◌, inl, inr, ⊎_elim, refl, sym, ap, ◌∙◌, subst, Option, Some, None, arith, nat_eq, nat_lt, lt_irrefl}
+use Rattle.std.proofs.Common.{◌≡◌, ◌≢◌, ℕ, zero, suc, ◌+◌, ◌<◌, ◌≤◌, Bool, true, false, ◌&&◌, List, [], ◌∷◌, ◌++◌, length, map, inl, inr, ⊎_elim, refl, sym, ap, ◌∙◌, subst, Option, Some, None, arith, nat_eq, nat_lt, lt_irrefl}
 use Rattle.std.specs.Prelude.{slice_get, slice_set, if◌then◌else◌}
 use Rattle.std.specs.List.{range_with_len}
 use Rattle.std.specs.Option.{option_map}
@@ -11,15 +11,14 @@ use Rattle.wy_types.specs.declared.code.Variable.{Variable}
 use Rattle.wy_types.specs.declared.code.Variable.TheVariants.{Parameter, Local}
 use Rattle.wy_types.specs.declared.code.Binding.{Binding}
 use Rattle.wy_types.specs.declared.code.Binding.TheVariants as to
-use Rattle.wy_types.specs.declared.types.TypeRef.{TypeRef}
 use Rattle.wy_types.specs.declared.linked.Actual.{Actual}
 use Rattle.wy_types.specs.declared.linked.Actual.TheVariants as actual
 use Rattle.wy_types.specs.declared.resolved.Field.{Field}
 use Rattle.wy_types.specs.declared.resolved.OwnName.{OwnName}
-use Rattle.wy_types.specs.Program.{Program, Scope, Body}
-use Rattle.wy_types.specs.Core.{BindingFits, literal_captures, body_parameters}
+use Rattle.wy_types.specs.Program.{Program, Body}
+use Rattle.wy_types.specs.Core.{BindingFits, body_parameters}
 use Rattle.wy_rules.specs.GroundTypes.{GroundType, Own, ground_reading}
-use Rattle.wy_rules.specs.Typing.{fields_of, field_types, field_at, if_mutable, var_field, parameter_type, variable_type, binding_type}
+use Rattle.wy_rules.specs.Typing.{fields_of, field_types, field_at, if_mutable, var_field, parameter_type, binding_type}
 use Rattle.wy_device.specs.RunEnds.{Wrong}
 use Rattle.wy_meaning.specs.Values.{Value, Nothing, Object, Grant, Named, same_variable, value_named, Thing, World, Reply, replied, stopped, object_of, field_in, with_fields, field_set, write_field}
 use Rattle.wy_meaning.specs.Starts.{actual_in, actual_of}
@@ -28,8 +27,8 @@ use Rattle.wy_sound.specs.Arguments.{IsThere, actual_type, ground_below}
 use Rattle.wy_sound.specs.Programs.{program_starts}
 use Rattle.wy_sound.specs.Laws.{IsLinked}
 use Rattle.wy_sound.proofs.Lists.{some_same, pick_true, pick_false, get_within, get_below, get_map, get_mapped}
-use Rattle.wy_sound.proofs.Heaps.{Placed, kind_at, variable_at, fields_at, many, Ready, ValueHas, AllHave, VariableHas, NamesHave, WellHeap, ThingHas, Extends, all_get, all_set, SightHas, ThisHas, heap_set}
-use Rattle.wy_sound.proofs.Results.{Answers, Valued}
+use Rattle.wy_sound.proofs.Heaps.{Placed, kind_at, variable_at, fields_at, many, ValueHas, AllHave, VariableHas, NamesHave, WellHeap, ThingHas, all_get, all_set, SightHas, ThisHas, heap_set}
+use Rattle.wy_sound.proofs.Results.{Answers}
 use Rattle.wy_sound.proofs.Placing.{started_at, fields_same}
 
 ------------------------------------------------------------

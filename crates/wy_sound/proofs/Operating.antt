@@ -1,10 +1,9 @@
 -- Operators on operands of their types give what their rows say, or trap.
-use Rattle.std.proofs.Common.{◌≡◌, ◌≢◌, ℕ, ℤ, pos, negsuc, Bool, true, false, not, ◌&&◌, List, [], ◌∷◌, ◌++◌, length, map, take, drop, inl, inr, refl, sym, ap, ◌∙◌, subst, Option, Some, None, nat_le, nat_lt, ◌-◌, ◌-ℤ◌, ◌+ℤ◌, ◌*ℤ◌, neg_ℤ, ◌+◌, int_lt, int_le, int_div, int_rem}
+use Rattle.std.proofs.Common.{ℕ, ℤ, pos, negsuc, Bool, true, false, not, ◌&&◌, List, [], ◌∷◌, ◌++◌, length, map, inl, inr, refl, sym, subst, Option, Some, None, nat_le, nat_lt, ◌-ℤ◌, ◌+ℤ◌, ◌*ℤ◌, neg_ℤ, ◌+◌, int_lt, int_le, int_div, int_rem}
 use Rattle.std.specs.Prelude.{slice_get, if◌then◌else◌}
 use Rattle.std.specs.Fmt.{signed_decimal}
 use Rattle.wy_effects.specs.Members.{In}
 use Rattle.wy_text.specs.declared.fault.Place.{Place}
-use Rattle.wy_types.specs.declared.types.TypeRef.{TypeRef}
 use Rattle.wy_types.specs.declared.types.TypeRef.TheVariants as of
 use Rattle.wy_types.specs.declared.code.UnaryOperator.{UnaryOperator}
 use Rattle.wy_types.specs.declared.code.UnaryOperator.TheVariants as unary
@@ -14,15 +13,15 @@ use Rattle.wy_types.specs.declared.code.TextOperator.{TextOperator}
 use Rattle.wy_types.specs.declared.code.TextOperator.TheVariants as text
 use Rattle.wy_types.specs.Program.{Program}
 use Rattle.wy_types.specs.Core.{IsCore}
-use Rattle.wy_device.specs.Operators.{Operator, Add, Subtract, Multiply, Divide, Remainder, Join, Less, LessOrEqual, Greater, GreaterOrEqual, Operand, Computed, GivesNumber, GivesTruth, Builds, Traps, Misfits, operate, is_int, within_range, is_zero, quotient_of, remainder_of, most_bytes, joined, part_of, byte_found, byte_at, one_byte, same_int, same_truth, compared, on_numbers, on_two, on_number, on_truth, on_text, on_texts, on_text_and_number, on_text_and_numbers}
+use Rattle.wy_device.specs.Operators.{Operator, Add, Subtract, Multiply, Divide, Remainder, Join, Less, LessOrEqual, Greater, GreaterOrEqual, Computed, GivesNumber, GivesTruth, Builds, Traps, Misfits, operate, is_int, within_range, is_zero, quotient_of, remainder_of, most_bytes, joined, part_of, byte_found, byte_at, one_byte, compared, on_numbers, on_two, on_number, on_truth, on_text, on_texts, on_text_and_number, on_text_and_numbers}
 use Rattle.wy_device.specs.RunEnds.{Trap}
 use Rattle.wy_device.specs.Traps.{most_texts, Crowded}
 use Rattle.wy_rules.specs.GroundTypes.{GroundType, Int as Ints, Bool as Truths, Text as Texts}
-use Rattle.wy_rules.specs.Operators.{Row, row, two, unary_rows, binary_rows, text_rows}
-use Rattle.wy_meaning.specs.Values.{Value, Int as Number, Truth, Text, Thing, World, Reply, replied, stopped, text_built}
+use Rattle.wy_rules.specs.Operators.{Row, two, unary_rows, binary_rows, text_rows}
+use Rattle.wy_meaning.specs.Values.{Value, Int as Number, Truth, Text, Thing, World, replied, stopped, text_built}
 use Rattle.wy_meaning.specs.Operating.{unary_operator, binary_operator, text_operator, operand, computed, operated}
 use Rattle.wy_sound.proofs.Below.{Below}
-use Rattle.wy_sound.proofs.Heaps.{Placed, kind_at, ValueHas, AllHave, WellHeap}
+use Rattle.wy_sound.proofs.Heaps.{Placed, kind_at, AllHave, WellHeap}
 use Rattle.wy_sound.proofs.BaseTypes.{number_kind, truth_kind, text_kind, number_at, truth_at, text_at}
 use Rattle.wy_sound.proofs.Results.{Answers, Valued, same_answers, trap_answers}
 

@@ -1,16 +1,12 @@
 -- Operations on grants: a method of a grant's own type is an operation of its kind, which takes texts, gives what it answers, and has the
 -- atom of the grant with the operation's member as its effect.
-use Rattle.std.proofs.Common.{◌≡◌, ◌≢◌, codes, ℕ, zero, suc, ◌+◌, ◌<◌, Bool, true, false, not, ◌&&◌, List, [], ◌∷◌, length, map, replicate, take, inl, inr, refl, sym, ap, ◌∙◌, subst, Option, Some, None, arith, nat_lt}
+use Rattle.std.proofs.Common.{◌≡◌, codes, ℕ, zero, suc, ◌<◌, Bool, true, false, List, [], ◌∷◌, length, map, replicate, take, inl, inr, refl, sym, ap, ◌∙◌, subst, Option, Some, arith}
 use Rattle.std.specs.Prelude.{slice_get, slice_index_or, bytes_eq, if◌then◌else◌}
-use Rattle.wy_text.specs.declared.fault.AtomName.{AtomName}
-use Rattle.wy_text.specs.declared.fault.Place.{Place}
 use Rattle.wy_effects.specs.Members.{In}
-use Rattle.wy_effects.specs.EffSet.{union, replace}
+use Rattle.wy_effects.specs.EffSet.{replace}
 use Rattle.wy_effects.proofs.SetLaws.{In-union-left}
 use Rattle.wy_effects.specs.AtomTable.{atom_name}
-use Rattle.wy_types.specs.declared.types.Method.{Method}
 use Rattle.wy_types.specs.declared.resolved.TypeDecl.{TypeDecl}
-use Rattle.wy_types.specs.declared.linked.Actual.TheVariants as actual
 use Rattle.wy_types.specs.Program.{Program}
 use Rattle.wy_types.specs.Primitive.{primitive_types}
 use Rattle.wy_types.specs.Signature.{Signature, mapped_signature, find_method}
@@ -26,10 +22,8 @@ use Rattle.wy_device.specs.declared.operation.Op.{Op}
 use Rattle.wy_device.specs.declared.operation.Op.TheVariants.{ConsoleRead, ConsoleWrite, FolderRead, FolderHas, FolderWrite, FolderAppend, FolderNames, ClockNow, RandomWord}
 use Rattle.wy_device.specs.declared.operation.OpName.{OpName}
 use Rattle.wy_device.specs.declared.operation.OpName.TheVariants as name
-use Rattle.wy_device.specs.Operation.{name_of, method_text, member_named, member_of}
-use Rattle.wy_device.specs.Requests.{operations_of, operation_called, operation_on, operation_given, operation_of}
-use Rattle.wy_meaning.specs.Starts.{kind_numbered}
-use Rattle.wy_sound.specs.Arguments.{actual_type}
+use Rattle.wy_device.specs.Operation.{name_of, method_text, member_named}
+use Rattle.wy_device.specs.Requests.{operations_of, operation_called, operation_on}
 use Rattle.wy_sound.specs.Programs.{GrantsFit, sets_of}
 use Rattle.wy_sound.proofs.Lists.{some_same}
 use Rattle.wy_sound.proofs.BaseTypes.{IsGrant, sets_put, grant_kind}

@@ -1,22 +1,14 @@
 -- A method that is called on a grant traps, waits, fails, or does its operation and gives what the operation answers.
-use Rattle.std.proofs.Common.{◌≡◌, ◌≢◌, ℕ, zero, suc, ◌+◌, ◌-◌, ◌<◌, Bool, true, false, not, ◌&&◌, List, [], ◌∷◌, length, map, replicate, inl, refl, sym, ap, ◌∙◌, subst, Option, Some, None, arith, nat_lt}
+use Rattle.std.proofs.Common.{◌≡◌, ℕ, zero, suc, ◌-◌, ◌<◌, Bool, true, false, not, ◌&&◌, List, [], ◌∷◌, length, replicate, inl, refl, sym, ap, ◌∙◌, subst, Option, Some, None, arith, nat_lt}
 use Rattle.std.specs.Prelude.{slice_get, if◌then◌else◌}
 use Rattle.wy_text.specs.declared.fault.AtomName.{AtomName}
 use Rattle.wy_text.specs.declared.fault.Place.{Place}
-use Rattle.wy_effects.specs.Members.{In}
-use Rattle.wy_types.specs.declared.types.TypeRef.{TypeRef}
-use Rattle.wy_types.specs.declared.types.TypeRef.TheVariants as of
 use Rattle.wy_types.specs.declared.linked.Actual.TheVariants as actual
-use Rattle.wy_types.specs.declared.resolved.Origin.{Origin}
-use Rattle.wy_types.specs.declared.resolved.Origin.TheVariants as origin
-use Rattle.wy_types.specs.declared.resolved.OwnName.{OwnName}
 use Rattle.wy_types.specs.Program.{Program, Scope}
 use Rattle.wy_types.specs.Signature.{Signature, find_method}
 use Rattle.wy_types.specs.Core.{IsCore}
 use Rattle.wy_types.specs.Ground.{names_of}
-use Rattle.wy_rules.specs.GroundTypes.{GroundType, Int as Ints, Bool as Truths, Text as Texts, Nothing as Nothings, Named, ground_methods}
-use Rattle.wy_device.specs.declared.deed.Deed.{Deed as DeedRecord}
-use Rattle.wy_device.specs.declared.deed.Event.TheVariants.{Deed}
+use Rattle.wy_rules.specs.GroundTypes.{GroundType, Int as Ints, Bool as Truths, Text as Texts, Nothing as Nothings, ground_methods}
 use Rattle.wy_device.specs.declared.operation.Kind.{Kind}
 use Rattle.wy_device.specs.declared.operation.Op.{Op}
 use Rattle.wy_device.specs.declared.operation.OpName.{OpName}
@@ -24,20 +16,20 @@ use Rattle.wy_device.specs.declared.operation.OpName.TheVariants as name
 use Rattle.wy_device.specs.declared.operation.Answer.{Answer}
 use Rattle.wy_device.specs.declared.operation.Answer.TheVariants as answer
 use Rattle.wy_device.specs.Operation.{name_of, kind_of, member_named}
-use Rattle.wy_device.specs.Requests.{operations_of, operation_called, operation_given, operation_of, has_good_name, answers_text, is_text_up_to, is_truth, is_number, is_done, fits_operation, Told, Answers, Fails, Waits, tape_of, with_tape, told_by, asked}
-use Rattle.wy_device.specs.RunEnds.{Trap, DeviceFailed, Waiting, Wrong}
+use Rattle.wy_device.specs.Requests.{operations_of, operation_given, operation_of, has_good_name, answers_text, is_text_up_to, is_truth, is_number, is_done, fits_operation, Answers, Fails, Waits, tape_of, with_tape, told_by, asked}
+use Rattle.wy_device.specs.RunEnds.{Trap, Waiting}
 use Rattle.wy_device.specs.Tapes.{Tapes}
 use Rattle.wy_device.specs.Traps.{most_texts, BadName, Crowded}
-use Rattle.wy_meaning.specs.Values.{Value, Int as Number, Truth, Nothing, Text, Object, Grant, Thing, World}
-use Rattle.wy_meaning.specs.Starts.{GrantIs, scope_names, last_scope, kind_numbered, kind_of_type, grant_of_kind, grant_from, grant_named, grant_of}
-use Rattle.wy_meaning.specs.Results.{Result, stop, told, settle}
-use Rattle.wy_meaning.specs.Performing.{texts_of, with_text, text_of, value_answered, deed, answered, requested, requested_of, perform}
-use Rattle.wy_sound.specs.Arguments.{program_names, actual_type, IsThere}
+use Rattle.wy_meaning.specs.Values.{Value, Thing, World}
+use Rattle.wy_meaning.specs.Starts.{scope_names, last_scope, kind_numbered, kind_of_type, grant_of_kind, grant_from, grant_named, grant_of}
+use Rattle.wy_meaning.specs.Results.{stop, told, settle}
+use Rattle.wy_meaning.specs.Performing.{texts_of, with_text, text_of, deed, answered, requested, requested_of, perform}
+use Rattle.wy_sound.specs.Arguments.{actual_type, IsThere}
 use Rattle.wy_sound.proofs.Effects.{HasDeed, kept_deed, kept_held}
-use Rattle.wy_sound.proofs.Heaps.{ValueHas, AllHave, WellHeap, extends_refl}
+use Rattle.wy_sound.proofs.Heaps.{AllHave, WellHeap, extends_refl}
 use Rattle.wy_sound.proofs.BaseTypes.{IsGrant, is_grant, grant_kind, sets_put, text_value}
 use Rattle.wy_sound.proofs.Operations.{arity_of, answer_kind, kind_of_number, operation_method, primitive_methods, operation_found, operation_there, operation_atom}
-use Rattle.wy_sound.proofs.Results.{Sound, SoundTo, Valued, stop_sound}
+use Rattle.wy_sound.proofs.Results.{Sound, Valued, stop_sound}
 
 ------------------------------------------------------------
 -- The grant of a number

@@ -1,26 +1,22 @@
 -- The instances of a run with their scopes: found among the start list, as `main` after it, and with derivations over the types of the run.
-use Rattle.std.proofs.Common.{◌≡◌, codes, ℕ, zero, suc, ◌+◌, ◌-◌, ◌<◌, ◌≤◌, List, [], ◌∷◌, ◌++◌, length, map, ◌⊎◌, inl, inr, refl, sym, ap, ◌∙◌, subst, Option, Some, None, arith}
+use Rattle.std.proofs.Common.{◌≡◌, codes, ℕ, suc, ◌-◌, ◌≤◌, List, [], ◌∷◌, ◌++◌, length, map, refl, sym, ap, ◌∙◌, subst, Some, None, arith}
 use Rattle.std.specs.Prelude.{slice_get}
-use Rattle.wy_effects.specs.Members.{In}
 use Rattle.wy_effects.proofs.Lists.{In-slice_get}
-use Rattle.wy_types.specs.declared.types.TypeRef.{TypeRef}
-use Rattle.wy_types.specs.declared.linked.Actual.{Actual}
 use Rattle.wy_types.specs.declared.linked.Instance.{Instance}
 use Rattle.wy_types.specs.declared.resolved.ScopeKind.TheVariants as kind
 use Rattle.wy_types.specs.Program.{Program, Scope}
 use Rattle.wy_types.specs.Core.{ScopeFits}
 use Rattle.wy_types.specs.Ground.{instance_of, program_number, program_visited, program_sets, start_list}
-use Rattle.wy_rules.specs.GroundTypes.{GroundType, type_at, read_by, run_instances}
-use Rattle.wy_rules.specs.GroundTyping.{IsInstanceOf}
+use Rattle.wy_rules.specs.GroundTypes.{type_at, read_by, run_instances}
 use Rattle.wy_rules.specs.Typing.{field_types}
 use Rattle.wy_rules.proofs.Grounding.{ground_typing}
 use Rattle.wy_meaning.specs.Starts.{Started, all_started, started_of, scope_started, scope_of_instance}
 use Rattle.wy_meaning.specs.Eval.{instance_name, started_name}
 use Rattle.wy_sound.specs.Programs.{program_starts}
 use Rattle.wy_sound.specs.Laws.{IsLinked}
-use Rattle.wy_sound.proofs.Lists.{some_same, get_within, get_below, get_mapped, map_append}
+use Rattle.wy_sound.proofs.Lists.{some_same, get_below, get_mapped, map_append}
 use Rattle.wy_sound.proofs.Performing.{last_number}
-use Rattle.wy_sound.proofs.Heaps.{Placed, kind_at, fields_at, many}
+use Rattle.wy_sound.proofs.Heaps.{Placed, fields_at, many}
 
 length_more : {X : Type 0} (xs : List X) (y : X) → length (xs ++ y ∷ []) ≡ suc (length xs)
 length_more [] y = refl

@@ -1,5 +1,5 @@
 -- The laws over whole runs: no end is a wrong one, and each deed is in the authority of every call that is open.
-use Rattle.std.proofs.Common.{◌≡◌, ◌≢◌, codes, ℕ, zero, suc, ◌+◌, ◌<◌, ◌≤◌, List, [], ◌∷◌, length, map, inl, inr, refl, sym, ap, ◌∙◌, subst, Option, Some, None, arith, lt_irrefl}
+use Rattle.std.proofs.Common.{◌≡◌, ◌≢◌, codes, ℕ, zero, suc, ◌+◌, ◌<◌, List, [], ◌∷◌, length, map, inl, inr, refl, sym, ap, ◌∙◌, subst, Some, arith, lt_irrefl}
 use Rattle.std.specs.Prelude.{slice_get}
 use Rattle.wy_types.specs.declared.linked.Instance.{Instance}
 use Rattle.wy_types.specs.Program.{Program}
@@ -7,7 +7,7 @@ use Rattle.wy_types.specs.Ground.{start_list}
 use Rattle.wy_rules.specs.GroundTypes.{run_instances}
 use Rattle.wy_device.specs.declared.deed.Event.{Event}
 use Rattle.wy_device.specs.declared.deed.Event.TheVariants.{Enter}
-use Rattle.wy_device.specs.RunEnds.{Ended, Wrong}
+use Rattle.wy_device.specs.RunEnds.{Wrong}
 use Rattle.wy_device.specs.Tapes.{Tapes}
 use Rattle.wy_meaning.specs.Values.{Value, Thing, World, Outcome, Gives, Stops}
 use Rattle.wy_meaning.specs.Starts.{Started, started_of}

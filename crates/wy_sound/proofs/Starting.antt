@@ -1,39 +1,34 @@
 -- The instances start one after the other, and then the program's block runs: the whole meaning is sound.
-use Rattle.std.proofs.Common.{◌≡◌, ◌≢◌, codes, ℕ, zero, suc, ◌+◌, ◌<◌, ◌≤◌, Bool, true, false, List, [], ◌∷◌, ◌++◌, length, map, ◌⊎◌, inl, inr, ⊎_elim, refl, sym, ap, ◌∙◌, subst, Option, Some, None, arith, append-nil, append_assoc, lt_irrefl}
+use Rattle.std.proofs.Common.{◌≡◌, ◌≢◌, ℕ, suc, ◌<◌, ◌≤◌, List, [], ◌∷◌, ◌++◌, inl, inr, ⊎_elim, refl, sym, ap, ◌∙◌, subst, Some, None, arith, append-nil, append_assoc, lt_irrefl}
 use Rattle.std.specs.Prelude.{slice_get, slice_set}
-use Rattle.std.proofs.lemmas.Bool.{cases_eq, cases_lt}
+use Rattle.std.proofs.lemmas.Bool.{cases_eq}
 use Rattle.wy_effects.specs.Members.{In, Within}
 use Rattle.wy_effects.proofs.Lists.{In-slice_get}
-use Rattle.wy_types.specs.declared.code.Variable.{Variable}
-use Rattle.wy_types.specs.declared.linked.Instance.{Instance}
 use Rattle.wy_types.specs.declared.resolved.ScopeKind.{ScopeKind}
 use Rattle.wy_types.specs.declared.resolved.ScopeKind.TheVariants as kind
 use Rattle.wy_types.specs.Code.{Values, none, more, Block}
-use Rattle.wy_types.specs.Program.{Program, Scope, Start, Init, Run}
+use Rattle.wy_types.specs.Program.{Program, Start, Init, Run}
 use Rattle.wy_types.specs.declared.types.TypeRef.TheVariants as of
 use Rattle.wy_types.specs.Core.{ValuesFit, BlockFits, StartFits, StartIs, literal_captures}
-use Rattle.wy_types.specs.Ground.{start_list}
-use Rattle.wy_rules.specs.GroundTypes.{GroundType, Own, ground_reading, effect_by, run_instances}
+use Rattle.wy_rules.specs.GroundTypes.{GroundType, ground_reading, effect_by}
 use Rattle.wy_rules.specs.Derivations.{BodyDerivation, T-Body, T-Body-Init, Derivations, none as no_derivations, more as one_more, effects_of}
 use Rattle.wy_rules.specs.Typing.{DerivesAll, DerivesStart}
 use Rattle.wy_device.specs.declared.deed.Event.{Event}
 use Rattle.wy_device.specs.declared.deed.Event.TheVariants.{Enter, Leave}
-use Rattle.wy_device.specs.RunEnds.{RunEnd, Ended, Wrong}
-use Rattle.wy_device.specs.Tapes.{Tapes}
+use Rattle.wy_device.specs.RunEnds.{Wrong}
 use Rattle.wy_meaning.specs.Values.{Value, Nothing, Thing, World, Outcome, Gives, Stops, field_added, fill_field}
-use Rattle.wy_meaning.specs.Starts.{Started, started_of, scope_of_instance}
+use Rattle.wy_meaning.specs.Starts.{scope_of_instance}
 use Rattle.wy_meaning.specs.Results.{Result, give, node, tick, told, settle, added, carried, bind, whole}
 use Rattle.wy_meaning.specs.Values as value
 use Rattle.wy_meaning.specs.Eval.{Calls, eval_block, open_calls}
-use Rattle.wy_meaning.specs.Start.{fill_all, start_of_scope, outside, run_start, begin, objects_at_first, end_of, world_at_first, meaning}
+use Rattle.wy_meaning.specs.Start.{fill_all, start_of_scope, outside, run_start}
 use Rattle.wy_meaning.specs.Bounds.{Call, Bounded, BoundedFrom}
 use Rattle.wy_meaning.specs.OpenCalls.{open_after}
 use Rattle.wy_sound.specs.Programs.{program_starts, allowed, GrantsFit}
 use Rattle.wy_sound.specs.Laws.{IsLinked}
 use Rattle.wy_sound.proofs.Lists.{some_same, get_within, get_set_same, get_set_other, length_set}
-use Rattle.wy_sound.proofs.Effects.{call_of, May, Kept, Held, kept_none, held_none, kept_held, held_more, kept_more, kept_call, held_call, after_append, bounded_append}
-use Rattle.wy_sound.proofs.Allowing.{init_first, run_first, may_first}
-use Rattle.wy_sound.proofs.Heaps.{Placed, kind_at, fields_at, many, Ready, ValueHas, AllHave, VariableHas, NamesHave, ThingHas, WellHeap, Grows, Extends, value_grows, all_grow, all_append, thing_grows, set_grows, SightHas}
+use Rattle.wy_sound.proofs.Effects.{call_of, May, Kept, Held, kept_none, held_more, kept_more, kept_call, held_call, after_append, bounded_append}
+use Rattle.wy_sound.proofs.Heaps.{Placed, kind_at, fields_at, many, Ready, ValueHas, AllHave, ThingHas, WellHeap, Grows, Extends, value_grows, all_grow, all_append, thing_grows, set_grows, SightHas}
 use Rattle.wy_sound.proofs.Results.{SoundTo, Sound, Valued}
 use Rattle.wy_sound.proofs.Placing.{place, scope_there, scope_fits, kind_main, main_kind}
 use Rattle.wy_sound.proofs.Applying.{CallsSound}

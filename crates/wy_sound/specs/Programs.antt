@@ -1,6 +1,6 @@
 -- A program's run with its start list, what each call in it may do, and what resolving gives of a program beside what every core keeps.
 -- (docs/LANGUAGE.md, "Starting a program" and "Authority and report")
-use Rattle.std.specs.Prelude.{◌≡◌, ℕ, List, [], ◌∷◌, ◌++◌, Option, Some, None, map, bytes_eq, slice_get, slice_index_or, if◌then◌else◌}
+use Rattle.std.specs.Prelude.{◌≡◌, ℕ, List, [], ◌∷◌, ◌++◌, Some, map, bytes_eq, slice_get, if◌then◌else◌}
 use Rattle.wy_text.specs.declared.fault.AtomName.{AtomName}
 use Rattle.wy_effects.specs.Members.{In}
 use Rattle.wy_effects.specs.AtomTable.{atom_name}
