@@ -60,7 +60,7 @@ module _ (p : Program) where
   may_row : (r : InstanceRow) (b : BodyRow) → In r (authority_of p).rows → In b r.bodies → May p (call_of r.name b.name) b.set
   may_row r b i j = record {
     by = λ a h. contains_in (atom_named p a) (allowed p (call_of r.name b.name))
-      (in_call (authority_of p).atoms (call_of r.name b.name) (authority_of p).rows r (atom_named p a) i refl (in_body (authority_of p).atoms b.name r.bodies b a j refl h));
+        (in_call (authority_of p).atoms (call_of r.name b.name) (authority_of p).rows r (atom_named p a) i refl (in_body (authority_of p).atoms b.name r.bodies b a j refl h));
   }
 
   abbrev row_with : Instance → List ℕ → InstanceRow

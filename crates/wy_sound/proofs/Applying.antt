@@ -47,7 +47,7 @@ module _ (p : Program) (now : ℕ) where
   -- what calls on objects do, within the effect of the object's own method
   pub record CallsSound (calls : Calls) : Type 0 where
     pub by : (a : ℕ) (t : Thing) (name : List ℕ) (vs : List Value) (w : World) (m : Signature GroundType) → slice_get w.objects a ≡ Some t → Ready p now a →
-      find_method name (ground_methods p (Own t.instance t.literal)) ≡ Some m → AllHave p now w.objects vs m.params → WellHeap p now w.objects → Sound p now m.effect w (Valued p now m.result) (calls a name vs w)
+        find_method name (ground_methods p (Own t.instance t.literal)) ≡ Some m → AllHave p now w.objects vs m.params → WellHeap p now w.objects → Sound p now m.effect w (Valued p now m.result) (calls a name vs w)
 
   no_method : (s k : GroundType) (name : List ℕ) (m : Signature GroundType) → ground_methods p s ≡ [] → Below p s k → find_method name (ground_methods p k) ≡ Some m → ⊥
   no_method s k name m none q e =
@@ -96,7 +96,7 @@ module _ (p : Program) (now : ℕ) where
         let ok : Value → World → Type 0 = Valued p now (kind_at p sight.instance pl (of.Own l)) in
         let captures : literal_captures (slice_get pl.scope.literals l) ≡ lit.0.captures = ap literal_captures lit.1 in
         let has : (x : Variable) → In x lit.0.captures → VariableHas p now w.objects sight.instance pl sight.variables x =
-          λ x i. sh.names.by x (within x (subst (λ xs. In x xs) (sym captures) i)) in
+        λ x i. sh.names.by x (within x (subst (λ xs. In x xs) (sym captures) i)) in
         let c = captured_values sight.variables lit.0.captures (λ x i. ((has x i).value, (has x i).here)) in
         let t : Thing = record { instance = sight.instance; literal = l; captured = c.0; fields = vs } in
         let th : ThingHas p now w.objects t = record {
@@ -106,8 +106,8 @@ module _ (p : Program) (now : ℕ) where
           captured = record { by = λ x i. let j = subst (λ xs. In x xs) captures i in let v = has x j in record { kind = v.kind; typed = v.typed; value = v.value; here = c.2 x j ∙ v.here; has = v.has } };
         } in
         let long : length vs ≡ length lit.0.fields =
-          all_length p now w.objects vs (fields_at p sight.instance pl l) typed ∙ map_length (kind_at p sight.instance pl) (field_types pl.scope l) ∙ map_length (λ (f : Field). f.typ) (fields_of pl.scope l) ∙
-          ap (λ o. length (literal_fields o)) lit.1 in
+        all_length p now w.objects vs (fields_at p sight.instance pl l) typed ∙ map_length (kind_at p sight.instance pl) (field_types pl.scope l) ∙ map_length (λ (f : Field). f.typ) (fields_of pl.scope l) ∙
+        ap (λ o. length (literal_fields o)) lit.1 in
         let ready : Ready p now (length w.objects) = inr wh.long in
         subst (λ o. Answers p now w ok (object_new place sight l vs w (literal_in o l))) (sym (scope_there p linked sight.instance pl))
         (subst (λ o. Answers p now w ok (object_new place sight l vs w o)) (sym lit.1)

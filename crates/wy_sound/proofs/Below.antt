@@ -100,6 +100,6 @@ module _ (p : Program) where
   method_below s t name g (inr h) f = elim (h.closed (s, t) h.first) [
     | inl c ↦ same_method name s t g c.0 f
     | inr c ↦ (let called : g.name ≡ name = find_named name (ground_methods p t) g f in
-      let r = covered h.pairs h.closed (find_method g.name (ground_methods p s)) g (c.2 g (find_in name (ground_methods p t) g f)) in
-      record { method = r.0; found = ap (λ n. find_method n (ground_methods p s)) (sym called) ∙ r.1; stands = r.2 })
+        let r = covered h.pairs h.closed (find_method g.name (ground_methods p s)) g (c.2 g (find_in name (ground_methods p t) g f)) in
+        record { method = r.0; found = ap (λ n. find_method n (ground_methods p s)) (sym called) ∙ r.1; stands = r.2 })
   ]

@@ -54,13 +54,13 @@ module _ (p : Program) (linked : IsLinked p) (now : ℕ) (early : now ≤ many p
       early = th.early;
       this = (a, t, refl, at, refl, sym owner, ready);
       names = method_names p now w.objects t.instance pl k b there vs typed t.captured (literal_captures (slice_get pl.scope.literals b.owner))
-        (subst (λ l. NamesHave p now w.objects t.instance pl (literal_captures (slice_get pl.scope.literals l)) t.captured) (sym owner) th.captured);
+          (subst (λ l. NamesHave p now w.objects t.instance pl (literal_captures (slice_get pl.scope.literals l)) t.captured) (sym owner) th.captured);
     }
 
     derived_sound : (k : ℕ) (b : Body) (d : BodyDerivation GroundType) → slice_get pl.scope.bodies k ≡ Some b → b.owner ≡ t.literal → AllHave p now w.objects vs (map (kind_at p t.instance pl) b.signature.params) →
         DerivesBody (ground_reading p t.instance pl.instance) pl.scope pl.holds.derivation.locals d b →
         Sound p now (effect_by pl.instance.bound pl.instance.ground b.signature.effect) w (Valued p now (kind_at p t.instance pl b.signature.result))
-          (eval_block p (program_starts p) calls (record { instance = t.instance; this = Some a; variables = parameters k 0 vs ++ t.captured }) b.block w)
+        (eval_block p (program_starts p) calls (record { instance = t.instance; this = Some a; variables = parameters k 0 vs ++ t.captured }) b.block w)
     derived_sound k b (T-Body place d f) there owner typed h =
         block_sound p linked now early calls ok (effect_by pl.instance.bound pl.instance.ground b.signature.effect) (Some b.owner) d b.block (kind_at p t.instance pl b.signature.result) f
         (literal_captures (slice_get pl.scope.literals b.owner) ++ body_parameters k b) (record { instance = t.instance; this = Some a; variables = parameters k 0 vs ++ t.captured }) pl w
@@ -78,9 +78,9 @@ module _ (p : Program) (linked : IsLinked p) (now : ℕ) (early : now ≤ many p
         let r : Result Value = eval_block p (program_starts p) calls (record { instance = t.instance; this = Some a; variables = parameters m.number 0 vs ++ t.captured }) b.block w in
         let long : length vs ≡ length b.signature.params = all_length p now w.objects vs (map (kind_at p t.instance pl) b.signature.params) typed ∙ map_length (kind_at p t.instance pl) b.signature.params in
         let may : May p (call_of (instance_name (program_starts p) t.instance) (body_text t.literal name)) f =
-          subst (λ n. May p (call_of n (body_text t.literal name)) f) (sym (name_there p linked t.instance pl))
-          (subst (λ n. May p (call_of pl.instance.name n) f) (body_called b t.literal name owner is)
-          (may_method p t.instance pl.instance pl.scope b pl.is.there pl.is.scope (In-slice_get pl.scope.bodies m.number b there))) in
+        subst (λ n. May p (call_of n (body_text t.literal name)) f) (sym (name_there p linked t.instance pl))
+        (subst (λ n. May p (call_of pl.instance.name n) f) (body_called b t.literal name owner is)
+        (may_method p t.instance pl.instance pl.scope b pl.is.there pl.is.scope (In-slice_get pl.scope.bodies m.number b there))) in
         let enter = Enter (instance_name (program_starts p) t.instance) (body_text t.literal name) in
         subst (λ (r : Result Value). Sound p now f w ok' r) (sym (pick_true (nat_eq (length vs) (length b.signature.params)) (whole enter r) (stop Wrong w) (eq-eqb (length vs) (length b.signature.params) long)))
         (whole_sound p now f (instance_name (program_starts p) t.instance) (body_text t.literal name) w ok' r may (derived_sound m.number b d.0 there owner typed d.1))
@@ -98,6 +98,8 @@ module _ (p : Program) (linked : IsLinked p) (now : ℕ) (early : now ≤ many p
   pub calls_sound : (n : ℕ) → CallsSound p now (open_calls p (program_starts p) n)
   unfolding open_calls
   calls_sound zero = record { by = λ a t name vs w m at ready found typed wh. stop_sound p now m.effect w (Valued p now m.result) TooDeep w (λ e. cc) }
-  calls_sound (suc n) = record { by = λ a t name vs w m at ready found typed wh.
-      subst (λ o. Sound p now m.effect w (Valued p now m.result) (called_on p (program_starts p) (open_calls p (program_starts p) n) a name vs w o)) (sym at)
-      (method_sound (open_calls p (program_starts p) n) (calls_sound n) a t name vs w at ready (wh.by a t at ready) wh m found typed) }
+  calls_sound (suc n) = record {
+    by = λ a t name vs w m at ready found typed wh.
+        subst (λ o. Sound p now m.effect w (Valued p now m.result) (called_on p (program_starts p) (open_calls p (program_starts p) n) a name vs w o)) (sym at)
+        (method_sound (open_calls p (program_starts p) n) (calls_sound n) a t name vs w at ready (wh.by a t at ready) wh m found typed);
+  }

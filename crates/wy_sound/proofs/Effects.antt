@@ -94,7 +94,7 @@ module _ (p : Program) where
   pub kept_call : (g : List ℕ) (x b : List ℕ) (es : List Event) → May (call_of x b) g → Kept g es → Kept g (Enter x b ∷ es ++ Leave ∷ [])
   kept_call g x b es i h = record {
     bounded = λ q cs m. bounded_append (call_of x b ∷ cs) es (Leave ∷ []) (h.bounded q (call_of x b ∷ cs) (i, m))
-      (subst (λ (v : List Call). BoundedFrom (allowed p) v (Leave ∷ [])) (sym (h.closes (call_of x b ∷ cs))) tt);
+        (subst (λ (v : List Call). BoundedFrom (allowed p) v (Leave ∷ [])) (sym (h.closes (call_of x b ∷ cs))) tt);
     closes = λ cs. after_append (call_of x b ∷ cs) es (Leave ∷ []) ∙ ap (λ (v : List Call). open_after v (Leave ∷ [])) (h.closes (call_of x b ∷ cs));
   }
 

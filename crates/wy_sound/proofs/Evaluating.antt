@@ -67,9 +67,16 @@ module _ (p : Program) (linked : IsLinked p) (now : ℕ) (early : now ≤ many p
   -- the current object
   this_value : (sight : Sight) (pl : Placed p sight.instance) (h : List Thing) (l : ℕ) → ThisHas p now h sight.instance sight.this (Some l) →
       (v : Value) × (object_value sight.this ≡ Some v) × ValueHas p now h v (kind_at p sight.instance pl (of.Own l))
-  this_value sight pl h l t =
-      (Object t.0, ap object_value t.2, (t.1, t.3, t.6,
-      subst (λ i. Below p (Own i t.1.literal) (kind_at p sight.instance pl (of.Own l))) (sym t.4) (subst (λ k. Below p (Own sight.instance k) (kind_at p sight.instance pl (of.Own l))) (sym t.5) (own_kind p sight.instance pl l))))
+  this_value sight pl h l t = (
+    Object t.0,
+    ap object_value t.2,
+    (
+      t.1,
+      t.3,
+      t.6,
+      subst (λ i. Below p (Own i t.1.literal) (kind_at p sight.instance pl (of.Own l))) (sym t.4) (subst (λ k. Below p (Own sight.instance k) (kind_at p sight.instance pl (of.Own l))) (sym t.5) (own_kind p sight.instance pl l)),
+    ),
+  )
 
   -- the rest of a binary operation, where the right side is sound in every world that comes after
   module _ (f : List ℕ) (sight : Sight) (pl : Placed p sight.instance) (w : World) (place : Place) (r : Row) (v : Value) (right : World → Result Value) where
@@ -156,31 +163,31 @@ module _ (p : Program) (linked : IsLinked p) (now : ℕ) (early : now ≤ many p
           node_sound p now f w _ _
           (bind_sound p now f w (Valued p now k) (Valued p now t) _ _ (value_sound d (Plain x) k e1 seen sight pl w h.2 (left_within e1 (union (effects_of ds) m.effect) e f h.7 v) fits.0 sh wh)
           (λ r w1 x1 wh1 q1. bind_sound p now f w1 (λ vs w. AllHave p now w.objects vs m.params) (Valued p now t) _ _
-            (all_sound ds xs m.params seen sight pl w1 h.5 (left_within (effects_of ds) m.effect (union (effects_of ds) m.effect) f refl rest) fits.1 (sight_grows p now w.objects w1.objects sight pl owner seen x1 sh) wh1)
+          (all_sound ds xs m.params seen sight pl w1 h.5 (left_within (effects_of ds) m.effect (union (effects_of ds) m.effect) f refl rest) fits.1 (sight_grows p now w.objects w1.objects sight pl owner seen x1 sh) wh1)
           (λ vs w2 x2 wh2 q2. tick_sound p now f w2 _ _ (subst (λ k. Evaluates f w2 k (apply p calls q r name vs w2)) (sym h.6)
-            (apply_sound p now linked.core calls ok f q name vs w2 k m h.4 q2 (right_within (effects_of ds) m.effect (union (effects_of ds) m.effect) f refl rest) wh2 r (value_grows p now w1.objects w2.objects r k x2.by q1))))))
+          (apply_sound p now linked.core calls ok f q name vs w2 k m h.4 q2 (right_within (effects_of ds) m.effect (union (effects_of ds) m.effect) f refl rest) wh2 r (value_grows p now w1.objects w2.objects r k x2.by q1))))))
       value_sound (T-New place ds) (Plain (New q l xs)) t e seen sight pl w h v fits sh wh =
           node_sound p now f w _ _
           (bind_sound p now f w (λ vs w. AllHave p now w.objects vs (fields_at p sight.instance pl l)) (Valued p now t) _ _
-            (all_sound ds xs (fields_at p sight.instance pl l) seen sight pl w h.1 (subst (λ s. Within s f) h.3 v) fits.4 sh wh)
+          (all_sound ds xs (fields_at p sight.instance pl l) seen sight pl w h.1 (subst (λ s. Within s f) h.3 v) fits.4 sh wh)
           (λ vs w1 x1 wh1 q1. tick_sound p now f w1 _ _ (settle_sound p now f w1 _ _ (subst (λ k. Answers p now w1 (Valued p now k) (object_new q sight l vs w1 (literal_in (scope_of_instance p (program_starts p) sight.instance) l))) (sym h.2)
-            (new_answers p now linked q sight pl owner seen w1 (sight_grows p now w.objects w1.objects sight pl owner seen x1 sh) wh1 l vs fits.1 fits.3 q1)))))
+          (new_answers p now linked q sight pl owner seen w1 (sight_grows p now w.objects w1.objects sight pl owner seen x1 sh) wh1 l vs fits.1 fits.3 q1)))))
       value_sound (T-If place d e1 a g b k) (If q test first second) t e seen sight pl w h v fits sh wh =
           let rest = right_within e1 (union g k) e f h.4 v in
           node_sound p now f w _ _
           (bind_sound p now f w (Valued p now (kind_at p sight.instance pl of.Bool)) (Valued p now t) _ _
-            (value_sound d (Plain test) (kind_at p sight.instance pl of.Bool) e1 seen sight pl w h.1 (left_within e1 (union g k) e f h.4 v) fits.0 sh wh)
+          (value_sound d (Plain test) (kind_at p sight.instance pl of.Bool) e1 seen sight pl w h.1 (left_within e1 (union g k) e f h.4 v) fits.0 sh wh)
           (λ r w1 x1 wh1 q1. tick_sound p now f w1 _ _ (choose_sound p now linked.core f sight.instance pl r _ _ t w1 q1
-            (bind_sound p now f w1 (Valued p now t) (Valued p now t) (λ u w. tick (give u w)) _
-              (block_sound a first t g seen sight pl w1 h.2 (left_within g k (union g k) f refl rest) fits.1 (sight_grows p now w.objects w1.objects sight pl owner seen x1 sh) wh1)
-            (λ u w2 x2 wh2 q2. tick_sound p now f w2 _ _ (give_sound p now f w2 _ u wh2 q2)))
-            (block_sound b second t k seen sight pl w1 h.3 (right_within g k (union g k) f refl rest) fits.2 (sight_grows p now w.objects w1.objects sight pl owner seen x1 sh) wh1))))
+          (bind_sound p now f w1 (Valued p now t) (Valued p now t) (λ u w. tick (give u w)) _
+          (block_sound a first t g seen sight pl w1 h.2 (left_within g k (union g k) f refl rest) fits.1 (sight_grows p now w.objects w1.objects sight pl owner seen x1 sh) wh1)
+          (λ u w2 x2 wh2 q2. tick_sound p now f w2 _ _ (give_sound p now f w2 _ u wh2 q2)))
+          (block_sound b second t k seen sight pl w1 h.3 (right_within g k (union g k) f refl rest) fits.2 (sight_grows p now w.objects w1.objects sight pl owner seen x1 sh) wh1))))
       value_sound (T-Set place d) (Plain (Assign q name x)) t e seen sight pl w h v fits sh wh =
           node_sound p now f w _ _
           (bind_sound p now f w (Valued p now (kind_at p sight.instance pl h.0.typ)) (Valued p now t) _ _
-            (value_sound d x (kind_at p sight.instance pl h.0.typ) e seen sight pl w h.3 v fits.1 sh wh)
+          (value_sound d x (kind_at p sight.instance pl h.0.typ) e seen sight pl w h.3 v fits.1 sh wh)
           (λ r w1 x1 wh1 q1. bind_sound p now f w1 (λ v w. Unit {0}) (Valued p now t) (λ u w. tick (give Nothing w)) _
-            (tick_sound p now f w1 _ _ (settle_sound p now f w1 _ _ (assigned_answers p linked now early owner seen sight pl w1 name h.0 r (sight_grows p now w.objects w1.objects sight pl owner seen x1 sh) wh1 h.2 q1)))
+          (tick_sound p now f w1 _ _ (settle_sound p now f w1 _ _ (assigned_answers p linked now early owner seen sight pl w1 name h.0 r (sight_grows p now w.objects w1.objects sight pl owner seen x1 sh) wh1 h.2 q1)))
           (λ u w2 x2 wh2 q2. tick_sound p now f w2 _ _ (give_sound p now f w2 _ Nothing wh2 (subst (λ (k : GroundType). Below p Nothings k) (sym h.4) (nothing_kind p sight.instance pl))))))
       value_sound (T-Op place r ds) (Plain (Unary q op x)) t e seen sight pl w h v fits sh wh =
           let i : In r (unary_rows op) = subst (λ (o : Operation). In r o.rows) (sym (some_same h.2)) h.3 in
@@ -199,7 +206,7 @@ module _ (p : Program) (linked : IsLinked p) (now : ℕ) (early : now ≤ many p
           subst (λ k. Evaluates f w k (eval p (program_starts p) calls sight (TextCall q op xs) w)) (sym h.5)
           (node_sound p now f w _ _
           (bind_sound p now f w (λ vs w. AllHave p now w.objects vs (map (kind_at p sight.instance pl) r.operands)) (Valued p now (kind_at p sight.instance pl r.result)) _ _
-            (all_sound ds xs (map (kind_at p sight.instance pl) r.operands) seen sight pl w g (subst (λ s. Within s f) h.6 v) fits.1 sh wh)
+          (all_sound ds xs (map (kind_at p sight.instance pl) r.operands) seen sight pl w g (subst (λ s. Within s f) h.6 v) fits.1 sh wh)
           (λ vs w1 x1 wh1 q1. tick_sound p now f w1 _ _ (settle_sound p now f w1 _ _ (text_answers p linked.core now sight.instance pl op r i w1 q vs wh1 q1)))))
       value_sound (T-Op place r ds) (Plain x) t e seen sight pl w h v fits sh wh = absurd (let none = h.2 in cc)
       value_sound (T-Asc place d) (Plain (Ascribe q x u)) t e seen sight pl w h v fits sh wh =
@@ -227,9 +234,9 @@ module _ (p : Program) (linked : IsLinked p) (now : ℕ) (early : now ≤ many p
       pair_sound (one_more d e (one_more d' e' no_derivations)) place op x y r (j ∷ k ∷ []) seen sight pl w m i h v fits sh wh =
           let rest = right_within e (union e' []) (union e (union e' [])) f refl v in
           bind_sound p now f w (Valued p now j) (Valued p now (kind_at p sight.instance pl r.result)) _ _
-            (value_sound d (Plain x) j e seen sight pl w h.0 (left_within e (union e' []) (union e (union e' [])) f refl v) fits.0 sh wh)
+          (value_sound d (Plain x) j e seen sight pl w h.0 (left_within e (union e' []) (union e (union e' [])) f refl v) fits.0 sh wh)
           (λ u w1 x1 wh1 q1. go_on_sound f sight pl w1 place r u (eval p (program_starts p) calls sight y) op j k i m wh1 q1
-            (value_sound d' (Plain y) k e' seen sight pl w1 h.1.0 (left_within e' [] (union e' []) f refl rest) fits.1 (sight_grows p now w.objects w1.objects sight pl owner seen x1 sh) wh1))
+          (value_sound d' (Plain y) k e' seen sight pl w1 h.1.0 (left_within e' [] (union e' []) f refl rest) fits.1 (sight_grows p now w.objects w1.objects sight pl owner seen x1 sh) wh1))
       pair_sound no_derivations place op x y r ts seen sight pl w m i h v fits sh wh = absurd h
       pair_sound (one_more d e ds) place op x y r [] seen sight pl w m i h v fits sh wh = absurd h
       pair_sound (one_more d e no_derivations) place op x y r (j ∷ ks) seen sight pl w m i h v fits sh wh = absurd h.1
@@ -243,9 +250,9 @@ module _ (p : Program) (linked : IsLinked p) (now : ℕ) (early : now ≤ many p
       all_sound no_derivations none [] seen sight pl w h v fits sh wh = give_sound p now f w (λ vs w. AllHave p now w.objects vs []) [] wh tt
       all_sound (one_more d e ds) (more x xs) (t ∷ ts) seen sight pl w h v fits sh wh =
           bind_sound p now f w (Valued p now t) (λ vs w. AllHave p now w.objects vs (t ∷ ts)) _ _
-            (value_sound d x t e seen sight pl w h.0 (left_within e (effects_of ds) (union e (effects_of ds)) f refl v) fits.0 sh wh)
+          (value_sound d x t e seen sight pl w h.0 (left_within e (effects_of ds) (union e (effects_of ds)) f refl v) fits.0 sh wh)
           (λ u w1 x1 wh1 q1. bind_sound p now f w1 (λ vs w. AllHave p now w.objects vs ts) (λ vs w. AllHave p now w.objects vs (t ∷ ts)) _ _
-            (all_sound ds xs ts seen sight pl w1 h.1 (right_within e (effects_of ds) (union e (effects_of ds)) f refl v) fits.1 (sight_grows p now w.objects w1.objects sight pl owner seen x1 sh) wh1)
+          (all_sound ds xs ts seen sight pl w1 h.1 (right_within e (effects_of ds) (union e (effects_of ds)) f refl v) fits.1 (sight_grows p now w.objects w1.objects sight pl owner seen x1 sh) wh1)
           (λ vs w2 x2 wh2 q2. give_sound p now f w2 (λ vs w. AllHave p now w.objects vs (t ∷ ts)) (u ∷ vs) wh2 (value_grows p now w1.objects w2.objects u t x2.by q1, q2)))
       all_sound ds xs ts seen sight pl w h v fits sh wh = absurd h
 
@@ -255,16 +262,16 @@ module _ (p : Program) (linked : IsLinked p) (now : ℕ) (early : now ≤ many p
       block_sound (OfResult d) (Last x) t e seen sight pl w h v fits sh wh = value_sound d x t e seen sight pl w h v fits sh wh
       block_sound (T-Seq place d e1 ds g) (Then x b) t e seen sight pl w h v fits sh wh =
           bind_sound p now f w (Valued p now (kind_at p sight.instance pl of.Unit)) (Valued p now t) _ _
-            (value_sound d x (kind_at p sight.instance pl of.Unit) e1 seen sight pl w h.1 (left_within e1 g e f h.3 v) fits.0 sh wh)
+          (value_sound d x (kind_at p sight.instance pl of.Unit) e1 seen sight pl w h.1 (left_within e1 g e f h.3 v) fits.0 sh wh)
           (λ u w1 x1 wh1 q1. tick_sound p now f w1 _ _
-            (block_sound ds b t g seen sight pl w1 h.2 (right_within e1 g e f h.3 v) fits.1 (sight_grows p now w.objects w1.objects sight pl owner seen x1 sh) wh1))
+          (block_sound ds b t g seen sight pl w1 h.2 (right_within e1 g e f h.3 v) fits.1 (sight_grows p now w.objects w1.objects sight pl owner seen x1 sh) wh1))
       block_sound (T-Val place d k e1 ds g) (Val q n typ x b) t e seen sight pl w h v fits sh wh =
           node_sound p now f w _ _
           (bind_sound p now f w (Valued p now k) (Valued p now t) _ _
-            (value_sound d x k e1 seen sight pl w h.3 (left_within e1 g e f h.5 v) fits.1 sh wh)
+          (value_sound d x k e1 seen sight pl w h.3 (left_within e1 g e f h.5 v) fits.1 sh wh)
           (λ u w1 x1 wh1 q1. tick_sound p now f w1 _ _
-            (block_sound ds b t g (Local n ∷ seen) (with_local sight n u) pl w1 h.4 (right_within e1 g e f h.5 v) fits.2
-            (sight_more p now w1.objects sight pl owner seen n u k h.1 q1 (sight_grows p now w.objects w1.objects sight pl owner seen x1 sh)) wh1)))
+          (block_sound ds b t g (Local n ∷ seen) (with_local sight n u) pl w1 h.4 (right_within e1 g e f h.5 v) fits.2
+          (sight_more p now w1.objects sight pl owner seen n u k h.1 q1 (sight_grows p now w.objects w1.objects sight pl owner seen x1 sh)) wh1)))
       block_sound (Block-Sub place ds k e1) b t e seen sight pl w h v fits sh wh =
           more_sound p now f w (Valued p now k) (Valued p now t) (λ r w q. value_below p now w.objects r k t q (inr h.2)) _
           (block_sound ds b k e1 seen sight pl w h.1 (λ a i. v a (h.3 a i)) fits sh wh)

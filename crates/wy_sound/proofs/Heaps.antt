@@ -213,8 +213,8 @@ module _ (p : Program) where
           has = q;
         })
         (λ ne. let old : In (Local m) seen = elim i [ inl f ↦ absurd (ne (local_same n m f)) | inr f ↦ f ] in
-          let s = r.by (Local m) old in
-          record { kind = s.kind; typed = s.typed; value = s.value; here = ap (λ c. if c then Some v else value_named named (Local m)) (ne_eqb n m ne) ∙ s.here; has = s.has })
+        let s = r.by (Local m) old in
+        record { kind = s.kind; typed = s.typed; value = s.value; here = ap (λ c. if c then Some v else value_named named (Local m)) (ne_eqb n m ne) ∙ s.here; has = s.has })
         (cases_eq n m)
       where
         local_same : (n m : ℕ) → Local n ≡ Local m → n ≡ m
@@ -233,16 +233,17 @@ module _ (p : Program) where
 
     pub heap_more : (h : List Thing) (t : Thing) → WellHeap h → ThingHas h t → Extends h (h ++ t ∷ []) × WellHeap (h ++ t ∷ [])
     heap_more h t wh th =
-        let grows : Grows h (h ++ t ∷ []) = λ a u e. (u, get_left h (t ∷ []) a u e, refl, refl) in
-        (record { by = grows; still = λ a u e s. get_left h (t ∷ []) a u e },
-        record {
-          by = λ a u e s. elim (get_either h t a u e) [
-            | inl f ↦ thing_grows h (h ++ t ∷ []) u grows (wh.by a u f s)
-            | inr f ↦ thing_grows h (h ++ t ∷ []) u grows (subst (λ (v : Thing). ThingHas h v) f.0 th)
-          ];
-          long = let l = wh.long in longer l;
-          first = λ z lt. let r = wh.first z lt in (r.0, get_left h (t ∷ []) z r.0 r.1, r.2, r.3);
-        })
+        let grows : Grows h (h ++ t ∷ []) = λ a u e. (u, get_left h (t ∷ []) a u e, refl, refl) in (
+          record { by = grows; still = λ a u e s. get_left h (t ∷ []) a u e },
+          record {
+            by = λ a u e s. elim (get_either h t a u e) [
+              | inl f ↦ thing_grows h (h ++ t ∷ []) u grows (wh.by a u f s)
+              | inr f ↦ thing_grows h (h ++ t ∷ []) u grows (subst (λ (v : Thing). ThingHas h v) f.0 th)
+            ];
+            long = let l = wh.long in longer l;
+            first = λ z lt. let r = wh.first z lt in (r.0, get_left h (t ∷ []) z r.0 r.1, r.2, r.3);
+          },
+        )
       where
         one_longer : (xs : List Thing) → length (xs ++ t ∷ []) ≡ suc (length xs)
         one_longer [] = refl
@@ -254,9 +255,12 @@ module _ (p : Program) where
     -- the object at a place has these fields now
     pub set_grows : (h : List Thing) (a : ℕ) (t : Thing) (fields : List Value) → slice_get h a ≡ Some t → Grows h (slice_set h a (record t { fields = fields }))
     set_grows h a t fields e b u g = ⊎_elim
-        (λ same. let f : t ≡ u = some_same (sym e ∙ ap (slice_get h) same ∙ g) in
-          (record t { fields = fields }, ap (slice_get (slice_set h a (record t { fields = fields }))) (sym same) ∙ get_set_same h a (record t { fields = fields }) (get_within h a t e),
-          ap (λ (v : Thing). v.instance) f, ap (λ (v : Thing). v.literal) f))
+        (λ same. let f : t ≡ u = some_same (sym e ∙ ap (slice_get h) same ∙ g) in (
+          record t { fields = fields },
+          ap (slice_get (slice_set h a (record t { fields = fields }))) (sym same) ∙ get_set_same h a (record t { fields = fields }) (get_within h a t e),
+          ap (λ (v : Thing). v.instance) f,
+          ap (λ (v : Thing). v.literal) f,
+        ))
         (λ ne. (u, get_set_other h a b (record t { fields = fields }) ne ∙ g, refl, refl))
         (cases_eq a b)
 
@@ -267,13 +271,14 @@ module _ (p : Program) where
         let h' : List Thing = slice_set h a u in
         let grows : Grows h h' = set_grows h a t fields e in
         let same_at : slice_get h' a ≡ Some u = get_set_same h a u (get_within h a t e) in
-        let new : ThingHas h u = record { place = th.place; early = th.early; fields = q; captured = th.captured } in
-        (record { by = grows; still = λ b v g s. get_set_other h a b u (λ same. s (subst Ready same ready)) ∙ g },
-        record {
-          by = λ b v g s. ⊎_elim
-            (λ same. thing_grows h h' v grows (subst (λ (v : Thing). ThingHas h v) (some_same (sym same_at ∙ ap (slice_get h') same ∙ g)) new))
-            (λ ne. thing_grows h h' v grows (wh.by b v (sym (get_set_other h a b u ne) ∙ g) s))
-            (cases_eq a b);
-          long = let l = wh.long in omega (arith, l, length_set h a u);
-          first = λ z lt. let r = wh.first z lt in let g = grows z r.0 r.1 in (g.0, g.1, g.2 ∙ r.2, g.3 ∙ r.3);
-        })
+        let new : ThingHas h u = record { place = th.place; early = th.early; fields = q; captured = th.captured } in (
+          record { by = grows; still = λ b v g s. get_set_other h a b u (λ same. s (subst Ready same ready)) ∙ g },
+          record {
+            by = λ b v g s. ⊎_elim
+                (λ same. thing_grows h h' v grows (subst (λ (v : Thing). ThingHas h v) (some_same (sym same_at ∙ ap (slice_get h') same ∙ g)) new))
+                (λ ne. thing_grows h h' v grows (wh.by b v (sym (get_set_other h a b u ne) ∙ g) s))
+                (cases_eq a b);
+            long = let l = wh.long in omega (arith, l, length_set h a u);
+            first = λ z lt. let r = wh.first z lt in let g = grows z r.0 r.1 in (g.0, g.1, g.2 ∙ r.2, g.3 ∙ r.3);
+          },
+        )

@@ -83,9 +83,9 @@ some_mapped f (Some x) y e = (x, refl, some_same e)
 pub own_body : (p : Program) (x : ℕ) (pl : Placed p x) (l : ℕ) (name : List ℕ) (m : Signature GroundType) → find_method name (ground_methods p (Own x l)) ≡ Some m → HasBodyFor p x pl l name m
 own_body p x pl l name m e =
     let table : ground_methods p (Own x l) ≡ map (mapped_signature (kind_at p x pl) (effect_by pl.instance.bound pl.instance.ground)) (methods_of_owner l pl.scope.bodies) =
-      ap (own_methods p x l) pl.is.there ∙ ap (λ o. map (mapped_signature (kind_at p x pl) (effect_by pl.instance.bound pl.instance.ground)) (methods_of_owner l (scope_bodies o))) pl.is.scope in
+    ap (own_methods p x l) pl.is.there ∙ ap (λ o. map (mapped_signature (kind_at p x pl) (effect_by pl.instance.bound pl.instance.ground)) (methods_of_owner l (scope_bodies o))) pl.is.scope in
     let r = some_mapped (mapped_signature (kind_at p x pl) (effect_by pl.instance.bound pl.instance.ground)) (find_method name (methods_of_owner l pl.scope.bodies)) m
-      (sym (find_mapped (kind_at p x pl) (effect_by pl.instance.bound pl.instance.ground) name (methods_of_owner l pl.scope.bodies)) ∙ ap (find_method name) (sym table) ∙ e) in
+    (sym (find_mapped (kind_at p x pl) (effect_by pl.instance.bound pl.instance.ground) name (methods_of_owner l pl.scope.bodies)) ∙ ap (find_method name) (sym table) ∙ e) in
     let f = body_found 0 l name pl.scope.bodies r.0 r.1 in
     let place_is : f.place ≡ f.method.number = (let h = f.number in omega (arith, h)) in
     record {

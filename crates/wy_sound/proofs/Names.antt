@@ -115,7 +115,7 @@ module _ (p : Program) (now : ℕ) (h : List Thing) (x : ℕ) (pl : Placed p x) 
   captured_has (Local n) c = record { kind = c.kind; typed = c.typed; value = c.value; here = other_value k 0 vs captured (Local n) tt ∙ c.here; has = c.has }
   captured_has (Parameter j i) c = ⊎_elim
       (λ (same : k ≡ j). let P : ℕ → Type 0 = λ j. variable_at p x pl (Parameter j i) ≡ Some c.kind → VariableHas p now h x pl (parameters k 0 vs ++ captured) (Parameter j i) in
-        subst P same (parameter_has i c.kind) c.typed)
+      subst P same (parameter_has i c.kind) c.typed)
       (λ (ne : k ≢ j). record { kind = c.kind; typed = c.typed; value = c.value; here = other_value k 0 vs captured (Parameter j i) ne ∙ c.here; has = c.has })
       (cases_eq k j)
 
@@ -158,7 +158,7 @@ module _ (p : Program) (now : ℕ) (w : World) (sight : Sight) (pl : Placed p si
       let fields : List Value = slice_set t.fields i v in
       let set = all_set p now w.objects t.fields (fields_at p sight.instance pl l) i (kind_at p sight.instance pl f.typ) v fields_typed (field_kind i f e) q in
       let back : AllHave p now w.objects fields (fields_at p t.instance thing_has.place t.literal) =
-        subst (λ ks. AllHave p now w.objects fields ks) (sym (fields_same p t.instance sight.instance thing_has.place pl t.literal l this.4 this.5)) set in
+      subst (λ ks. AllHave p now w.objects fields ks) (sym (fields_same p t.instance sight.instance thing_has.place pl t.literal l this.4 this.5)) set in
       let hs = heap_set p now w.objects this.0 t fields this.3 this.6 wh thing_has back in
       subst (λ o. Answers p now w (λ v w. Unit {0}) (write_field o i v w)) (sym this.2)
       (subst (λ o. Answers p now w (λ v w. Unit {0}) (field_set this.0 i v w o)) (sym this.3)
@@ -192,9 +192,16 @@ module _ (p : Program) (linked : IsLinked p) (now : ℕ) (early : now ≤ many p
       of_actual : (a : Actual) → IsThere p x a → ground_below p (actual_type p a) (kind_at p x pl n.typ) → (v : Value) × (actual_value (Some a) ≡ Some v) × ValueHas p now h v (kind_at p x pl n.typ)
       of_actual (actual.Grant g) t b = (Grant g, refl, (t, b))
       of_actual (actual.Instance y) lt b =
-          let r = wh.first y (omega (arith, lt, le, early)) in
-          (Object y, refl, (r.0, r.1, inl (omega (arith, lt, le)),
-          subst (λ i. ground_below p (Own i r.0.literal) (kind_at p x pl n.typ)) (sym r.2) (subst (λ l. ground_below p (Own y l) (kind_at p x pl n.typ)) (sym r.3) b)))
+          let r = wh.first y (omega (arith, lt, le, early)) in (
+            Object y,
+            refl,
+            (
+              r.0,
+              r.1,
+              inl (omega (arith, lt, le)),
+              subst (λ i. ground_below p (Own i r.0.literal) (kind_at p x pl n.typ)) (sym r.2) (subst (λ l. ground_below p (Own y l) (kind_at p x pl n.typ)) (sym r.3) b),
+            ),
+          )
 
   pub name_value : (owner : Option ℕ) (seen : List Variable) (sight : Sight) (pl : Placed p sight.instance) (w : World) (name : Binding) (t : GroundType) →
       SightHas p now w.objects sight pl owner seen → WellHeap p now w.objects → BindingFits p pl.scope owner seen name → owner_binding p sight.instance pl owner name ≡ Some t →

@@ -173,6 +173,6 @@ operation_atom p core g h o i fit =
     let d : slice_get p.declarations h.number ≡ Some t.0 = declared_members p core h.number t.0 h.primitive t.1 in
     let ms : members_of p h.name.typ ≡ t.0.members = ap (members_of p) h.typ ∙ ap abstract_names d in
     let e : map (named_atoms (authority_of p).atoms) (sets_put p h.members) ≡ map (λ member. atom_name h.name.name member ∷ []) t.0.members =
-      ap (λ k. map (named_atoms (authority_of p).atoms) (sets_of k)) (sym (grant_kind p g h)) ∙ fit g h.name h.there h.origin ∙ ap (map (λ member. atom_name h.name.name member ∷ [])) ms in
+    ap (λ k. map (named_atoms (authority_of p).atoms) (sets_of k)) (sym (grant_kind p g h)) ∙ fit g h.name h.there h.origin ∙ ap (map (λ member. atom_name h.name.name member ∷ [])) ms in
     let r = atom_at p (sets_put p h.members) (member_number o) h.name.name t.0.members (member_named o) e t.2 in
     (r.0, In-union-left r.0 (slice_index_or (sets_put p h.members) (member_number o) []) [] r.1, r.2)

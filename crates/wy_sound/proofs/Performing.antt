@@ -168,7 +168,7 @@ module _ (p : Program) (now : ℕ) where
           atom = λ fit. let s = operation_atom p core g h o r.3 fit in (s.0, s.1, s.2 ∙ ap (λ o. let v : AtomName = record { owner = h.name.name; member = member_named o } in v) (sym u.2));
         } in
         let done : Sound p now (operation_method sets o).effect w (Valued p now (answer_kind o)) (requested place h.name.name w (Some u.0)) =
-          requested_sound (operation_method sets o).effect h.name.name u.0 has w wh (answer_kind o) place (ap answer_kind u.2) in
+        requested_sound (operation_method sets o).effect h.name.name u.0 has w wh (answer_kind o) place (ap answer_kind u.2) in
         subst (λ (m : Signature GroundType). Sound p now m.effect w (Valued p now m.result) (requested_of place (grant_of p g) method w (texts_of vs))) r.2
         (subst (λ c. Sound p now (operation_method sets o).effect w (Valued p now (answer_kind o)) (requested_of place c method w (texts_of vs))) (sym (grant_there p g h))
         (subst (λ c. Sound p now (operation_method sets o).effect w (Valued p now (answer_kind o)) (requested_of place (Some (record { name = h.name.name; kind = kind_of_number h.number })) method w c)) (sym t.1)

@@ -44,8 +44,8 @@ module _ (p : Program) (linked : IsLinked p) where
   main_top n x w last wh =
       let pl : Placed p x = place p linked x (omega (arith, last)) in
       let may : May p (call_of (codes "main") (codes "run")) (declared p linked n x pl) =
-        subst (λ m. May p (call_of m (codes "run")) (declared p linked n x pl)) (main_named x pl.instance pl.is.there last)
-        (may_first p x pl.instance (codes "run") pl.scope (run_first p x pl.instance pl.is.there last) pl.is.scope) in
+      subst (λ m. May p (call_of m (codes "run")) (declared p linked n x pl)) (main_named x pl.instance pl.is.there last)
+      (may_first p x pl.instance (codes "run") pl.scope (run_first p x pl.instance pl.is.there last) pl.is.scope) in
       whole_top p (declared p linked n x pl) (codes "main") (codes "run") Anything _ may (main_fine p linked n x pl last w wh)
 
   init_top : (n x : ℕ) (pl : Placed p x) (s : Started) (w : World) → x < many p → slice_get (start_list p) x ≡ Some pl.instance → s ≡ started_of pl.instance → Filling p linked x pl [] w.objects → (r : Result Value) →

@@ -178,9 +178,9 @@ module _ (p : Program) (linked : IsLinked p) where
         record {
           heap = record {
             by = λ a s e r. ⊎_elim
-              (λ (same : x ≡ a). absurd (not_ready x (omega arith) lt (subst (Ready p x) (sym same) r)))
-              (λ (ne : x ≢ a). thing_grows p x h h' s grows (q.heap.by a s (sym (get_set_other h x a u ne) ∙ e) r))
-              (cases_eq x a);
+                (λ (same : x ≡ a). absurd (not_ready x (omega arith) lt (subst (Ready p x) (sym same) r)))
+                (λ (ne : x ≢ a). thing_grows p x h h' s grows (q.heap.by a s (sym (get_set_other h x a u ne) ∙ e) r))
+                (cases_eq x a);
             long = (let l = q.heap.long in omega (arith, l, length_set h x u));
             first = λ z below. let r = q.heap.first z below in let g = grows z r.0 r.1 in (g.0, g.1, g.2 ∙ r.2, g.3 ∙ r.3);
           };
@@ -211,7 +211,7 @@ module _ (p : Program) (linked : IsLinked p) where
           bind_fine p f (λ u w1. Extends p x w.objects w1.objects × WellHeap p x w1.objects × ValueHas p x w1.objects u k) (λ u w. Filling x pl all w.objects) _ _
           (sound_fine p x f w (Valued p x k) _ (value_sound p linked x early calls ok f None d e k e1 [] (outside x) pl w h.0 (left_within e1 (effects_of ds) (effects_of (one_more d e1 ds)) f refl v) fits.0 (outside_has w.objects) q.heap))
           (λ u w1 r1. bind_fine p f (λ u w. Filling x pl (done ++ k ∷ []) w.objects) (λ u w. Filling x pl all w.objects) _ _
-            (tick_fine p f (λ u w. Filling x pl (done ++ k ∷ []) w.objects) _ (fill_fine f done w1 u k (filling_stays done w.objects w1.objects r1.0 r1.1 q) r1.2))
+          (tick_fine p f (λ u w. Filling x pl (done ++ k ∷ []) w.objects) _ (fill_fine f done w1 u k (filling_stays done w.objects w1.objects r1.0 r1.1 q) r1.2))
           (λ u2 w2 q2. fill_all_fine ds es ks (done ++ k ∷ []) all w2 h.1 (right_within e1 (effects_of ds) (effects_of (one_more d e1 ds)) f refl v) fits.1 (append_assoc done (k ∷ []) ks ∙ g) q2))
       fill_all_fine ds es ks done all w h v fits g q = absurd h
 
@@ -229,9 +229,9 @@ module _ (p : Program) (linked : IsLinked p) where
         } in
         record {
           by = λ a s e r. ⊎_elim
-            (λ (same : x ≡ a). subst (λ (s : Thing). ThingHas p (suc x) h s) (some_same (sym q.here ∙ ap (slice_get h) same ∙ e)) mine)
-            (λ (ne : x ≢ a). later_thing p x (suc x) le h s (q.heap.by a s e (elim r [ inl l ↦ inl (omega (arith, l, ne)) | inr ge ↦ inr ge ])))
-            (cases_eq x a);
+              (λ (same : x ≡ a). subst (λ (s : Thing). ThingHas p (suc x) h s) (some_same (sym q.here ∙ ap (slice_get h) same ∙ e)) mine)
+              (λ (ne : x ≢ a). later_thing p x (suc x) le h s (q.heap.by a s e (elim r [ inl l ↦ inl (omega (arith, l, ne)) | inr ge ↦ inr ge ])))
+              (cases_eq x a);
           long = q.heap.long;
           first = q.heap.first;
         }
@@ -268,7 +268,7 @@ module _ (p : Program) (linked : IsLinked p) where
         WellHeap p x w.objects → Fine p declared (λ u w. Unit {0}) (eval_block p (program_starts p) (open_calls p (program_starts p) n) (outside x) block w)
     run_fine le (T-Body place d f) block w h fits wh =
         let sound = block_sound p linked x le (open_calls p (program_starts p) n) (calls_sound p linked x le n) declared None d block (kind_at p x pl of.Unit) f [] (outside x) pl w h.1 h.2 fits
-          (record { early = omega arith; this = tt; names = record { by = λ v i. absurd i } }) wh in
+        (record { early = omega arith; this = tt; names = record { by = λ v i. absurd i } }) wh in
         forget (sound_fine p x declared w (Valued p x (kind_at p x pl of.Unit)) _ sound)
       where
         forget_to : (f : List ℕ) (ok : Value → World → Type 0) (o : Outcome Value) (w : World) (es : List Event) → FineTo p f ok o w es → FineTo p f (λ v w. Unit {0}) o w es
