@@ -34,8 +34,10 @@ use Rattle.wy_sound.proofs.Placing.{scope_there}
 
 module _ (p : Program) (now : ℕ) where
   -- a choice by a truth value
-  pub choose_sound : (core : IsCore p) (f : List ℕ) (x : ℕ) (pl : Placed p x) (v : Value) (first second : World → Result Value) (k : GroundType) (w : World) →
-      ValueHas p now w.objects v (kind_at p x pl of.Bool) → Sound p now f w (Valued p now k) (first w) → Sound p now f w (Valued p now k) (second w) → Sound p now f w (Valued p now k) (choose v first second w)
+  pub choose_sound : (core : IsCore p) (f : List ℕ) (x : ℕ) (pl : Placed p x) (v : Value) (first second : World → Result Value) (k : GroundType)
+      (w : World) →
+      ValueHas p now w.objects v (kind_at p x pl of.Bool) → Sound p now f w (Valued p now k) (first w) → Sound p now f w (Valued p now k) (second w) →
+      Sound p now f w (Valued p now k) (choose v first second w)
   choose_sound core f x pl v first second k w q a b =
       let t = truth_at p core now x pl w.objects v q in
       subst (λ v. Sound p now f w (Valued p now k) (choose v first second w)) (sym t.1) (of_truth t.0)
@@ -46,23 +48,29 @@ module _ (p : Program) (now : ℕ) where
 
   -- what calls on objects do, within the effect of the object's own method
   pub record CallsSound (calls : Calls) : Type 0 where
-    pub by : (a : ℕ) (t : Thing) (name : List ℕ) (vs : List Value) (w : World) (m : Signature GroundType) → slice_get w.objects a ≡ Some t → Ready p now a →
-        find_method name (ground_methods p (Own t.instance t.literal)) ≡ Some m → AllHave p now w.objects vs m.params → WellHeap p now w.objects → Sound p now m.effect w (Valued p now m.result) (calls a name vs w)
+    pub by : (a : ℕ) (t : Thing) (name : List ℕ) (vs : List Value) (w : World) (m : Signature GroundType) → slice_get w.objects a ≡ Some t →
+        Ready p now a →
+        find_method name (ground_methods p (Own t.instance t.literal)) ≡ Some m → AllHave p now w.objects vs m.params → WellHeap p now w.objects →
+        Sound p now m.effect w (Valued p now m.result) (calls a name vs w)
 
-  no_method : (s k : GroundType) (name : List ℕ) (m : Signature GroundType) → ground_methods p s ≡ [] → Below p s k → find_method name (ground_methods p k) ≡ Some m → ⊥
+  no_method : (s k : GroundType) (name : List ℕ) (m : Signature GroundType) → ground_methods p s ≡ [] → Below p s k →
+      find_method name (ground_methods p k) ≡ Some m → ⊥
   no_method s k name m none q e =
       let r = method_below p s k name m q e in
       let g : find_method name [] ≡ Some r.method = ap (find_method name) (sym none) ∙ r.found in
       absurd cc
 
-  module _ (core : IsCore p) (calls : Calls) (ok : CallsSound calls) (f : List ℕ) (place : Place) (name : List ℕ) (vs : List Value) (w : World) (k : GroundType) (m : Signature GroundType)
-      (found : find_method name (ground_methods p k) ≡ Some m) (typed : AllHave p now w.objects vs m.params) (fits : Within m.effect f) (wh : WellHeap p now w.objects) where
+  module _ (core : IsCore p) (calls : Calls) (ok : CallsSound calls) (f : List ℕ) (place : Place) (name : List ℕ) (vs : List Value) (w : World)
+      (k : GroundType) (m : Signature GroundType)
+      (found : find_method name (ground_methods p k) ≡ Some m) (typed : AllHave p now w.objects vs m.params) (fits : Within m.effect f)
+      (wh : WellHeap p now w.objects) where
     -- the method of a type below stands for it
     stands_sound : (s : GroundType) (h : Signature GroundType) → StandsFor p h m → (r : Result Value) →
         (AllHave p now w.objects vs h.params → Sound p now h.effect w (Valued p now h.result) r) → Sound p now f w (Valued p now m.result) r
     stands_sound s h st r sound =
         wider_sound p now f w (Valued p now m.result) h.effect (λ a i. fits a (st.effect a i)) r
-        (more_sound p now h.effect w (Valued p now h.result) (Valued p now m.result) (λ v w q. value_below p now w.objects v h.result m.result q st.result) r
+        (more_sound p now h.effect w (Valued p now h.result) (Valued p now m.result)
+        (λ v w q. value_below p now w.objects v h.result m.result q st.result) r
         (sound (all_below p now w.objects vs m.params h.params typed st.params)))
 
     pub apply_sound : (v : Value) → ValueHas p now w.objects v k → Sound p now f w (Valued p now m.result) (apply p calls place v name vs w)
@@ -71,7 +79,8 @@ module _ (p : Program) (now : ℕ) where
         stands_sound (Own q.0.instance q.0.literal) r.method r.stands (calls a name vs w) (λ t. ok.by a q.0 name vs w r.method q.1 q.2 r.found t wh)
     apply_sound (Grant g) q =
         let r = method_below p (actual_type p (actual.Grant g)) k name m q.1 found in
-        stands_sound (actual_type p (actual.Grant g)) r.method r.stands (perform place (grant_of p g) name vs w) (λ t. perform_sound p now core g q.0 place name vs w r.method r.found t wh)
+        stands_sound (actual_type p (actual.Grant g)) r.method r.stands (perform place (grant_of p g) name vs w)
+        (λ t. perform_sound p now core g q.0 place name vs w r.method r.found t wh)
     apply_sound (Number n) q = absurd (no_method Ints k name m refl q found)
     apply_sound (Truth b) q = absurd (no_method Truths k name m refl q found)
     apply_sound Nothing q = absurd (no_method Nothings k name m refl q found)
@@ -82,15 +91,20 @@ module _ (p : Program) (now : ℕ) where
 
   module _ (linked : IsLinked p) (place : Place) (sight : Sight) (pl : Placed p sight.instance) (owner : Option ℕ) (seen : List Variable) (w : World)
       (sh : SightHas p now w.objects sight pl owner seen) (wh : WellHeap p now w.objects) where
-    made_answers : (t : Thing) → ThingHas p now w.objects t → (k : GroundType) → Ready p now (length w.objects) → Below p (Own t.instance t.literal) k → Answers p now w (Valued p now k) (object_made place t w)
+    made_answers : (t : Thing) → ThingHas p now w.objects t → (k : GroundType) → Ready p now (length w.objects) →
+        Below p (Own t.instance t.literal) k → Answers p now w (Valued p now k) (object_made place t w)
     made_answers t th k ready below = of_room (nat_lt w.made most_objects)
       where
-        of_room : (b : Bool) → Answers p now w (Valued p now k) (if b then replied (Object (length w.objects)) (record w { objects = w.objects ++ t ∷ []; made = w.made + 1 }) else stopped (Trap Crowded place) w)
+        of_room : (b : Bool) → Answers p now w (Valued p now k)
+            (if b then replied (Object (length w.objects)) (record w { objects = w.objects ++ t ∷ []; made = w.made + 1 }) else stopped
+            (Trap Crowded place) w)
         of_room true = let h = heap_more p now w.objects t wh th in record { by = (h.0, h.1, (t, get_last w.objects t, ready, below)) }
         of_room false = trap_answers p now w (Valued p now k) Crowded place w
 
-    pub new_answers : (l : ℕ) (vs : List Value) → l < length pl.scope.literals → Within (literal_captures (slice_get pl.scope.literals l)) seen → AllHave p now w.objects vs (fields_at p sight.instance pl l) →
-        Answers p now w (Valued p now (kind_at p sight.instance pl (of.Own l))) (object_new place sight l vs w (literal_in (scope_of_instance p (program_starts p) sight.instance) l))
+    pub new_answers : (l : ℕ) (vs : List Value) → l < length pl.scope.literals → Within (literal_captures (slice_get pl.scope.literals l)) seen →
+        AllHave p now w.objects vs (fields_at p sight.instance pl l) →
+        Answers p now w (Valued p now (kind_at p sight.instance pl (of.Own l)))
+        (object_new place sight l vs w (literal_in (scope_of_instance p (program_starts p) sight.instance) l))
     new_answers l vs lt within typed =
         let lit = get_below pl.scope.literals l lt in
         let ok : Value → World → Type 0 = Valued p now (kind_at p sight.instance pl (of.Own l)) in
@@ -103,14 +117,20 @@ module _ (p : Program) (now : ℕ) where
           place = pl;
           early = sh.early;
           fields = typed;
-          captured = record { by = λ x i. let j = subst (λ xs. In x xs) captures i in let v = has x j in record { kind = v.kind; typed = v.typed; value = v.value; here = c.2 x j ∙ v.here; has = v.has } };
+          captured = record {
+            by = λ x i. let j = subst (λ xs. In x xs) captures i in let v =
+                has x j in record { kind = v.kind; typed = v.typed; value = v.value; here = c.2 x j ∙ v.here; has = v.has };
+          };
         } in
         let long : length vs ≡ length lit.0.fields =
-        all_length p now w.objects vs (fields_at p sight.instance pl l) typed ∙ map_length (kind_at p sight.instance pl) (field_types pl.scope l) ∙ map_length (λ (f : Field). f.typ) (fields_of pl.scope l) ∙
+        all_length p now w.objects vs (fields_at p sight.instance pl l) typed ∙ map_length (kind_at p sight.instance pl) (field_types pl.scope l) ∙
+        map_length (λ (f : Field). f.typ) (fields_of pl.scope l) ∙
         ap (λ o. length (literal_fields o)) lit.1 in
         let ready : Ready p now (length w.objects) = inr wh.long in
         subst (λ o. Answers p now w ok (object_new place sight l vs w (literal_in o l))) (sym (scope_there p linked sight.instance pl))
         (subst (λ o. Answers p now w ok (object_new place sight l vs w o)) (sym lit.1)
-        (subst (λ (r : Reply). Answers p now w ok r) (sym (pick_true (nat_eq (length vs) (length lit.0.fields)) (object_with place sight l vs w (captured_from sight.variables lit.0.captures)) (stopped Wrong w) (eq-eqb (length vs) (length lit.0.fields) long)))
+        (subst (λ (r : Reply). Answers p now w ok r)
+        (sym (pick_true (nat_eq (length vs) (length lit.0.fields)) (object_with place sight l vs w (captured_from sight.variables lit.0.captures))
+        (stopped Wrong w) (eq-eqb (length vs) (length lit.0.fields) long)))
         (subst (λ o. Answers p now w ok (object_with place sight l vs w o)) (sym c.1)
         (made_answers t th (kind_at p sight.instance pl (of.Own l)) ready (own_kind p sight.instance pl l)))))

@@ -67,9 +67,11 @@ module _ (p : Program) where
   primitive_named (of.At d b) h = absurd h
   primitive_named (of.Own l) h = absurd h
 
-  name_fits : IsCore p → (o : Option Scope) → o ≡ slice_get p.scopes (program_number p) → (g : ℕ) (n : OwnName) → slice_get (names_of o) g ≡ Some n → n.origin ≡ origin.Grant → IsPrimitive n.typ
+  name_fits : IsCore p → (o : Option Scope) → o ≡ slice_get p.scopes (program_number p) → (g : ℕ) (n : OwnName) → slice_get (names_of o) g ≡ Some n →
+      n.origin ≡ origin.Grant → IsPrimitive n.typ
   name_fits core None e g n f h = absurd cc
-  name_fits core (Some s) e g n f h = origin_fits s g n n.origin h ((core.scopes s (In-slice_get p.scopes (program_number p) s (sym e))).names g n f).1
+  name_fits core (Some s) e g n f h =
+      origin_fits s g n n.origin h ((core.scopes s (In-slice_get p.scopes (program_number p) s (sym e))).names g n f).1
 
   pub is_grant : IsCore p → (now g : ℕ) → IsThere p now (actual.Grant g) → IsGrant g
   is_grant core now g h =
@@ -80,7 +82,8 @@ module _ (p : Program) where
   sets_put members = map (replace (program_sets p)) members
 
   pub grant_kind : (g : ℕ) → (h : IsGrant g) → actual_type p (actual.Grant g) ≡ Named h.number (sets_put h.members)
-  grant_kind g h = ap (λ o. type_at (length (start_list p)) (read_by None (program_sets p) (type_of o))) h.there ∙ ap (λ t. type_at (length (start_list p)) (read_by None (program_sets p) t)) h.typ
+  grant_kind g h = ap (λ o. type_at (length (start_list p)) (read_by None (program_sets p) (type_of o))) h.there ∙
+      ap (λ t. type_at (length (start_list p)) (read_by None (program_sets p) t)) h.typ
 
   ------------------------------------------------------------
   -- Values of a base type

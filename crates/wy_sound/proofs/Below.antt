@@ -45,7 +45,8 @@ module _ (p : Program) where
   pub below_trans : (s t u : GroundType) → Below s t → Below t u → Below s u
   below_trans s t u (inl e) q = subst (λ v. Below v u) (sym e) q
   below_trans s t u (inr h) (inl e) = inr (subst (λ v. IsSub s v) e h)
-  below_trans s t u (inr h) (inr q) = inr (transitive GroundType decide_ground (ground_methods p) IsGroundObject Within (λ e f g v u a j. u a (v a j)) s t u h q)
+  below_trans s t u (inr h) (inr q) =
+      inr (transitive GroundType decide_ground (ground_methods p) IsGroundObject Within (λ e f g v u a j. u a (v a j)) s t u h q)
 
   -- below a base type there is that type alone
   pub below_base : (s t : GroundType) → (IsGroundObject t → ⊥) → Below s t → s ≡ t
@@ -73,7 +74,8 @@ module _ (p : Program) where
     pub found : find_method name (ground_methods p s) ≡ Some method
     pub stands : StandsFor method g
 
-  module _ (ps : List (GroundType × GroundType)) (closed : (q : GroundType × GroundType) → In q ps → IsClosed GroundType (ground_methods p) IsGroundObject Within ps q) where
+  module _ (ps : List (GroundType × GroundType))
+      (closed : (q : GroundType × GroundType) → In q ps → IsClosed GroundType (ground_methods p) IsGroundObject Within ps q) where
     listed : (s t : GroundType) → In {X = GroundType × GroundType} (s, t) ps → IsSub s t
     listed s t i = record { pairs = ps; first = i; closed = closed }
 
@@ -83,11 +85,22 @@ module _ (p : Program) where
     params_below (a ∷ left) [] h = absurd h
     params_below (a ∷ left) (b ∷ right) h = (inr (listed b a h.0), params_below left right h.1)
 
-    covered : (o : Option (Signature GroundType)) (g : Signature GroundType) → HasCover GroundType (ground_methods p) IsGroundObject Within ps o g → (h : Signature GroundType) × (o ≡ Some h) × StandsFor h g
+    covered : (o : Option (Signature GroundType)) (g : Signature GroundType) → HasCover GroundType (ground_methods p) IsGroundObject Within ps o g →
+        (h : Signature GroundType) × (o ≡ Some h) × StandsFor h g
     covered None g c = absurd c
-    covered (Some h) g c = (h, refl, record { params = params_below h.params g.params c.params; effect = c.effect; result = inr (listed h.result g.result c.result) })
+    covered (Some h) g c = (
+      h,
+      refl,
+      record {
+        params = params_below h.params g.params c.params;
+        effect = c.effect;
+        result =
+            inr (listed h.result g.result c.result);
+      },
+    )
 
-  same_method : (name : List ℕ) (s t : GroundType) (g : Signature GroundType) → s ≡ t → find_method name (ground_methods p t) ≡ Some g → HasMethodFor name s g
+  same_method : (name : List ℕ) (s t : GroundType) (g : Signature GroundType) → s ≡ t → find_method name (ground_methods p t) ≡ Some g →
+      HasMethodFor name s g
   same_method name s t g e f = record {
     method = g;
     found = ap (λ v. find_method name (ground_methods p v)) e ∙ f;
@@ -95,7 +108,8 @@ module _ (p : Program) where
   }
 
   -- each method of a type has one of a type below it that stands for it
-  pub method_below : (s t : GroundType) (name : List ℕ) (g : Signature GroundType) → Below s t → find_method name (ground_methods p t) ≡ Some g → HasMethodFor name s g
+  pub method_below : (s t : GroundType) (name : List ℕ) (g : Signature GroundType) → Below s t → find_method name (ground_methods p t) ≡ Some g →
+      HasMethodFor name s g
   method_below s t name g (inl e) f = same_method name s t g e f
   method_below s t name g (inr h) f = elim (h.closed (s, t) h.first) [
     | inl c ↦ same_method name s t g c.0 f

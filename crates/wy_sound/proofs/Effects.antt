@@ -50,7 +50,8 @@ module _ (p : Program) where
   after_append [] (Leave ∷ es) fs = after_append [] es fs
   after_append (c ∷ cs) (Leave ∷ es) fs = after_append cs es fs
 
-  pub bounded_append : (cs : List Call) (es fs : List Event) → BoundedFrom (allowed p) cs es → BoundedFrom (allowed p) (open_after cs es) fs → BoundedFrom (allowed p) cs (es ++ fs)
+  pub bounded_append : (cs : List Call) (es fs : List Event) → BoundedFrom (allowed p) cs es → BoundedFrom (allowed p) (open_after cs es) fs →
+      BoundedFrom (allowed p) cs (es ++ fs)
   bounded_append cs [] fs h g = g
   bounded_append cs (Enter x b ∷ es) fs h g = bounded_append (call_of x b ∷ cs) es fs h g
   bounded_append cs (Deed d ∷ es) fs h g = (h.0, bounded_append cs es fs h.1 g)
@@ -68,7 +69,8 @@ module _ (p : Program) where
 
   pub held_more : (f : List ℕ) (es fs : List Event) → Kept f es → Held f fs → Held f (es ++ fs)
   held_more f es fs h k = record {
-    bounded = λ g cs m. bounded_append cs es fs (h.bounded g cs m) (subst (λ (v : List Call). BoundedFrom (allowed p) v fs) (sym (h.closes cs)) (k.bounded g cs m));
+    bounded = λ g cs m. bounded_append cs es fs (h.bounded g cs m)
+        (subst (λ (v : List Call). BoundedFrom (allowed p) v fs) (sym (h.closes cs)) (k.bounded g cs m));
   }
 
   pub kept_more : (f : List ℕ) (es fs : List Event) → Kept f es → Kept f fs → Kept f (es ++ fs)
@@ -105,10 +107,12 @@ module _ (p : Program) where
   pub record HasDeed (f : List ℕ) (d : DeedRecord) : Type 0 where
     pub atom : GrantsFit p → (a : ℕ) × In a f × (atom_named a ≡ atom_of d)
 
-  all_contain : (cs : List Call) (f : List ℕ) (a : ℕ) (n : AtomName) → In a f → atom_named a ≡ n → AllMay cs f → All (λ call. Contains (allowed p call) n) cs
+  all_contain : (cs : List Call) (f : List ℕ) (a : ℕ) (n : AtomName) → In a f → atom_named a ≡ n → AllMay cs f →
+      All (λ call. Contains (allowed p call) n) cs
   all_contain [] f a n i e m = λ k d lt. absurd (omega arith)
   all_contain (c ∷ cs) f a n i e m =
-      all_more (λ call. Contains (allowed p call) n) c cs (subst (λ (v : AtomName). Contains (allowed p c) v) e (m.0.by a i)) (all_contain cs f a n i e m.1)
+      all_more (λ call. Contains (allowed p call) n) c cs (subst (λ (v : AtomName). Contains (allowed p c) v) e (m.0.by a i))
+      (all_contain cs f a n i e m.1)
 
   pub kept_deed : (f : List ℕ) (d : DeedRecord) → HasDeed f d → Kept f (Deed d ∷ [])
   kept_deed f d h = record {

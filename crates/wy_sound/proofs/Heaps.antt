@@ -89,7 +89,8 @@ module _ (p : Program) where
 
     -- each object stays what it is
     abbrev pub Grows : List Thing → List Thing → Type 0
-    Grows h h' = (a : ℕ) (t : Thing) → slice_get h a ≡ Some t → (u : Thing) × (slice_get h' a ≡ Some u) × (u.instance ≡ t.instance) × (u.literal ≡ t.literal)
+    Grows h h' = (a : ℕ) (t : Thing) → slice_get h a ≡ Some t →
+        (u : Thing) × (slice_get h' a ≡ Some u) × (u.instance ≡ t.instance) × (u.literal ≡ t.literal)
 
     -- .. and those that are not ready stay as they are
     pub record Extends (h h' : List Thing) : Type 0 where
@@ -121,8 +122,19 @@ module _ (p : Program) where
     all_grow h h' [] (k ∷ ks) x q = absurd q
     all_grow h h' (v ∷ vs) [] x q = absurd q
 
-    pub names_grow : (h h' : List Thing) (x : ℕ) (pl : Placed p x) (seen : List Variable) (named : Named) → Grows h h' → NamesHave h x pl seen named → NamesHave h' x pl seen named
-    names_grow h h' x pl seen named g q = record { by = λ v i. let r = q.by v i in record { kind = r.kind; typed = r.typed; value = r.value; here = r.here; has = value_grows h h' r.value r.kind g r.has } }
+    pub names_grow : (h h' : List Thing) (x : ℕ) (pl : Placed p x) (seen : List Variable) (named : Named) → Grows h h' → NamesHave h x pl seen named →
+        NamesHave h' x pl seen named
+    names_grow h h' x pl seen named g q =
+        record {
+          by = λ v i. let r = q.by v i in record {
+            kind = r.kind;
+            typed = r.typed;
+            value = r.value;
+            here = r.here;
+            has =
+                value_grows h h' r.value r.kind g r.has;
+          };
+        }
 
     pub thing_grows : (h h' : List Thing) (t : Thing) → Grows h h' → ThingHas h t → ThingHas h' t
     thing_grows h h' t g q = record {
@@ -148,21 +160,24 @@ module _ (p : Program) where
     all_below h (v ∷ vs) [] ks q s = absurd q
     all_below h (v ∷ vs) (j ∷ js) [] q s = absurd s
 
-    pub all_get : (h : List Thing) (vs : List Value) (ks : List GroundType) (i : ℕ) (k : GroundType) → AllHave h vs ks → slice_get ks i ≡ Some k → (v : Value) × (slice_get vs i ≡ Some v) × ValueHas h v k
+    pub all_get : (h : List Thing) (vs : List Value) (ks : List GroundType) (i : ℕ) (k : GroundType) → AllHave h vs ks → slice_get ks i ≡ Some k →
+        (v : Value) × (slice_get vs i ≡ Some v) × ValueHas h v k
     all_get h [] [] i k q e = absurd cc
     all_get h (v ∷ vs) (j ∷ ks) zero k q e = (v, refl, subst (λ (u : GroundType). ValueHas h v u) (some_same e) q.0)
     all_get h (v ∷ vs) (j ∷ ks) (suc i) k q e = all_get h vs ks i k q.1 e
     all_get h [] (j ∷ ks) i k q e = absurd q
     all_get h (v ∷ vs) [] i k q e = absurd q
 
-    pub all_set : (h : List Thing) (vs : List Value) (ks : List GroundType) (i : ℕ) (k : GroundType) (x : Value) → AllHave h vs ks → slice_get ks i ≡ Some k → ValueHas h x k → AllHave h (slice_set vs i x) ks
+    pub all_set : (h : List Thing) (vs : List Value) (ks : List GroundType) (i : ℕ) (k : GroundType) (x : Value) → AllHave h vs ks →
+        slice_get ks i ≡ Some k → ValueHas h x k → AllHave h (slice_set vs i x) ks
     all_set h [] [] i k x q e r = absurd cc
     all_set h (v ∷ vs) (j ∷ ks) zero k x q e r = (subst (λ (u : GroundType). ValueHas h x u) (sym (some_same e)) r, q.1)
     all_set h (v ∷ vs) (j ∷ ks) (suc i) k x q e r = (q.0, all_set h vs ks i k x q.1 e r)
     all_set h [] (j ∷ ks) i k x q e r = absurd q
     all_set h (v ∷ vs) [] i k x q e r = absurd q
 
-    pub all_append : (h : List Thing) (vs ws : List Value) (ks ls : List GroundType) → AllHave h vs ks → AllHave h ws ls → AllHave h (vs ++ ws) (ks ++ ls)
+    pub all_append : (h : List Thing) (vs ws : List Value) (ks ls : List GroundType) → AllHave h vs ks → AllHave h ws ls →
+        AllHave h (vs ++ ws) (ks ++ ls)
     all_append h [] ws [] ls q r = r
     all_append h (v ∷ vs) ws (k ∷ ks) ls q r = (q.0, all_append h vs ws ks ls q.1 r)
     all_append h [] ws (k ∷ ks) ls q r = absurd q
@@ -191,7 +206,8 @@ module _ (p : Program) where
     this_grows h h' x this None g q = q
     this_grows h h' x this (Some l) g q = let u = g q.0 q.1 q.3 in (q.0, u.0, q.2, u.1, u.2 ∙ q.4, u.3 ∙ q.5, q.6)
 
-    pub sight_grows : (h h' : List Thing) (sight : Sight) (pl : Placed p sight.instance) (owner : Option ℕ) (seen : List Variable) → Extends h h' → SightHas h sight pl owner seen → SightHas h' sight pl owner seen
+    pub sight_grows : (h h' : List Thing) (sight : Sight) (pl : Placed p sight.instance) (owner : Option ℕ) (seen : List Variable) → Extends h h' →
+        SightHas h sight pl owner seen → SightHas h' sight pl owner seen
     sight_grows h h' sight pl owner seen e q = record {
       early = q.early;
       this = this_grows h h' sight.instance sight.this owner e.by q.this;
@@ -203,7 +219,8 @@ module _ (p : Program) where
         slice_get pl.holds.derivation.locals n ≡ Some k → ValueHas h v k → NamesHave h x pl seen named →
         (w : Variable) → In w (Local n ∷ seen) → VariableHas h x pl ((Local n, v) ∷ named) w
     local_named h x pl seen named n v k e q r (Parameter b i) (inl f) = absurd cc
-    local_named h x pl seen named n v k e q r (Parameter b i) (inr f) = let s = r.by (Parameter b i) f in record { kind = s.kind; typed = s.typed; value = s.value; here = s.here; has = s.has }
+    local_named h x pl seen named n v k e q r (Parameter b i) (inr f) = let s =
+        r.by (Parameter b i) f in record { kind = s.kind; typed = s.typed; value = s.value; here = s.here; has = s.has }
     local_named h x pl seen named n v k e q r (Local m) i = ⊎_elim
         (λ same. record {
           kind = k;
@@ -214,14 +231,23 @@ module _ (p : Program) where
         })
         (λ ne. let old : In (Local m) seen = elim i [ inl f ↦ absurd (ne (local_same n m f)) | inr f ↦ f ] in
         let s = r.by (Local m) old in
-        record { kind = s.kind; typed = s.typed; value = s.value; here = ap (λ c. if c then Some v else value_named named (Local m)) (ne_eqb n m ne) ∙ s.here; has = s.has })
+        record {
+          kind = s.kind;
+          typed = s.typed;
+          value = s.value;
+          here = ap (λ c. if c then Some v else value_named named (Local m)) (ne_eqb n m ne) ∙
+              s.here;
+          has = s.has;
+        })
         (cases_eq n m)
       where
         local_same : (n m : ℕ) → Local n ≡ Local m → n ≡ m
         local_same n m e = cc
 
-    pub sight_more : (h : List Thing) (sight : Sight) (pl : Placed p sight.instance) (owner : Option ℕ) (seen : List Variable) (n : ℕ) (v : Value) (k : GroundType) →
-        slice_get pl.holds.derivation.locals n ≡ Some k → ValueHas h v k → SightHas h sight pl owner seen → SightHas h (with_local sight n v) pl owner (Local n ∷ seen)
+    pub sight_more : (h : List Thing) (sight : Sight) (pl : Placed p sight.instance) (owner : Option ℕ) (seen : List Variable) (n : ℕ) (v : Value)
+        (k : GroundType) →
+        slice_get pl.holds.derivation.locals n ≡ Some k → ValueHas h v k → SightHas h sight pl owner seen →
+        SightHas h (with_local sight n v) pl owner (Local n ∷ seen)
     sight_more h sight pl owner seen n v k e q r = record {
       early = r.early;
       this = r.this;
@@ -253,18 +279,21 @@ module _ (p : Program) where
         longer l = omega (arith, l, one_longer h)
 
     -- the object at a place has these fields now
-    pub set_grows : (h : List Thing) (a : ℕ) (t : Thing) (fields : List Value) → slice_get h a ≡ Some t → Grows h (slice_set h a (record t { fields = fields }))
+    pub set_grows : (h : List Thing) (a : ℕ) (t : Thing) (fields : List Value) → slice_get h a ≡ Some t →
+        Grows h (slice_set h a (record t { fields = fields }))
     set_grows h a t fields e b u g = ⊎_elim
         (λ same. let f : t ≡ u = some_same (sym e ∙ ap (slice_get h) same ∙ g) in (
           record t { fields = fields },
-          ap (slice_get (slice_set h a (record t { fields = fields }))) (sym same) ∙ get_set_same h a (record t { fields = fields }) (get_within h a t e),
+          ap (slice_get (slice_set h a (record t { fields = fields }))) (sym same) ∙
+              get_set_same h a (record t { fields = fields }) (get_within h a t e),
           ap (λ (v : Thing). v.instance) f,
           ap (λ (v : Thing). v.literal) f,
         ))
         (λ ne. (u, get_set_other h a b (record t { fields = fields }) ne ∙ g, refl, refl))
         (cases_eq a b)
 
-    pub heap_set : (h : List Thing) (a : ℕ) (t : Thing) (fields : List Value) → slice_get h a ≡ Some t → Ready a → WellHeap h → (th : ThingHas h t) → AllHave h fields (fields_at t.instance th.place t.literal) →
+    pub heap_set : (h : List Thing) (a : ℕ) (t : Thing) (fields : List Value) → slice_get h a ≡ Some t → Ready a → WellHeap h → (th : ThingHas h t) →
+        AllHave h fields (fields_at t.instance th.place t.literal) →
         Extends h (slice_set h a (record t { fields = fields })) × WellHeap (slice_set h a (record t { fields = fields }))
     heap_set h a t fields e ready wh th q =
         let u : Thing = record t { fields = fields } in

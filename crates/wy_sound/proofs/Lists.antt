@@ -50,7 +50,8 @@ module _ {X : Type 0} where
   get_last (z ∷ xs) y = get_last xs y
 
   -- what stands in a list with one more is of the list, or the last one at its place
-  pub get_either : (xs : List X) (y : X) (i : ℕ) (x : X) → slice_get (xs ++ y ∷ []) i ≡ Some x → (slice_get xs i ≡ Some x) ⊎ ((y ≡ x) × (i ≡ length xs))
+  pub get_either : (xs : List X) (y : X) (i : ℕ) (x : X) → slice_get (xs ++ y ∷ []) i ≡ Some x →
+      (slice_get xs i ≡ Some x) ⊎ ((y ≡ x) × (i ≡ length xs))
   get_either [] y zero x e = inr (some_same e, refl)
   get_either [] y (suc i) x e = absurd cc
   get_either (z ∷ xs) y zero x e = inl e

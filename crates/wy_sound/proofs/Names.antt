@@ -62,21 +62,28 @@ pub captured_values : (vars : Named) (xs : List Variable) → ((x : Variable) �
 captured_values vars [] h = ([], refl, λ x i. absurd i)
 captured_values vars (x ∷ xs) h =
     let v = h x (inl refl) in
-    let r = captured_values vars xs (λ y i. h y (inr i)) in
-    ((x, v.0) ∷ r.0, ap (λ o. with_named x o (captured_from vars xs)) v.1 ∙ ap (with_named x (Some v.0)) r.1, λ y i. of_test y (same_variable x y) refl v.0 v.1 r.0 r.2 i)
+    let r = captured_values vars xs (λ y i. h y (inr i)) in (
+      (x, v.0) ∷ r.0,
+      ap (λ o. with_named x o (captured_from vars xs)) v.1 ∙
+          ap (with_named x (Some v.0)) r.1,
+      λ y i. of_test y (same_variable x y) refl v.0 v.1 r.0 r.2 i,
+    )
   where
-    of_test : (y : Variable) (t : Bool) → same_variable x y ≡ t → (v : Value) → value_named vars x ≡ Some v → (named : Named) → ((z : Variable) → In z xs → value_named named z ≡ value_named vars z) → In y (x ∷ xs) →
+    of_test : (y : Variable) (t : Bool) → same_variable x y ≡ t → (v : Value) → value_named vars x ≡ Some v → (named : Named) →
+        ((z : Variable) → In z xs → value_named named z ≡ value_named vars z) → In y (x ∷ xs) →
         (if t then Some v else value_named named y) ≡ value_named vars y
     of_test y true t v e named k i = sym e ∙ ap (value_named vars) (true_same x y t)
     of_test y false t v e named k (inl f) = absurd (let s = same_true x y f in cc)
     of_test y false t v e named k (inr i) = k y i
 
 -- a parameter's value is among the parameters
-parameter_value : (k o n i : ℕ) (vs : List Value) (rest : Named) (v : Value) → n ≡ o + i → slice_get vs i ≡ Some v → value_named (parameters k o vs ++ rest) (Parameter k n) ≡ Some v
+parameter_value : (k o n i : ℕ) (vs : List Value) (rest : Named) (v : Value) → n ≡ o + i → slice_get vs i ≡ Some v →
+    value_named (parameters k o vs ++ rest) (Parameter k n) ≡ Some v
 parameter_value k o n i [] rest v e g = absurd cc
 parameter_value k o n zero (u ∷ vs) rest v e g =
     let f : o ≡ n = omega (arith, e) in
-    pick_true (same_variable (Parameter k o) (Parameter k n)) (Some u) (value_named (parameters k (o + 1) vs ++ rest) (Parameter k n)) (same_true (Parameter k o) (Parameter k n) (ap (λ o. Parameter k o) f)) ∙ g
+    pick_true (same_variable (Parameter k o) (Parameter k n)) (Some u) (value_named (parameters k (o + 1) vs ++ rest) (Parameter k n))
+    (same_true (Parameter k o) (Parameter k n) (ap (λ o. Parameter k o) f)) ∙ g
 parameter_value k o n (suc i) (u ∷ vs) rest v e g =
     let ne : nat_eq o n ≡ false = ne_eqb o n (λ f. lt_irrefl o (omega (arith, e, f))) in
     let t : same_variable (Parameter k o) (Parameter k n) ≡ false = ap (λ c. nat_eq k k && c) ne ∙ and_right (nat_eq k k) false refl in
@@ -88,12 +95,14 @@ abbrev pub IsNoParameter : ℕ → Variable → Type 0
 IsNoParameter k (Parameter b i) = k ≢ b
 IsNoParameter k (Local n) = Unit {0}
 
-other_value : (k o : ℕ) (vs : List Value) (rest : Named) (x : Variable) → IsNoParameter k x → value_named (parameters k o vs ++ rest) x ≡ value_named rest x
+other_value : (k o : ℕ) (vs : List Value) (rest : Named) (x : Variable) → IsNoParameter k x →
+    value_named (parameters k o vs ++ rest) x ≡ value_named rest x
 other_value k o [] rest x ne = refl
 other_value k o (u ∷ vs) rest (Local n) ne = other_value k (o + 1) vs rest (Local n) ne
 other_value k o (u ∷ vs) rest (Parameter b i) ne =
     let t : same_variable (Parameter k o) (Parameter b i) ≡ false = ap (λ c. c && nat_eq o i) (ne_eqb k b ne) in
-    pick_false (same_variable (Parameter k o) (Parameter b i)) (Some u) (value_named (parameters k (o + 1) vs ++ rest) (Parameter b i)) t ∙ other_value k (o + 1) vs rest (Parameter b i) ne
+    pick_false (same_variable (Parameter k o) (Parameter b i)) (Some u) (value_named (parameters k (o + 1) vs ++ rest) (Parameter b i)) t ∙
+    other_value k (o + 1) vs rest (Parameter b i) ne
 
 in_range : (a n j : ℕ) → In j (range_with_len a n) → j < a + n
 in_range a zero j i = absurd i
@@ -105,18 +114,35 @@ module _ (p : Program) (now : ℕ) (h : List Thing) (x : ℕ) (pl : Placed p x) 
   parameter_typed : (i : ℕ) → variable_at p x pl (Parameter k i) ≡ option_map (kind_at p x pl) (slice_get b.signature.params i)
   parameter_typed i = ap (λ o. option_map (kind_at p x pl) (parameter_type o i)) there
 
-  parameter_has : (i : ℕ) (t : GroundType) → variable_at p x pl (Parameter k i) ≡ Some t → VariableHas p now h x pl (parameters k 0 vs ++ captured) (Parameter k i)
+  parameter_has : (i : ℕ) (t : GroundType) → variable_at p x pl (Parameter k i) ≡ Some t →
+      VariableHas p now h x pl (parameters k 0 vs ++ captured) (Parameter k i)
   parameter_has i t e =
-      let g : slice_get (map (kind_at p x pl) b.signature.params) i ≡ Some t = get_map (kind_at p x pl) b.signature.params i ∙ sym (parameter_typed i) ∙ e in
+      let g : slice_get (map (kind_at p x pl) b.signature.params) i ≡ Some t = get_map (kind_at p x pl) b.signature.params i ∙
+      sym (parameter_typed i) ∙ e in
       let r = all_get p now h vs (map (kind_at p x pl) b.signature.params) i t typed g in
       record { kind = t; typed = e; value = r.0; here = parameter_value k 0 i i vs captured r.0 (omega arith) r.1; has = r.2 }
 
   captured_has : (v : Variable) → VariableHas p now h x pl captured v → VariableHas p now h x pl (parameters k 0 vs ++ captured) v
-  captured_has (Local n) c = record { kind = c.kind; typed = c.typed; value = c.value; here = other_value k 0 vs captured (Local n) tt ∙ c.here; has = c.has }
+  captured_has (Local n) c = record {
+    kind = c.kind;
+    typed = c.typed;
+    value = c.value;
+    here = other_value k 0 vs captured (Local n) tt ∙ c.here;
+    has =
+        c.has;
+  }
   captured_has (Parameter j i) c = ⊎_elim
-      (λ (same : k ≡ j). let P : ℕ → Type 0 = λ j. variable_at p x pl (Parameter j i) ≡ Some c.kind → VariableHas p now h x pl (parameters k 0 vs ++ captured) (Parameter j i) in
+      (λ (same : k ≡ j). let P : ℕ → Type 0 = λ j. variable_at p x pl (Parameter j i) ≡ Some c.kind →
+      VariableHas p now h x pl (parameters k 0 vs ++ captured) (Parameter j i) in
       subst P same (parameter_has i c.kind) c.typed)
-      (λ (ne : k ≢ j). record { kind = c.kind; typed = c.typed; value = c.value; here = other_value k 0 vs captured (Parameter j i) ne ∙ c.here; has = c.has })
+      (λ (ne : k ≢ j). record {
+        kind = c.kind;
+        typed = c.typed;
+        value = c.value;
+        here = other_value k 0 vs captured (Parameter j i) ne ∙ c.here;
+        has =
+            c.has;
+      })
       (cases_eq k j)
 
   own_parameter : (v : Variable) → In v (body_parameters k b) → VariableHas p now h x pl (parameters k 0 vs ++ captured) v
@@ -124,45 +150,62 @@ module _ (p : Program) (now : ℕ) (h : List Thing) (x : ℕ) (pl : Placed p x) 
       let r = In-unmap (λ i. Parameter k i) v (range_with_len 0 (length b.signature.params)) i in
       let lt = in_range 0 (length b.signature.params) r.0 r.1 in
       let t = get_below b.signature.params r.0 (omega (arith, lt)) in
-      subst (λ v. VariableHas p now h x pl (parameters k 0 vs ++ captured) v) r.2 (parameter_has r.0 (kind_at p x pl t.0) (parameter_typed r.0 ∙ ap (option_map (kind_at p x pl)) t.1))
+      subst (λ v. VariableHas p now h x pl (parameters k 0 vs ++ captured) v) r.2
+      (parameter_has r.0 (kind_at p x pl t.0) (parameter_typed r.0 ∙ ap (option_map (kind_at p x pl)) t.1))
 
   -- what a method sees: what its literal captured, and its own parameters
-  pub method_names : (seen : List Variable) → NamesHave p now h x pl seen captured → NamesHave p now h x pl (seen ++ body_parameters k b) (parameters k 0 vs ++ captured)
-  method_names seen c = record { by = λ v i. elim (In-cases v seen (body_parameters k b) i) [ inl j ↦ captured_has v (c.by v j) | inr j ↦ own_parameter v j ] }
+  pub method_names : (seen : List Variable) → NamesHave p now h x pl seen captured →
+      NamesHave p now h x pl (seen ++ body_parameters k b) (parameters k 0 vs ++ captured)
+  method_names seen c = record {
+    by =
+        λ v i. elim (In-cases v seen (body_parameters k b) i) [ inl j ↦ captured_has v (c.by v j) | inr j ↦ own_parameter v j ];
+  }
 
 ------------------------------------------------------------
 -- Fields
 
-module _ (p : Program) (now : ℕ) (w : World) (sight : Sight) (pl : Placed p sight.instance) (l : ℕ) (this : ThisHas p now w.objects sight.instance sight.this (Some l)) (wh : WellHeap p now w.objects) where
+module _ (p : Program) (now : ℕ) (w : World) (sight : Sight) (pl : Placed p sight.instance) (l : ℕ)
+    (this : ThisHas p now w.objects sight.instance sight.this (Some l)) (wh : WellHeap p now w.objects) where
   thing_has : ThingHas p now w.objects this.1
   thing_has = wh.by this.0 this.1 this.3 this.6
 
   -- the fields of the current object
   fields_typed : AllHave p now w.objects this.1.fields (fields_at p sight.instance pl l)
-  fields_typed = subst (λ ks. AllHave p now w.objects this.1.fields ks) (fields_same p this.1.instance sight.instance thing_has.place pl this.1.literal l this.4 this.5) thing_has.fields
+  fields_typed = subst (λ ks. AllHave p now w.objects this.1.fields ks)
+      (fields_same p this.1.instance sight.instance thing_has.place pl this.1.literal l this.4 this.5) thing_has.fields
 
-  field_kind : (i : ℕ) (f : Field) → field_at pl.scope (Some l) i ≡ Some f → slice_get (fields_at p sight.instance pl l) i ≡ Some (kind_at p sight.instance pl f.typ)
-  field_kind i f e = get_mapped (kind_at p sight.instance pl) (field_types pl.scope l) i f.typ (get_mapped (λ (f : Field). f.typ) (fields_of pl.scope l) i f e)
+  field_kind : (i : ℕ) (f : Field) → field_at pl.scope (Some l) i ≡ Some f →
+      slice_get (fields_at p sight.instance pl l) i ≡ Some (kind_at p sight.instance pl f.typ)
+  field_kind i f e = get_mapped (kind_at p sight.instance pl) (field_types pl.scope l) i f.typ
+      (get_mapped (λ (f : Field). f.typ) (fields_of pl.scope l) i f e)
 
-  pub field_value : (i : ℕ) (f : Field) → field_at pl.scope (Some l) i ≡ Some f → (v : Value) × (field_in (object_of w sight.this) i ≡ Some v) × ValueHas p now w.objects v (kind_at p sight.instance pl f.typ)
+  pub field_value : (i : ℕ) (f : Field) → field_at pl.scope (Some l) i ≡ Some f →
+      (v : Value) × (field_in (object_of w sight.this) i ≡ Some v) × ValueHas p now w.objects v (kind_at p sight.instance pl f.typ)
   field_value i f e =
-      let r = all_get p now w.objects this.1.fields (fields_at p sight.instance pl l) i (kind_at p sight.instance pl f.typ) fields_typed (field_kind i f e) in
+      let r = all_get p now w.objects this.1.fields (fields_at p sight.instance pl l) i (kind_at p sight.instance pl f.typ) fields_typed
+      (field_kind i f e) in
       (r.0, ap (λ o. field_in (object_of w o) i) this.2 ∙ ap (λ o. field_in o i) this.3 ∙ r.1, r.2)
 
   -- a field of the current object is set
-  pub field_answers : (i : ℕ) (f : Field) (v : Value) → field_at pl.scope (Some l) i ≡ Some f → ValueHas p now w.objects v (kind_at p sight.instance pl f.typ) → Answers p now w (λ v w. Unit {0}) (write_field sight.this i v w)
+  pub field_answers : (i : ℕ) (f : Field) (v : Value) → field_at pl.scope (Some l) i ≡ Some f →
+      ValueHas p now w.objects v (kind_at p sight.instance pl f.typ) → Answers p now w (λ v w. Unit {0}) (write_field sight.this i v w)
   field_answers i f v e q =
       let t : Thing = this.1 in
-      let r = all_get p now w.objects t.fields (fields_at p sight.instance pl l) i (kind_at p sight.instance pl f.typ) fields_typed (field_kind i f e) in
+      let r = all_get p now w.objects t.fields (fields_at p sight.instance pl l) i (kind_at p sight.instance pl f.typ) fields_typed
+      (field_kind i f e) in
       let lt : i < length t.fields = get_within t.fields i r.0 r.1 in
       let fields : List Value = slice_set t.fields i v in
-      let set = all_set p now w.objects t.fields (fields_at p sight.instance pl l) i (kind_at p sight.instance pl f.typ) v fields_typed (field_kind i f e) q in
+      let set = all_set p now w.objects t.fields (fields_at p sight.instance pl l) i (kind_at p sight.instance pl f.typ) v fields_typed
+      (field_kind i f e) q in
       let back : AllHave p now w.objects fields (fields_at p t.instance thing_has.place t.literal) =
-      subst (λ ks. AllHave p now w.objects fields ks) (sym (fields_same p t.instance sight.instance thing_has.place pl t.literal l this.4 this.5)) set in
+      subst (λ ks. AllHave p now w.objects fields ks)
+      (sym (fields_same p t.instance sight.instance thing_has.place pl t.literal l this.4 this.5)) set in
       let hs = heap_set p now w.objects this.0 t fields this.3 this.6 wh thing_has back in
       subst (λ o. Answers p now w (λ v w. Unit {0}) (write_field o i v w)) (sym this.2)
       (subst (λ o. Answers p now w (λ v w. Unit {0}) (field_set this.0 i v w o)) (sym this.3)
-      (subst (λ (r : Reply). Answers p now w (λ v w. Unit {0}) r) (sym (pick_true (nat_lt i (length t.fields)) (replied Nothing (with_fields w this.0 t fields)) (stopped Wrong w) (lt-ltb i (length t.fields) lt)))
+      (subst (λ (r : Reply). Answers p now w (λ v w. Unit {0}) r)
+      (sym (pick_true (nat_lt i (length t.fields)) (replied Nothing (with_fields w this.0 t fields)) (stopped Wrong w)
+      (lt-ltb i (length t.fields) lt)))
       (record { by = (hs.0, hs.1, tt) })))
 
 ------------------------------------------------------------
@@ -175,7 +218,8 @@ some_mapped : {X Y : Type 0} (f : X → Y) (o : Option X) (y : Y) → option_map
 some_mapped f None y e = absurd cc
 some_mapped f (Some x) y e = (x, refl, some_same e)
 
-variable_same : (p : Program) (x : ℕ) (pl : Placed p x) (owner : Option ℕ) (v : Variable) → owner_binding p x pl owner (to.Variable v) ≡ variable_at p x pl v
+variable_same : (p : Program) (x : ℕ) (pl : Placed p x) (owner : Option ℕ) (v : Variable) →
+    owner_binding p x pl owner (to.Variable v) ≡ variable_at p x pl v
 variable_same p x pl owner (Parameter b i) = refl
 variable_same p x pl owner (Local n) = refl
 
@@ -185,11 +229,13 @@ module _ (p : Program) (linked : IsLinked p) (now : ℕ) (early : now ≤ many p
       (v : Value) × (actual_value (actual_of (program_starts p) x k) ≡ Some v) × ValueHas p now h v (kind_at p x pl n.typ)
   own_value x pl h k n le wh e =
       let f = linked.arguments.each x pl.instance pl.scope k n pl.is.there pl.is.scope e in
-      let handed : actual_of (program_starts p) x k ≡ Some f.argument = ap (λ o. actual_in o k) (started_at p linked x pl.instance pl.is.there) ∙ f.handed in
+      let handed : actual_of (program_starts p) x k ≡ Some f.argument = ap (λ o. actual_in o k) (started_at p linked x pl.instance pl.is.there) ∙
+      f.handed in
       let r = of_actual f.argument f.there f.below in
       (r.0, ap actual_value handed ∙ r.1, r.2)
     where
-      of_actual : (a : Actual) → IsThere p x a → ground_below p (actual_type p a) (kind_at p x pl n.typ) → (v : Value) × (actual_value (Some a) ≡ Some v) × ValueHas p now h v (kind_at p x pl n.typ)
+      of_actual : (a : Actual) → IsThere p x a → ground_below p (actual_type p a) (kind_at p x pl n.typ) →
+          (v : Value) × (actual_value (Some a) ≡ Some v) × ValueHas p now h v (kind_at p x pl n.typ)
       of_actual (actual.Grant g) t b = (Grant g, refl, (t, b))
       of_actual (actual.Instance y) lt b =
           let r = wh.first y (omega (arith, lt, le, early)) in (
@@ -199,12 +245,15 @@ module _ (p : Program) (linked : IsLinked p) (now : ℕ) (early : now ≤ many p
               r.0,
               r.1,
               inl (omega (arith, lt, le)),
-              subst (λ i. ground_below p (Own i r.0.literal) (kind_at p x pl n.typ)) (sym r.2) (subst (λ l. ground_below p (Own y l) (kind_at p x pl n.typ)) (sym r.3) b),
+              subst (λ i. ground_below p (Own i r.0.literal) (kind_at p x pl n.typ)) (sym r.2)
+                  (subst (λ l. ground_below p (Own y l) (kind_at p x pl n.typ)) (sym r.3) b),
             ),
           )
 
-  pub name_value : (owner : Option ℕ) (seen : List Variable) (sight : Sight) (pl : Placed p sight.instance) (w : World) (name : Binding) (t : GroundType) →
-      SightHas p now w.objects sight pl owner seen → WellHeap p now w.objects → BindingFits p pl.scope owner seen name → owner_binding p sight.instance pl owner name ≡ Some t →
+  pub name_value : (owner : Option ℕ) (seen : List Variable) (sight : Sight) (pl : Placed p sight.instance) (w : World) (name : Binding)
+      (t : GroundType) →
+      SightHas p now w.objects sight pl owner seen → WellHeap p now w.objects → BindingFits p pl.scope owner seen name →
+      owner_binding p sight.instance pl owner name ≡ Some t →
       (v : Value) × (value_of_name (program_starts p) sight w name ≡ Some v) × ValueHas p now w.objects v t
   name_value owner seen sight pl w (to.Variable v) t sh wh fits e =
       let r = sh.names.by v fits in
@@ -228,10 +277,13 @@ module _ (p : Program) (linked : IsLinked p) (now : ℕ) (early : now ≤ many p
       of_test true e = e
       of_test false e = absurd cc
 
-  pub assigned_answers : (owner : Option ℕ) (seen : List Variable) (sight : Sight) (pl : Placed p sight.instance) (w : World) (name : Binding) (f : Field) (v : Value) →
-      SightHas p now w.objects sight pl owner seen → WellHeap p now w.objects → var_field pl.scope owner name ≡ Some f → ValueHas p now w.objects v (kind_at p sight.instance pl f.typ) →
+  pub assigned_answers : (owner : Option ℕ) (seen : List Variable) (sight : Sight) (pl : Placed p sight.instance) (w : World) (name : Binding)
+      (f : Field) (v : Value) →
+      SightHas p now w.objects sight pl owner seen → WellHeap p now w.objects → var_field pl.scope owner name ≡ Some f →
+      ValueHas p now w.objects v (kind_at p sight.instance pl f.typ) →
       Answers p now w (λ v w. Unit {0}) (assigned sight name v w)
   assigned_answers owner seen sight pl w (to.Variable x) f v sh wh e q = absurd cc
   assigned_answers owner seen sight pl w (to.Own k) f v sh wh e q = absurd cc
   assigned_answers None seen sight pl w (to.Field i) f v sh wh e q = absurd cc
-  assigned_answers (Some l) seen sight pl w (to.Field i) f v sh wh e q = field_answers p now w sight pl l sh.this wh i f v (mutable_same (field_at pl.scope (Some l) i) f e) q
+  assigned_answers (Some l) seen sight pl w (to.Field i) f v sh wh e q =
+      field_answers p now w sight pl l sh.this wh i f v (mutable_same (field_at pl.scope (Some l) i) f e) q

@@ -68,7 +68,13 @@ member_number name.RandomWord = 0
 
 -- the method of an operation, with sets put in for its type's members
 abbrev pub operation_method : List (List ℕ) → OpName → Signature GroundType
-operation_method sets o = record { name = method_text o; params = replicate (arity_of o) Texts; effect = replace sets (member_number o ∷ []); result = answer_kind o }
+operation_method sets o = record {
+  name = method_text o;
+  params = replicate (arity_of o) Texts;
+  effect = replace sets (member_number o ∷ []);
+  result =
+      answer_kind o;
+}
 
 -- the kinds of devices by the numbers of their types
 abbrev pub kind_of_number : ℕ → Kind
@@ -86,7 +92,8 @@ taken_get (suc d) (suc n) (x ∷ xs) [] lt e = absurd cc
 taken_get (suc d) (suc n) (x ∷ xs) (y ∷ ys) lt e = taken_get d n xs ys (omega arith) (cc)
 
 -- the methods of a primitive type are its operations
-pub primitive_methods : (p : Program) → IsCore p → (d : ℕ) (sets : List (List ℕ)) → d < 4 → ground_methods p (Named d sets) ≡ map (operation_method sets) (operations_of (kind_of_number d))
+pub primitive_methods : (p : Program) → IsCore p → (d : ℕ) (sets : List (List ℕ)) → d < 4 →
+    ground_methods p (Named d sets) ≡ map (operation_method sets) (operations_of (kind_of_number d))
 primitive_methods p core d sets lt = ap (methods_from sets) (taken_get d 4 p.declarations primitive_types lt core.primitives) ∙ of_number d lt
   where
     methods_from : List (List ℕ) → Option TypeDecl → List (Signature GroundType)
@@ -100,7 +107,8 @@ primitive_methods p core d sets lt = ap (methods_from sets) (taken_get d 4 p.dec
     of_number (suc (suc (suc (suc d)))) lt = absurd (omega arith)
 
 -- the operation of a method's name is the method that is found
-pub operation_found : (sets : List (List ℕ)) (os : List OpName) (method : List ℕ) (g : Signature GroundType) → find_method method (map (operation_method sets) os) ≡ Some g →
+pub operation_found : (sets : List (List ℕ)) (os : List OpName) (method : List ℕ) (g : Signature GroundType) →
+    find_method method (map (operation_method sets) os) ≡ Some g →
     (o : OpName) × (operation_called method os ≡ Some o) × (operation_method sets o ≡ g) × In o os
 operation_found sets [] method g e = absurd cc
 operation_found sets (o ∷ os) method g e = of_test (bytes_eq (method_text o) method) e (operation_found sets os method g)
@@ -109,12 +117,14 @@ operation_found sets (o ∷ os) method g e = of_test (bytes_eq (method_text o) m
     Found os u = (o : OpName) × (u ≡ Some o) × (operation_method sets o ≡ g) × In o os
 
     of_test : (b : Bool) → (if b then Some (operation_method sets o) else find_method method (map (operation_method sets) os)) ≡ Some g →
-        (find_method method (map (operation_method sets) os) ≡ Some g → Found os (operation_called method os)) → Found (o ∷ os) (if b then Some o else operation_called method os)
+        (find_method method (map (operation_method sets) os) ≡ Some g → Found os (operation_called method os)) →
+        Found (o ∷ os) (if b then Some o else operation_called method os)
     of_test true e f = (o, refl, some_same e, inl refl)
     of_test false e f = let r = f e in (r.0, r.1, r.2, inr r.3)
 
 -- with as many texts as it takes it is there
-pub operation_there : (o : OpName) (texts : List (List ℕ)) → length texts ≡ arity_of o → (op : Op) × (operation_on o texts ≡ Some op) × (name_of op ≡ o)
+pub operation_there : (o : OpName) (texts : List (List ℕ)) → length texts ≡ arity_of o →
+    (op : Op) × (operation_on o texts ≡ Some op) × (name_of op ≡ o)
 operation_there name.ConsoleRead [] e = (ConsoleRead, refl, refl)
 operation_there name.ConsoleWrite (s ∷ []) e = (ConsoleWrite s, refl, refl)
 operation_there name.FolderRead (s ∷ []) e = (FolderRead s, refl, refl)
@@ -130,27 +140,43 @@ operation_there o texts e = absurd (omega (arith, e))
 -- Atoms of operations
 
 -- the members of the primitive types
-pub member_there : (d : ℕ) (o : OpName) → d < 4 → In o (operations_of (kind_of_number d)) → (t : TypeDecl) × (slice_get primitive_types d ≡ Some t) × (slice_get t.members (member_number o) ≡ Some (member_named o))
-member_there zero o lt (inl e) = (_, refl, subst (λ (o : OpName). slice_get (codes "In" ∷ codes "Out" ∷ []) (member_number o) ≡ Some (member_named o)) e refl)
-member_there zero o lt (inr (inl e)) = (_, refl, subst (λ (o : OpName). slice_get (codes "In" ∷ codes "Out" ∷ []) (member_number o) ≡ Some (member_named o)) e refl)
+pub member_there : (d : ℕ) (o : OpName) → d < 4 → In o (operations_of (kind_of_number d)) →
+    (t : TypeDecl) × (slice_get primitive_types d ≡ Some t) × (slice_get t.members (member_number o) ≡ Some (member_named o))
+member_there zero o lt (inl e) =
+    (_, refl, subst (λ (o : OpName). slice_get (codes "In" ∷ codes "Out" ∷ []) (member_number o) ≡ Some (member_named o)) e refl)
+member_there zero o lt (inr (inl e)) =
+    (_, refl, subst (λ (o : OpName). slice_get (codes "In" ∷ codes "Out" ∷ []) (member_number o) ≡ Some (member_named o)) e refl)
 member_there zero o lt (inr (inr i)) = absurd i
 member_there (suc zero) o lt i = (_, refl, of_folder i)
   where
-    of_folder : In o (operations_of Folder) → slice_get (codes "Read" ∷ codes "Write" ∷ codes "Append" ∷ codes "List" ∷ []) (member_number o) ≡ Some (member_named o)
-    of_folder (inl e) = subst (λ (o : OpName). slice_get (codes "Read" ∷ codes "Write" ∷ codes "Append" ∷ codes "List" ∷ []) (member_number o) ≡ Some (member_named o)) e refl
-    of_folder (inr (inl e)) = subst (λ (o : OpName). slice_get (codes "Read" ∷ codes "Write" ∷ codes "Append" ∷ codes "List" ∷ []) (member_number o) ≡ Some (member_named o)) e refl
-    of_folder (inr (inr (inl e))) = subst (λ (o : OpName). slice_get (codes "Read" ∷ codes "Write" ∷ codes "Append" ∷ codes "List" ∷ []) (member_number o) ≡ Some (member_named o)) e refl
-    of_folder (inr (inr (inr (inl e)))) = subst (λ (o : OpName). slice_get (codes "Read" ∷ codes "Write" ∷ codes "Append" ∷ codes "List" ∷ []) (member_number o) ≡ Some (member_named o)) e refl
-    of_folder (inr (inr (inr (inr (inl e))))) = subst (λ (o : OpName). slice_get (codes "Read" ∷ codes "Write" ∷ codes "Append" ∷ codes "List" ∷ []) (member_number o) ≡ Some (member_named o)) e refl
+    of_folder : In o (operations_of Folder) →
+        slice_get (codes "Read" ∷ codes "Write" ∷ codes "Append" ∷ codes "List" ∷ []) (member_number o) ≡ Some (member_named o)
+    of_folder (inl e) = subst (λ (o : OpName). slice_get (codes "Read" ∷ codes "Write" ∷ codes "Append" ∷ codes "List" ∷ []) (member_number o) ≡ Some
+        (member_named o)) e refl
+    of_folder (inr (inl e)) = subst
+        (λ (o : OpName). slice_get (codes "Read" ∷ codes "Write" ∷ codes "Append" ∷ codes "List" ∷ []) (member_number o) ≡ Some
+        (member_named o)) e refl
+    of_folder (inr (inr (inl e))) =
+        subst (λ (o : OpName). slice_get (codes "Read" ∷ codes "Write" ∷ codes "Append" ∷ codes "List" ∷ []) (member_number o) ≡ Some
+        (member_named o)) e refl
+    of_folder (inr (inr (inr (inl e)))) =
+        subst (λ (o : OpName). slice_get (codes "Read" ∷ codes "Write" ∷ codes "Append" ∷ codes "List" ∷ []) (member_number o) ≡ Some
+        (member_named o)) e refl
+    of_folder (inr (inr (inr (inr (inl e))))) =
+        subst (λ (o : OpName). slice_get (codes "Read" ∷ codes "Write" ∷ codes "Append" ∷ codes "List" ∷ []) (member_number o) ≡ Some
+        (member_named o)) e refl
     of_folder (inr (inr (inr (inr (inr i))))) = absurd i
-member_there (suc (suc zero)) o lt (inl e) = (_, refl, subst (λ (o : OpName). slice_get (codes "Tick" ∷ []) (member_number o) ≡ Some (member_named o)) e refl)
+member_there (suc (suc zero)) o lt (inl e) =
+    (_, refl, subst (λ (o : OpName). slice_get (codes "Tick" ∷ []) (member_number o) ≡ Some (member_named o)) e refl)
 member_there (suc (suc zero)) o lt (inr i) = absurd i
-member_there (suc (suc (suc zero))) o lt (inl e) = (_, refl, subst (λ (o : OpName). slice_get (codes "Draw" ∷ []) (member_number o) ≡ Some (member_named o)) e refl)
+member_there (suc (suc (suc zero))) o lt (inl e) =
+    (_, refl, subst (λ (o : OpName). slice_get (codes "Draw" ∷ []) (member_number o) ≡ Some (member_named o)) e refl)
 member_there (suc (suc (suc zero))) o lt (inr i) = absurd i
 member_there (suc (suc (suc (suc d)))) o lt i = absurd (omega arith)
 
 -- a set at a place that names one atom has it
-atom_at : (p : Program) (sets : List (List ℕ)) (k : ℕ) (grant : List ℕ) (members : List (List ℕ)) (m : List ℕ) → map (named_atoms (authority_of p).atoms) sets ≡ map (λ member. atom_name grant member ∷ []) members → slice_get members k ≡ Some m →
+atom_at : (p : Program) (sets : List (List ℕ)) (k : ℕ) (grant : List ℕ) (members : List (List ℕ)) (m : List ℕ) →
+    map (named_atoms (authority_of p).atoms) sets ≡ map (λ member. atom_name grant member ∷ []) members → slice_get members k ≡ Some m →
     (a : ℕ) × In a (slice_index_or sets k []) × (atom_named p a ≡ atom_name grant m)
 atom_at p [] k grant [] m e f = absurd cc
 atom_at p [] k grant (n ∷ members) m e f = absurd cc
@@ -162,17 +188,20 @@ atom_at p (s ∷ sets) zero grant (n ∷ members) m e f = one s (cc)
     one (a ∷ s) e = (a, inl refl, cc)
 atom_at p (s ∷ sets) (suc k) grant (n ∷ members) m e f = atom_at p sets k grant members m (cc) f
 
-declared_members : (p : Program) (core : IsCore p) (d : ℕ) (t : TypeDecl) → d < 4 → slice_get primitive_types d ≡ Some t → slice_get p.declarations d ≡ Some t
+declared_members : (p : Program) (core : IsCore p) (d : ℕ) (t : TypeDecl) → d < 4 → slice_get primitive_types d ≡ Some t →
+    slice_get p.declarations d ≡ Some t
 declared_members p core d t lt e = taken_get d 4 p.declarations primitive_types lt core.primitives ∙ e
 
 -- the effect of an operation's method at a grant's sets has the grant's atom of its member
-pub operation_atom : (p : Program) (core : IsCore p) (g : ℕ) (h : IsGrant p g) (o : OpName) → In o (operations_of (kind_of_number h.number)) → GrantsFit p →
+pub operation_atom : (p : Program) (core : IsCore p) (g : ℕ) (h : IsGrant p g) (o : OpName) → In o (operations_of (kind_of_number h.number)) →
+    GrantsFit p →
     (a : ℕ) × In a (replace (sets_put p h.members) (member_number o ∷ [])) × (atom_named p a ≡ atom_name h.name.name (member_named o))
 operation_atom p core g h o i fit =
     let t = member_there h.number o h.primitive i in
     let d : slice_get p.declarations h.number ≡ Some t.0 = declared_members p core h.number t.0 h.primitive t.1 in
     let ms : members_of p h.name.typ ≡ t.0.members = ap (members_of p) h.typ ∙ ap abstract_names d in
     let e : map (named_atoms (authority_of p).atoms) (sets_put p h.members) ≡ map (λ member. atom_name h.name.name member ∷ []) t.0.members =
-    ap (λ k. map (named_atoms (authority_of p).atoms) (sets_of k)) (sym (grant_kind p g h)) ∙ fit g h.name h.there h.origin ∙ ap (map (λ member. atom_name h.name.name member ∷ [])) ms in
+    ap (λ k. map (named_atoms (authority_of p).atoms) (sets_of k)) (sym (grant_kind p g h)) ∙ fit g h.name h.there h.origin ∙
+    ap (map (λ member. atom_name h.name.name member ∷ [])) ms in
     let r = atom_at p (sets_put p h.members) (member_number o) h.name.name t.0.members (member_named o) e t.2 in
     (r.0, In-union-left r.0 (slice_index_or (sets_put p h.members) (member_number o) []) [] r.1, r.2)

@@ -103,13 +103,17 @@ fitting_answered name.ClockNow a e = number_answered a e
 fitting_answered name.RandomWord a e = number_answered a e
 
 module _ (p : Program) (now : ℕ) where
-  module _ (f : List ℕ) (grant : List ℕ) (op : Op) (has : (a : Option Answer) → HasDeed p f (deed grant op a)) (w : World) (wh : WellHeap p now w.objects) (k : GroundType) where
+  module _ (f : List ℕ) (grant : List ℕ) (op : Op) (has : (a : Option Answer) → HasDeed p f (deed grant op a)) (w : World)
+      (wh : WellHeap p now w.objects) (k : GroundType) where
     -- an answer that is taken
     taken_sound : (a : Answer) (tapes : Tapes) → IsAnsweredAs a k → Sound p now f w (Valued p now k) (answered grant op w (Answers a tapes))
     unfolding told settle
-    taken_sound (answer.Bytes text) tapes e = record { by = (extends_refl p now w.objects, wh, kept_deed p f _ (has (Some (answer.Bytes text))), inl (sym e)) }
-    taken_sound (answer.Truth truth) tapes e = record { by = (extends_refl p now w.objects, wh, kept_deed p f _ (has (Some (answer.Truth truth))), inl (sym e)) }
-    taken_sound (answer.Number number) tapes e = record { by = (extends_refl p now w.objects, wh, kept_deed p f _ (has (Some (answer.Number number))), inl (sym e)) }
+    taken_sound (answer.Bytes text) tapes e =
+        record { by = (extends_refl p now w.objects, wh, kept_deed p f _ (has (Some (answer.Bytes text))), inl (sym e)) }
+    taken_sound (answer.Truth truth) tapes e =
+        record { by = (extends_refl p now w.objects, wh, kept_deed p f _ (has (Some (answer.Truth truth))), inl (sym e)) }
+    taken_sound (answer.Number number) tapes e =
+        record { by = (extends_refl p now w.objects, wh, kept_deed p f _ (has (Some (answer.Number number))), inl (sym e)) }
     taken_sound answer.Unit tapes e = record { by = (extends_refl p now w.objects, wh, kept_deed p f _ (has (Some answer.Unit)), inl (sym e)) }
 
     failed_sound : (tapes : Tapes) → Sound p now f w (Valued p now k) (answered grant op w (Fails tapes))
@@ -119,12 +123,14 @@ module _ (p : Program) (now : ℕ) where
     waits_sound : Sound p now f w (Valued p now k) (answered grant op w Waits)
     waits_sound = stop_sound p now f w (Valued p now k) Waiting w (λ e. cc)
 
-    told_sound : (o : OpName) (kind : Kind) (tape : List (Option Answer)) (tapes : Tapes) → answer_kind o ≡ k → Sound p now f w (Valued p now k) (answered grant op w (told_by o kind tape tapes))
+    told_sound : (o : OpName) (kind : Kind) (tape : List (Option Answer)) (tapes : Tapes) → answer_kind o ≡ k →
+        Sound p now f w (Valued p now k) (answered grant op w (told_by o kind tape tapes))
     told_sound o kind [] tapes e = waits_sound
     told_sound o kind (None ∷ tape) tapes e = failed_sound (with_tape kind tape tapes)
     told_sound o kind (Some a ∷ tape) tapes e = of_test (fits_operation o a) refl
       where
-        of_test : (b : Bool) → fits_operation o a ≡ b → Sound p now f w (Valued p now k) (answered grant op w (if b then Answers a (with_tape kind tape tapes) else Waits))
+        of_test : (b : Bool) → fits_operation o a ≡ b →
+            Sound p now f w (Valued p now k) (answered grant op w (if b then Answers a (with_tape kind tape tapes) else Waits))
         of_test true t = taken_sound a (with_tape kind tape tapes) (subst (IsAnsweredAs a) e (fitting_answered o a t))
         of_test false t = waits_sound
 
@@ -136,13 +142,15 @@ module _ (p : Program) (now : ℕ) where
         of_room false = told_sound (name_of op) (kind_of op) (tape_of (kind_of op) w.tapes) w.tapes e
 
         of_name : (b : Bool) → Sound p now f w (Valued p now k)
-            (if b then stop (Trap BadName place) w else if answers_text op && not (nat_lt w.built most_texts) then stop (Trap Crowded place) w else answered grant op w (asked op w.tapes))
+            (if b then stop (Trap BadName place) w else if answers_text op && not (nat_lt w.built most_texts) then stop
+            (Trap Crowded place) w else answered grant op w (asked op w.tapes))
         of_name true = stop_sound p now f w (Valued p now k) (Trap BadName place) w (λ e. cc)
         of_name false = of_room (answers_text op && not (nat_lt w.built most_texts))
 
   module _ (core : IsCore p) where
     -- texts are texts
-    texts_typed : (h : List Thing) (n : ℕ) (vs : List Value) → AllHave p now h vs (replicate n Texts) → (texts : List (List ℕ)) × (texts_of vs ≡ Some texts) × (length texts ≡ n)
+    texts_typed : (h : List Thing) (n : ℕ) (vs : List Value) → AllHave p now h vs (replicate n Texts) →
+        (texts : List (List ℕ)) × (texts_of vs ≡ Some texts) × (length texts ≡ n)
     texts_typed h zero [] q = ([], refl, refl)
     texts_typed h zero (v ∷ vs) q = absurd q
     texts_typed h (suc n) [] q = absurd q
@@ -151,8 +159,10 @@ module _ (p : Program) (now : ℕ) where
         let r = texts_typed h n vs q.1 in
         (t.0 ∷ r.0, ap (λ v. with_text (text_of v) (texts_of vs)) t.1 ∙ ap (with_text (Some t.0)) r.1, ap suc r.2)
 
-    pub perform_sound : (g : ℕ) → IsThere p now (actual.Grant g) → (place : Place) (method : List ℕ) (vs : List Value) (w : World) (m : Signature GroundType) →
-        find_method method (ground_methods p (actual_type p (actual.Grant g))) ≡ Some m → AllHave p now w.objects vs m.params → WellHeap p now w.objects →
+    pub perform_sound : (g : ℕ) → IsThere p now (actual.Grant g) →
+        (place : Place) (method : List ℕ) (vs : List Value) (w : World) (m : Signature GroundType) →
+        find_method method (ground_methods p (actual_type p (actual.Grant g))) ≡ Some m → AllHave p now w.objects vs m.params →
+        WellHeap p now w.objects →
         Sound p now m.effect w (Valued p now m.result) (perform place (grant_of p g) method vs w)
     unfolding perform
     perform_sound g there place method vs w m found q wh =
@@ -165,11 +175,16 @@ module _ (p : Program) (now : ℕ) where
         let u = operation_there o t.0 t.2 in
         let called : operation_of (kind_of_number h.number) method t.0 ≡ Some u.0 = ap (λ c. operation_given c t.0) r.1 ∙ u.1 in
         let has : (a : Option Answer) → HasDeed p (operation_method sets o).effect (deed h.name.name u.0 a) = λ a. record {
-          atom = λ fit. let s = operation_atom p core g h o r.3 fit in (s.0, s.1, s.2 ∙ ap (λ o. let v : AtomName = record { owner = h.name.name; member = member_named o } in v) (sym u.2));
+          atom = λ fit. let s = operation_atom p core g h o r.3 fit in
+              (s.0, s.1, s.2 ∙ ap (λ o. let v : AtomName = record { owner = h.name.name; member = member_named o } in v) (sym u.2));
         } in
         let done : Sound p now (operation_method sets o).effect w (Valued p now (answer_kind o)) (requested place h.name.name w (Some u.0)) =
         requested_sound (operation_method sets o).effect h.name.name u.0 has w wh (answer_kind o) place (ap answer_kind u.2) in
-        subst (λ (m : Signature GroundType). Sound p now m.effect w (Valued p now m.result) (requested_of place (grant_of p g) method w (texts_of vs))) r.2
-        (subst (λ c. Sound p now (operation_method sets o).effect w (Valued p now (answer_kind o)) (requested_of place c method w (texts_of vs))) (sym (grant_there p g h))
-        (subst (λ c. Sound p now (operation_method sets o).effect w (Valued p now (answer_kind o)) (requested_of place (Some (record { name = h.name.name; kind = kind_of_number h.number })) method w c)) (sym t.1)
-        (subst (λ c. Sound p now (operation_method sets o).effect w (Valued p now (answer_kind o)) (requested place h.name.name w c)) (sym called) done)))
+        subst (λ (m : Signature GroundType). Sound p now m.effect w (Valued p now m.result)
+        (requested_of place (grant_of p g) method w (texts_of vs))) r.2
+        (subst (λ c. Sound p now (operation_method sets o).effect w (Valued p now (answer_kind o)) (requested_of place c method w (texts_of vs)))
+        (sym (grant_there p g h))
+        (subst (λ c. Sound p now (operation_method sets o).effect w (Valued p now (answer_kind o))
+        (requested_of place (Some (record { name = h.name.name; kind = kind_of_number h.number })) method w c)) (sym t.1)
+        (subst (λ c. Sound p now (operation_method sets o).effect w (Valued p now (answer_kind o)) (requested place h.name.name w c))
+        (sym called) done)))

@@ -48,7 +48,8 @@ module _ (p : Program) (linked : IsLinked p) where
       ap (λ n. let v : Started = record { name = codes "main"; scope = n; actuals = (program_starts p).main.actuals } in v) (last_number p.scopes) ∙
       ap (λ l. let v : Started = record { name = codes "main"; scope = length p.scopes - 1; actuals = l } in v) linked.main
 
-  pub started_at : (x : ℕ) (i : Instance) → slice_get (run_instances p) x ≡ Some i → slice_get (all_started (program_starts p)) x ≡ Some (started_of i)
+  pub started_at : (x : ℕ) (i : Instance) → slice_get (run_instances p) x ≡ Some i →
+      slice_get (all_started (program_starts p)) x ≡ Some (started_of i)
   started_at x i e =
       ap (λ m. slice_get (map started_of (start_list p) ++ m ∷ []) x) main_started ∙
       ap (λ l. slice_get l x) (sym (map_append started_of (start_list p) (main_instance ∷ []))) ∙ get_mapped started_of (run_instances p) x i e

@@ -30,7 +30,8 @@ module _ (p : Program) (linked : IsLinked p) where
 
   -- the instances from number x on, and then the program
   AreFrom : ℕ → List Started → Type 0
-  AreFrom x is = (i z : ℕ) (s : Started) → z ≡ x + i → slice_get is i ≡ Some s → (a : Instance) × (slice_get (start_list p) z ≡ Some a) × (s ≡ started_of a)
+  AreFrom x is = (i z : ℕ) (s : Started) → z ≡ x + i → slice_get is i ≡ Some s →
+      (a : Instance) × (slice_get (start_list p) z ≡ Some a) × (s ≡ started_of a)
 
   -- the last instance is the program
   main_named : (x : ℕ) (i : Instance) → slice_get (run_instances p) x ≡ Some i → x ≡ many p → i.name ≡ codes "main"
@@ -39,7 +40,8 @@ module _ (p : Program) (linked : IsLinked p) where
     | inr f ↦ sym (ap (λ (i : Instance). i.name) f.0)
   ]
 
-  main_top : (n x : ℕ) (w : World) → x ≡ many p → WellHeap p x w.objects → Top p Anything (begin p (program_starts p) (open_calls p (program_starts p) n) x [] w)
+  main_top : (n x : ℕ) (w : World) → x ≡ many p → WellHeap p x w.objects →
+      Top p Anything (begin p (program_starts p) (open_calls p (program_starts p) n) x [] w)
   unfolding begin
   main_top n x w last wh =
       let pl : Placed p x = place p linked x (omega (arith, last)) in
@@ -48,14 +50,17 @@ module _ (p : Program) (linked : IsLinked p) where
       (may_first p x pl.instance (codes "run") pl.scope (run_first p x pl.instance pl.is.there last) pl.is.scope) in
       whole_top p (declared p linked n x pl) (codes "main") (codes "run") Anything _ may (main_fine p linked n x pl last w wh)
 
-  init_top : (n x : ℕ) (pl : Placed p x) (s : Started) (w : World) → x < many p → slice_get (start_list p) x ≡ Some pl.instance → s ≡ started_of pl.instance → Filling p linked x pl [] w.objects → (r : Result Value) →
-      Fine p (declared p linked n x pl) (λ u w. Filling p linked x pl (fields_at p x pl 0) w.objects) r → Top p (λ u w. Filling p linked x pl (fields_at p x pl 0) w.objects) (whole (Enter s.name (codes "init")) r)
+  init_top : (n x : ℕ) (pl : Placed p x) (s : Started) (w : World) → x < many p → slice_get (start_list p) x ≡ Some pl.instance →
+      s ≡ started_of pl.instance → Filling p linked x pl [] w.objects → (r : Result Value) →
+      Fine p (declared p linked n x pl) (λ u w. Filling p linked x pl (fields_at p x pl 0) w.objects) r →
+      Top p (λ u w. Filling p linked x pl (fields_at p x pl 0) w.objects) (whole (Enter s.name (codes "init")) r)
   init_top n x pl s w lt there is q r fine =
       whole_top p (declared p linked n x pl) s.name (codes "init") (λ u w. Filling p linked x pl (fields_at p x pl 0) w.objects) r
       (subst (λ m. May p (call_of m (codes "init")) (declared p linked n x pl)) (sym (ap (λ (s : Started). s.name) is))
       (may_first p x pl.instance (codes "init") pl.scope (init_first p x pl.instance there) pl.is.scope)) fine
 
-  begin_top : (n x : ℕ) (is : List Started) (w : World) → AreFrom x is → x + length is ≡ many p → WellHeap p x w.objects → Rest p x w.objects → Top p Anything (begin p (program_starts p) (open_calls p (program_starts p) n) x is w)
+  begin_top : (n x : ℕ) (is : List Started) (w : World) → AreFrom x is → x + length is ≡ many p → WellHeap p x w.objects → Rest p x w.objects →
+      Top p Anything (begin p (program_starts p) (open_calls p (program_starts p) n) x is w)
   unfolding begin AreFrom
   begin_top n x [] w at count wh rest = main_top n x w (omega (arith, count)) wh
   begin_top n x (s ∷ is) w at count wh rest =
@@ -70,9 +75,11 @@ module _ (p : Program) (linked : IsLinked p) where
         typed = tt;
         rest = record { by = λ z le below. rest.by z (omega (arith, le)) below };
       } in
-      bind_top p (λ u w1. Filling p linked x pl (fields_at p x pl 0) w1.objects) Anything (λ v w. begin p (program_starts p) (open_calls p (program_starts p) n) (suc x) is w) _
+      bind_top p (λ u w1. Filling p linked x pl (fields_at p x pl 0) w1.objects) Anything
+      (λ v w. begin p (program_starts p) (open_calls p (program_starts p) n) (suc x) is w) _
       (init_top n x pl s w lt (a.1 ∙ ap (λ i. Some i) same) (a.2 ∙ ap started_of same) first _ (init_fine p linked n x pl lt w first))
-      (λ v w1 q. begin_top n (suc x) is w1 (λ i z s e g. at (suc i) z s (omega (arith, e)) g) (omega (arith, count)) (done_now p linked x pl lt w1.objects q) q.rest)
+      (λ v w1 q. begin_top n (suc x) is w1 (λ i z s e g. at (suc i) z s (omega (arith, e)) g) (omega (arith, count))
+      (done_now p linked x pl lt w1.objects q) q.rest)
 
   ------------------------------------------------------------
   -- Before anything runs
@@ -93,11 +100,15 @@ module _ (p : Program) (linked : IsLinked p) where
   first_many = first_length 0 (map started_of (start_list p)) ∙ map_length started_of (start_list p)
 
   first_rest : Rest p 0 at_first
-  first_rest = record { by = λ z le below. first_at 0 (map started_of (start_list p)) z z (omega arith) (omega (arith, below, map_length started_of (start_list p))) }
+  first_rest = record {
+    by = λ z le below. first_at 0 (map started_of (start_list p)) z z (omega arith)
+        (omega (arith, below, map_length started_of (start_list p)));
+  }
 
   first_heap : WellHeap p 0 at_first
   first_heap = record {
-    by = λ a t e r. absurd (let lt = get_within at_first a t e in elim r [ inl l ↦ lt_irrefl a (omega (arith, l)) | inr ge ↦ lt_irrefl a (omega (arith, lt, ge, first_many)) ]);
+    by = λ a t e r. absurd (let lt =
+        get_within at_first a t e in elim r [ inl l ↦ lt_irrefl a (omega (arith, l)) | inr ge ↦ lt_irrefl a (omega (arith, lt, ge, first_many)) ]);
     long = omega (arith, first_many);
     first = λ z below. (thing_of p z, first_rest.by z (omega arith) below, refl, refl);
   }
@@ -110,14 +121,18 @@ module _ (p : Program) (linked : IsLinked p) where
       let f : i ≡ z = omega (arith, e) in
       (a.0, ap (slice_get (start_list p)) (sym f) ∙ a.1, some_same (sym g ∙ get_mapped started_of (start_list p) i a.0 a.1))
 
-  run_top : (n : ℕ) (tapes : Tapes) → Top p Anything (begin p (program_starts p) (open_calls p (program_starts p) n) 0 (map started_of (start_list p)) (world_at_first (program_starts p) tapes))
-  run_top n tapes = begin_top n 0 (map started_of (start_list p)) (world_at_first (program_starts p) tapes) all_from (omega (arith, map_length started_of (start_list p))) first_heap first_rest
+  run_top : (n : ℕ) (tapes : Tapes) →
+      Top p Anything (begin p (program_starts p) (open_calls p (program_starts p) n) 0 (map started_of (start_list p))
+      (world_at_first (program_starts p) tapes))
+  run_top n tapes = begin_top n 0 (map started_of (start_list p)) (world_at_first (program_starts p) tapes) all_from
+      (omega (arith, map_length started_of (start_list p))) first_heap first_rest
 
 top_never : (p : Program) (ok : Value → World → Type 0) (o : Outcome Value) (w : World) (es : List Event) → TopTo p ok o w es → end_of o ≢ Wrong
 top_never p ok (Stops e) w es h = h.0
 top_never p ok (Gives v) w es h = λ e. cc
 
-top_bounded : (p : Program) (ok : Value → World → Type 0) (o : Outcome Value) (w : World) (es : List Event) → GrantsFit p → TopTo p ok o w es → Bounded (allowed p) es
+top_bounded : (p : Program) (ok : Value → World → Type 0) (o : Outcome Value) (w : World) (es : List Event) → GrantsFit p → TopTo p ok o w es →
+    Bounded (allowed p) es
 top_bounded p ok (Stops e) w es g h = h.1 g
 top_bounded p ok (Gives v) w es g h = h.0 g
 

@@ -52,7 +52,8 @@ module _ (p : Program) where
     fine_more es fs (Stops e) w k h = (h.0, held_more p f es fs k h.1)
     fine_more es fs (Gives a) w k h = (kept_more p f es fs k h.0, h.1)
 
-    carried_fine : (o : Outcome X) (w : World) (es : List Event) (c q : ℕ) → FineTo f ok o w es → ((a : X) (w : World) → ok a w → Fine f ok' (g a w)) → Fine f ok' (carried o w es c q g)
+    carried_fine : (o : Outcome X) (w : World) (es : List Event) (c q : ℕ) → FineTo f ok o w es →
+        ((a : X) (w : World) → ok a w → Fine f ok' (g a w)) → Fine f ok' (carried o w es c q g)
     unfolding added
     carried_fine (Stops e) w es c q h k = record { by = h }
     carried_fine (Gives a) w es c q h k = record { by = fine_more es (g a w).events (g a w).out (g a w).world h.0 (k a w h.1).by }
@@ -65,12 +66,14 @@ module _ (p : Program) where
   unfolding tick
   tick_fine f ok r h = record { by = h.by }
 
-  sound_to : {X : Type 0} (now : ℕ) (f : List ℕ) (w0 : World) (ok : X → World → Type 0) (o : Outcome X) (w : World) (es : List Event) → SoundTo p now f w0 ok o w es →
+  sound_to : {X : Type 0} (now : ℕ) (f : List ℕ) (w0 : World) (ok : X → World → Type 0) (o : Outcome X) (w : World) (es : List Event) →
+      SoundTo p now f w0 ok o w es →
       FineTo f (λ a w. Extends p now w0.objects w.objects × WellHeap p now w.objects × ok a w) o w es
   sound_to now f w0 ok (Stops e) w es h = h
   sound_to now f w0 ok (Gives a) w es h = (h.2, (h.0, h.1, h.3))
 
-  sound_fine : {X : Type 0} (now : ℕ) (f : List ℕ) (w0 : World) (ok : X → World → Type 0) (r : Result X) → Sound p now f w0 ok r → Fine f (λ a w. Extends p now w0.objects w.objects × WellHeap p now w.objects × ok a w) r
+  sound_fine : {X : Type 0} (now : ℕ) (f : List ℕ) (w0 : World) (ok : X → World → Type 0) (r : Result X) → Sound p now f w0 ok r →
+      Fine f (λ a w. Extends p now w0.objects w.objects × WellHeap p now w.objects × ok a w) r
   sound_fine now f w0 ok r h = record { by = sound_to now f w0 ok r.out r.world r.events h.by }
 
   -- where no call is open
@@ -82,12 +85,19 @@ module _ (p : Program) where
     pub by : TopTo ok r.out r.world r.events
 
   module _ (ok ok' : Value → World → Type 0) (g : Value → World → Result Value) where
-    top_more : (es fs : List Event) (o : Outcome Value) (w : World) → (GrantsFit p → Bounded (allowed p) es) → open_after [] es ≡ [] → TopTo ok' o w fs → TopTo ok' o w (es ++ fs)
-    top_more es fs (Stops e) w b c h = (h.0, λ q. bounded_append p [] es fs (b q) (subst (λ (s : List Call). BoundedFrom (allowed p) s fs) (sym c) (h.1 q)))
-    top_more es fs (Gives a) w b c h =
-        (λ q. bounded_append p [] es fs (b q) (subst (λ (s : List Call). BoundedFrom (allowed p) s fs) (sym c) (h.0 q)), after_append p [] es fs ∙ ap (λ (s : List Call). open_after s fs) c ∙ h.1, h.2)
+    top_more : (es fs : List Event) (o : Outcome Value) (w : World) → (GrantsFit p → Bounded (allowed p) es) → open_after [] es ≡ [] →
+        TopTo ok' o w fs → TopTo ok' o w (es ++ fs)
+    top_more es fs (Stops e) w b c h =
+        (h.0, λ q. bounded_append p [] es fs (b q) (subst (λ (s : List Call). BoundedFrom (allowed p) s fs) (sym c) (h.1 q)))
+    top_more es fs (Gives a) w b c h = (
+      λ q. bounded_append p [] es fs (b q) (subst (λ (s : List Call). BoundedFrom (allowed p) s fs) (sym c) (h.0 q)),
+      after_append p [] es fs ∙
+          ap (λ (s : List Call). open_after s fs) c ∙ h.1,
+      h.2,
+    )
 
-    carried_top : (o : Outcome Value) (w : World) (es : List Event) (c q : ℕ) → TopTo ok o w es → ((a : Value) (w : World) → ok a w → Top ok' (g a w)) → Top ok' (carried o w es c q g)
+    carried_top : (o : Outcome Value) (w : World) (es : List Event) (c q : ℕ) → TopTo ok o w es →
+        ((a : Value) (w : World) → ok a w → Top ok' (g a w)) → Top ok' (carried o w es c q g)
     unfolding added
     carried_top (Stops e) w es c q h k = record { by = h }
     carried_top (Gives a) w es c q h k = record { by = top_more es (g a w).events (g a w).out (g a w).world h.0 h.1 (k a w h.2).by }
@@ -96,7 +106,8 @@ module _ (p : Program) where
     unfolding bind
     bind_top r h k = carried_top r.out r.world r.events r.nodes r.steps h.by k
 
-  whole_to : (f : List ℕ) (x b : List ℕ) (ok : Value → World → Type 0) (o : Outcome Value) (w : World) (es : List Event) (c q : ℕ) → May p (call_of x b) f → FineTo f ok o w es →
+  whole_to : (f : List ℕ) (x b : List ℕ) (ok : Value → World → Type 0) (o : Outcome Value) (w : World) (es : List Event) (c q : ℕ) →
+      May p (call_of x b) f → FineTo f ok o w es →
       Top ok (told (Enter x b) (node (carried o w es c q (λ v w. tick (told Leave (give v w))))))
   unfolding told node added tick give
   whole_to f x b ok (Stops e) w es c q i h = record { by = (h.0, λ g. (held_call p f x b es i h.1).bounded g [] tt) }
@@ -104,7 +115,8 @@ module _ (p : Program) where
       let k = kept_call p f x b es i h.0 in
       record { by = ((λ g. k.bounded g [] tt), k.closes [], h.1) }
 
-  pub whole_top : (f : List ℕ) (x b : List ℕ) (ok : Value → World → Type 0) (r : Result Value) → May p (call_of x b) f → Fine f ok r → Top ok (whole (Enter x b) r)
+  pub whole_top : (f : List ℕ) (x b : List ℕ) (ok : Value → World → Type 0) (r : Result Value) → May p (call_of x b) f → Fine f ok r →
+      Top ok (whole (Enter x b) r)
   unfolding whole bind
   whole_top f x b ok r i h = whole_to f x b ok r.out r.world r.events r.nodes r.steps i h.by
 
@@ -134,7 +146,10 @@ module _ (p : Program) where
       place = q.place;
       early = (let e = q.early in omega (arith, e, le));
       fields = later_all h t.fields (fields_at p t.instance q.place t.literal) q.fields;
-      captured = record { by = λ v i. let r = q.captured.by v i in record { kind = r.kind; typed = r.typed; value = r.value; here = r.here; has = later_value h r.value r.kind r.has } };
+      captured = record {
+        by = λ v i. let r =
+            q.captured.by v i in record { kind = r.kind; typed = r.typed; value = r.value; here = r.here; has = later_value h r.value r.kind r.has };
+      };
     }
 
   -- the instances from x on are as they were at the start
@@ -186,15 +201,18 @@ module _ (p : Program) (linked : IsLinked p) where
           };
           values = q.values ++ v ∷ [];
           here = get_set_same h x u (get_within h x t q.here);
-          typed = all_append p x h' q.values (v ∷ []) done (k ∷ []) (all_grow p x h h' q.values done grows q.typed) (value_grows p x h h' v k grows has, tt);
+          typed = all_append p x h' q.values (v ∷ []) done (k ∷ []) (all_grow p x h h' q.values done grows q.typed)
+              (value_grows p x h h' v k grows has, tt);
           rest = record { by = λ z le below. get_set_other h x z u (λ same. lt_irrefl x (omega (arith, le, same))) ∙ q.rest.by z le below };
         }
 
-    fill_fine : (f : List ℕ) (done : List GroundType) (w : World) (v : Value) (k : GroundType) → Filling x pl done w.objects → ValueHas p x w.objects v k →
+    fill_fine : (f : List ℕ) (done : List GroundType) (w : World) (v : Value) (k : GroundType) → Filling x pl done w.objects →
+        ValueHas p x w.objects v k →
         Fine p f (λ u w. Filling x pl (done ++ k ∷ []) w.objects) (settle (fill_field x v w))
     unfolding settle
     fill_fine f done w v k q has =
-        subst (λ o. Fine p f (λ u w. Filling x pl (done ++ k ∷ []) w.objects) (settle (field_added x v w o))) (sym q.here) (record { by = (kept_none p f, filled_more done w.objects v k q has) })
+        subst (λ o. Fine p f (λ u w. Filling x pl (done ++ k ∷ []) w.objects) (settle (field_added x v w o))) (sym q.here)
+        (record { by = (kept_none p f, filled_more done w.objects v k q has) })
 
     module _ (calls : Calls) (ok : CallsSound p x calls) (f : List ℕ) where
       early : x ≤ many p
@@ -203,16 +221,24 @@ module _ (p : Program) (linked : IsLinked p) where
       outside_has : (h : List Thing) → SightHas p x h (outside x) pl None []
       outside_has h = record { early = omega arith; this = tt; names = record { by = λ v i. absurd i } }
 
-      fill_all_fine : (ds : Derivations GroundType) (es : Values) (ks done all : List GroundType) (w : World) → DerivesAll (ground_reading p x pl.instance) pl.scope pl.holds.derivation.locals None ds es ks → Within (effects_of ds) f →
-          ValuesFit p pl.scope None [] es → done ++ ks ≡ all → Filling x pl done w.objects → Fine p f (λ u w. Filling x pl all w.objects) (fill_all p (program_starts p) calls (outside x) x es w)
+      fill_all_fine : (ds : Derivations GroundType) (es : Values) (ks done all : List GroundType) (w : World) →
+          DerivesAll (ground_reading p x pl.instance) pl.scope pl.holds.derivation.locals None ds es ks → Within (effects_of ds) f →
+          ValuesFit p pl.scope None [] es → done ++ ks ≡ all → Filling x pl done w.objects →
+          Fine p f (λ u w. Filling x pl all w.objects) (fill_all p (program_starts p) calls (outside x) x es w)
       unfolding fill_all give
-      fill_all_fine no_derivations none [] done all w h v fits e q = record { by = (kept_none p f, subst (λ (ks : List GroundType). Filling x pl ks w.objects) (sym (append-nil done) ∙ e) q) }
+      fill_all_fine no_derivations none [] done all w h v fits e q =
+          record { by = (kept_none p f, subst (λ (ks : List GroundType). Filling x pl ks w.objects) (sym (append-nil done) ∙ e) q) }
       fill_all_fine (one_more d e1 ds) (more e es) (k ∷ ks) done all w h v fits g q =
-          bind_fine p f (λ u w1. Extends p x w.objects w1.objects × WellHeap p x w1.objects × ValueHas p x w1.objects u k) (λ u w. Filling x pl all w.objects) _ _
-          (sound_fine p x f w (Valued p x k) _ (value_sound p linked x early calls ok f None d e k e1 [] (outside x) pl w h.0 (left_within e1 (effects_of ds) (effects_of (one_more d e1 ds)) f refl v) fits.0 (outside_has w.objects) q.heap))
+          bind_fine p f (λ u w1. Extends p x w.objects w1.objects × WellHeap p x w1.objects × ValueHas p x w1.objects u k)
+          (λ u w. Filling x pl all w.objects) _ _
+          (sound_fine p x f w (Valued p x k) _
+          (value_sound p linked x early calls ok f None d e k e1 [] (outside x) pl w h.0
+          (left_within e1 (effects_of ds) (effects_of (one_more d e1 ds)) f refl v) fits.0 (outside_has w.objects) q.heap))
           (λ u w1 r1. bind_fine p f (λ u w. Filling x pl (done ++ k ∷ []) w.objects) (λ u w. Filling x pl all w.objects) _ _
-          (tick_fine p f (λ u w. Filling x pl (done ++ k ∷ []) w.objects) _ (fill_fine f done w1 u k (filling_stays done w.objects w1.objects r1.0 r1.1 q) r1.2))
-          (λ u2 w2 q2. fill_all_fine ds es ks (done ++ k ∷ []) all w2 h.1 (right_within e1 (effects_of ds) (effects_of (one_more d e1 ds)) f refl v) fits.1 (append_assoc done (k ∷ []) ks ∙ g) q2))
+          (tick_fine p f (λ u w. Filling x pl (done ++ k ∷ []) w.objects) _
+          (fill_fine f done w1 u k (filling_stays done w.objects w1.objects r1.0 r1.1 q) r1.2))
+          (λ u2 w2 q2. fill_all_fine ds es ks (done ++ k ∷ []) all w2 h.1
+          (right_within e1 (effects_of ds) (effects_of (one_more d e1 ds)) f refl v) fits.1 (append_assoc done (k ∷ []) ks ∙ g) q2))
       fill_all_fine ds es ks done all w h v fits g q = absurd h
 
     -- its init has ended: its object is ready
@@ -220,7 +246,8 @@ module _ (p : Program) (linked : IsLinked p) where
     done_now h q =
         let le : x ≤ suc x = omega arith in
         let t : Thing = record { instance = x; literal = 0; captured = []; fields = q.values } in
-        let none : literal_captures (slice_get pl.scope.literals 0) ≡ [] = linked.captures pl.scope (In-slice_get p.scopes pl.instance.scope pl.scope pl.is.scope) in
+        let none : literal_captures (slice_get pl.scope.literals 0) ≡ [] =
+        linked.captures pl.scope (In-slice_get p.scopes pl.instance.scope pl.scope pl.is.scope) in
         let mine : ThingHas p (suc x) h t = record {
           place = pl;
           early = le;
@@ -258,20 +285,27 @@ module _ (p : Program) (linked : IsLinked p) where
     abbrev pub declared : List ℕ
     declared = effect_by pl.instance.bound pl.instance.ground pl.scope.start_effect
 
-    started_fine : x < many p → (d : BodyDerivation GroundType) (values : Values) (w : World) → DerivesStart (ground_reading p x pl.instance) pl.scope pl.holds.derivation.locals d (Init values) → ValuesFit p pl.scope None [] values →
-        Filling x pl [] w.objects → Fine p declared (λ u w. Filling x pl (fields_at p x pl 0) w.objects) (fill_all p (program_starts p) (open_calls p (program_starts p) n) (outside x) x values w)
+    started_fine : x < many p → (d : BodyDerivation GroundType) (values : Values) (w : World) →
+        DerivesStart (ground_reading p x pl.instance) pl.scope pl.holds.derivation.locals d (Init values) → ValuesFit p pl.scope None [] values →
+        Filling x pl [] w.objects → Fine p declared (λ u w. Filling x pl (fields_at p x pl 0) w.objects)
+        (fill_all p (program_starts p) (open_calls p (program_starts p) n) (outside x) x values w)
     started_fine lt (T-Body-Init place ds) values w h fits q =
-        fill_all_fine x pl lt (open_calls p (program_starts p) n) (calls_sound p linked x (omega (arith, lt)) n) declared ds values (fields_at p x pl 0) [] (fields_at p x pl 0) w h.1 h.2 fits refl q
+        fill_all_fine x pl lt (open_calls p (program_starts p) n) (calls_sound p linked x (omega (arith, lt)) n) declared ds values
+        (fields_at p x pl 0) [] (fields_at p x pl 0) w h.1 h.2 fits refl q
     started_fine lt (T-Body place d f) values w h fits q = absurd h
 
-    run_fine : x ≤ many p → (d : BodyDerivation GroundType) (block : Block) (w : World) → DerivesStart (ground_reading p x pl.instance) pl.scope pl.holds.derivation.locals d (Run block) → BlockFits p pl.scope None [] block →
-        WellHeap p x w.objects → Fine p declared (λ u w. Unit {0}) (eval_block p (program_starts p) (open_calls p (program_starts p) n) (outside x) block w)
+    run_fine : x ≤ many p → (d : BodyDerivation GroundType) (block : Block) (w : World) →
+        DerivesStart (ground_reading p x pl.instance) pl.scope pl.holds.derivation.locals d (Run block) → BlockFits p pl.scope None [] block →
+        WellHeap p x w.objects → Fine p declared (λ u w. Unit {0})
+        (eval_block p (program_starts p) (open_calls p (program_starts p) n) (outside x) block w)
     run_fine le (T-Body place d f) block w h fits wh =
-        let sound = block_sound p linked x le (open_calls p (program_starts p) n) (calls_sound p linked x le n) declared None d block (kind_at p x pl of.Unit) f [] (outside x) pl w h.1 h.2 fits
+        let sound = block_sound p linked x le (open_calls p (program_starts p) n) (calls_sound p linked x le n) declared None d block
+        (kind_at p x pl of.Unit) f [] (outside x) pl w h.1 h.2 fits
         (record { early = omega arith; this = tt; names = record { by = λ v i. absurd i } }) wh in
         forget (sound_fine p x declared w (Valued p x (kind_at p x pl of.Unit)) _ sound)
       where
-        forget_to : (f : List ℕ) (ok : Value → World → Type 0) (o : Outcome Value) (w : World) (es : List Event) → FineTo p f ok o w es → FineTo p f (λ v w. Unit {0}) o w es
+        forget_to : (f : List ℕ) (ok : Value → World → Type 0) (o : Outcome Value) (w : World) (es : List Event) → FineTo p f ok o w es →
+            FineTo p f (λ v w. Unit {0}) o w es
         forget_to f ok (Stops e) w es h = h
         forget_to f ok (Gives a) w es h = (h.0, tt)
 
@@ -280,23 +314,29 @@ module _ (p : Program) (linked : IsLinked p) where
     run_fine le (T-Body-Init place ds) block w h fits wh = absurd h
 
     pub init_fine : x < many p → (w : World) → Filling x pl [] w.objects →
-        Fine p declared (λ u w. Filling x pl (fields_at p x pl 0) w.objects) (run_start p (program_starts p) (open_calls p (program_starts p) n) x w (start_of_scope (scope_of_instance p (program_starts p) x)))
+        Fine p declared (λ u w. Filling x pl (fields_at p x pl 0) w.objects)
+        (run_start p (program_starts p) (open_calls p (program_starts p) n) x w (start_of_scope (scope_of_instance p (program_starts p) x)))
     init_fine lt w q =
         let fits = (scope_fits p linked x pl).starts in
         let i = init_is pl.scope.kind pl.scope.start (λ e. lt_irrefl x (omega (arith, lt, kind_main p linked x pl e))) fits.0 in
         let Ok : Value → World → Type 0 = λ u w. Filling x pl (fields_at p x pl 0) w.objects in
         let values_fit : StartFits p pl.scope (Init i.0) = subst (λ s. StartFits p pl.scope s) i.1 fits.1 in
-        subst (λ o. Fine p declared Ok (run_start p (program_starts p) (open_calls p (program_starts p) n) x w (start_of_scope o))) (sym (scope_there p linked x pl))
+        subst (λ o. Fine p declared Ok (run_start p (program_starts p) (open_calls p (program_starts p) n) x w (start_of_scope o)))
+        (sym (scope_there p linked x pl))
         (subst (λ s. Fine p declared Ok (run_start p (program_starts p) (open_calls p (program_starts p) n) x w (Some s))) (sym i.1)
-        (started_fine lt pl.holds.derivation.start i.0 w (subst (λ s. DerivesStart (ground_reading p x pl.instance) pl.scope pl.holds.derivation.locals pl.holds.derivation.start s) i.1 pl.holds.derives.0) values_fit.1 q))
+        (started_fine lt pl.holds.derivation.start i.0 w
+        (subst (λ s. DerivesStart (ground_reading p x pl.instance) pl.scope pl.holds.derivation.locals pl.holds.derivation.start s) i.1 pl.holds.derives.0) values_fit.1 q))
 
     pub main_fine : x ≡ many p → (w : World) → WellHeap p x w.objects →
-        Fine p declared (λ u w. Unit {0}) (run_start p (program_starts p) (open_calls p (program_starts p) n) x w (start_of_scope (scope_of_instance p (program_starts p) x)))
+        Fine p declared (λ u w. Unit {0})
+        (run_start p (program_starts p) (open_calls p (program_starts p) n) x w (start_of_scope (scope_of_instance p (program_starts p) x)))
     main_fine e w wh =
         let fits = (scope_fits p linked x pl).starts in
         let r = run_is pl.scope.kind pl.scope.start (main_kind p linked x pl e) fits.0 in
         let Ok : Value → World → Type 0 = λ u w. Unit {0} in
         let block_fits : StartFits p pl.scope (Run r.0) = subst (λ s. StartFits p pl.scope s) r.1 fits.1 in
-        subst (λ o. Fine p declared Ok (run_start p (program_starts p) (open_calls p (program_starts p) n) x w (start_of_scope o))) (sym (scope_there p linked x pl))
+        subst (λ o. Fine p declared Ok (run_start p (program_starts p) (open_calls p (program_starts p) n) x w (start_of_scope o)))
+        (sym (scope_there p linked x pl))
         (subst (λ s. Fine p declared Ok (run_start p (program_starts p) (open_calls p (program_starts p) n) x w (Some s))) (sym r.1)
-        (run_fine (omega (arith, e)) pl.holds.derivation.start r.0 w (subst (λ s. DerivesStart (ground_reading p x pl.instance) pl.scope pl.holds.derivation.locals pl.holds.derivation.start s) r.1 pl.holds.derives.0) block_fits wh))
+        (run_fine (omega (arith, e)) pl.holds.derivation.start r.0 w
+        (subst (λ s. DerivesStart (ground_reading p x pl.instance) pl.scope pl.holds.derivation.locals pl.holds.derivation.start s) r.1 pl.holds.derives.0) block_fits wh))

@@ -43,7 +43,8 @@ pub record ArgumentFits (p : Program) (x : ℕ) (i : Instance) (k : ℕ) (n : Ow
 pub record ArgumentsFit (p : Program) : Type 0 where
   pub each : (x : ℕ) (i : Instance) (s : Scope) (k : ℕ) (n : OwnName) →
       slice_get (run_instances p) x ≡ Some i → slice_get p.scopes i.scope ≡ Some s → slice_get s.names k ≡ Some n → ArgumentFits p x i k n
-  pub count : (x : ℕ) (i : Instance) (s : Scope) → slice_get (run_instances p) x ≡ Some i → slice_get p.scopes i.scope ≡ Some s → length i.arguments ≤ length s.names
+  pub count : (x : ℕ) (i : Instance) (s : Scope) → slice_get (run_instances p) x ≡ Some i → slice_get p.scopes i.scope ≡ Some s →
+      length i.arguments ≤ length s.names
 
 -- an instance has its scope, which is the program's exactly for the last one
 pub record InstanceFits (p : Program) (x : ℕ) (i : Instance) : Type 0 where
