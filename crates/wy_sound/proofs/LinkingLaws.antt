@@ -27,8 +27,10 @@ use Rattle.wy_sound.proofs.LinkingNames.{grant_stands}
 use Rattle.wy_sound.proofs.LinkingLines.{Visiting, VisitStands, instance_stands, import_stands, use_stands}
 
 module _ (p : Program) (c : IsCore p) (t : LinesAreTyped p) (a : Accepted p) where
-  module _ (k : ℕ) (inside : VisitStands p k) (m : ℕ) (s : Scope) (path prefix : List ℕ) (top : List (List ℕ)) (at : Visiting p m s prefix top) (way : Way p path m (suc k)) where
-    module _ (done : List OwnName) (n : OwnName) (rest : List OwnName) (v : Visited) (names : names_at p m ≡ done ++ n ∷ rest) (stands : Stands p None top done v) where
+  module _ (k : ℕ) (inside : VisitStands p k) (m : ℕ) (s : Scope) (path prefix : List ℕ) (top : List (List ℕ)) (at : Visiting p m s prefix top)
+      (way : Way p path m (suc k)) where
+    module _ (done : List OwnName) (n : OwnName) (rest : List OwnName) (v : Visited) (names : names_at p m ≡ done ++ n ∷ rest)
+        (stands : Stands p None top done v) where
       place : slice_get (names_at p m) (length done) ≡ Some n
       place = ap (λ l. slice_get l (length done)) names ∙ read_next done rest n
 
@@ -36,30 +38,42 @@ module _ (p : Program) (c : IsCore p) (t : LinesAreTyped p) (a : Accepted p) whe
       line o e = subst (LineHolds p m (names_at p m)) e (at.facts.lines n (In-slice_get (names_at p m) (length done) n place))
 
       -- one own name more
-      name_stands : (o : Origin) → n.origin ≡ o → HasItsType p (opened_count p done) n o → GoesOn (visit_name p (visit p k) (names_at p m) prefix n o v).started (start_list p) →
-          GoesOn (visit_name p (visit p k) (names_at p m) prefix n o v).sets top → Stands p None top (done ++ n ∷ []) (visit_name p (visit p k) (names_at p m) prefix n o v)
+      name_stands : (o : Origin) → n.origin ≡ o → HasItsType p (opened_count p done) n o →
+          GoesOn (visit_name p (visit p k) (names_at p m) prefix n o v).started (start_list p) →
+          GoesOn (visit_name p (visit p k) (names_at p m) prefix n o v).sets top →
+          Stands p None top (done ++ n ∷ []) (visit_name p (visit p k) (names_at p m) prefix n o v)
       name_stands (Parameter bare) e typed goes further = absurd typed
       name_stands Grant e typed goes further =
           let main : s.kind ≡ Main = (subst (OriginFits p s (length done) n) e (at.facts.written (length done) n place).1).0 in
-          grant_stands p c top done v n stands (length s.atoms) (at.facts.written (length done) n place).0.0 m typed.0 rest names (main_is_last p.scopes c.program m s at.facts.there main) (at.main main) e
+          grant_stands p c top done v n stands (length s.atoms) (at.facts.written (length done) n place).0.0 m typed.0 rest names
+          (main_is_last p.scopes c.program m s at.facts.there main) (at.main main) e
           at.facts.fits.atoms typed.1
-      name_stands (Use j) e typed goes further = use_stands p c t a k inside m s path prefix top at way done n rest v names stands j e (line (Use j) e) typed.0 typed.1 goes further
-      name_stands (Instance j arguments) e typed goes further = instance_stands p c t a k inside m s path prefix top at way done n rest v names stands j arguments e typed goes further
-      name_stands (Import j arguments bound) e typed goes further = import_stands p c t a k inside m s path prefix top at way done n rest v names stands j arguments bound e typed.0 typed.1 goes further
+      name_stands (Use j) e typed goes further =
+          use_stands p c t a k inside m s path prefix top at way done n rest v names stands j e (line (Use j) e) typed.0 typed.1 goes further
+      name_stands (Instance j arguments) e typed goes further =
+          instance_stands p c t a k inside m s path prefix top at way done n rest v names stands j arguments e typed goes further
+      name_stands (Import j arguments bound) e typed goes further =
+          import_stands p c t a k inside m s path prefix top at way done n rest v names stands j arguments bound e typed.0 typed.1 goes further
 
     -- the own names that are left
-    names_stand : (done rest : List OwnName) (v : Visited) → names_at p m ≡ done ++ rest → HaveTheirTypes p (opened_count p done) rest → top ≡ (visit_names p (visit p k) (names_at p m) prefix rest v).sets →
-        GoesOn (visit_names p (visit p k) (names_at p m) prefix rest v).started (start_list p) → Stands p None top done v → Stands p None top (names_at p m) (visit_names p (visit p k) (names_at p m) prefix rest v)
+    names_stand : (done rest : List OwnName) (v : Visited) → names_at p m ≡ done ++ rest → HaveTheirTypes p (opened_count p done) rest →
+        top ≡ (visit_names p (visit p k) (names_at p m) prefix rest v).sets →
+        GoesOn (visit_names p (visit p k) (names_at p m) prefix rest v).started (start_list p) → Stands p None top done v →
+        Stands p None top (names_at p m) (visit_names p (visit p k) (names_at p m) prefix rest v)
     names_stand done [] v names typed ends goes stands = subst (λ l. Stands p None top l v) (sym (names ∙ append-nil done)) stands
     names_stand done (n ∷ rest) v names typed ends goes stands =
         let w = visit_name p (visit p k) (names_at p m) prefix n n.origin v in
         let grows = later_names_grow p k (names_at p m) prefix rest w in
-        let one = name_stands done n rest v names stands n.origin refl typed.0 (goes_on_further _ _ (start_list p) grows.started goes) (goes_on_further _ _ top grows.sets ([], ends ∙ sym (append-nil _))) in
-        names_stand (done ++ n ∷ []) rest w (names ∙ sym (append_assoc done (n ∷ []) rest)) (subst (λ j. HaveTheirTypes p j rest) (sym (count_more p done n)) typed.1) ends goes one
+        let one =
+        name_stands done n rest v names stands n.origin refl typed.0 (goes_on_further _ _ (start_list p) grows.started goes)
+        (goes_on_further _ _ top grows.sets ([], ends ∙ sym (append-nil _))) in
+        names_stand (done ++ n ∷ []) rest w (names ∙ sym (append_assoc done (n ∷ []) rest))
+        (subst (λ j. HaveTheirTypes p j rest) (sym (count_more p done n)) typed.1) ends goes one
 
   visit_stands : (k : ℕ) → VisitStands p k
   visit_stands zero m s path prefix done rest v top at way names typed ends goes stands = absurd (way_ends p c path m s at.facts.there way)
-  visit_stands (suc k) m s path prefix done rest v top at way names typed ends goes stands = names_stand k (visit_stands k) m s path prefix top at way done rest v names typed ends goes stands
+  visit_stands (suc k) m s path prefix done rest v top at way names typed ends goes stands =
+      names_stand k (visit_stands k) m s path prefix top at way done rest v names typed ends goes stands
 
   ------------------------------------------------------------
   -- The program's own visit
@@ -84,9 +98,11 @@ module _ (p : Program) (c : IsCore p) (t : LinesAreTyped p) (a : Accepted p) whe
   program_stands : Stands p None (program_sets p) (names_at p (program_number p)) (program_visited p)
   program_stands =
       let empty : Visited = record { started = []; actuals = []; sets = [] } in
-      let stands : Stands p None (program_sets p) [] empty = record { actuals = tt; count = refl; types = λ x i. absurd i; sets = λ x i. absurd i; started = λ y i e. absurd (cc) } in
+      let stands : Stands p None (program_sets p) [] empty =
+      record { actuals = tt; count = refl; types = λ x i. absurd i; sets = λ x i. absurd i; started = λ y i e. absurd (cc) } in
       visit_stands (length p.scopes) (program_number p) main.0 [] [] [] (names_at p (program_number p)) empty (program_sets p)
-      (record { facts = main_facts; plain = ap is_plain main.2; words = λ i. absurd i; main = λ e. refl }) (way_begins p (program_number p)) refl typed refl (goes_on_same (start_list p)) stands
+      (record { facts = main_facts; plain = ap is_plain main.2; words = λ i. absurd i; main = λ e. refl })
+      (way_begins p (program_number p)) refl typed refl (goes_on_same (start_list p)) stands
 
   ------------------------------------------------------------
   -- The instances of the run
@@ -120,13 +136,15 @@ module _ (p : Program) (c : IsCore p) (t : LinesAreTyped p) (a : Accepted p) whe
             subst (λ y. InstanceFits p y i) (sym last.0) (subst (InstanceFits p (length (start_list p))) last.1 fits)
       ]
 
-  arguments_of : (x : ℕ) (i : Started) (s : Scope) → slice_get (run_instances p) x ≡ Some i → slice_get p.scopes i.scope ≡ Some s → AreActuals p x i.bound i.ground s.names i.arguments
+  arguments_of : (x : ℕ) (i : Started) (s : Scope) → slice_get (run_instances p) x ≡ Some i → slice_get p.scopes i.scope ≡ Some s →
+      AreActuals p x i.bound i.ground s.names i.arguments
   unfolding program
   arguments_of x i s e scope =
       elim (read_last (start_list p) program x i e) [
         | inl there ↦
             let fit = program_stands.started x i there in
-            subst (λ (z : Scope). AreActuals p x i.bound i.ground z.names i.arguments) (one_scope (slice_get p.scopes i.scope) fit.scope s fit.there scope) fit.actuals
+            subst (λ (z : Scope). AreActuals p x i.bound i.ground z.names i.arguments)
+            (one_scope (slice_get p.scopes i.scope) fit.scope s fit.there scope) fit.actuals
         | inr last ↦
             let P : Started → Type 0 = λ j. slice_get p.scopes j.scope ≡ Some s in
             let same : main.0 ≡ s = one_scope (slice_get p.scopes (program_number p)) main.0 s main.1 (subst P (sym last.1) scope) in
@@ -137,7 +155,8 @@ module _ (p : Program) (c : IsCore p) (t : LinesAreTyped p) (a : Accepted p) whe
             subst (λ y. AreActuals p y i.bound i.ground s.names i.arguments) (sym last.0) (subst Q last.1 fits)
       ]
 
-  argument_fits : (x : ℕ) (i : Started) (s : Scope) (k : ℕ) (n : OwnName) → slice_get (run_instances p) x ≡ Some i → slice_get p.scopes i.scope ≡ Some s → slice_get s.names k ≡ Some n → ArgumentFits p x i k n
+  argument_fits : (x : ℕ) (i : Started) (s : Scope) (k : ℕ) (n : OwnName) → slice_get (run_instances p) x ≡ Some i →
+      slice_get p.scopes i.scope ≡ Some s → slice_get s.names k ≡ Some n → ArgumentFits p x i k n
   argument_fits x i s k n e scope at =
       let r = actual_at p x i.bound i.ground s.names i.arguments k n (arguments_of x i s e scope) at in
       let written = ((c.scopes s (In-slice_get p.scopes i.scope s scope)).names k n at).0.0 in
@@ -145,7 +164,9 @@ module _ (p : Program) (c : IsCore p) (t : LinesAreTyped p) (a : Accepted p) whe
         argument = r.0;
         handed = r.1;
         there = r.2.there;
-        below = subst (ground_below p (actual_type p r.0)) (same_at 0 x (read_by i.bound i.ground n.typ) (no_own_read i.bound i.ground n.typ (no_own p (length s.atoms) n.typ written))) r.2.below;
+        below =
+            subst (ground_below p (actual_type p r.0))
+            (same_at 0 x (read_by i.bound i.ground n.typ) (no_own_read i.bound i.ground n.typ (no_own p (length s.atoms) n.typ written))) r.2.below;
       }
 
 pub accepted_instances_fit : AcceptedInstancesFit
@@ -154,5 +175,6 @@ accepted_instances_fit p c t a = record { each = instance_fits p c t a }
 pub accepted_arguments_fit : AcceptedArgumentsFit
 accepted_arguments_fit p c t a = record {
   each = argument_fits p c t a;
-  count = λ x i s e scope. (let same = actuals_length p x i.bound i.ground s.names i.arguments (arguments_of p c t a x i s e scope) in omega (arith, same));
+  count =
+      λ x i s e scope. (let same = actuals_length p x i.bound i.ground s.names i.arguments (arguments_of p c t a x i s e scope) in omega (arith, same));
 }

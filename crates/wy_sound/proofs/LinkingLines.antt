@@ -39,8 +39,10 @@ pub record Visiting (p : Program) (m : ℕ) (s : Scope) (prefix : List ℕ) (top
 -- a visit of the own names that are left comes to stand for all
 abbrev pub VisitStands : Program → ℕ → Type 0
 VisitStands p k =
-    (m : ℕ) (s : Scope) (path prefix : List ℕ) (done rest : List OwnName) (v : Visited) (top : List (List ℕ)) → Visiting p m s prefix top → Way p path m k → names_at p m ≡ done ++ rest →
-    HaveTheirTypes p (opened_count p done) rest → top ≡ (visit p k (names_at p m) prefix rest v).sets → GoesOn (visit p k (names_at p m) prefix rest v).started (start_list p) →
+    (m : ℕ) (s : Scope) (path prefix : List ℕ) (done rest : List OwnName) (v : Visited)
+    (top : List (List ℕ)) → Visiting p m s prefix top → Way p path m k → names_at p m ≡ done ++ rest →
+    HaveTheirTypes p (opened_count p done) rest → top ≡ (visit p k (names_at p m) prefix rest v).sets →
+    GoesOn (visit p k (names_at p m) prefix rest v).started (start_list p) →
     Stands p None top done v → Stands p None top (names_at p m) (visit p k (names_at p m) prefix rest v)
 
 not_main : (a : ScopeKind) → is_plain a ≡ true → a ≡ Main → ⊥
@@ -53,8 +55,10 @@ handed_in (n ∷ ns) (a ∷ arguments) h (inl e) = (inl (ap (λ (v : Handed). v.
 handed_in (n ∷ ns) (a ∷ arguments) h (inr i) = let r = handed_in ns arguments h i in (inr r.0, inr r.1)
 
 -- the instance of a module that has been visited
-new_fits : (p : Program) (j : ℕ) (z : Scope) (name : List ℕ) (bound : Option (List ℕ)) (inner : Visited) → Facts p j z → (z.kind ≡ Main → ⊥) → BoundFits (is_plain z.kind) bound →
-    ((word : List ℕ) → name ≡ codes "pure " ++ word → z.name ≡ word) → Stands p bound inner.sets (names_at p j) inner → Fits p (length inner.started) (instance_of name j inner.actuals bound inner.sets)
+new_fits : (p : Program) (j : ℕ) (z : Scope) (name : List ℕ) (bound : Option (List ℕ)) (inner : Visited) → Facts p j z → (z.kind ≡ Main → ⊥) →
+    BoundFits (is_plain z.kind) bound →
+    ((word : List ℕ) → name ≡ codes "pure " ++ word → z.name ≡ word) → Stands p bound inner.sets (names_at p j) inner →
+    Fits p (length inner.started) (instance_of name j inner.actuals bound inner.sets)
 new_fits p j z name bound inner f is_module fits called s = record {
   scope = z;
   there = f.there;
@@ -75,7 +79,8 @@ plain_bound false bound e = absurd (cc)
 
 module _ (p : Program) (c : IsCore p) (t : LinesAreTyped p) (a : Accepted p) (k : ℕ) (inside : VisitStands p k)
     (m : ℕ) (s : Scope) (path prefix : List ℕ) (top : List (List ℕ)) (at : Visiting p m s prefix top) (way : Way p path m (suc k))
-    (done : List OwnName) (n : OwnName) (rest : List OwnName) (v : Visited) (names : names_at p m ≡ done ++ n ∷ rest) (stands : Stands p None top done v) where
+    (done : List OwnName) (n : OwnName) (rest : List OwnName) (v : Visited) (names : names_at p m ≡ done ++ n ∷ rest)
+    (stands : Stands p None top done v) where
   place : slice_get (names_at p m) (length done) ≡ Some n
   place = ap (λ l. slice_get l (length done)) names ∙ read_next done rest n
 
@@ -98,7 +103,8 @@ module _ (p : Program) (c : IsCore p) (t : LinesAreTyped p) (a : Accepted p) (k 
 
   -- .. and of a type that is above its own, as the sets so far read it
   risen : (b : ℕ) (lt : b < length done) (o : Option (List ℕ)) (sets : List (List ℕ)) (x : OwnName) → GoesOn v.sets top →
-      IsBelow p (read_type None v.sets (type_of (slice_get (names_at p m) b))) (read_type o sets x.typ) → IsActual p (length v.started) (read_type o sets x.typ) (slice_index_or v.actuals b (actual.Grant 0))
+      IsBelow p (read_type None v.sets (type_of (slice_get (names_at p m) b))) (read_type o sets x.typ) →
+      IsActual p (length v.started) (read_type o sets x.typ) (slice_index_or v.actuals b (actual.Grant 0))
   risen b lt o sets x goes below =
       let g = argument b lt in
       let typ = type_of (slice_get (names_at p m) b) in
@@ -106,15 +112,20 @@ module _ (p : Program) (c : IsCore p) (t : LinesAreTyped p) (a : Accepted p) (k 
       record { there = g.is.there; below = same_or_below p _ _ _ g.is.below (subst (λ u. IsBelow p u (read_type o sets x.typ)) (sym same) below) }
 
   -- a module that has been visited, and its instance behind it
-  lined_stands : (j : ℕ) (z : Scope) (name : List ℕ) (inner : Visited) → Facts p j z → is_plain z.kind ≡ false → (z.kind ≡ Main → ⊥) → ((word : List ℕ) → name ≡ codes "pure " ++ word → z.name ≡ word) →
-      GoesOn v.started inner.started → IsOpened p (opened_count p done) (sealed_of (slice_get p.scopes j)) n.typ → opens p n n.origin ≡ members_of p n.typ →
-      GoesOn (lined p v inner name j).started (start_list p) → GoesOn (lined p v inner name j).sets top → Stands p None inner.sets (names_at p j) inner → Stands p None top (done ++ n ∷ []) (lined p v inner name j)
+  lined_stands : (j : ℕ) (z : Scope) (name : List ℕ) (inner : Visited) → Facts p j z → is_plain z.kind ≡ false → (z.kind ≡ Main → ⊥) →
+      ((word : List ℕ) → name ≡ codes "pure " ++ word → z.name ≡ word) →
+      GoesOn v.started inner.started → IsOpened p (opened_count p done) (sealed_of (slice_get p.scopes j)) n.typ →
+      opens p n n.origin ≡ members_of p n.typ →
+      GoesOn (lined p v inner name j).started (start_list p) → GoesOn (lined p v inner name j).sets top →
+      Stands p None inner.sets (names_at p j) inner → Stands p None top (done ++ n ∷ []) (lined p v inner name j)
   lined_stands j z name inner f plain is_module called longer opened opening goes further visited =
       let i = instance_of name j inner.actuals None inner.sets in
       let new = new_fits p j z name None inner f is_module (annotated_bound (is_plain z.kind) plain) called visited in
       sealed_stands p c top done v n stands (length s.atoms) written (inner.started ++ i ∷ []) (length inner.started) i z (defined_sets p j inner.sets)
-      (goes_on_further v.started inner.started _ longer (goes_on_more inner.started (i ∷ []))) goes (all_more p inner.started i visited.started new) (read_next inner.started [] i) f plain
-      (ap (λ o. map (replace inner.sets) (definitions_of o)) f.there) (subst (λ o. IsOpened p (opened_count p done) (sealed_of o) n.typ) f.there opened) further opening
+      (goes_on_further v.started inner.started _ longer (goes_on_more inner.started (i ∷ []))) goes (all_more p inner.started i visited.started new)
+      (read_next inner.started [] i) f plain
+      (ap (λ o. map (replace inner.sets) (definitions_of o)) f.there)
+      (subst (λ o. IsOpened p (opened_count p done) (sealed_of o) n.typ) f.there opened) further opening
 
   inner_prefix : List ℕ
   inner_prefix = prefix ++ (n.name ++ codes ".")
@@ -148,13 +159,16 @@ module _ (p : Program) (c : IsCore p) (t : LinesAreTyped p) (a : Accepted p) (k 
         let members = arguments_sets p (names_at p m) (names_at p j) arguments in
         let r = handed_in (parameters_among (names_at p j)) arguments h i in
         let lt = before h.argument r.1 in
-        let count : length members ≡ opened_count p (parameters_among (names_at p j)) = arguments_count p (names_at p m) (names_at p j) arguments line.numbers in
+        let count : length members ≡ opened_count p (parameters_among (names_at p j)) =
+        arguments_count p (names_at p m) (names_at p j) arguments line.numbers in
         let typ = type_of (slice_get (names_at p m) h.argument) in
         risen h.argument lt None inner.sets h.parameter goes
         (instance_argument p c m v.sets annotated_scope stands.sets typ h.parameter.typ (argument_fits h.argument _ refl) members inner.sets
-        (subst (λ d. FitsType p d 0 h.parameter.typ) (sym count) (f.parameters h.parameter r.0)) (visit_grows p k (names_at p j) (prefix ++ (n.name ++ codes ".")) (after_parameters (names_at p j)) hand).sets (line.types h i))
+        (subst (λ d. FitsType p d 0 h.parameter.typ) (sym count) (f.parameters h.parameter r.0))
+        (visit_grows p k (names_at p j) (prefix ++ (n.name ++ codes ".")) (after_parameters (names_at p j)) hand).sets (line.types h i))
 
-    inner_stands : (z : Scope) → Facts p j z → z.kind ≡ Resource → GoesOn v.sets top → GoesOn inner.started (start_list p) → Stands p None inner.sets (names_at p j) inner
+    inner_stands : (z : Scope) → Facts p j z → z.kind ≡ Resource → GoesOn v.sets top → GoesOn inner.started (start_list p) →
+        Stands p None inner.sets (names_at p j) inner
     unfolding inner hand
     inner_stands z f kind goes later =
         let is_module : z.kind ≡ Main → ⊥ = λ e. (let same : Resource ≡ Main = sym kind ∙ e in cc) in
@@ -164,8 +178,10 @@ module _ (p : Program) (c : IsCore p) (t : LinesAreTyped p) (a : Accepted p) (k 
         (way_on p c path m j k s at.facts.there (leads p m s at.facts n j among to) way) (first_and_after (names_at p j)) f.others refl later
         (handed_stands p j (names_at p m) v None inner.sets z f arguments line.numbers (takes z f goes) stands.sets stands.started)
 
-    pub instance_stands : IsOpened p (opened_count p done) (sealed_of (slice_get p.scopes j)) n.typ → GoesOn (visit_name p (visit p k) (names_at p m) prefix n (Instance j arguments) v).started (start_list p) →
-        GoesOn (visit_name p (visit p k) (names_at p m) prefix n (Instance j arguments) v).sets top → Stands p None top (done ++ n ∷ []) (visit_name p (visit p k) (names_at p m) prefix n (Instance j arguments) v)
+    pub instance_stands : IsOpened p (opened_count p done) (sealed_of (slice_get p.scopes j)) n.typ →
+        GoesOn (visit_name p (visit p k) (names_at p m) prefix n (Instance j arguments) v).started (start_list p) →
+        GoesOn (visit_name p (visit p k) (names_at p m) prefix n (Instance j arguments) v).sets top →
+        Stands p None top (done ++ n ∷ []) (visit_name p (visit p k) (names_at p m) prefix n (Instance j arguments) v)
     unfolding inner hand
     instance_stands opened goes further =
         let z = line.resource.0 in
@@ -173,13 +189,17 @@ module _ (p : Program) (c : IsCore p) (t : LinesAreTyped p) (a : Accepted p) (k 
         let f = facts_at p c t a j z line.resource.1 in
         let is_module : z.kind ≡ Main → ⊥ = λ e. (let same : Resource ≡ Main = sym kind ∙ e in cc) in
         let name = prefix ++ n.name in
-        let passes : visit p k (names_at p j) (prefix ++ (n.name ++ codes ".")) (names_at p j) hand ≡ inner = visit_passes p k (names_at p j) (prefix ++ (n.name ++ codes ".")) (names_at p j) hand in
-        let goes' : GoesOn (lined p v inner name j).started (start_list p) = subst (λ (w : Visited). GoesOn (lined p v w name j).started (start_list p)) passes goes in
+        let passes : visit p k (names_at p j) (prefix ++ (n.name ++ codes ".")) (names_at p j) hand ≡ inner =
+        visit_passes p k (names_at p j) (prefix ++ (n.name ++ codes ".")) (names_at p j) hand in
+        let goes' : GoesOn (lined p v inner name j).started (start_list p) =
+        subst (λ (w : Visited). GoesOn (lined p v w name j).started (start_list p)) passes goes in
         let further' : GoesOn (lined p v inner name j).sets top = subst (λ (w : Visited). GoesOn (lined p v w name j).sets top) passes further in
         let sets_go = goes_on_further v.sets (lined p v inner name j).sets top (goes_on_more v.sets _) further' in
         let inner_goes = goes_on_further inner.started _ (start_list p) (goes_on_more inner.started _) goes' in
         let longer = (visit_grows p k (names_at p j) (prefix ++ (n.name ++ codes ".")) (after_parameters (names_at p j)) hand).started in
-        let all = lined_stands j z name inner f (ap is_plain kind) is_module (λ word e. absurd (not_pure name word line_name e)) longer opened (ap (opens p n) o) goes' further' (inner_stands z f kind sets_go inner_goes) in
+        let all =
+        lined_stands j z name inner f (ap is_plain kind) is_module (λ word e. absurd (not_pure name word line_name e)) longer opened
+        (ap (opens p n) o) goes' further' (inner_stands z f kind sets_go inner_goes) in
         subst (λ (w : Visited). Stands p None top (done ++ n ∷ []) (lined p v w name j)) (sym passes) all
 
   ------------------------------------------------------------
@@ -195,7 +215,8 @@ module _ (p : Program) (c : IsCore p) (t : LinesAreTyped p) (a : Accepted p) (k 
     import_hand : Visited
     import_hand = handed p (names_at p m) v j arguments
 
-    import_takes : (z : Scope) → Facts p j z → GoesOn v.sets top → TakesAll p j (names_at p m) v (Some (replace v.sets bound)) import_hand.sets (parameters_among (names_at p j)) arguments
+    import_takes : (z : Scope) → Facts p j z → GoesOn v.sets top →
+        TakesAll p j (names_at p m) v (Some (replace v.sets bound)) import_hand.sets (parameters_among (names_at p j)) arguments
     unfolding import_hand
     import_takes z f goes h i =
         let r = handed_in (parameters_among (names_at p j)) arguments h i in
@@ -208,7 +229,8 @@ module _ (p : Program) (c : IsCore p) (t : LinesAreTyped p) (a : Accepted p) (k 
 
     pub import_stands : IsSet (opened_count p done) bound → IsBounded bound (sealed_of (slice_get p.scopes j)) n.typ →
         GoesOn (visit_name p (visit p k) (names_at p m) prefix n (Import j arguments bound) v).started (start_list p) →
-        GoesOn (visit_name p (visit p k) (names_at p m) prefix n (Import j arguments bound) v).sets top → Stands p None top (done ++ n ∷ []) (visit_name p (visit p k) (names_at p m) prefix n (Import j arguments bound) v)
+        GoesOn (visit_name p (visit p k) (names_at p m) prefix n (Import j arguments bound) v).sets top →
+        Stands p None top (done ++ n ∷ []) (visit_name p (visit p k) (names_at p m) prefix n (Import j arguments bound) v)
     unfolding import_hand
     import_stands of_atoms is goes further =
         let z = import_line.0.plain.0 in
@@ -219,30 +241,43 @@ module _ (p : Program) (c : IsCore p) (t : LinesAreTyped p) (a : Accepted p) (k 
         let hand = import_hand in
         let ground = replace v.sets bound in
         let all : names_at p j ≡ parameters_among (names_at p j) =
-        first_and_after (names_at p j) ∙ ap (λ l. parameters_among (names_at p j) ++ l) (plain_names p j z f kind) ∙ append-nil (parameters_among (names_at p j)) in
+        first_and_after (names_at p j) ∙ ap (λ l. parameters_among (names_at p j) ++ l) (plain_names p j z f kind) ∙
+        append-nil (parameters_among (names_at p j)) in
         let passes : visit p k (names_at p j) (prefix ++ (n.name ++ codes ".")) (names_at p j) hand ≡ hand =
-        visit_passes p k (names_at p j) (prefix ++ (n.name ++ codes ".")) (names_at p j) hand ∙ ap (λ l. visit p k (names_at p j) (prefix ++ (n.name ++ codes ".")) l hand) (plain_names p j z f kind) ∙
+        visit_passes p k (names_at p j) (prefix ++ (n.name ++ codes ".")) (names_at p j) hand ∙
+        ap (λ l. visit p k (names_at p j) (prefix ++ (n.name ++ codes ".")) l hand) (plain_names p j z f kind) ∙
         visits_nothing p k (names_at p j) (prefix ++ (n.name ++ codes ".")) hand in
-        let goes' : GoesOn (imported p v hand name j bound).started (start_list p) = subst (λ (w : Visited). GoesOn (imported p v w name j bound).started (start_list p)) passes goes in
+        let goes' : GoesOn (imported p v hand name j bound).started (start_list p) =
+        subst (λ (w : Visited). GoesOn (imported p v w name j bound).started (start_list p)) passes goes in
         let sets_go = goes_on_further v.sets (v.sets ++ []) top (goes_on_more v.sets []) further in
         let i = instance_of name j hand.actuals (Some ground) hand.sets in
-        let taken = handed_stands p j (names_at p m) v (Some ground) hand.sets z f arguments import_line.0.numbers (import_takes z f sets_go) stands.sets stands.started in
+        let taken =
+        handed_stands p j (names_at p m) v (Some ground) hand.sets z f arguments import_line.0.numbers
+        (import_takes z f sets_go) stands.sets stands.started in
         let visited : Stands p (Some ground) hand.sets (names_at p j) hand = subst (λ l. Stands p (Some ground) hand.sets l hand) (sym all) taken in
-        let new = new_fits p j z name (Some ground) hand f (not_main z.kind plain) (plain_bound (is_plain z.kind) ground plain) (λ word e. absurd (not_pure name word line_name e)) visited in
-        let one = bounded_stands p c top done v n stands (length s.atoms) written (v.started ++ i ∷ []) (length v.started) i z bound (goes_on_more v.started (i ∷ [])) goes'
-        (all_more p v.started i stands.started new) (read_next v.started [] i) f plain refl of_atoms (subst (λ x. IsBounded bound (sealed_of x) n.typ) f.there is) sets_go (ap (opens p n) o) in
+        let new =
+        new_fits p j z name (Some ground) hand f (not_main z.kind plain) (plain_bound (is_plain z.kind) ground plain)
+        (λ word e. absurd (not_pure name word line_name e)) visited in
+        let one =
+        bounded_stands p c top done v n stands (length s.atoms) written (v.started ++ i ∷ []) (length v.started) i z bound
+        (goes_on_more v.started (i ∷ [])) goes'
+        (all_more p v.started i stands.started new) (read_next v.started [] i) f plain refl of_atoms
+        (subst (λ x. IsBounded bound (sealed_of x) n.typ) f.there is) sets_go (ap (opens p n) o) in
         subst (λ (w : Visited). Stands p None top (done ++ n ∷ []) (imported p v w name j bound)) (sym passes) one
 
   ------------------------------------------------------------
   -- Uses
 
-  module _ (j : ℕ) (o : n.origin ≡ Use j) (kind : (z : Scope) × (slice_get p.scopes j ≡ Some z) × (z.kind ≡ Pure)) (word : n.name ≡ name_of (slice_get p.scopes j))
+  module _ (j : ℕ) (o : n.origin ≡ Use j) (kind : (z : Scope) × (slice_get p.scopes j ≡ Some z) × (z.kind ≡ Pure))
+      (word : n.name ≡ name_of (slice_get p.scopes j))
       (opened : IsOpened p (opened_count p done) (sealed_of (slice_get p.scopes j)) n.typ) where
     pure_module : kind.0.kind ≡ Main → ⊥
     pure_module e = let same : Pure ≡ Main = sym kind.2 ∙ e in cc
 
-    used_stands : (there : Option ℕ) → number_from 0 (codes "pure " ++ n.name) v.started ≡ there → GoesOn (used p (visit p k) v (codes "pure " ++ n.name) j there).started (start_list p) →
-        GoesOn (used p (visit p k) v (codes "pure " ++ n.name) j there).sets top → Stands p None top (done ++ n ∷ []) (used p (visit p k) v (codes "pure " ++ n.name) j there)
+    used_stands : (there : Option ℕ) → number_from 0 (codes "pure " ++ n.name) v.started ≡ there →
+        GoesOn (used p (visit p k) v (codes "pure " ++ n.name) j there).started (start_list p) →
+        GoesOn (used p (visit p k) v (codes "pure " ++ n.name) j there).sets top →
+        Stands p None top (done ++ n ∷ []) (used p (visit p k) v (codes "pure " ++ n.name) j there)
     used_stands (Some y) e goes further =
         let z = kind.0 in
         let f = facts_at p c t a j z kind.1 in
@@ -255,24 +290,30 @@ module _ (p : Program) (c : IsCore p) (t : LinesAreTyped p) (a : Accepted p) (k 
         let same : i.scope ≡ j = one_module p.scopes c.program c.modules i.scope j fit.scope z fit.there f.there fit.is_module pure_module called in
         let sets : defined_sets p j (ground_sets (slice_get v.started y)) ≡ map (replace i.ground) z.definitions =
         ap (λ x. defined_sets p j (ground_sets x)) there ∙ ap (λ x. map (replace i.ground) (definitions_of x)) f.there in
-        sealed_stands p c top done v n stands (length s.atoms) written v.started y i z (defined_sets p j (ground_sets (slice_get v.started y))) (goes_on_same v.started) goes stands.started there
-        (subst (λ x. Facts p x z) (sym same) f) (ap is_plain kind.2) sets (subst (λ x. IsOpened p (opened_count p done) (sealed_of x) n.typ) f.there opened) further (ap (opens p n) o)
+        sealed_stands p c top done v n stands (length s.atoms) written v.started y i z (defined_sets p j (ground_sets (slice_get v.started y)))
+        (goes_on_same v.started) goes stands.started there
+        (subst (λ x. Facts p x z) (sym same) f) (ap is_plain kind.2) sets
+        (subst (λ x. IsOpened p (opened_count p done) (sealed_of x) n.typ) f.there opened) further (ap (opens p n) o)
     used_stands None e goes further =
         let z = kind.0 in
         let f = facts_at p c t a j z kind.1 in
         let hand : Visited = record { started = v.started; actuals = []; sets = [] } in
         let pure = pure_names p j z f kind.2 in
-        let passes : visit p k (names_at p j) [] (uses_among (names_at p j)) hand ≡ visit p k (names_at p j) [] (after_parameters (names_at p j)) hand = ap (λ l. visit p k (names_at p j) [] l hand) pure.1 in
+        let passes : visit p k (names_at p j) [] (uses_among (names_at p j)) hand ≡
+        visit p k (names_at p j) [] (after_parameters (names_at p j)) hand = ap (λ l. visit p k (names_at p j) [] l hand) pure.1 in
         let inner = visit p k (names_at p j) [] (after_parameters (names_at p j)) hand in
         let name = codes "pure " ++ n.name in
-        let goes' : GoesOn (lined p v inner name j).started (start_list p) = subst (λ (w : Visited). GoesOn (lined p v w name j).started (start_list p)) passes goes in
+        let goes' : GoesOn (lined p v inner name j).started (start_list p) =
+        subst (λ (w : Visited). GoesOn (lined p v w name j).started (start_list p)) passes goes in
         let further' : GoesOn (lined p v inner name j).sets top = subst (λ (w : Visited). GoesOn (lined p v w name j).sets top) passes further in
         let to : In j (origin_modules n.origin) = subst (λ x. In j (origin_modules x)) (sym o) (inl refl) in
-        let empty : Stands p None inner.sets [] hand = record { actuals = tt; count = refl; types = λ x i. absurd i; sets = λ x i. absurd i; started = stands.started } in
+        let empty : Stands p None inner.sets [] hand =
+        record { actuals = tt; count = refl; types = λ x i. absurd i; sets = λ x i. absurd i; started = stands.started } in
         let visited = inside j z (m ∷ path) [] (parameters_among (names_at p j)) (after_parameters (names_at p j)) hand inner.sets
         (record { facts = f; plain = ap is_plain kind.2; words = λ i. absurd i; main = λ x. absurd (pure_module x) })
         (way_on p c path m j k s at.facts.there (leads p m s at.facts n j among to) way) (first_and_after (names_at p j)) f.others refl
-        (goes_on_further inner.started _ (start_list p) (goes_on_more inner.started _) goes') (subst (λ l. Stands p None inner.sets l hand) (sym pure.0) empty) in
+        (goes_on_further inner.started _ (start_list p) (goes_on_more inner.started _) goes')
+        (subst (λ l. Stands p None inner.sets l hand) (sym pure.0) empty) in
         let all = lined_stands j z name inner f (ap is_plain kind.2) pure_module (λ w q. ap name_of (sym f.there) ∙ sym word ∙ pure_word n.name w q)
         (visit_grows p k (names_at p j) [] (after_parameters (names_at p j)) hand).started opened (ap (opens p n) o) goes' further' visited in
         subst (λ (w : Visited). Stands p None top (done ++ n ∷ []) (lined p v w name j)) (sym passes) all

@@ -43,7 +43,8 @@ read_there (x ∷ xs) zero h = (x, refl)
 read_there (x ∷ xs) (suc k) h = read_there xs k (omega arith)
 
 -- an element of a list with one more is one of the list, or the new one
-pub read_last : {X : Type 0} (xs : List X) (y : X) (k : ℕ) (x : X) → slice_get (xs ++ y ∷ []) k ≡ Some x → (slice_get xs k ≡ Some x) ⊎ ((k ≡ length xs) × (y ≡ x))
+pub read_last : {X : Type 0} (xs : List X) (y : X) (k : ℕ) (x : X) → slice_get (xs ++ y ∷ []) k ≡ Some x →
+    (slice_get xs k ≡ Some x) ⊎ ((k ≡ length xs) × (y ≡ x))
 read_last [] y zero x e = inr (refl, cc)
 read_last [] y (suc k) x e = absurd (cc)
 read_last (z ∷ xs) y zero x e = inl e

@@ -27,10 +27,12 @@ use Rattle.wy_sound.proofs.LinkingPrograms.{one_scope}
 use Rattle.wy_sound.proofs.LinkingScopes.{names_at, Facts, definitions_count}
 
 -- an instance of the start list is one of the run
-pub in_run : (p : Program) (started : List Started) (y : ℕ) (i : Started) → GoesOn started (start_list p) → slice_get started y ≡ Some i → slice_get (run_instances p) y ≡ Some i
+pub in_run : (p : Program) (started : List Started) (y : ℕ) (i : Started) → GoesOn started (start_list p) → slice_get started y ≡ Some i →
+    slice_get (run_instances p) y ≡ Some i
 in_run p started y i g e = read_first (start_list p) _ y i (read_on started (start_list p) y i g e)
 
-module _ (p : Program) (c : IsCore p) (top : List (List ℕ)) (done : List OwnName) (v : Visited) (n : OwnName) (s : Stands p None top done v) (atoms : ℕ) (written : FitsType p atoms 0 n.typ) where
+module _ (p : Program) (c : IsCore p) (top : List (List ℕ)) (done : List OwnName) (v : Visited) (n : OwnName) (s : Stands p None top done v)
+    (atoms : ℕ) (written : FitsType p atoms 0 n.typ) where
   -- the types that are sealed so
   abbrev Sealed : Option ℕ → Type 0
   Sealed o = (d : ℕ) × (o ≡ Some d) × (n.typ ≡ of.Named d (single_sets (opened_count p done) (abstract_names (slice_get p.declarations d))))
@@ -47,9 +49,12 @@ module _ (p : Program) (c : IsCore p) (top : List (List ℕ)) (done : List OwnNa
   bounded_at bound (Some d) h = (d, refl, h)
 
   -- a name whose atoms stand for what an instance of an annotated module defines
-  pub sealed_stands : (started : List Started) (y : ℕ) (i : Started) (z : Scope) (sets : List (List ℕ)) → GoesOn v.started started → GoesOn started (start_list p) → AllFit p started →
-      slice_get started y ≡ Some i → Facts p i.scope z → is_plain z.kind ≡ false → sets ≡ map (replace i.ground) z.definitions → IsOpened p (opened_count p done) z.ascribed n.typ →
-      GoesOn (v.sets ++ sets) top → opens p n n.origin ≡ members_of p n.typ → Stands p None top (done ++ n ∷ []) (settled v started (actual.Instance y) sets)
+  pub sealed_stands : (started : List Started) (y : ℕ) (i : Started) (z : Scope) (sets : List (List ℕ)) → GoesOn v.started started →
+      GoesOn started (start_list p) → AllFit p started →
+      slice_get started y ≡ Some i → Facts p i.scope z → is_plain z.kind ≡ false → sets ≡ map (replace i.ground) z.definitions →
+      IsOpened p (opened_count p done) z.ascribed n.typ →
+      GoesOn (v.sets ++ sets) top → opens p n n.origin ≡ members_of p n.typ →
+      Stands p None top (done ++ n ∷ []) (settled v started (actual.Instance y) sets)
   sealed_stands started y i z sets longer goes all at f plain are opened further opening =
       let fit = all y i at in
       let same : fit.scope ≡ z = one_scope (slice_get p.scopes i.scope) fit.scope z fit.there f.there in
@@ -58,7 +63,9 @@ module _ (p : Program) (c : IsCore p) (top : List (List ℕ)) (done : List OwnNa
       let names = abstract_names (slice_get p.declarations d.0) in
       let k = opened_count p done in
       let members : length (members_of p n.typ) ≡ length names = ap (λ t. length (members_of p t)) d.2 in
-      let many : length sets ≡ length names = ap length are ∙ length-map z.definitions (replace i.ground) ∙ definitions_count p i.scope z f d.0 plain d.1 ∙ count_members (slice_get p.declarations d.0) in
+      let many : length sets ≡ length names =
+      ap length are ∙ length-map z.definitions (replace i.ground) ∙ definitions_count p i.scope z f d.0 plain d.1 ∙
+      count_members (slice_get p.declarations d.0) in
       let are_sets : AreSets 512 sets = subst (AreSets 512) (sym are) (AreSets-map 512 i.ground z.definitions fit.sets) in
       let seal : IsBelow p (Own y 0) (Named d.0 (map (replace i.ground) z.definitions)) =
       annotated_seal p c y i z d.0 (in_run p started y i goes at) f.there f.accepted fit.sets d.1 plain bound in
@@ -71,15 +78,18 @@ module _ (p : Program) (c : IsCore p) (top : List (List ℕ)) (done : List OwnNa
       (many ∙ sym members ∙ ap length (sym opening)) (subst (λ j. FitsType p j 0 n.typ) (omega (arith, s.count, many, members)) fits) are_sets
 
   -- a name that stands for an instance of a plain module, at the bound
-  pub bounded_stands : (started : List Started) (y : ℕ) (i : Started) (z : Scope) (bound : List ℕ) → GoesOn v.started started → GoesOn started (start_list p) → AllFit p started →
-      slice_get started y ≡ Some i → Facts p i.scope z → is_plain z.kind ≡ true → i.bound ≡ Some (replace v.sets bound) → IsSet (opened_count p done) bound → IsBounded bound z.ascribed n.typ →
+  pub bounded_stands : (started : List Started) (y : ℕ) (i : Started) (z : Scope) (bound : List ℕ) → GoesOn v.started started →
+      GoesOn started (start_list p) → AllFit p started →
+      slice_get started y ≡ Some i → Facts p i.scope z → is_plain z.kind ≡ true → i.bound ≡ Some (replace v.sets bound) →
+      IsSet (opened_count p done) bound → IsBounded bound z.ascribed n.typ →
       GoesOn v.sets top → opens p n n.origin ≡ [] → Stands p None top (done ++ n ∷ []) (settled v started (actual.Instance y) [])
   bounded_stands started y i z bound longer goes all at f plain at_bound of_atoms is further opening =
       let fit = all y i at in
       let d = bounded_at bound z.ascribed is in
       let before : IsSet (length v.sets) bound = subst (λ k. IsSet k bound) (sym s.count) of_atoms in
       let seal = plain_seal p c y i z d.0 (in_run p started y i goes at) f.there f.accepted fit.sets d.1 (replace v.sets bound) plain at_bound in
-      let is_type : read_type None top n.typ ≡ type_at 0 (of.At d.0 (replace v.sets bound)) = ap (read_type None top) d.2 ∙ ap (λ b. type_at 0 (of.At d.0 b)) (replace_first v.sets top bound further before) in
+      let is_type : read_type None top n.typ ≡ type_at 0 (of.At d.0 (replace v.sets bound)) =
+      ap (read_type None top) d.2 ∙ ap (λ b. type_at 0 (of.At d.0 b)) (replace_first v.sets top bound further before) in
       let there : FitsType p atoms 0 (of.At d.0 bound) = subst (FitsType p atoms 0) d.2 written in
       let fits : FitsType p (length v.sets) 0 (of.At d.0 bound) = (there.0, before) in
       stands_more p None top done v n started (actual.Instance y) [] s (length_goes_on v.started started longer) all
@@ -87,8 +97,10 @@ module _ (p : Program) (c : IsCore p) (top : List (List ℕ)) (done : List OwnNa
       (ap length (sym opening)) (subst (λ j. FitsType p j 0 n.typ) (omega arith) (subst (FitsType p (length v.sets) 0) (sym d.2) fits)) (λ t i. absurd i)
 
   -- a grant
-  pub grant_stands : (m d : ℕ) (rest : List OwnName) → names_at p m ≡ done ++ n ∷ rest → m ≡ program_number p → top ≡ program_sets p → n.origin ≡ Grant → atoms ≤ 512 →
-      IsOpened p (opened_count p done) (Some d) n.typ → Stands p None top (done ++ n ∷ []) (settled v v.started (actual.Grant (length v.actuals)) (single_sets (length v.sets) (members_of p n.typ)))
+  pub grant_stands : (m d : ℕ) (rest : List OwnName) → names_at p m ≡ done ++ n ∷ rest → m ≡ program_number p → top ≡ program_sets p →
+      n.origin ≡ Grant → atoms ≤ 512 →
+      IsOpened p (opened_count p done) (Some d) n.typ →
+      Stands p None top (done ++ n ∷ []) (settled v v.started (actual.Grant (length v.actuals)) (single_sets (length v.sets) (members_of p n.typ)))
   grant_stands m d rest names main sets origin few opened =
       let members = members_of p n.typ in
       let k = opened_count p done in
@@ -102,9 +114,11 @@ module _ (p : Program) (c : IsCore p) (top : List (List ℕ)) (done : List OwnNa
       ap (λ ss. type_at 0 (substituted ss n.typ)) (sym sets) in
       let opening : opens p n n.origin ≡ members = ap (opens p n) origin in
       let singles_are : AreSets 512 (single_sets k (members_of p n.typ)) =
-      AreSets-wider atoms 512 (single_sets k members) few (subst (λ l. AreSets atoms (single_sets k l)) (sym (ap (members_of p) opened)) ((subst (FitsType p atoms 0) opened written).2)) in
+      AreSets-wider atoms 512 (single_sets k members) few
+      (subst (λ l. AreSets atoms (single_sets k l)) (sym (ap (members_of p) opened)) ((subst (FitsType p atoms 0) opened written).2)) in
       let fits = opened_fits p atoms k d n.typ written opened in
       let many : length (single_sets (length v.sets) members) ≡ length members = length_singles (length v.sets) members in
       stands_more p None top done v n v.started (actual.Grant g) (single_sets (length v.sets) members) s (omega arith) s.started
       (record { there = (n, at, origin); below = inl is_type })
-      (many ∙ ap length (sym opening)) (subst (λ j. FitsType p j 0 n.typ) (omega (arith, s.count, many)) fits) (subst (λ j. AreSets 512 (single_sets j members)) (sym s.count) singles_are)
+      (many ∙ ap length (sym opening)) (subst (λ j. FitsType p j 0 n.typ) (omega (arith, s.count, many)) fits)
+      (subst (λ j. AreSets 512 (single_sets j members)) (sym s.count) singles_are)

@@ -37,7 +37,8 @@ main_is_last (t ∷ u ∷ rest) h (suc k) s e main = let r = main_is_last (u ∷
 ------------------------------------------------------------
 -- Modules by their names
 
-module_name : (ss : List Scope) → ProgramIsLast ss → (k : ℕ) (s : Scope) → slice_get ss k ≡ Some s → (s.kind ≡ Main → ⊥) → slice_get (module_names ss) k ≡ Some s.name
+module_name : (ss : List Scope) → ProgramIsLast ss → (k : ℕ) (s : Scope) → slice_get ss k ≡ Some s → (s.kind ≡ Main → ⊥) →
+    slice_get (module_names ss) k ≡ Some s.name
 module_name [] h k s e is_module = absurd h
 module_name (t ∷ []) h zero s e is_module = absurd (is_module (ap (λ (v : Scope). v.kind) (sym (some_same t s e)) ∙ h))
 module_name (t ∷ []) h (suc k) s e is_module = absurd (cc)
@@ -51,7 +52,8 @@ once {X} (y ∷ xs) zero (suc k) x d e f = absurd (d.0 (let P : X → Type 0 = �
 once {X} (y ∷ xs) (suc j) zero x d e f = absurd (d.0 (let P : X → Type 0 = λ v. In v xs in subst P (sym (some_same y x f)) (In-slice_get xs j x e)))
 once (y ∷ xs) (suc j) (suc k) x d e f = ap suc (once xs j k x d.1 e f)
 
-pub one_module : (ss : List Scope) → ProgramIsLast ss → Apart (module_names ss) → (j k : ℕ) (s z : Scope) → slice_get ss j ≡ Some s → slice_get ss k ≡ Some z →
+pub one_module : (ss : List Scope) → ProgramIsLast ss → Apart (module_names ss) → (j k : ℕ) (s z : Scope) → slice_get ss j ≡ Some s →
+    slice_get ss k ≡ Some z →
     (s.kind ≡ Main → ⊥) → (z.kind ≡ Main → ⊥) → s.name ≡ z.name → j ≡ k
 one_module ss h d j k s z e f a b same =
     once (module_names ss) j k z.name d (module_name ss h j s e a ∙ ap (λ n. Some n) same) (module_name ss h k z f b)
@@ -60,7 +62,8 @@ one_module ss h d j k s z e f a b same =
 -- Instances by their names
 
 -- the instance that is found has the name, and stands at the number
-pub number_found : (k : ℕ) (name : List ℕ) (xs : List Instance) (y : ℕ) → number_from k name xs ≡ Some y → (j : ℕ) × (i : Instance) × (y ≡ k + j) × (slice_get xs j ≡ Some i) × (i.name ≡ name)
+pub number_found : (k : ℕ) (name : List ℕ) (xs : List Instance) (y : ℕ) → number_from k name xs ≡ Some y → (j : ℕ) × (i : Instance) × (y ≡ k + j) ×
+    (slice_get xs j ≡ Some i) × (i.name ≡ name)
 number_found k name [] y e = absurd (cc)
 number_found k name (i ∷ xs) y e =
     elim (bytes_eq i.name name) as (λ b. bytes_eq i.name name ≡ b → (if b then Some k else number_from (k + 1) name xs) ≡ Some y →

@@ -31,7 +31,8 @@ module _ (K L : Type 0) (methods : K → List (Signature K)) (methods' : L → L
   In-if_counts p (inl c) (inr n) a b = absurd (n b)
   In-if_counts p (inr n) d a b = absurd (n a)
 
-  if_counts-from : (p q : K × K) (c : Decided (Counts p.0)) (d : Decided (Counts p.1)) → In {X = K × K} q (if_counts p c d) → (◌≡◌ {A = K × K} p q) × Counts p.0 × Counts p.1
+  if_counts-from : (p q : K × K) (c : Decided (Counts p.0)) (d : Decided (Counts p.1)) → In {X = K × K} q (if_counts p c d) → (◌≡◌ {A = K × K} p q) ×
+      Counts p.0 × Counts p.1
   unfolding if_counts
   if_counts-from p q (inl c) (inl d) i = elim i [ inl e ↦ (e, c, d) | inr j ↦ absurd j ]
   if_counts-from p q (inl c) (inr n) i = absurd i
@@ -71,7 +72,8 @@ module _ (K L : Type 0) (methods : K → List (Signature K)) (methods' : L → L
   params_read ps (x ∷ xs) (y ∷ ys) c d h =
       (among ps y x h.0 (d y (inl refl)) (c x (inl refl)), params_read ps xs ys (λ u i. c u (inr i)) (λ u i. d u (inr i)) h.1)
 
-  closed_read : (ps : List (K × K)) (p : K × K) → Counts p.0 → Counts p.1 → IsClosed K methods IsObject Includes ps p → IsClosed L methods' IsObject' Includes' (map both (counting ps)) (both p)
+  closed_read : (ps : List (K × K)) (p : K × K) → Counts p.0 → Counts p.1 → IsClosed K methods IsObject Includes ps p →
+      IsClosed L methods' IsObject' Includes' (map both (counting ps)) (both p)
   unfolding both
   closed_read ps p c d (inl b) = inl (ap kind b.0, λ o. b.1 (base p.0 o))
   closed_read ps p c d (inr h) =
@@ -84,9 +86,12 @@ module _ (K L : Type 0) (methods : K → List (Signature K)) (methods' : L → L
             let v = cover_from K methods IsObject Includes ps (find_method r.0.name (methods p.0)) r.0 (h.2 r.0 r.1) in
             let left = parts p.0 c v.0 (find_in r.0.name (methods p.0) v.0 v.1) in
             let right = parts p.1 d r.0 r.1 in
-            let Q : Signature L → Type 0 = λ w. HasCover L methods' IsObject' Includes' (map both (counting ps)) (find_method w.name (methods' (kind p.0))) w in
-            let R : List (Signature L) → Type 0 = λ l. HasCover L methods' IsObject' Includes' (map both (counting ps)) (find_method r.0.name l) (mapped_signature kind effect r.0) in
-            let S : Option (Signature L) → Type 0 = λ o. HasCover L methods' IsObject' Includes' (map both (counting ps)) o (mapped_signature kind effect r.0) in
+            let Q : Signature L → Type 0 =
+            λ w. HasCover L methods' IsObject' Includes' (map both (counting ps)) (find_method w.name (methods' (kind p.0))) w in
+            let R : List (Signature L) → Type 0 =
+            λ l. HasCover L methods' IsObject' Includes' (map both (counting ps)) (find_method r.0.name l) (mapped_signature kind effect r.0) in
+            let S : Option (Signature L) → Type 0 =
+            λ o. HasCover L methods' IsObject' Includes' (map both (counting ps)) o (mapped_signature kind effect r.0) in
             subst Q r.2 (subst R (sym (same p.0 c)) (subst S (sym (find-mapped kind effect r.0.name (methods p.0) v.0 v.1)) (record {
               params = params_read ps v.0.params r.0.params left.0 right.0 v.2.params;
               effect = included v.0.effect r.0.effect v.2.effect;
@@ -94,7 +99,8 @@ module _ (K L : Type 0) (methods : K → List (Signature K)) (methods' : L → L
             }))),
       )
 
-  pub subtype_kept : (s t : K) → Counts s → Counts t → IsSubtype K methods IsObject Includes s t → IsSubtype L methods' IsObject' Includes' (kind s) (kind t)
+  pub subtype_kept : (s t : K) → Counts s → Counts t → IsSubtype K methods IsObject Includes s t →
+      IsSubtype L methods' IsObject' Includes' (kind s) (kind t)
   unfolding both
   subtype_kept s t c d h = record {
     pairs = map both (counting h.pairs);

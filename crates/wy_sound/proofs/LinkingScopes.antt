@@ -89,25 +89,33 @@ module _ (p : Program) (m : ℕ) (s : Scope) (f : Facts p m s) where
       pure : PureHolds Pure s
       pure = subst (λ k. PureHolds k s) kind f.accepted.pure
 
-      is_one : (n : OwnName) → ((k : ℕ) × (k < length (names_at p m)) × (slice_get (names_at p m) k ≡ Some n)) → In n (names_at p m) → In n (after_parameters (names_at p m)) → (o : Origin) → n.origin ≡ o → is_use n.origin ≡ true
+      is_one : (n : OwnName) → ((k : ℕ) × (k < length (names_at p m)) × (slice_get (names_at p m) k ≡ Some n)) → In n (names_at p m) →
+          In n (after_parameters (names_at p m)) → (o : Origin) → n.origin ≡ o → is_use n.origin ≡ true
       is_one n at i j (Parameter bare) o = absurd (no_parameter _ (after_parameters (names_at p m)) f.others n j bare o)
-      is_one n at i j Grant o = absurd (let main = (subst (OriginFits p s at.0 n) o (f.written at.0 n at.2).1).0 in let same : Pure ≡ Main = sym kind ∙ main in cc)
+      is_one n at i j Grant o =
+          absurd (let main = (subst (OriginFits p s at.0 n) o (f.written at.0 n at.2).1).0 in let same : Pure ≡ Main = sym kind ∙ main in cc)
       is_one n at i j (Use k) o = ap is_use o
       is_one n at i j (Instance k arguments) o = absurd (pure.no_line n (subst (λ l. In n l) f.names i) (subst IsLine (sym o) tt))
       is_one n at i j (Import k arguments bound) o = absurd (pure.no_line n (subst (λ l. In n l) f.names i) (subst IsLine (sym o) tt))
 
   -- a plain module's own names are parameters
   pub plain_names : s.kind ≡ Plain → after_parameters (names_at p m) ≡ []
-  plain_names kind = by_rest (after_parameters (names_at p m)) f.others (λ n i. subst (λ l. In n l) (sym (first_and_after (names_at p m))) (In-right n (parameters_among (names_at p m)) (after_parameters (names_at p m)) i))
+  plain_names kind =
+      by_rest (after_parameters (names_at p m)) f.others
+      (λ n i. subst (λ l. In n l) (sym (first_and_after (names_at p m))) (In-right n (parameters_among (names_at p m)) (after_parameters (names_at p m)) i))
     where
       other : (n : OwnName) (k : ℕ) → slice_get (names_at p m) k ≡ Some n → (o : Origin) → n.origin ≡ o → ((bare : Truth) → o ≡ Parameter bare → ⊥) → ⊥
       other n k at (Parameter bare) o no_p = no_p bare refl
       other n k at Grant o no_p = let main = (subst (OriginFits p s k n) o (f.written k n at).1).0 in let same : Plain ≡ Main = sym kind ∙ main in cc
-      other n k at (Use j) o no_p = let e = (subst (OriginFits p s k n) o (f.written k n at).1).0 in let same : true ≡ false = sym (ap is_plain kind) ∙ e in cc
-      other n k at (Instance j arguments) o no_p = let e = (subst (OriginFits p s k n) o (f.written k n at).1).0 in let same : true ≡ false = sym (ap is_plain kind) ∙ e in cc
-      other n k at (Import j arguments bound) o no_p = let e = (subst (OriginFits p s k n) o (f.written k n at).1).0 in let same : true ≡ false = sym (ap is_plain kind) ∙ e in cc
+      other n k at (Use j) o no_p =
+          let e = (subst (OriginFits p s k n) o (f.written k n at).1).0 in let same : true ≡ false = sym (ap is_plain kind) ∙ e in cc
+      other n k at (Instance j arguments) o no_p =
+          let e = (subst (OriginFits p s k n) o (f.written k n at).1).0 in let same : true ≡ false = sym (ap is_plain kind) ∙ e in cc
+      other n k at (Import j arguments bound) o no_p =
+          let e = (subst (OriginFits p s k n) o (f.written k n at).1).0 in let same : true ≡ false = sym (ap is_plain kind) ∙ e in cc
 
-      by_rest : (ns : List OwnName) → HaveTheirTypes p (opened_count p (parameters_among (names_at p m))) ns → ((n : OwnName) → In n ns → In n (names_at p m)) → ns ≡ []
+      by_rest : (ns : List OwnName) → HaveTheirTypes p (opened_count p (parameters_among (names_at p m))) ns →
+          ((n : OwnName) → In n ns → In n (names_at p m)) → ns ≡ []
       by_rest [] h among = refl
       by_rest (n ∷ ns) h among =
           let at = In-at n (names_at p m) (among n (inl refl)) in
@@ -118,7 +126,9 @@ module _ (p : Program) (m : ℕ) (s : Scope) (f : Facts p m s) where
 
 module _ (p : Program) (z : ℕ) (outer : List OwnName) (v : Visited) (o : Option (List ℕ)) (top : List (List ℕ)) where
   abbrev pub TakesAll : List OwnName → List ℕ → Type 0
-  TakesAll ns arguments = (h : Handed) → In h (handed_to ns arguments) → IsActual p (length v.started) (read_type o top h.parameter.typ) (slice_index_or v.actuals h.argument (actual.Grant 0))
+  TakesAll ns arguments =
+      (h : Handed) → In h (handed_to ns arguments) → IsActual p (length v.started) (read_type o top h.parameter.typ)
+      (slice_index_or v.actuals h.argument (actual.Grant 0))
 
   taken : (ns : List OwnName) (arguments : List ℕ) → length arguments ≡ length ns → TakesAll ns arguments →
       AreActuals p (length v.started) o top ns (map (λ a. slice_index_or v.actuals a (actual.Grant 0)) arguments)
@@ -128,12 +138,14 @@ module _ (p : Program) (z : ℕ) (outer : List OwnName) (v : Visited) (o : Optio
   taken (n ∷ ns) (a ∷ arguments) e h = (h (record { parameter = n; argument = a }) (inl refl), taken ns arguments (omega (arith, e)) (λ g i. h g (inr i)))
 
   -- the parameters of a module are handed what they ask for
-  pub handed_stands : (s : Scope) (f : Facts p z s) (arguments : List ℕ) → length arguments ≡ length (parameters_among (names_at p z)) → TakesAll (parameters_among (names_at p z)) arguments →
+  pub handed_stands : (s : Scope) (f : Facts p z s) (arguments : List ℕ) → length arguments ≡ length (parameters_among (names_at p z)) →
+      TakesAll (parameters_among (names_at p z)) arguments →
       AreSets 512 v.sets → AllFit p v.started → Stands p o top (parameters_among (names_at p z)) (handed p outer v z arguments)
   handed_stands s f arguments many takes sets started =
       let ns = names_at p z in
       let given = arguments_sets p outer ns arguments in
-      let count : length (map (replace v.sets) given) ≡ opened_count p (parameters_among ns) = length-map given (replace v.sets) ∙ arguments_count p outer ns arguments many in
+      let count : length (map (replace v.sets) given) ≡ opened_count p (parameters_among ns) =
+      length-map given (replace v.sets) ∙ arguments_count p outer ns arguments many in
       record {
         actuals = taken (parameters_among ns) arguments many takes;
         count = count;

@@ -55,7 +55,8 @@ pub sets_first : (by top ss : List (List ℕ)) → GoesOn by top → AreSets (le
 sets_first by top [] g h = refl
 sets_first by top (s ∷ ss) g h = ap₂ (λ u us. u ∷ us) (replace_first by top s g (h s (inl refl))) (sets_first by top ss g (λ t i. h t (inr i)))
 
-pub substituted_first : (p : Program) (owns : ℕ) (by top : List (List ℕ)) (t : TypeRef) → GoesOn by top → FitsType p (length by) owns t → substituted top t ≡ substituted by t
+pub substituted_first : (p : Program) (owns : ℕ) (by top : List (List ℕ)) (t : TypeRef) → GoesOn by top → FitsType p (length by) owns t →
+    substituted top t ≡ substituted by t
 substituted_first p owns by top Int g f = refl
 substituted_first p owns by top Bool g f = refl
 substituted_first p owns by top Text g f = refl
@@ -77,7 +78,8 @@ or_there [] ys x d = refl
 or_there (y ∷ xs) ys x d = or_there xs ys x d
 
 -- the sets in the middle are those of the atoms that stand there
-pub singles : (n : ℕ) (by before sets after : List (List ℕ)) (k : ℕ) (names : List (List ℕ)) → by ≡ before ++ (sets ++ after) → k ≡ length before → length sets ≡ length names → AreSets n sets →
+pub singles : (n : ℕ) (by before sets after : List (List ℕ)) (k : ℕ) (names : List (List ℕ)) → by ≡ before ++ (sets ++ after) → k ≡ length before →
+    length sets ≡ length names → AreSets n sets →
     map (replace by) (single_sets k names) ≡ sets
 singles n by before [] after k [] e at same h = refl
 singles n by before [] after k (m ∷ ms) e at same h = absurd (omega arith)
@@ -118,8 +120,10 @@ module _ (p : Program) (outer : List OwnName) where
   no_arguments true n ns e = absurd (omega arith)
   no_arguments false n ns e = refl
 
-  one_argument : (o : Origin) (n : OwnName) (a : ℕ) (ns : List OwnName) (sets : List (List ℕ)) (arguments : List ℕ) → n.origin ≡ o → suc (length arguments) ≡ length (parameters_until (is_parameter o) n ns) →
-      (length arguments ≡ length ns → length sets ≡ opened_count p ns) → length (argument_sets p outer o n a ++ sets) ≡ opened_count p (parameters_until (is_parameter o) n ns)
+  one_argument : (o : Origin) (n : OwnName) (a : ℕ) (ns : List OwnName) (sets : List (List ℕ)) (arguments : List ℕ) → n.origin ≡ o →
+      suc (length arguments) ≡ length (parameters_until (is_parameter o) n ns) →
+      (length arguments ≡ length ns → length sets ≡ opened_count p ns) →
+      length (argument_sets p outer o n a ++ sets) ≡ opened_count p (parameters_until (is_parameter o) n ns)
   one_argument (Parameter true) n a ns sets arguments o e rest =
       let own = argument_sets p outer (Parameter true) n a in
       let many : length own ≡ length (members_of p n.typ) = length-map (members_of p n.typ) _ in
@@ -135,7 +139,9 @@ module _ (p : Program) (outer : List OwnName) where
   one_argument (Import m given bound) n a ns sets arguments o e rest = absurd (omega arith)
 
   -- .. as many as the atoms that the parameters open
-  pub arguments_count : (ns : List OwnName) (arguments : List ℕ) → length arguments ≡ length (parameters_among ns) → length (arguments_sets p outer ns arguments) ≡ opened_count p (parameters_among ns)
+  pub arguments_count : (ns : List OwnName) (arguments : List ℕ) → length arguments ≡ length (parameters_among ns) →
+      length (arguments_sets p outer ns arguments) ≡ opened_count p (parameters_among ns)
   arguments_count [] arguments e = refl
   arguments_count (n ∷ ns) [] e = no_arguments (is_parameter n.origin) n (parameters_among ns) e
-  arguments_count (n ∷ ns) (a ∷ arguments) e = one_argument n.origin n a (parameters_among ns) (arguments_sets p outer ns arguments) arguments refl e (arguments_count ns arguments)
+  arguments_count (n ∷ ns) (a ∷ arguments) e =
+      one_argument n.origin n a (parameters_among ns) (arguments_sets p outer ns arguments) arguments refl e (arguments_count ns arguments)

@@ -49,31 +49,37 @@ module _ (p : Program) where
   pub actual_later : (limit later : ℕ) (t : GroundType) (a : Actual) → limit ≤ later → IsActual limit t a → IsActual later t a
   actual_later limit later t a le h = record { there = there_later limit later a le h.there; below = h.below }
 
-  pub actuals_later : (limit later : ℕ) (o : Option (List ℕ)) (sets : List (List ℕ)) (ns : List OwnName) (xs : List Actual) → limit ≤ later → AreActuals limit o sets ns xs → AreActuals later o sets ns xs
+  pub actuals_later : (limit later : ℕ) (o : Option (List ℕ)) (sets : List (List ℕ)) (ns : List OwnName) (xs : List Actual) → limit ≤ later →
+      AreActuals limit o sets ns xs → AreActuals later o sets ns xs
   actuals_later limit later o sets [] [] le h = tt
   actuals_later limit later o sets [] (a ∷ xs) le h = absurd h
   actuals_later limit later o sets (n ∷ ns) [] le h = absurd h
-  actuals_later limit later o sets (n ∷ ns) (a ∷ xs) le h = (actual_later limit later (read_type o sets n.typ) a le h.0, actuals_later limit later o sets ns xs le h.1)
+  actuals_later limit later o sets (n ∷ ns) (a ∷ xs) le h =
+      (actual_later limit later (read_type o sets n.typ) a le h.0, actuals_later limit later o sets ns xs le h.1)
 
-  pub actuals_more : (limit : ℕ) (o : Option (List ℕ)) (sets : List (List ℕ)) (ns : List OwnName) (xs : List Actual) (n : OwnName) (a : Actual) → AreActuals limit o sets ns xs →
+  pub actuals_more : (limit : ℕ) (o : Option (List ℕ)) (sets : List (List ℕ)) (ns : List OwnName) (xs : List Actual) (n : OwnName) (a : Actual) →
+      AreActuals limit o sets ns xs →
       IsActual limit (read_type o sets n.typ) a → AreActuals limit o sets (ns ++ n ∷ []) (xs ++ a ∷ [])
   actuals_more limit o sets [] [] n a h g = (g, tt)
   actuals_more limit o sets [] (b ∷ xs) n a h g = absurd h
   actuals_more limit o sets (m ∷ ns) [] n a h g = absurd h
   actuals_more limit o sets (m ∷ ns) (b ∷ xs) n a h g = (h.0, actuals_more limit o sets ns xs n a h.1 g)
 
-  pub actuals_length : (limit : ℕ) (o : Option (List ℕ)) (sets : List (List ℕ)) (ns : List OwnName) (xs : List Actual) → AreActuals limit o sets ns xs → length xs ≡ length ns
+  pub actuals_length : (limit : ℕ) (o : Option (List ℕ)) (sets : List (List ℕ)) (ns : List OwnName) (xs : List Actual) →
+      AreActuals limit o sets ns xs → length xs ≡ length ns
   actuals_length limit o sets [] [] h = refl
   actuals_length limit o sets [] (a ∷ xs) h = absurd h
   actuals_length limit o sets (n ∷ ns) [] h = absurd h
   actuals_length limit o sets (n ∷ ns) (a ∷ xs) h = ap suc (actuals_length limit o sets ns xs h.1)
 
   -- what is handed for the name at a place
-  pub actual_at : (limit : ℕ) (o : Option (List ℕ)) (sets : List (List ℕ)) (ns : List OwnName) (xs : List Actual) (k : ℕ) (n : OwnName) → AreActuals limit o sets ns xs → slice_get ns k ≡ Some n →
+  pub actual_at : (limit : ℕ) (o : Option (List ℕ)) (sets : List (List ℕ)) (ns : List OwnName) (xs : List Actual) (k : ℕ) (n : OwnName) →
+      AreActuals limit o sets ns xs → slice_get ns k ≡ Some n →
       (a : Actual) × (slice_get xs k ≡ Some a) × IsActual limit (read_type o sets n.typ) a
   actual_at limit o sets [] xs k n h e = absurd (cc)
   actual_at limit o sets (m ∷ ns) [] k n h e = absurd h
-  actual_at limit o sets (m ∷ ns) (a ∷ xs) zero n h e = (a, refl, (let same : m ≡ n = cc in subst (λ (v : OwnName). IsActual limit (read_type o sets v.typ) a) same h.0))
+  actual_at limit o sets (m ∷ ns) (a ∷ xs) zero n h e =
+      (a, refl, (let same : m ≡ n = cc in subst (λ (v : OwnName). IsActual limit (read_type o sets v.typ) a) same h.0))
   actual_at limit o sets (m ∷ ns) (a ∷ xs) (suc k) n h e = actual_at limit o sets ns xs k n h.1 e
 
   -- an instance is one of its scope, a module, and is handed what the scope's own names ask for; by its name it is one of a pure module only where it is
@@ -106,12 +112,15 @@ module _ (p : Program) where
 
   -- one more own name
   pub stands_more : (o : Option (List ℕ)) (top : List (List ℕ)) (done : List OwnName) (v : Visited) (n : OwnName) (started : List Instance) (a : Actual) (sets : List (List ℕ)) → Stands o top done v →
-      length v.started ≤ length started → AllFit started → IsActual (length started) (read_type o top n.typ) a → length sets ≡ length (opens p n n.origin) →
+      length v.started ≤ length started → AllFit started → IsActual (length started) (read_type o top n.typ) a →
+      length sets ≡ length (opens p n n.origin) →
       FitsType p (length v.sets + length sets) 0 n.typ → AreSets 512 sets → Stands o top (done ++ n ∷ []) (settled v started a sets)
   stands_more o top done v n started a sets s le all is many fits are =
       let long : length (v.sets ++ sets) ≡ length v.sets + length sets = length-append v.sets sets in
       record {
-        actuals = actuals_more (length started) o top done v.actuals n a (actuals_later (length v.started) (length started) o top done v.actuals le s.actuals) is;
+        actuals =
+            actuals_more (length started) o top done v.actuals n a
+            (actuals_later (length v.started) (length started) o top done v.actuals le s.actuals) is;
         count = omega (arith, long, many, s.count, count_more p done n);
         types = λ m i. elim (In-cases m done (n ∷ []) i) [
           | inl j ↦ Fits-wider p (length v.sets) (length (v.sets ++ sets)) m.typ (omega (arith, long)) (s.types m j)
@@ -134,7 +143,8 @@ module _ (p : Program) where
   or_read (x ∷ xs) zero a d e = cc
   or_read (x ∷ xs) (suc k) a d e = or_read xs k a d e
 
-  pub given : (o : Option (List ℕ)) (top : List (List ℕ)) (outer done rest : List OwnName) (v : Visited) (a : ℕ) (n : OwnName) → outer ≡ done ++ rest → Stands o top done v → slice_get done a ≡ Some n → Given o top outer v a
+  pub given : (o : Option (List ℕ)) (top : List (List ℕ)) (outer done rest : List OwnName) (v : Visited) (a : ℕ) (n : OwnName) →
+      outer ≡ done ++ rest → Stands o top done v → slice_get done a ≡ Some n → Given o top outer v a
   given o top outer done rest v a n e s at =
       let r = actual_at (length v.started) o top done v.actuals a n s.actuals at in
       let typ : type_of (slice_get outer a) ≡ n.typ = ap type_of (ap (λ l. slice_get l a) e ∙ read_first done rest a n at) in

@@ -134,7 +134,8 @@ module _ {K : Type 0} (f f' : TypeRef → K) (g g' : TypeRef → TypeRef) (e e' 
   types_twice [] h = refl
   types_twice (t ∷ ts) h = ap₂ (λ u us. u ∷ us) (types t (h t (inl refl))) (types_twice ts (λ u i. h u (inr i)))
 
-  signatures_twice : (ms : List (Signature TypeRef)) → AllNoOwn ms → map (mapped_signature f e) (map (mapped_signature g d) ms) ≡ map (mapped_signature f' e') (map (mapped_signature g' d') ms)
+  signatures_twice : (ms : List (Signature TypeRef)) → AllNoOwn ms →
+      map (mapped_signature f e) (map (mapped_signature g d) ms) ≡ map (mapped_signature f' e') (map (mapped_signature g' d') ms)
   signatures_twice [] h = refl
   signatures_twice (m ∷ ms) h =
       let params = types_twice m.params (h m (inl refl)).0 in
@@ -146,11 +147,13 @@ module _ {K : Type 0} (f f' : TypeRef → K) (g g' : TypeRef → TypeRef) (e e' 
 ------------------------------------------------------------
 -- Types that are read twice
 
-replaced-twice : (sets ms : List (List ℕ)) → AreSets 512 sets → (ns : List (List ℕ)) → map (replace (map (replace sets) ms)) ns ≡ map (replace sets) (map (replace ms) ns)
+replaced-twice : (sets ms : List (List ℕ)) → AreSets 512 sets → (ns : List (List ℕ)) →
+    map (replace (map (replace sets) ms)) ns ≡ map (replace sets) (map (replace ms) ns)
 replaced-twice sets ms w [] = refl
 replaced-twice sets ms w (n ∷ ns) = ap₂ (λ u us. u ∷ us) (sym (replace-replace 512 sets ms n w)) (replaced-twice sets ms w ns)
 
-pub substituted-at : (x : ℕ) (sets ms : List (List ℕ)) → AreSets 512 sets → (t : TypeRef) → NoOwn t → type_at 0 (substituted (map (replace sets) ms) t) ≡ type_at x (substituted sets (substituted ms t))
+pub substituted-at : (x : ℕ) (sets ms : List (List ℕ)) → AreSets 512 sets → (t : TypeRef) → NoOwn t →
+    type_at 0 (substituted (map (replace sets) ms) t) ≡ type_at x (substituted sets (substituted ms t))
 substituted-at x sets ms w of.Int o = refl
 substituted-at x sets ms w of.Bool o = refl
 substituted-at x sets ms w of.Text o = refl
@@ -159,7 +162,8 @@ substituted-at x sets ms w (of.Named d ns) o = ap (Named d) (replaced-twice sets
 substituted-at x sets ms w (of.At d b) o = ap (At d) (sym (replace-replace 512 sets ms b w))
 substituted-at x sets ms w (of.Own l) o = absurd o
 
-pub bounded-at : (x : ℕ) (sets : List (List ℕ)) (b : List ℕ) (t : TypeRef) → NoOwn t → type_at 0 (annotated (replace sets b) t) ≡ type_at x (substituted sets (annotated b t))
+pub bounded-at : (x : ℕ) (sets : List (List ℕ)) (b : List ℕ) (t : TypeRef) → NoOwn t →
+    type_at 0 (annotated (replace sets b) t) ≡ type_at x (substituted sets (annotated b t))
 bounded-at x sets b of.Int o = refl
 bounded-at x sets b of.Bool o = refl
 bounded-at x sets b of.Text o = refl
@@ -168,7 +172,8 @@ bounded-at x sets b (of.Named d ns) o = refl
 bounded-at x sets b (of.At d c) o = refl
 bounded-at x sets b (of.Own l) o = absurd o
 
-annotated-at : (x : ℕ) (e : List ℕ) (g : TypeRef → TypeRef) → ((t : TypeRef) → annotated e (g t) ≡ annotated e t) → (t : TypeRef) → NoOwn t → type_at 0 (annotated e t) ≡ type_at x (annotated e (g t))
+annotated-at : (x : ℕ) (e : List ℕ) (g : TypeRef → TypeRef) → ((t : TypeRef) → annotated e (g t) ≡ annotated e t) → (t : TypeRef) → NoOwn t →
+    type_at 0 (annotated e t) ≡ type_at x (annotated e (g t))
 annotated-at x e g h t o = same_at 0 x (annotated e t) (no_own_read (Some e) [] t o) ∙ ap (type_at x) (sym (h t))
 
 object-at : (x : ℕ) (o : Option (List ℕ)) (sets : List (List ℕ)) (t : TypeRef) → IsObject t → IsGroundObject (type_at x (read_by o sets t))
@@ -201,7 +206,8 @@ at-object x o sets (of.Own l) h = tt
 
 module _ (p : Program) (c : IsCore p) (x k : ℕ) (sets : List (List ℕ)) (are_sets : AreSets 512 sets) where
   abbrev Agrees : Option (List ℕ) → TypeRef → Type 0
-  Agrees o t = ground_methods p (type_at x (read_by o sets t)) ≡ map (mapped_signature (λ u. type_at x (read_by o sets u)) (effect_by o sets)) (methods_of p k t)
+  Agrees o t =
+      ground_methods p (type_at x (read_by o sets t)) ≡ map (mapped_signature (λ u. type_at x (read_by o sets u)) (effect_by o sets)) (methods_of p k t)
 
   -- own types count, or they do not
   abbrev Counts : Truth → TypeRef → Type 0
@@ -218,7 +224,8 @@ module _ (p : Program) (c : IsCore p) (x k : ℕ) (sets : List (List ℕ)) (are_
   decide_counts false (of.At d b) = inl tt
   decide_counts false (of.Own l) = inr (λ h. h)
 
-  AllNoOwn-mapped : (kind : TypeRef → TypeRef) (effect : List ℕ → List ℕ) → ((t : TypeRef) → NoOwn t → NoOwn (kind t)) → (ms : List (Signature TypeRef)) → AllNoOwn ms → AllNoOwn (map (mapped_signature kind effect) ms)
+  AllNoOwn-mapped : (kind : TypeRef → TypeRef) (effect : List ℕ → List ℕ) → ((t : TypeRef) → NoOwn t → NoOwn (kind t)) →
+      (ms : List (Signature TypeRef)) → AllNoOwn ms → AllNoOwn (map (mapped_signature kind effect) ms)
   AllNoOwn-mapped kind effect keeps ms h m i =
       let r = In-unmap (mapped_signature kind effect) m ms i in
       rw (← r.2) (
@@ -235,11 +242,14 @@ module _ (p : Program) (c : IsCore p) (x k : ℕ) (sets : List (List ℕ)) (are_
   methods_no_own of.Bool h m i = absurd i
   methods_no_own of.Text h m i = absurd i
   methods_no_own of.Unit h m i = absurd i
-  methods_no_own (of.Named d ms) h m i = named_no_own (scope_is_plain (slice_get p.scopes k)) ms (declared_methods (slice_get p.declarations d)) (no_own_of p c d) m i
-  methods_no_own (of.At d b) h m i = AllNoOwn-mapped (annotated b) (λ f. b) (no_own_read (Some b) []) (declared_methods (slice_get p.declarations d)) (no_own_of p c d) m i
+  methods_no_own (of.Named d ms) h m i =
+      named_no_own (scope_is_plain (slice_get p.scopes k)) ms (declared_methods (slice_get p.declarations d)) (no_own_of p c d) m i
+  methods_no_own (of.At d b) h m i =
+      AllNoOwn-mapped (annotated b) (λ f. b) (no_own_read (Some b) []) (declared_methods (slice_get p.declarations d)) (no_own_of p c d) m i
   methods_no_own (of.Own l) h m i = absurd h
 
-  parts_count : (owns : Truth) (t : TypeRef) → Counts owns t → (m : Signature TypeRef) → In m (methods_of p k t) → ((u : TypeRef) → In u m.params → Counts owns u) × Counts owns m.result
+  parts_count : (owns : Truth) (t : TypeRef) → Counts owns t → (m : Signature TypeRef) → In m (methods_of p k t) →
+      ((u : TypeRef) → In u m.params → Counts owns u) × Counts owns m.result
   parts_count true t h m i = (λ u j. tt, tt)
   parts_count false t h m i = methods_no_own t h m i
 
@@ -248,18 +258,22 @@ module _ (p : Program) (c : IsCore p) (x k : ℕ) (sets : List (List ℕ)) (are_
       map (mapped_signature (λ u. type_at x (substituted sets u)) (replace sets)) (named_methods plain ms (declared_methods (slice_get p.declarations d)))
   annotated_named d ms true e = absurd (cc)
   annotated_named d ms false e =
-      signatures_twice (type_at 0) (λ u. type_at x (substituted sets u)) (substituted (map (replace sets) ms)) (substituted ms) (λ f. f) (replace sets) (replace (map (replace sets) ms)) (replace ms)
-      (substituted-at x sets ms are_sets) (λ f. sym (replace-replace 512 sets ms f are_sets)) (declared_methods (slice_get p.declarations d)) (no_own_of p c d)
+      signatures_twice (type_at 0) (λ u. type_at x (substituted sets u)) (substituted (map (replace sets) ms)) (substituted ms) (λ f. f)
+      (replace sets) (replace (map (replace sets) ms)) (replace ms)
+      (substituted-at x sets ms are_sets) (λ f. sym (replace-replace 512 sets ms f are_sets)) (declared_methods (slice_get p.declarations d))
+      (no_own_of p c d)
 
   -- of an annotated scope
-  annotated_agrees : scope_is_plain (slice_get p.scopes k) ≡ false → (owns : Truth) → (IsTrue owns → (l : ℕ) → Agrees None (of.Own l)) → (t : TypeRef) → Counts owns t → Agrees None t
+  annotated_agrees : scope_is_plain (slice_get p.scopes k) ≡ false → (owns : Truth) → (IsTrue owns → (l : ℕ) → Agrees None (of.Own l)) →
+      (t : TypeRef) → Counts owns t → Agrees None t
   annotated_agrees e owns own of.Int h = refl
   annotated_agrees e owns own of.Bool h = refl
   annotated_agrees e owns own of.Text h = refl
   annotated_agrees e owns own of.Unit h = refl
   annotated_agrees e owns own (of.Named d ms) h = annotated_named d ms (scope_is_plain (slice_get p.scopes k)) e
   annotated_agrees e owns own (of.At d b) h =
-      signatures_twice (type_at 0) (λ u. type_at x (substituted sets u)) (annotated (replace sets b)) (annotated b) (λ f. f) (replace sets) (λ f. replace sets b) (λ f. b)
+      signatures_twice (type_at 0) (λ u. type_at x (substituted sets u)) (annotated (replace sets b)) (annotated b) (λ f. f) (replace sets)
+      (λ f. replace sets b) (λ f. b)
       (bounded-at x sets b) (λ f. refl) (declared_methods (slice_get p.declarations d)) (no_own_of p c d)
   annotated_agrees e true own (of.Own l) h = own refl l
   annotated_agrees e false own (of.Own l) h = absurd h
@@ -272,10 +286,12 @@ module _ (p : Program) (c : IsCore p) (x k : ℕ) (sets : List (List ℕ)) (are_
       (annotated-at x bound erased (annotated-bare bound)) (λ f. refl) (declared_methods (slice_get p.declarations d)) (no_own_of p c d)
   plain_named d bound ms false =
       signatures_twice (type_at 0) (λ u. type_at x (annotated bound u)) (annotated bound) (substituted ms) (λ f. f) (λ f. bound) (λ f. bound) (replace ms)
-      (annotated-at x bound (substituted ms) (annotated-substituted bound ms)) (λ f. refl) (declared_methods (slice_get p.declarations d)) (no_own_of p c d)
+      (annotated-at x bound (substituted ms) (annotated-substituted bound ms)) (λ f. refl) (declared_methods (slice_get p.declarations d))
+      (no_own_of p c d)
 
   -- of any scope, at a bound
-  bounded_agrees : (bound : List ℕ) (owns : Truth) → (IsTrue owns → (l : ℕ) → Agrees (Some bound) (of.Own l)) → (t : TypeRef) → Counts owns t → Agrees (Some bound) t
+  bounded_agrees : (bound : List ℕ) (owns : Truth) → (IsTrue owns → (l : ℕ) → Agrees (Some bound) (of.Own l)) → (t : TypeRef) → Counts owns t →
+      Agrees (Some bound) t
   bounded_agrees bound owns own of.Int h = refl
   bounded_agrees bound owns own of.Bool h = refl
   bounded_agrees bound owns own of.Text h = refl
@@ -288,15 +304,19 @@ module _ (p : Program) (c : IsCore p) (x k : ℕ) (sets : List (List ℕ)) (are_
   bounded_agrees bound false own (of.Own l) h = absurd h
 
   -- subtyping of an annotated scope, with the ground sets put in
-  pub carried : scope_is_plain (slice_get p.scopes k) ≡ false → (owns : Truth) → (IsTrue owns → (l : ℕ) → Agrees None (of.Own l)) → (s t : TypeRef) → Counts owns s → Counts owns t →
+  pub carried : scope_is_plain (slice_get p.scopes k) ≡ false → (owns : Truth) → (IsTrue owns → (l : ℕ) → Agrees None (of.Own l)) → (s t : TypeRef) →
+      Counts owns s → Counts owns t →
       IsSubtype TypeRef (methods_of p k) IsObject Within s t → IsBelow p (type_at x (substituted sets s)) (type_at x (substituted sets t))
   carried e owns own =
-      subtype_kept TypeRef GroundType (methods_of p k) (ground_methods p) IsObject IsGroundObject Within Within (λ t. type_at x (substituted sets t)) (replace sets) (Counts owns) (decide_counts owns)
+      subtype_kept TypeRef GroundType (methods_of p k) (ground_methods p) IsObject IsGroundObject Within Within (λ t. type_at x (substituted sets t))
+      (replace sets) (Counts owns) (decide_counts owns)
       (annotated_agrees e owns own) (parts_count owns) (object-at x None sets) (at-object x None sets) (Within-replace sets)
 
   -- subtyping without effects, at a bound
-  pub bounded : (Includes : List ℕ → List ℕ → Type 0) (bound : List ℕ) (owns : Truth) → (IsTrue owns → (l : ℕ) → Agrees (Some bound) (of.Own l)) → (s t : TypeRef) → Counts owns s → Counts owns t →
+  pub bounded : (Includes : List ℕ → List ℕ → Type 0) (bound : List ℕ) (owns : Truth) → (IsTrue owns → (l : ℕ) → Agrees (Some bound) (of.Own l)) →
+      (s t : TypeRef) → Counts owns s → Counts owns t →
       IsSubtype TypeRef (methods_of p k) IsObject Includes s t → IsBelow p (type_at x (annotated bound s)) (type_at x (annotated bound t))
   bounded Includes bound owns own =
-      subtype_kept TypeRef GroundType (methods_of p k) (ground_methods p) IsObject IsGroundObject Includes Within (λ t. type_at x (annotated bound t)) (λ f. bound) (Counts owns) (decide_counts owns)
+      subtype_kept TypeRef GroundType (methods_of p k) (ground_methods p) IsObject IsGroundObject Includes Within (λ t. type_at x (annotated bound t))
+      (λ f. bound) (Counts owns) (decide_counts owns)
       (bounded_agrees bound owns own) (parts_count owns) (object-at x (Some bound) sets) (at-object x (Some bound) sets) (λ e f h a i. i)

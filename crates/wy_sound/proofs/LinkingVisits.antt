@@ -16,7 +16,8 @@ pub record Grows (v w : Visited) : Type 0 where
   pub started : GoesOn v.started w.started
   pub sets : GoesOn v.sets w.sets
 
-module _ (p : Program) (inside : Visit) (grows : (outer : List OwnName) (prefix : List ℕ) (names : List OwnName) (v : Visited) → Grows v (inside outer prefix names v)) where
+module _ (p : Program) (inside : Visit)
+    (grows : (outer : List OwnName) (prefix : List ℕ) (names : List OwnName) (v : Visited) → Grows v (inside outer prefix names v)) where
   used_grows : (v : Visited) (name : List ℕ) (m : ℕ) (there : Option ℕ) → Grows v (used p inside v name m there)
   used_grows v name m (Some i) = record { started = goes_on_same v.started; sets = goes_on_more v.sets _ }
   used_grows v name m None =
@@ -44,30 +45,36 @@ module _ (p : Program) (inside : Visit) (grows : (outer : List OwnName) (prefix 
       let more = names_grow outer prefix names (visit_name p inside outer prefix n n.origin v) in
       record { started = goes_on_further _ _ _ one.started more.started; sets = goes_on_further _ _ _ one.sets more.sets }
 
-pub visit_grows : (p : Program) (k : ℕ) (outer : List OwnName) (prefix : List ℕ) (names : List OwnName) (v : Visited) → Grows v (visit p k outer prefix names v)
+pub visit_grows : (p : Program) (k : ℕ) (outer : List OwnName) (prefix : List ℕ) (names : List OwnName) (v : Visited) →
+    Grows v (visit p k outer prefix names v)
 visit_grows p zero outer prefix names v = record { started = goes_on_same v.started; sets = goes_on_same v.sets }
 visit_grows p (suc k) outer prefix names v = names_grow p (visit p k) (visit_grows p k) outer prefix names v
 
-pub later_names_grow : (p : Program) (k : ℕ) (outer : List OwnName) (prefix : List ℕ) (names : List OwnName) (v : Visited) → Grows v (visit_names p (visit p k) outer prefix names v)
+pub later_names_grow : (p : Program) (k : ℕ) (outer : List OwnName) (prefix : List ℕ) (names : List OwnName) (v : Visited) →
+    Grows v (visit_names p (visit p k) outer prefix names v)
 later_names_grow p k = names_grow p (visit p k) (visit_grows p k)
 
 ------------------------------------------------------------
 -- Parameters
 
 module _ (p : Program) (inside : Visit) (outer : List OwnName) (prefix : List ℕ) where
-  parameter_passed : (n : OwnName) (ns : List OwnName) (v : Visited) (o : Origin) → n.origin ≡ o → visit_names p inside outer prefix ns v ≡ visit_names p inside outer prefix (after_parameters ns) v →
+  parameter_passed : (n : OwnName) (ns : List OwnName) (v : Visited) (o : Origin) → n.origin ≡ o →
+      visit_names p inside outer prefix ns v ≡ visit_names p inside outer prefix (after_parameters ns) v →
       visit_names p inside outer prefix ns (visit_name p inside outer prefix n o v) ≡ visit_names p inside outer prefix (if is_parameter o then after_parameters ns else n ∷ ns) v
   parameter_passed n ns v (Parameter bare) e rest = rest
   parameter_passed n ns v Grant e rest = ap (λ o. visit_names p inside outer prefix ns (visit_name p inside outer prefix n o v)) (sym e)
   parameter_passed n ns v (Use m) e rest = ap (λ o. visit_names p inside outer prefix ns (visit_name p inside outer prefix n o v)) (sym e)
   parameter_passed n ns v (Instance m arguments) e rest = ap (λ o. visit_names p inside outer prefix ns (visit_name p inside outer prefix n o v)) (sym e)
-  parameter_passed n ns v (Import m arguments bound) e rest = ap (λ o. visit_names p inside outer prefix ns (visit_name p inside outer prefix n o v)) (sym e)
+  parameter_passed n ns v (Import m arguments bound) e rest =
+      ap (λ o. visit_names p inside outer prefix ns (visit_name p inside outer prefix n o v)) (sym e)
 
-  parameters_passed : (ns : List OwnName) (v : Visited) → visit_names p inside outer prefix ns v ≡ visit_names p inside outer prefix (after_parameters ns) v
+  parameters_passed : (ns : List OwnName) (v : Visited) →
+      visit_names p inside outer prefix ns v ≡ visit_names p inside outer prefix (after_parameters ns) v
   parameters_passed [] v = refl
   parameters_passed (n ∷ ns) v = parameter_passed n ns v n.origin refl (parameters_passed ns v)
 
-pub visit_passes : (p : Program) (k : ℕ) (outer : List OwnName) (prefix : List ℕ) (ns : List OwnName) (v : Visited) → visit p k outer prefix ns v ≡ visit p k outer prefix (after_parameters ns) v
+pub visit_passes : (p : Program) (k : ℕ) (outer : List OwnName) (prefix : List ℕ) (ns : List OwnName) (v : Visited) →
+    visit p k outer prefix ns v ≡ visit p k outer prefix (after_parameters ns) v
 visit_passes p zero outer prefix ns v = refl
 visit_passes p (suc k) outer prefix ns v = parameters_passed p (visit p k) outer prefix ns v
 

@@ -46,5 +46,6 @@ way_begins p m = record { apart = tt; there = λ j i. absurd i; leads = λ j i. 
 -- a line or use leads to its module
 pub names_lead : (ns : List OwnName) (n : OwnName) (m : ℕ) → In n ns → In m (origin_modules n.origin) → In m (names_modules ns)
 names_lead [] n m i h = absurd i
-names_lead (x ∷ ns) n m (inl e) h = In-left m (origin_modules x.origin) (names_modules ns) (subst (λ (v : OwnName). In m (origin_modules v.origin)) (sym e) h)
+names_lead (x ∷ ns) n m (inl e) h =
+    In-left m (origin_modules x.origin) (names_modules ns) (subst (λ (v : OwnName). In m (origin_modules v.origin)) (sym e) h)
 names_lead (x ∷ ns) n m (inr i) h = In-right m (origin_modules x.origin) (names_modules ns) (names_lead ns n m i h)
