@@ -1,3 +1,4 @@
+mod LinkingExamples
 mod LinkingLaws
 mod LinkingLines
 mod LinkingLists
