@@ -1,5 +1,5 @@
 mod LinkingExamples
-mod LinkingLaws
+pub mod LinkingLaws
 mod LinkingLines
 mod LinkingLists
 mod LinkingNames
