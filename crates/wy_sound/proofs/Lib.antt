@@ -6,6 +6,20 @@ pub mod Calling
 pub mod Effects
 pub mod Evaluating
 pub mod Heaps
+mod LinkingExamples
+pub mod LinkingLaws
+mod LinkingLines
+mod LinkingLists
+mod LinkingNames
+mod LinkingPrograms
+mod LinkingReads
+mod LinkingRules
+mod LinkingScopes
+mod LinkingSets
+mod LinkingStates
+mod LinkingTables
+mod LinkingVisits
+mod LinkingWays
 pub mod Lists
 pub mod Methods
 pub mod Names
