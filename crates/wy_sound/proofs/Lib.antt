@@ -1,0 +1,32 @@
+pub mod Allowing
+pub mod Applying
+pub mod BaseTypes
+pub mod Below
+pub mod Calling
+pub mod Effects
+pub mod Evaluating
+pub mod Heaps
+mod LinkingExamples
+pub mod LinkingLaws
+mod LinkingLines
+mod LinkingLists
+mod LinkingNames
+mod LinkingPrograms
+mod LinkingReads
+mod LinkingRules
+mod LinkingScopes
+mod LinkingSets
+mod LinkingStates
+mod LinkingTables
+mod LinkingVisits
+mod LinkingWays
+pub mod Lists
+pub mod Methods
+pub mod Names
+pub mod Operating
+pub mod Operations
+pub mod Performing
+pub mod Placing
+pub mod Results
+pub mod Running
+pub mod Starting

@@ -1,0 +1,141 @@
+-- Own names with their types, in a program with a grant, a used module, an instance that is handed the grant, and an import that is handed the instance
+-- (`console.In` 0, `console.Out` 1, `log.Line` 2 in the program; `out.In` 0, `out.Out` 1 in the module `logger`).
+use Rattle.std.proofs.Common.{◌≡◌, ℕ, List, [], ◌∷◌, ◌++◌, inl, inr, refl, sym, ◌∙◌, subst, arith, Option, Some, None, true, false}
+use Rattle.std.specs.Prelude.{codes}
+use Rattle.wy_text.specs.declared.fault.Place.{Place}
+use Rattle.wy_effects.specs.Members.{In}
+use Rattle.wy_effects.specs.EffSet.{IsSet, AreSets, has}
+use Rattle.wy_effects.proofs.SetLaws.{has-In}
+use Rattle.wy_types.specs.declared.types.TypeRef.{TypeRef}
+use Rattle.wy_types.specs.declared.types.TypeRef.TheVariants.{Named, At}
+use Rattle.wy_types.specs.declared.resolved.TypeDecl.{TypeDecl}
+use Rattle.wy_types.specs.declared.resolved.Origin.{Origin}
+use Rattle.wy_types.specs.declared.resolved.Origin.TheVariants.{Parameter, Grant, Use, Instance, Import}
+use Rattle.wy_types.specs.declared.resolved.OwnName.{OwnName}
+use Rattle.wy_types.specs.declared.resolved.ScopeKind.{ScopeKind}
+use Rattle.wy_types.specs.declared.resolved.ScopeKind.TheVariants.{Pure, Resource, Plain, Program as Main}
+use Rattle.wy_types.specs.Code.{none}
+use Rattle.wy_types.specs.Fitting.{FitsType}
+use Rattle.wy_types.specs.Primitive.{primitive_types, primitive_type}
+use Rattle.wy_types.specs.Program.{Program, Scope, Init}
+use Rattle.wy_types.specs.Ground.{number_from, instance_of}
+use Rattle.wy_sound.specs.Linking.{HaveTheirTypes, OwnNamesFit, LinesAreTyped}
+
+abbrev at : Place
+at = record { file = 1; line = 1; column = 1 }
+
+abbrev own : List ℕ → TypeRef → Origin → OwnName
+own name typ origin = record { name = name; place = at; typ = typ; origin = origin }
+
+-- a scope of a kind, as far as its own names and its seal go
+abbrev scope : ScopeKind → List ℕ → List OwnName → Option ℕ → Scope
+scope kind name names ascribed = record {
+  kind = kind;
+  name = name;
+  place = at;
+  atoms = [];
+  names = names;
+  ascribed = ascribed;
+  definitions = [];
+  literals = [];
+  start_place = at;
+  start_effect = [];
+  start = Init none;
+  bodies = [];
+}
+
+-- the sets of two atoms
+abbrev two : List (List ℕ)
+two = (0 ∷ []) ∷ (1 ∷ []) ∷ []
+
+abbrev log : TypeDecl
+log = primitive_type (codes "Log") (codes "Line" ∷ []) []
+
+abbrev plain_text : TypeDecl
+plain_text = primitive_type (codes "Plain") [] []
+
+-- a pure module, and one with a bare parameter that uses it
+abbrev format : Scope
+format = scope Pure (codes "format") [] (Some 5)
+
+abbrev logger_names : List OwnName
+logger_names = own (codes "out") (Named 0 two) (Parameter true) ∷ own (codes "format") (Named 5 []) (Use 0) ∷ []
+
+abbrev logger : Scope
+logger = scope Resource (codes "logger") logger_names (Some 4)
+
+-- a plain module, whose parameter's type is bare
+abbrev plug : Scope
+plug = scope Plain (codes "plug") (own (codes "l") (Named 4 []) (Parameter false) ∷ []) (Some 5)
+
+-- the program's own names, with the type of the import
+abbrev main_names : TypeRef → List OwnName
+main_names typ =
+    own (codes "console") (Named 0 two) Grant ∷ own (codes "format") (Named 5 []) (Use 0) ∷
+    own (codes "log") (Named 4 ((2 ∷ []) ∷ [])) (Instance 1 (0 ∷ [])) ∷ own (codes "p") typ (Import 2 (2 ∷ []) (2 ∷ [])) ∷ []
+
+abbrev program : TypeRef → Program
+program typ = record { declarations = primitive_types ++ log ∷ plain_text ∷ []; scopes = format ∷ logger ∷ plug ∷ scope Main (codes "main") (main_names typ) None ∷ [] }
+
+no_space : (name : List ℕ) → has 32 name ≡ false → In 32 name → ⊥
+no_space name e i = let f : false ≡ true = sym e ∙ has-In 32 name i in cc
+
+abbrev spaceless : List OwnName → Type 0
+spaceless [] = Unit {0}
+spaceless (n ∷ ns) = (has 32 n.name ≡ false) × spaceless ns
+
+words : (ns : List OwnName) → spaceless ns → (n : OwnName) → In n ns → In 32 n.name → ⊥
+words [] h n i = absurd i
+words (m ∷ ns) h n (inl e) = subst (λ (v : OwnName). In 32 v.name → ⊥) e (no_space m.name h.0)
+words (m ∷ ns) h n (inr i) = words ns h.1 n i
+
+two_are_sets : AreSets 2 two
+two_are_sets s (inl e) = subst (IsSet 2) e (omega arith, omega arith, tt)
+two_are_sets s (inr (inl e)) = subst (IsSet 2) e (omega arith, omega arith, tt)
+two_are_sets s (inr (inr i)) = absurd i
+
+format_fits : (typ : TypeRef) → OwnNamesFit (program typ) format
+format_fits typ = record { may_have = refl; parameters = λ n i. absurd i; others = tt; words = λ n i. absurd i }
+
+logger_fits : (typ : TypeRef) → OwnNamesFit (program typ) logger
+logger_fits typ = record {
+  may_have = tt;
+  parameters = λ n i. elim i [ inl e ↦ subst (λ (v : OwnName). FitsType (program typ) 2 0 v.typ) e (omega arith, inl refl, two_are_sets) | inr j ↦ absurd j ];
+  others = ((refl, refl), tt);
+  words = words logger_names (refl, (refl, tt));
+}
+
+plug_fits : (typ : TypeRef) → OwnNamesFit (program typ) plug
+plug_fits typ = record {
+  may_have = tt;
+  parameters = λ n i. elim i [ inl e ↦ subst (λ (v : OwnName). FitsType (program typ) 0 0 v.typ) e (omega arith, inr refl, λ s j. absurd j) | inr j ↦ absurd j ];
+  others = tt;
+  words = words plug.names (refl, tt);
+}
+
+-- the import stands at its bound, of an atom that is opened before it
+main_fits : OwnNamesFit (program (At 5 (2 ∷ []))) (scope Main (codes "main") (main_names (At 5 (2 ∷ []))) None)
+main_fits = record {
+  may_have = refl;
+  parameters = λ n i. absurd i;
+  others = ((0, refl), ((refl, refl), (refl, (((omega arith, omega arith, tt), refl), tt))));
+  words = words (main_names (At 5 (2 ∷ []))) (refl, (refl, (refl, (refl, tt))));
+}
+
+lines_typed : LinesAreTyped (program (At 5 (2 ∷ [])))
+lines_typed s (inl e) = subst (OwnNamesFit (program (At 5 (2 ∷ [])))) e (format_fits (At 5 (2 ∷ [])))
+lines_typed s (inr (inl e)) = subst (OwnNamesFit (program (At 5 (2 ∷ [])))) e (logger_fits (At 5 (2 ∷ [])))
+lines_typed s (inr (inr (inl e))) = subst (OwnNamesFit (program (At 5 (2 ∷ [])))) e (plug_fits (At 5 (2 ∷ [])))
+lines_typed s (inr (inr (inr (inl e)))) = subst (OwnNamesFit (program (At 5 (2 ∷ [])))) e main_fits
+lines_typed s (inr (inr (inr (inr i)))) = absurd i
+
+-- an import at another set than its bound has not its type
+at_other_bound : HaveTheirTypes (program (At 5 (1 ∷ []))) 0 (main_names (At 5 (1 ∷ []))) → ⊥
+at_other_bound h = let same : At 5 (1 ∷ []) ≡ At 5 (2 ∷ []) = h.1.1.1.0.1 in cc
+
+-- a line that had the name of a used module's instance would be taken for it; no own name is of this kind
+taken_for_pure : number_from 0 (codes "pure " ++ codes "format") (instance_of (codes "pure format") 1 [] None [] ∷ []) ≡ Some 0
+taken_for_pure = refl
+
+no_such_name : (p : Program) (s : Scope) → OwnNamesFit p s → (n : OwnName) → In n s.names → n.name ≡ codes "pure format" → ⊥
+no_such_name p s f n i e = f.words n i (subst (λ v. In 32 v) (sym e) (inr (inr (inr (inr (inl refl))))))

@@ -1,0 +1,155 @@
+-- What stands while a scope is visited: what is handed on has the types of the own names so far, and each instance so far is one of its scope.
+use Rattle.std.proofs.Common.{◌≡◌, ℕ, zero, suc, ◌+◌, ◌≤◌, List, [], ◌∷◌, ◌++◌, inl, inr, length, refl, sym, ap, ◌∙◌, subst, arith, Option, Some, length-append}
+use Rattle.std.specs.Prelude.{codes, slice_get, slice_index_or}
+use Rattle.wy_effects.specs.Members.{In}
+use Rattle.wy_effects.specs.EffSet.{AreSets}
+use Rattle.wy_effects.proofs.Lists.{In-cases, In-slice_get}
+use Rattle.wy_types.specs.declared.types.TypeRef.{TypeRef}
+use Rattle.wy_types.specs.declared.linked.Actual.{Actual}
+use Rattle.wy_types.specs.declared.linked.Actual.TheVariants as actual
+use Rattle.wy_types.specs.declared.linked.Instance.{Instance}
+use Rattle.wy_types.specs.declared.resolved.OwnName.{OwnName}
+use Rattle.wy_types.specs.declared.resolved.ScopeKind.TheVariants.{Program as Main}
+use Rattle.wy_types.specs.Program.{Program, Scope}
+use Rattle.wy_types.specs.Types.{is_plain}
+use Rattle.wy_types.specs.Fitting.{FitsType}
+use Rattle.wy_types.specs.Ground.{Visited, settled, type_of}
+use Rattle.wy_rules.specs.GroundTypes.{GroundType, type_at, read_by}
+use Rattle.wy_rules.specs.GroundTyping.{BoundFits}
+use Rattle.wy_sound.specs.Arguments.{ground_below, actual_type, IsThere}
+use Rattle.wy_sound.specs.Linking.{opens, opened_count}
+use Rattle.wy_sound.proofs.LinkingLists.{read_first, read_last}
+use Rattle.wy_sound.proofs.LinkingSets.{AreSets-both, Fits-wider}
+
+-- a name's type as it is read; it names no own type, so it is the same for every instance
+abbrev pub read_type : Option (List ℕ) → List (List ℕ) → TypeRef → GroundType
+read_type o sets t = type_at 0 (read_by o sets t)
+
+-- own names with one more open the atoms of that one besides
+pub count_more : (p : Program) (ns : List OwnName) (n : OwnName) → opened_count p (ns ++ n ∷ []) ≡ opened_count p ns + length (opens p n n.origin)
+count_more p [] n = omega arith
+count_more p (m ∷ ns) n = let h = count_more p ns n in omega (arith, h)
+
+module _ (p : Program) where
+  -- it is there before a number of instances, and of the type or below
+  pub record IsActual (limit : ℕ) (t : GroundType) (a : Actual) : Type 0 where
+    pub there : IsThere p limit a
+    pub below : ground_below p (actual_type p a) t
+
+  -- for own names one after the other
+  abbrev pub AreActuals : ℕ → Option (List ℕ) → List (List ℕ) → List OwnName → List Actual → Type 0
+  AreActuals limit o sets [] [] = Unit {0}
+  AreActuals limit o sets (n ∷ ns) (a ∷ rest) = IsActual limit (read_type o sets n.typ) a × AreActuals limit o sets ns rest
+  AreActuals limit o sets ns rest = ⊥
+
+  there_later : (limit later : ℕ) (a : Actual) → limit ≤ later → IsThere p limit a → IsThere p later a
+  there_later limit later (actual.Instance y) le h = omega arith
+  there_later limit later (actual.Grant g) le h = h
+
+  pub actual_later : (limit later : ℕ) (t : GroundType) (a : Actual) → limit ≤ later → IsActual limit t a → IsActual later t a
+  actual_later limit later t a le h = record { there = there_later limit later a le h.there; below = h.below }
+
+  pub actuals_later : (limit later : ℕ) (o : Option (List ℕ)) (sets : List (List ℕ)) (ns : List OwnName) (xs : List Actual) → limit ≤ later →
+      AreActuals limit o sets ns xs → AreActuals later o sets ns xs
+  actuals_later limit later o sets [] [] le h = tt
+  actuals_later limit later o sets [] (a ∷ xs) le h = absurd h
+  actuals_later limit later o sets (n ∷ ns) [] le h = absurd h
+  actuals_later limit later o sets (n ∷ ns) (a ∷ xs) le h =
+      (actual_later limit later (read_type o sets n.typ) a le h.0, actuals_later limit later o sets ns xs le h.1)
+
+  pub actuals_more : (limit : ℕ) (o : Option (List ℕ)) (sets : List (List ℕ)) (ns : List OwnName) (xs : List Actual) (n : OwnName) (a : Actual) →
+      AreActuals limit o sets ns xs →
+      IsActual limit (read_type o sets n.typ) a → AreActuals limit o sets (ns ++ n ∷ []) (xs ++ a ∷ [])
+  actuals_more limit o sets [] [] n a h g = (g, tt)
+  actuals_more limit o sets [] (b ∷ xs) n a h g = absurd h
+  actuals_more limit o sets (m ∷ ns) [] n a h g = absurd h
+  actuals_more limit o sets (m ∷ ns) (b ∷ xs) n a h g = (h.0, actuals_more limit o sets ns xs n a h.1 g)
+
+  pub actuals_length : (limit : ℕ) (o : Option (List ℕ)) (sets : List (List ℕ)) (ns : List OwnName) (xs : List Actual) →
+      AreActuals limit o sets ns xs → length xs ≡ length ns
+  actuals_length limit o sets [] [] h = refl
+  actuals_length limit o sets [] (a ∷ xs) h = absurd h
+  actuals_length limit o sets (n ∷ ns) [] h = absurd h
+  actuals_length limit o sets (n ∷ ns) (a ∷ xs) h = ap suc (actuals_length limit o sets ns xs h.1)
+
+  -- what is handed for the name at a place
+  pub actual_at : (limit : ℕ) (o : Option (List ℕ)) (sets : List (List ℕ)) (ns : List OwnName) (xs : List Actual) (k : ℕ) (n : OwnName) →
+      AreActuals limit o sets ns xs → slice_get ns k ≡ Some n →
+      (a : Actual) × (slice_get xs k ≡ Some a) × IsActual limit (read_type o sets n.typ) a
+  actual_at limit o sets [] xs k n h e = absurd (cc)
+  actual_at limit o sets (m ∷ ns) [] k n h e = absurd h
+  actual_at limit o sets (m ∷ ns) (a ∷ xs) zero n h e =
+      (a, refl, (let same : m ≡ n = cc in subst (λ (v : OwnName). IsActual limit (read_type o sets v.typ) a) same h.0))
+  actual_at limit o sets (m ∷ ns) (a ∷ xs) (suc k) n h e = actual_at limit o sets ns xs k n h.1 e
+
+  -- an instance is one of its scope, a module, and is handed what the scope's own names ask for; by its name it is one of a pure module only where it is
+  pub record Fits (y : ℕ) (i : Instance) : Type 0 where
+    pub scope : Scope
+    pub there : slice_get p.scopes i.scope ≡ Some scope
+    pub is_module : scope.kind ≡ Main → ⊥
+    pub bound : BoundFits (is_plain scope.kind) i.bound
+    pub sets : AreSets 512 i.ground
+    pub actuals : AreActuals y i.bound i.ground scope.names i.arguments
+    pub called : (word : List ℕ) → i.name ≡ codes "pure " ++ word → scope.name ≡ word
+
+  abbrev pub AllFit : List Instance → Type 0
+  AllFit xs = (y : ℕ) (i : Instance) → slice_get xs y ≡ Some i → Fits y i
+
+  pub all_more : (xs : List Instance) (i : Instance) → AllFit xs → Fits (length xs) i → AllFit (xs ++ i ∷ [])
+  all_more xs i h f y j e =
+      elim (read_last xs i y j e) [
+        | inl g ↦ h y j g
+        | inr g ↦ subst (λ z. Fits z j) (sym g.0) (subst (Fits (length xs)) g.1 f)
+      ]
+
+  -- so far in a visit of a scope, of whose own names these are done; the last sets are those at its end
+  pub record Stands (o : Option (List ℕ)) (top : List (List ℕ)) (done : List OwnName) (v : Visited) : Type 0 where
+    pub actuals : AreActuals (length v.started) o top done v.actuals
+    pub count : length v.sets ≡ opened_count p done
+    pub types : (n : OwnName) → In n done → FitsType p (length v.sets) 0 n.typ
+    pub sets : AreSets 512 v.sets
+    pub started : AllFit v.started
+
+  -- one more own name
+  pub stands_more : (o : Option (List ℕ)) (top : List (List ℕ)) (done : List OwnName) (v : Visited) (n : OwnName) (started : List Instance) (a : Actual) (sets : List (List ℕ)) → Stands o top done v →
+      length v.started ≤ length started → AllFit started → IsActual (length started) (read_type o top n.typ) a →
+      length sets ≡ length (opens p n n.origin) →
+      FitsType p (length v.sets + length sets) 0 n.typ → AreSets 512 sets → Stands o top (done ++ n ∷ []) (settled v started a sets)
+  stands_more o top done v n started a sets s le all is many fits are =
+      let long : length (v.sets ++ sets) ≡ length v.sets + length sets = length-append v.sets sets in
+      record {
+        actuals =
+            actuals_more (length started) o top done v.actuals n a
+            (actuals_later (length v.started) (length started) o top done v.actuals le s.actuals) is;
+        count = omega (arith, long, many, s.count, count_more p done n);
+        types = λ m i. elim (In-cases m done (n ∷ []) i) [
+          | inl j ↦ Fits-wider p (length v.sets) (length (v.sets ++ sets)) m.typ (omega (arith, long)) (s.types m j)
+          | inr j ↦ elim j [
+            | inl e ↦ subst (λ (w : OwnName). FitsType p (length (v.sets ++ sets)) 0 w.typ) e (subst (λ k. FitsType p k 0 n.typ) (sym long) fits)
+            | inr f ↦ absurd f
+          ]
+        ];
+        sets = AreSets-both 512 v.sets sets s.sets are;
+        started = all;
+      }
+
+  -- an own name among those that are done, by its place among all
+  pub record Given (o : Option (List ℕ)) (top : List (List ℕ)) (outer : List OwnName) (v : Visited) (a : ℕ) : Type 0 where
+    pub fits : FitsType p (length v.sets) 0 (type_of (slice_get outer a))
+    pub is : IsActual (length v.started) (read_type o top (type_of (slice_get outer a))) (slice_index_or v.actuals a (actual.Grant 0))
+
+  or_read : (xs : List Actual) (k : ℕ) (a d : Actual) → slice_get xs k ≡ Some a → slice_index_or xs k d ≡ a
+  or_read [] k a d e = absurd (cc)
+  or_read (x ∷ xs) zero a d e = cc
+  or_read (x ∷ xs) (suc k) a d e = or_read xs k a d e
+
+  pub given : (o : Option (List ℕ)) (top : List (List ℕ)) (outer done rest : List OwnName) (v : Visited) (a : ℕ) (n : OwnName) →
+      outer ≡ done ++ rest → Stands o top done v → slice_get done a ≡ Some n → Given o top outer v a
+  given o top outer done rest v a n e s at =
+      let r = actual_at (length v.started) o top done v.actuals a n s.actuals at in
+      let typ : type_of (slice_get outer a) ≡ n.typ = ap type_of (ap (λ l. slice_get l a) e ∙ read_first done rest a n at) in
+      record {
+        fits = subst (FitsType p (length v.sets) 0) (sym typ) (s.types n (In-slice_get done a n at));
+        is = subst (λ t. IsActual (length v.started) (read_type o top t) (slice_index_or v.actuals a (actual.Grant 0))) (sym typ)
+            (subst (IsActual (length v.started) (read_type o top n.typ)) (sym (or_read v.actuals a r.0 (actual.Grant 0) r.1)) r.2);
+      }

@@ -1,0 +1,74 @@
+-- Reading lists by number: of lists in which an element is set or that grow by one.
+use Rattle.std.proofs.Common.{◌≡◌, ◌≢◌, ℕ, zero, suc, ◌<◌, Bool, true, false, List, [], ◌∷◌, ◌++◌, length, map, ◌⊎◌, inl, inr, refl, ap, ◌∙◌, Some, arith}
+use Rattle.std.specs.Prelude.{slice_get, slice_set, if◌then◌else◌}
+use Rattle.std.specs.Option.{option_map}
+
+pub pick_true : {X : Type 0} (c : Bool) (a b : X) → c ≡ true → if◌then◌else◌ c a b ≡ a
+pick_true c a b e = ap (λ c. if c then a else b) e
+
+pub pick_false : {X : Type 0} (c : Bool) (a b : X) → c ≡ false → if◌then◌else◌ c a b ≡ b
+pick_false c a b e = ap (λ c. if c then a else b) e
+
+pub some_same : {X : Type 0} {x y : X} → Some x ≡ Some y → x ≡ y
+some_same e = cc
+
+module _ {X : Type 0} where
+  pub get_within : (xs : List X) (i : ℕ) (x : X) → slice_get xs i ≡ Some x → i < length xs
+  get_within [] i x e = absurd cc
+  get_within (z ∷ xs) zero x e = omega arith
+  get_within (z ∷ xs) (suc i) x e = let h = get_within xs i x e in omega arith
+
+  pub get_below : (xs : List X) (i : ℕ) → i < length xs → (x : X) × (slice_get xs i ≡ Some x)
+  get_below [] i lt = absurd (omega arith)
+  get_below (x ∷ xs) zero lt = (x, refl)
+  get_below (x ∷ xs) (suc i) lt = get_below xs i (omega arith)
+
+  pub get_set_same : (xs : List X) (i : ℕ) (v : X) → i < length xs → slice_get (slice_set xs i v) i ≡ Some v
+  get_set_same [] i v h = absurd (omega arith)
+  get_set_same (x ∷ xs) zero v h = refl
+  get_set_same (x ∷ xs) (suc i) v h = get_set_same xs i v (omega arith)
+
+  pub get_set_other : (xs : List X) (i j : ℕ) (v : X) → i ≢ j → slice_get (slice_set xs i v) j ≡ slice_get xs j
+  get_set_other [] i j v h = refl
+  get_set_other (x ∷ xs) zero zero v h = absurd (h refl)
+  get_set_other (x ∷ xs) zero (suc j) v h = refl
+  get_set_other (x ∷ xs) (suc i) zero v h = refl
+  get_set_other (x ∷ xs) (suc i) (suc j) v h = get_set_other xs i j v (λ e. h (ap suc e))
+
+  pub length_set : (xs : List X) (i : ℕ) (v : X) → length (slice_set xs i v) ≡ length xs
+  length_set [] i v = refl
+  length_set (x ∷ xs) zero v = refl
+  length_set (x ∷ xs) (suc i) v = ap suc (length_set xs i v)
+
+  pub get_left : (xs ys : List X) (i : ℕ) (x : X) → slice_get xs i ≡ Some x → slice_get (xs ++ ys) i ≡ Some x
+  get_left [] ys i x e = absurd cc
+  get_left (z ∷ xs) ys zero x e = e
+  get_left (z ∷ xs) ys (suc i) x e = get_left xs ys i x e
+
+  pub get_last : (xs : List X) (y : X) → slice_get (xs ++ y ∷ []) (length xs) ≡ Some y
+  get_last [] y = refl
+  get_last (z ∷ xs) y = get_last xs y
+
+  -- what stands in a list with one more is of the list, or the last one at its place
+  pub get_either : (xs : List X) (y : X) (i : ℕ) (x : X) → slice_get (xs ++ y ∷ []) i ≡ Some x →
+      (slice_get xs i ≡ Some x) ⊎ ((y ≡ x) × (i ≡ length xs))
+  get_either [] y zero x e = inr (some_same e, refl)
+  get_either [] y (suc i) x e = absurd cc
+  get_either (z ∷ xs) y zero x e = inl e
+  get_either (z ∷ xs) y (suc i) x e = elim (get_either xs y i x e) [ inl h ↦ inl h | inr h ↦ inr (h.0, ap suc h.1) ]
+
+pub get_map : {X Y : Type 0} (f : X → Y) (xs : List X) (i : ℕ) → slice_get (map f xs) i ≡ option_map f (slice_get xs i)
+get_map f [] i = refl
+get_map f (x ∷ xs) zero = refl
+get_map f (x ∷ xs) (suc i) = get_map f xs i
+
+pub get_mapped : {X Y : Type 0} (f : X → Y) (xs : List X) (i : ℕ) (x : X) → slice_get xs i ≡ Some x → slice_get (map f xs) i ≡ Some (f x)
+get_mapped f xs i x e = get_map f xs i ∙ ap (option_map f) e
+
+pub map_append : {X Y : Type 0} (f : X → Y) (xs ys : List X) → map f (xs ++ ys) ≡ map f xs ++ map f ys
+map_append f [] ys = refl
+map_append f (x ∷ xs) ys = ap (λ l. f x ∷ l) (map_append f xs ys)
+
+pub map_length : {X Y : Type 0} (f : X → Y) (xs : List X) → length (map f xs) ≡ length xs
+map_length f [] = refl
+map_length f (x ∷ xs) = ap suc (map_length f xs)

@@ -1,0 +1,145 @@
+-- The laws over whole runs: no end is a wrong one, and each deed is in the authority of every call that is open.
+use Rattle.std.proofs.Common.{◌≡◌, ◌≢◌, codes, ℕ, zero, suc, ◌+◌, ◌<◌, List, [], ◌∷◌, length, map, inl, inr, refl, sym, ap, ◌∙◌, subst, Some, arith, lt_irrefl}
+use Rattle.std.specs.Prelude.{slice_get}
+use Rattle.wy_types.specs.declared.linked.Instance.{Instance}
+use Rattle.wy_types.specs.Program.{Program}
+use Rattle.wy_types.specs.Ground.{start_list}
+use Rattle.wy_rules.specs.GroundTypes.{run_instances}
+use Rattle.wy_device.specs.declared.deed.Event.{Event}
+use Rattle.wy_device.specs.declared.deed.Event.TheVariants.{Enter}
+use Rattle.wy_device.specs.RunEnds.{Wrong}
+use Rattle.wy_device.specs.Tapes.{Tapes}
+use Rattle.wy_meaning.specs.Values.{Value, Thing, World, Outcome, Gives, Stops}
+use Rattle.wy_meaning.specs.Starts.{Started, started_of}
+use Rattle.wy_meaning.specs.Results.{Result, whole}
+use Rattle.wy_meaning.specs.Eval.{open_calls}
+use Rattle.wy_meaning.specs.Start.{begin, objects_at_first, end_of, world_at_first, meaning}
+use Rattle.wy_meaning.specs.Bounds.{Bounded}
+use Rattle.wy_sound.specs.Programs.{program_starts, allowed, GrantsFit}
+use Rattle.wy_sound.specs.Laws.{IsLinked, NeverWrong, EventsAreBounded}
+use Rattle.wy_sound.proofs.Lists.{some_same, get_within, get_left, get_either, get_below, get_mapped, map_length}
+use Rattle.wy_sound.proofs.Effects.{call_of, May}
+use Rattle.wy_sound.proofs.Allowing.{init_first, run_first, may_first}
+use Rattle.wy_sound.proofs.Heaps.{Placed, fields_at, many, WellHeap}
+use Rattle.wy_sound.proofs.Placing.{place}
+use Rattle.wy_sound.proofs.Starting.{Fine, TopTo, Top, bind_top, whole_top, thing_of, Rest, Filling, declared, done_now, init_fine, main_fine}
+
+module _ (p : Program) (linked : IsLinked p) where
+  abbrev Anything : Value → World → Type 0
+  Anything v w = Unit {0}
+
+  -- the instances from number x on, and then the program
+  AreFrom : ℕ → List Started → Type 0
+  AreFrom x is = (i z : ℕ) (s : Started) → z ≡ x + i → slice_get is i ≡ Some s →
+      (a : Instance) × (slice_get (start_list p) z ≡ Some a) × (s ≡ started_of a)
+
+  -- the last instance is the program
+  main_named : (x : ℕ) (i : Instance) → slice_get (run_instances p) x ≡ Some i → x ≡ many p → i.name ≡ codes "main"
+  main_named x i e last = elim (get_either (start_list p) _ x i e) [
+    | inl f ↦ absurd (let lt = get_within (start_list p) x i f in lt_irrefl x (omega (arith, lt, last)))
+    | inr f ↦ sym (ap (λ (i : Instance). i.name) f.0)
+  ]
+
+  main_top : (n x : ℕ) (w : World) → x ≡ many p → WellHeap p x w.objects →
+      Top p Anything (begin p (program_starts p) (open_calls p (program_starts p) n) x [] w)
+  unfolding begin
+  main_top n x w last wh =
+      let pl : Placed p x = place p linked x (omega (arith, last)) in
+      let may : May p (call_of (codes "main") (codes "run")) (declared p linked n x pl) =
+      subst (λ m. May p (call_of m (codes "run")) (declared p linked n x pl)) (main_named x pl.instance pl.is.there last)
+      (may_first p x pl.instance (codes "run") pl.scope (run_first p x pl.instance pl.is.there last) pl.is.scope) in
+      whole_top p (declared p linked n x pl) (codes "main") (codes "run") Anything _ may (main_fine p linked n x pl last w wh)
+
+  init_top : (n x : ℕ) (pl : Placed p x) (s : Started) (w : World) → x < many p → slice_get (start_list p) x ≡ Some pl.instance →
+      s ≡ started_of pl.instance → Filling p linked x pl [] w.objects → (r : Result Value) →
+      Fine p (declared p linked n x pl) (λ u w. Filling p linked x pl (fields_at p x pl 0) w.objects) r →
+      Top p (λ u w. Filling p linked x pl (fields_at p x pl 0) w.objects) (whole (Enter s.name (codes "init")) r)
+  init_top n x pl s w lt there is q r fine =
+      whole_top p (declared p linked n x pl) s.name (codes "init") (λ u w. Filling p linked x pl (fields_at p x pl 0) w.objects) r
+      (subst (λ m. May p (call_of m (codes "init")) (declared p linked n x pl)) (sym (ap (λ (s : Started). s.name) is))
+      (may_first p x pl.instance (codes "init") pl.scope (init_first p x pl.instance there) pl.is.scope)) fine
+
+  begin_top : (n x : ℕ) (is : List Started) (w : World) → AreFrom x is → x + length is ≡ many p → WellHeap p x w.objects → Rest p x w.objects →
+      Top p Anything (begin p (program_starts p) (open_calls p (program_starts p) n) x is w)
+  unfolding begin AreFrom
+  begin_top n x [] w at count wh rest = main_top n x w (omega (arith, count)) wh
+  begin_top n x (s ∷ is) w at count wh rest =
+      let lt : x < many p = omega (arith, count) in
+      let a = at 0 x s (omega arith) refl in
+      let pl : Placed p x = place p linked x (omega (arith, lt)) in
+      let same : a.0 ≡ pl.instance = some_same (sym (get_left (start_list p) _ x a.0 a.1) ∙ pl.is.there) in
+      let first : Filling p linked x pl [] w.objects = record {
+        heap = wh;
+        values = [];
+        here = rest.by x (omega arith) lt;
+        typed = tt;
+        rest = record { by = λ z le below. rest.by z (omega (arith, le)) below };
+      } in
+      bind_top p (λ u w1. Filling p linked x pl (fields_at p x pl 0) w1.objects) Anything
+      (λ v w. begin p (program_starts p) (open_calls p (program_starts p) n) (suc x) is w) _
+      (init_top n x pl s w lt (a.1 ∙ ap (λ i. Some i) same) (a.2 ∙ ap started_of same) first _ (init_fine p linked n x pl lt w first))
+      (λ v w1 q. begin_top n (suc x) is w1 (λ i z s e g. at (suc i) z s (omega (arith, e)) g) (omega (arith, count))
+      (done_now p linked x pl lt w1.objects q) q.rest)
+
+  ------------------------------------------------------------
+  -- Before anything runs
+
+  first_at : (x : ℕ) (is : List Started) (i z : ℕ) → z ≡ x + i → i < length is → slice_get (objects_at_first x is) i ≡ Some (thing_of p z)
+  first_at x [] i z e lt = absurd (omega arith)
+  first_at x (s ∷ is) zero z e lt = let f : x ≡ z = omega (arith, e) in ap (λ x. Some (thing_of p x)) f
+  first_at x (s ∷ is) (suc i) z e lt = first_at (suc x) is i z (omega (arith, e)) (omega (arith, lt))
+
+  first_length : (x : ℕ) (is : List Started) → length (objects_at_first x is) ≡ length is
+  first_length x [] = refl
+  first_length x (s ∷ is) = ap suc (first_length (suc x) is)
+
+  abbrev at_first : List Thing
+  at_first = objects_at_first 0 (map started_of (start_list p))
+
+  first_many : length at_first ≡ many p
+  first_many = first_length 0 (map started_of (start_list p)) ∙ map_length started_of (start_list p)
+
+  first_rest : Rest p 0 at_first
+  first_rest = record {
+    by = λ z le below. first_at 0 (map started_of (start_list p)) z z (omega arith)
+        (omega (arith, below, map_length started_of (start_list p)));
+  }
+
+  first_heap : WellHeap p 0 at_first
+  first_heap = record {
+    by = λ a t e r. absurd (let lt =
+        get_within at_first a t e in elim r [ inl l ↦ lt_irrefl a (omega (arith, l)) | inr ge ↦ lt_irrefl a (omega (arith, lt, ge, first_many)) ]);
+    long = omega (arith, first_many);
+    first = λ z below. (thing_of p z, first_rest.by z (omega arith) below, refl, refl);
+  }
+
+  all_from : AreFrom 0 (map started_of (start_list p))
+  unfolding AreFrom
+  all_from i z s e g =
+      let lt : i < many p = let h = get_within (map started_of (start_list p)) i s g in omega (arith, h, map_length started_of (start_list p)) in
+      let a = get_below (start_list p) i lt in
+      let f : i ≡ z = omega (arith, e) in
+      (a.0, ap (slice_get (start_list p)) (sym f) ∙ a.1, some_same (sym g ∙ get_mapped started_of (start_list p) i a.0 a.1))
+
+  run_top : (n : ℕ) (tapes : Tapes) →
+      Top p Anything (begin p (program_starts p) (open_calls p (program_starts p) n) 0 (map started_of (start_list p))
+      (world_at_first (program_starts p) tapes))
+  run_top n tapes = begin_top n 0 (map started_of (start_list p)) (world_at_first (program_starts p) tapes) all_from
+      (omega (arith, map_length started_of (start_list p))) first_heap first_rest
+
+top_never : (p : Program) (ok : Value → World → Type 0) (o : Outcome Value) (w : World) (es : List Event) → TopTo p ok o w es → end_of o ≢ Wrong
+top_never p ok (Stops e) w es h = h.0
+top_never p ok (Gives v) w es h = λ e. cc
+
+top_bounded : (p : Program) (ok : Value → World → Type 0) (o : Outcome Value) (w : World) (es : List Event) → GrantsFit p → TopTo p ok o w es →
+    Bounded (allowed p) es
+top_bounded p ok (Stops e) w es g h = h.1 g
+top_bounded p ok (Gives v) w es g h = h.0 g
+
+pub never_wrong : NeverWrong
+unfolding meaning
+never_wrong p linked n tapes = top_never p _ _ _ _ (run_top p linked n tapes).by
+
+pub events_are_bounded : EventsAreBounded
+unfolding meaning
+events_are_bounded p linked g n tapes = top_bounded p _ _ _ _ g (run_top p linked n tapes).by

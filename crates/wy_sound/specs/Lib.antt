@@ -1,0 +1,4 @@
+pub mod Arguments
+pub mod Laws
+pub mod Linking
+pub mod Programs

@@ -1,0 +1,16 @@
+//! Laws of linking (docs/LANGUAGE.md, "Start order and ground sets", "Types of a run"). No function here does
+//! anything: what it says is its clause.
+
+ghost use Rattle.wy_sound.specs.Linking.{AcceptedInstancesFit, AcceptedArgumentsFit};
+
+/// Each instance of an accepted program is one of its scope: it has a bound where that is a plain module, and sets of
+/// the program's atoms. The program is the last, and the only one of its kind.
+pub fn accepted_instances_fit()
+    ensures { AcceptedInstancesFit }
+{}
+
+/// In an accepted program each instance is handed, for each own name of its scope, what has the name's type as the
+/// instance reads it, over the types of the run: a grant of the program, or an instance that starts before.
+pub fn accepted_arguments_fit()
+    ensures { AcceptedArgumentsFit }
+{}
