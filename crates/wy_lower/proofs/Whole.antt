@@ -10,7 +10,7 @@ use Rattle.wy_code.proofs.Continuing.{more_steps_continue, few_steps_are_taken}
 use Rattle.wy_code.proofs.Spending.{spent_takes_all}
 use Rattle.wy_meaning.specs.Start.{Course, meaning}
 use Rattle.wy_meaning.specs.Starts.{Starts}
-use Rattle.wy_lower.specs.Correct.{Follows, Compiles}
+use Rattle.wy_lower.specs.Correct.{Compiles, NeverWrong}
 use Rattle.wy_lower.specs.Lowerable.{Lowerable}
 use Rattle.wy_lower.specs.Lowering.{lowered}
 use Rattle.wy_lower.proofs.Beginning.{runs_meant}
@@ -49,7 +49,7 @@ compiles p s ok n k tapes fair = record {
 spent_is_fair : (e : RunEnd) → e ≡ Spent → e ≢ Wrong
 spent_is_fair e h w = cc
 
-pub never_stuck : (p : Program) (s : Starts) → Lowerable p s → ((n : ℕ) (tapes : Tapes) → (meaning n p s tapes).end ≢ Wrong) → NeverStuck (lowered p s)
+pub never_stuck : (p : Program) (s : Starts) → Lowerable p s → NeverWrong p s → NeverStuck (lowered p s)
 never_stuck p s ok fair n k tapes = ⊎_elim
     (λ (lt : k < (meaning n p s tapes).steps). spent_is_fair _ ((compiles p s ok n k tapes (fair n tapes)).cut lt).0)
     (λ (le : (meaning n p s tapes).steps ≤ k). λ e. fair n tapes (sym (ap (λ (r : Ran). r.end) ((compiles p s ok n k tapes (fair n tapes)).whole le)) ∙ e))
