@@ -1,5 +1,5 @@
 -- The code of a body at its addresses, the states that the machine is in there, and single steps from them.
-use Rattle.std.proofs.Common.{◌≡◌, ◌≢◌, ℕ, zero, suc, ◌+◌, ◌<◌, List, [], ◌∷◌, ◌++◌, length, drop, refl, sym, ap, ◌∙◌, subst, arith, append_assoc, append-nil, zero-add, if◌then◌else◌}
+use Rattle.std.proofs.Common.{◌≡◌, ◌≢◌, ℕ, suc, ◌+◌, ◌<◌, List, [], ◌∷◌, ◌++◌, length, drop, refl, sym, ap, ◌∙◌, subst, arith, append_assoc, append-nil, zero-add, if◌then◌else◌}
 use Rattle.std.proofs.lemmas.Bool.{lt-ltb}
 use Rattle.wy_text.specs.declared.fault.Place.{Place}
 use Rattle.wy_device.specs.declared.deed.Event.{Event}
@@ -11,8 +11,8 @@ use Rattle.wy_code.specs.declared.code.Code.{Code}
 use Rattle.wy_code.specs.declared.instruction.Instruction.{Instruction}
 use Rattle.wy_code.specs.declared.instruction.Placed.{Placed}
 use Rattle.wy_code.specs.Stores.{Word, Store, Reply, Replies, Ends as EndsRun}
-use Rattle.wy_code.specs.Machine.{Frame, State, Next, Go, Halt, stuck, push, push_reply, Taken, taken, take_operands, act, act_first, step}
-use Rattle.wy_lower.specs.Listing.{placed, one}
+use Rattle.wy_code.specs.Machine.{Frame, State, Go, stuck, push, push_reply, taken, take_operands, act, act_first, step}
+use Rattle.wy_lower.specs.Listing.{one}
 use Rattle.wy_lower.proofs.Leads.{Leads, Ends, RunsTo, Runs, one_leads, one_ends}
 use Rattle.wy_lower.proofs.Looking.{drop_past}
 
@@ -113,9 +113,10 @@ module _ (x : ℕ) (b : Body) (callers : List Frame) (fine : Value → World →
     answers_to (Stops e) w es q a h st =
         λ ne. subst (λ (k : ℕ). Ends g n t (suc k) es e) (sym h.0) (one_ends g n t e es (st ∙ ap (λ a. push_reply a (state x b callers end slots operands m)) (h.1 ne)))
     answers_to (Gives v) w es q a h st = (
-      record { word = h.1; store = h.2; slots = slots }, h.3,
+      record { word = h.1; store = h.2; slots = slots },
+      h.3,
       subst (λ (k : ℕ). Leads g n t (suc k) es (state x b callers end slots (h.1 ∷ operands) h.2)) (sym h.0)
-      (one_leads g n t _ es (st ∙ ap (λ a. push_reply a (state x b callers end slots operands m)) h.4 ∙ pushes x b callers end slots operands h.2 h.1 es room)),
+          (one_leads g n t _ es (st ∙ ap (λ a. push_reply a (state x b callers end slots operands m)) h.4 ∙ pushes x b callers end slots operands h.2 h.1 es room)),
     )
 
     -- one instruction that pushes what an operation answers

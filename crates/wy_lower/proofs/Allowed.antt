@@ -1,6 +1,6 @@
 -- What is known of a form beforehand: its texts have numbers, its literals are made here alone, and its `val`s are the
 -- body's own and not yet in sight.
-use Rattle.std.proofs.Common.{◌≡◌, ◌⊎◌, inl, inr, ℕ, zero, suc, ◌<◌, ◌≤◌, Bool, true, false, List, [], ◌∷◌, ◌++◌, max, Option, Some, None, refl, sym, ap, ◌∙◌, subst, arith}
+use Rattle.std.proofs.Common.{◌≡◌, inl, inr, ℕ, ◌<◌, Bool, true, false, List, [], ◌∷◌, ◌++◌, Option, Some, None, refl, sym, ◌∙◌, subst, arith}
 use Rattle.std.specs.Prelude.{slice_get}
 use Rattle.wy_effects.specs.Members.{In, Apart}
 use Rattle.wy_effects.proofs.Lists.{In-left, In-right}
@@ -19,7 +19,7 @@ use Rattle.wy_meaning.specs.Starts.{Starts}
 use Rattle.wy_meaning.specs.Eval.{Sight, with_local}
 use Rattle.wy_lower.specs.Inside.{Inside, is_val}
 use Rattle.wy_lower.specs.Lowering.{text_table, inside_maker}
-use Rattle.wy_lower.specs.Operands.{two_operands, operands, value_operands, values_operands, block_operands}
+use Rattle.wy_lower.specs.Operands.{two_operands, operands, value_operands, values_operands}
 use Rattle.wy_lower.specs.Parts.{number_in}
 use Rattle.wy_lower.proofs.Slots.{not_picked, variable_is}
 

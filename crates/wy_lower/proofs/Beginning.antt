@@ -1,13 +1,12 @@
 -- The code of instances, one after the other, and of the program does what the program means.
-use Rattle.std.proofs.Common.{codes, ◌≡◌, ◌≢◌, ◌⊎◌, inl, inr, ℕ, zero, suc, ◌+◌, ◌<◌, ◌≤◌, Bool, true, false, List, [], ◌∷◌, ◌++◌, length, drop, map, replicate, Option, Some, None, refl, sym, ap, ◌∙◌, subst, arith, nat_lt, append_assoc, if◌then◌else◌}
-use Rattle.std.proofs.lemmas.Bool.{lt-ltb, le-ltb, both_ways}
-use Rattle.std.proofs.lemmas.List.{length-replicate, drop_all}
+use Rattle.std.proofs.Common.{codes, ◌≡◌, ◌≢◌, ℕ, suc, ◌+◌, ◌<◌, true, false, List, [], ◌∷◌, ◌++◌, length, drop, map, replicate, Some, None, refl, sym, ap, ◌∙◌, subst, arith, append_assoc, if◌then◌else◌}
+use Rattle.std.proofs.lemmas.Bool.{lt-ltb}
+use Rattle.std.proofs.lemmas.List.{length-replicate}
 use Rattle.std.specs.Prelude.{slice_get}
-use Rattle.wy_effects.specs.Members.{In, Apart}
 use Rattle.wy_types.specs.declared.resolved.ScopeKind.{ScopeKind}
 use Rattle.wy_types.specs.declared.resolved.ScopeKind.TheVariants as kind
 use Rattle.wy_types.specs.Code.{Values, Block}
-use Rattle.wy_types.specs.Core.{ScopeFits, StartIs, StartFits, ProgramIsLast, literal_fields, start_vals, values_vals, block_vals, bodies_vals}
+use Rattle.wy_types.specs.Core.{ScopeFits, StartIs, StartFits, ProgramIsLast, literal_fields, start_vals, bodies_vals}
 use Rattle.wy_types.specs.Program.{Program, Scope, Start, Init, Run}
 use Rattle.wy_device.specs.declared.deed.Event.{Event}
 use Rattle.wy_device.specs.declared.deed.Event.TheVariants.{Enter, Leave}
@@ -20,28 +19,27 @@ use Rattle.wy_meaning.specs.Start.{fill_all, start_of_scope, outside, run_start,
 use Rattle.wy_device.specs.Tapes.{Tapes}
 use Rattle.wy_code.specs.declared.code.Body.{Body}
 use Rattle.wy_code.specs.declared.code.Code.{Code}
-use Rattle.wy_code.specs.declared.code.Instance.{Instance}
 use Rattle.wy_code.specs.declared.instruction.Instruction.TheVariants.{Finish}
 use Rattle.wy_code.specs.Stores as word
 use Rattle.wy_code.specs.Stores.{Word, Store}
-use Rattle.wy_code.specs.Machine.{Frame, State, Next, Go, Halt, stuck, step, all_instances, this_at_start, start_in, begin_body, begin_instance, begin_next}
+use Rattle.wy_code.specs.Machine.{Frame, State, Next, Go, Halt, step, all_instances, this_at_start, start_in, begin_body, begin_instance, begin_next}
 use Rattle.wy_code.specs.Running.{Ran, and_then, enter_first, steps, store_at_first, machine}
 use Rattle.wy_lower.specs.Inside.{Inside}
 use Rattle.wy_lower.specs.Listing.{one, block_listing, fields_listing}
-use Rattle.wy_lower.specs.Lowerable.{Lowerable, IsModuleStarted}
+use Rattle.wy_lower.specs.Lowerable.{Lowerable}
 use Rattle.wy_lower.specs.Lowering.{is_program, inside_start, start_name, start_listing, start_code, instance_code, lowered}
 use Rattle.wy_lower.specs.Operands.{start_operands, fields_operands, block_operands}
-use Rattle.wy_lower.specs.Parts.{start_parts, values_parts, block_parts}
+use Rattle.wy_lower.specs.Parts.{start_parts}
 use Rattle.wy_lower.proofs.Addresses.{Stands, first_stands, rest_stands, One, state, pushed, acts}
 use Rattle.wy_lower.proofs.Allowed.{Allowed, apart_first}
 use Rattle.wy_lower.proofs.Bodies.{start_good, val_is}
 use Rattle.wy_lower.proofs.Calls.{whole_stands, scope_literals, calls_run}
-use Rattle.wy_lower.proofs.Codes.{Coded, coded, in_list}
+use Rattle.wy_lower.proofs.Codes.{coded, in_list}
 use Rattle.wy_lower.proofs.Entering.{instance_holds, program_holds}
 use Rattle.wy_lower.proofs.Forms.{block_runs}
 use Rattle.wy_lower.proofs.Grants.{has_grants}
-use Rattle.wy_lower.proofs.Leads.{Leads, Ends, RunsTo, Runs, leads_ends, one_ends}
-use Rattle.wy_lower.proofs.Looking.{some_is, get_front, get_behind, get_within, get_drop}
+use Rattle.wy_lower.proofs.Leads.{Ends, RunsTo, Runs, leads_ends, one_ends}
+use Rattle.wy_lower.proofs.Looking.{get_front, get_behind, get_within, get_drop}
 use Rattle.wy_lower.proofs.Making.{names_of}
 use Rattle.wy_lower.proofs.Names.{Belongs, length_map}
 use Rattle.wy_lower.proofs.Ready.{Ready, Fine}
@@ -71,11 +69,11 @@ module _ (g : Code) (n : ℕ) where
   unfolding steps
   step_ends s t q es e st h = record {
     by = λ k.
-      let m : suc q + k ≡ suc (q + k) = omega arith in
-      ap (λ (j : ℕ). steps g n j s) m
-      ∙ ap (λ (x : Next). and_then x (steps g n (q + k))) st
-      ∙ entered t (steps g n (q + k))
-      ∙ ap (λ (r : Ran). let x : Ran = record { end = r.end; events = r.events; taken = suc r.taken } in x) (h.by k);
+        let m : suc q + k ≡ suc (q + k) = omega arith in
+        ap (λ (j : ℕ). steps g n j s) m
+        ∙ ap (λ (x : Next). and_then x (steps g n (q + k))) st
+        ∙ entered t (steps g n (q + k))
+        ∙ ap (λ (r : Ran). let x : Ran = record { end = r.end; events = r.events; taken = suc r.taken } in x) (h.by k);
   }
 
   more_ends : (t : Next) (q r : ℕ) (es fs : List Event) (e : RunEnd) → q ≡ r → es ≡ fs → BeginEnds t q es e → BeginEnds t r fs e
@@ -311,9 +309,9 @@ module _ (p : Program) (s : Starts) (ok : Lowerable p s) (n : ℕ) where
       (run_start p s calls x w (start_of_scope (scope_of_instance p s x)))
       (subst (λ (q : Result Value). Runs g n (Fine p s (inside_start p s last.0) x (outside x) w (record m { next = suc x })) (pushed x (start_code p s last.0) [] (code_end x last.0 s.main.scope there stands) []) (first_state x last.0 m) q) (sym (run_start_is x last.0 (Run st.0) w stands st.1)) runs)
       (λ v w1 c f.
-        finishes x last.0 s.main.scope there stands c.slots (c.word ∷ []) c.store
-        ∙ ap (λ (y : ℕ). begin_instance g y (Leave ∷ []) c.store (slice_get (all_instances g) y)) f.ready.later.next
-        ∙ ap (begin_instance g (suc x) (Leave ∷ []) c.store) (none_after x here))
+      finishes x last.0 s.main.scope there stands c.slots (c.word ∷ []) c.store
+      ∙ ap (λ (y : ℕ). begin_instance g y (Leave ∷ []) c.store (slice_get (all_instances g) y)) f.ready.later.next
+      ∙ ap (begin_instance g (suc x) (Leave ∷ []) c.store) (none_after x here))
       fair)
 
   begins : (is : List Started) (x : ℕ) → drop x s.instances ≡ is → x + length is ≡ length s.instances → (w : World) (m : Store) (fs : List Event) → SameWorld p s w m → m.next ≡ x → Unstarted w x (length s.instances) → Begins fs m (begin p s calls x is w)

@@ -1,10 +1,10 @@
 -- What is known beforehand of a program's bodies: their texts have numbers, each makes its literals alone, and their
 -- `val`s are not captured by themselves.
-use Rattle.std.proofs.Common.{◌≡◌, ◌≢◌, ◌⊎◌, inl, inr, ℕ, zero, suc, ◌+◌, Bool, true, false, ◌||◌, List, [], ◌∷◌, ◌++◌, Option, Some, None, refl, sym, ap, ◌∙◌, subst, arith, nat_eq, append_assoc, if◌then◌else◌}
-use Rattle.std.proofs.lemmas.Bool.{eqb-true, eq-eqb, or_cases, both_ways}
+use Rattle.std.proofs.Common.{◌≡◌, ◌⊎◌, inl, inr, ℕ, zero, suc, ◌+◌, Bool, true, false, ◌||◌, List, [], ◌∷◌, ◌++◌, Some, refl, sym, ap, ◌∙◌, subst, arith, nat_eq, append_assoc}
+use Rattle.std.proofs.lemmas.Bool.{eqb-true, eq-eqb, or_cases}
 use Rattle.std.specs.Prelude.{slice_get}
 use Rattle.wy_effects.specs.Members.{In, Apart}
-use Rattle.wy_effects.proofs.Lists.{In-left, In-right, In-cases}
+use Rattle.wy_effects.proofs.Lists.{In-left, In-right}
 use Rattle.wy_types.specs.declared.code.Variable.TheVariants.{Local}
 use Rattle.wy_types.specs.Code.{Expr, Number, Quoted, Truth, Nothing, This, Name, Unary, Binary, TextCall, Call, New, Ascribe, Assign}
 use Rattle.wy_types.specs.Core.{CapturesBefore, literal_captures, block_vals, bodies_vals}
@@ -141,8 +141,8 @@ module _ (p : Program) (st : Starts) (sc : Scope) where
       let split = apart_rest (literals_made_in (start_parts sc.start)) _ (subst (λ m. Apart m) (joined_literals (start_parts sc.start) (bodies_parts sc.bodies)) apart) in
       good_part (inside_body p st sc k b) refl h e (In-right e (start_parts sc.start) (bodies_parts sc.bodies) (body_among sc.bodies k b stands e j))
       (λ l makes.
-        let z : 0 + k ≡ k = omega arith in
-        maker_from l 0 k sc.bodies b split stands (new_makes l e (block_parts b.block) j makes) ∙ ap (λ (y : ℕ). inside_body p st sc y b) z)
+      let z : 0 + k ≡ k = omega arith in
+      maker_from l 0 k sc.bodies b split stands (new_makes l e (block_parts b.block) j makes) ∙ ap (λ (y : ℕ). inside_body p st sc y b) z)
 
   pub start_good : In sc p.scopes → Apart (literals_made sc) → (e : Expr) → In e (start_parts sc.start) → IsGood p st sc (inside_start p st sc) e
   start_good h apart e j =

@@ -1,50 +1,49 @@
 -- The code of methods does what calls on objects mean, however many of them may be open.
-use Rattle.std.proofs.Common.{◌≡◌, ◌≢◌, inl, inr, ℕ, zero, suc, ◌+◌, ◌<◌, ◌≤◌, Bool, true, false, List, [], ◌∷◌, ◌++◌, length, drop, replicate, Option, Some, None, refl, sym, ap, ◌∙◌, subst, arith, nat_eq, nat_lt, append-nil, if◌then◌else◌}
+use Rattle.std.proofs.Common.{◌≡◌, ℕ, zero, suc, ◌+◌, ◌<◌, ◌≤◌, Bool, true, false, List, [], ◌∷◌, ◌++◌, length, replicate, Option, Some, None, refl, sym, ap, ◌∙◌, subst, arith, nat_eq, append-nil, if◌then◌else◌}
 use Rattle.std.proofs.lemmas.Bool.{eqb-true, eq-eqb, lt-ltb, le-ltb}
 use Rattle.std.proofs.lemmas.List.{drop_all}
 use Rattle.std.specs.Prelude.{slice_get}
 use Rattle.wy_effects.specs.Members.{In}
 use Rattle.wy_text.specs.declared.fault.Place.{Place}
-use Rattle.wy_types.specs.declared.code.Variable.{Variable}
 use Rattle.wy_types.specs.declared.code.Variable.TheVariants.{Parameter, Local}
 use Rattle.wy_types.specs.declared.resolved.Literal.{Literal}
-use Rattle.wy_types.specs.Core.{ScopeFits, HasParameter, literal_captures, block_vals, bodies_vals, start_vals}
+use Rattle.wy_types.specs.Core.{ScopeFits, literal_captures, block_vals, start_vals}
 use Rattle.wy_types.specs.Program.{Program, Scope, Body as Method}
 use Rattle.wy_device.specs.declared.deed.Event.{Event}
 use Rattle.wy_device.specs.declared.deed.Event.TheVariants.{Enter, Leave}
 use Rattle.wy_device.specs.RunEnds.{TooDeep, Wrong}
-use Rattle.wy_meaning.specs.Values.{Value, Thing, World, value_named}
+use Rattle.wy_meaning.specs.Values.{Value, Thing, World}
 use Rattle.wy_meaning.specs.Starts.{Starts, scope_of_instance}
 use Rattle.wy_meaning.specs.Eval as eval
 use Rattle.wy_meaning.specs.Eval.{Sight, Calls, method_in, parameters, body_text, instance_name, called, called_on, open_calls, eval_block}
-use Rattle.wy_meaning.specs.Results.{Result, give, stop, node, tick, told, bind, whole}
+use Rattle.wy_meaning.specs.Results.{Result, give, stop, tick, told, whole}
 use Rattle.wy_code.specs.declared.code.Body.{Body}
 use Rattle.wy_code.specs.declared.code.Code.{Code}
 use Rattle.wy_code.specs.declared.instruction.Instruction.TheVariants.{Return, Call}
 use Rattle.wy_code.specs.declared.instruction.Placed.{Placed}
 use Rattle.wy_code.specs.Stores as word
 use Rattle.wy_code.specs.Stores.{Word, Store}
-use Rattle.wy_code.specs.Machine.{Frame, State, Next, Go, Halt, stuck, on_taken, pop, call_on, enter_method, enter_body, frame_at_first, literal_of, method_of_literal, name_in, all_instances, step}
+use Rattle.wy_code.specs.Machine.{Frame, State, Go, Halt, stuck, on_taken, pop, call_on, enter_method, enter_body, literal_of, method_of_literal, name_in, all_instances, step}
 use Rattle.wy_lower.specs.Inside.{Inside, capture_sources}
 use Rattle.wy_lower.specs.Listing.{one, block_listing}
 use Rattle.wy_lower.specs.Lowerable.{Lowerable}
 use Rattle.wy_lower.specs.Lowering.{method_table, inside_body, body_code, lowered}
 use Rattle.wy_lower.specs.Operands.{block_operands}
 use Rattle.wy_lower.specs.Parts.{block_parts, number_in}
-use Rattle.wy_lower.proofs.Addresses.{Stands, first_stands, rest_stands, state, pushed, pile, takes, acts, One}
+use Rattle.wy_lower.proofs.Addresses.{Stands, first_stands, rest_stands, state, pushed, pile, takes, acts}
 use Rattle.wy_lower.proofs.Allowed.{Allowed}
 use Rattle.wy_lower.proofs.Bodies.{body_good, val_is, OwnVals, own_vals}
-use Rattle.wy_lower.proofs.Codes.{ScopeCoded, scope_coded, made_literal, method_coded, found_method, in_list}
+use Rattle.wy_lower.proofs.Codes.{scope_coded, made_literal, method_coded, found_method, in_list}
 use Rattle.wy_lower.proofs.Entering.{not_named, past_parameters, method_holds}
 use Rattle.wy_lower.proofs.Forms.{HasLiterals, block_runs}
 use Rattle.wy_lower.proofs.Grants.{has_grants}
-use Rattle.wy_lower.proofs.Leads.{Runs, give_runs, node_runs, told_runs, bind_runs, halt_runs, wrong_step_runs}
+use Rattle.wy_lower.proofs.Leads.{give_runs, node_runs, told_runs, bind_runs, halt_runs, wrong_step_runs}
 use Rattle.wy_lower.proofs.Looking.{some_is, there}
 use Rattle.wy_lower.proofs.Making.{names_of}
 use Rattle.wy_lower.proofs.Names.{Belongs}
 use Rattle.wy_lower.proofs.Ready.{Ready, Fine, ready_after}
-use Rattle.wy_lower.proofs.Relation.{SameAll, all_count, SameThing, later_itself}
-use Rattle.wy_lower.proofs.Steps.{Does, CallsRun, HasGrants}
+use Rattle.wy_lower.proofs.Relation.{SameAll, all_count, later_itself}
+use Rattle.wy_lower.proofs.Steps.{Does, CallsRun}
 
 -- the instructions of a body stand from its first address on
 pub whole_stands : (b : Body) (xs : List Placed) → b.instructions ≡ xs → Stands b 0 xs (length b.instructions)
@@ -54,8 +53,8 @@ module _ (p : Program) (s : Starts) (ok : Lowerable p s) where
   pub scope_literals : (sc : Scope) (i : Inside) (x : ℕ) → scope_of_instance p s x ≡ Some sc → HasLiterals p s sc i x
   scope_literals sc i x stands = record {
     by = λ l h made literal e.
-      let y = made_literal p s x sc stands l h literal e in
-      (y.0, y.1, y.2 ∙ ap (λ j. capture_sources j literal.captures) made, y.3);
+        let y = made_literal p s x sc stands l h literal e in
+        (y.0, y.1, y.2 ∙ ap (λ j. capture_sources j literal.captures) made, y.3);
   }
 
   -- a method of an object, in the scope of the object's instance
@@ -99,8 +98,8 @@ module _ (p : Program) (s : Starts) (ok : Lowerable p s) where
           own = λ n j. val_is n (block_vals b.block) j;
           apart = vals.apart;
           fresh = λ n j.
-            past_parameters k o.captured (Local n) 0 vs (λ m. refl)
-            ∙ not_named o.captured (Local n) (λ i. vals.not_captured n (subst (λ l. In (Local n) l) method_names i) j);
+              past_parameters k o.captured (Local n) 0 vs (λ m. refl)
+              ∙ not_named o.captured (Local n) (λ i. vals.not_captured n (subst (λ l. In (Local n) l) method_names i) j);
         }
 
 -- the literal of a method is there
@@ -112,8 +111,8 @@ literal_there p s ok o sc stands name y found =
     there sc.literals o.literal (subst (λ (l : ℕ). l < length sc.literals) m.2 fits.0)
 
 module _ (p : Program) (s : Starts) (ok : Lowerable p s) (n d : ℕ) (calls : Calls) (run : CallsRun p s n d calls) (i : Inside) (x : ℕ) (sight : Sight) (w0 : World) (m0 : Store) (b : Body) (callers : List Frame) (at end : ℕ) (stack : List Word) (w : World) (m : Store) (slots : List Word)
-  (r : Ready p s i x sight w0 m0 w m slots) (deep : suc d + length callers ≡ n) (place : Place) (a : ℕ) (name : List ℕ) (k : ℕ) (vs : List Value) (zs : List Word) (same : SameAll m.texts vs zs) (many : length zs ≡ k)
-  (code : Stands b at (one place (Call (number_in (method_table p) name) k)) end) where
+    (r : Ready p s i x sight w0 m0 w m slots) (deep : suc d + length callers ≡ n) (place : Place) (a : ℕ) (name : List ℕ) (k : ℕ) (vs : List Value) (zs : List Word) (same : SameAll m.texts vs zs) (many : length zs ≡ k)
+    (code : Stands b at (one place (Call (number_in (method_table p) name) k)) end) where
   abbrev g : Code
   g = lowered p s
 
@@ -132,7 +131,7 @@ module _ (p : Program) (s : Starts) (ok : Lowerable p s) (n d : ℕ) (calls : Ca
       ∙ ap (λ c. if c then enter_method g a (number_in (method_table p) name) zs S (slice_get m.objects a) else Halt TooDeep []) (lt-ltb (length callers) n l)
 
   module _ (o : Thing) (is : slice_get w.objects a ≡ Some o) (y : eval.Method) (sc : Scope) (stands : scope_of_instance p s o.instance ≡ Some sc) (found : method_in (Some sc) o.literal name ≡ Some y) (full : length vs ≡ length y.body.signature.params)
-    (names : names_of o.captured ≡ literal_captures (slice_get sc.literals o.literal)) (item : word.Thing) (item_is : slice_get m.objects a ≡ Some item) (instance : item.instance ≡ o.instance) (literal : item.literal ≡ o.literal) (kind : Literal) (has_kind : slice_get sc.literals o.literal ≡ Some kind) where
+      (names : names_of o.captured ≡ literal_captures (slice_get sc.literals o.literal)) (item : word.Thing) (item_is : slice_get m.objects a ≡ Some item) (instance : item.instance ≡ o.instance) (literal : item.literal ≡ o.literal) (kind : Literal) (has_kind : slice_get sc.literals o.literal ≡ Some kind) where
     abbrev body : Body
     body = body_code p s sc y.number y.body
 
@@ -192,10 +191,10 @@ module _ (p : Program) (s : Starts) (ok : Lowerable p s) (n d : ℕ) (calls : Ca
         (block_runs p s ok (has_grants p s ok) n d calls run sc inner o.instance (method_belongs p s ok sc o stands names y.number y.body c.0 c.1) (scope_literals p s ok sc inner o.instance stands) (Some y.body.owner) body (S.frame ∷ callers) deeper
         y.body.block inner_sight _ fits.1 (method_allowed p s ok sc o stands names y.number y.body c.0 c.1 a vs) 0 code_end (first_stands body 0 _ (one y.body.place Return) _ body_stands) w m w m first_slots (method_ready c.1 c.0) [] room)
         (λ v w1 t q.
-          told_runs g n (Fine p s i x sight w0 m0) (pushed x b callers end stack) _ (state x b callers end slots (t.word ∷ stack) t.store) Leave (give v w1)
-          (acts o.instance body (S.frame ∷ callers) g n code_end y.body.place Return _ t.slots (t.word ∷ []) t.store (rest_stands body 0 _ (one y.body.place Return) _ body_stands))
-          (give_runs g n (Fine p s i x sight w0 m0) (pushed x b callers end stack) v w1 (record { word = t.word; store = t.store; slots = slots })
-          (record { same = q.same; ready = ready_after p s i x sight w0 m0 w m w1 t.store slots r q.ready.world q.ready.later })))))
+        told_runs g n (Fine p s i x sight w0 m0) (pushed x b callers end stack) _ (state x b callers end slots (t.word ∷ stack) t.store) Leave (give v w1)
+        (acts o.instance body (S.frame ∷ callers) g n code_end y.body.place Return _ t.slots (t.word ∷ []) t.store (rest_stands body 0 _ (one y.body.place Return) _ body_stands))
+        (give_runs g n (Fine p s i x sight w0 m0) (pushed x b callers end stack) v w1 (record { word = t.word; store = t.store; slots = slots })
+        (record { same = q.same; ready = ready_after p s i x sight w0 m0 w m w1 t.store slots r q.ready.world q.ready.later })))))
 
   abbrev Goal : Result Value → Type 0
   Goal q = Does p s i x sight w0 m0 g n b callers end stack T (tick q)
@@ -231,12 +230,12 @@ module _ (p : Program) (s : Starts) (ok : Lowerable p s) (n : ℕ) where
   unfolding open_calls
   calls_run zero = record {
     by = λ i x sight w0 m0 b callers at end stack w m slots r deep place a name k vs zs same many code.
-      halt_runs (lowered p s) n (Fine p s i x sight w0 m0) (pushed x b callers end stack) _ TooDeep w
-      (acts x b callers (lowered p s) n at place _ end slots (pile zs (word.Object a ∷ stack)) m code
-      ∙ ap (λ t. on_taken t (state x b callers end slots (pile zs (word.Object a ∷ stack)) m) (λ us u. pop u (λ v u. call_on (lowered p s) n place (number_in (method_table p) name) us v u))) (takes zs (word.Object a ∷ stack) k many)
-      ∙ ap (λ c. if c then enter_method (lowered p s) a (number_in (method_table p) name) zs (state x b callers end slots stack m) (slice_get m.objects a) else Halt TooDeep []) (le-ltb (length callers) n (omega arith)));
+        halt_runs (lowered p s) n (Fine p s i x sight w0 m0) (pushed x b callers end stack) _ TooDeep w
+        (acts x b callers (lowered p s) n at place _ end slots (pile zs (word.Object a ∷ stack)) m code
+        ∙ ap (λ t. on_taken t (state x b callers end slots (pile zs (word.Object a ∷ stack)) m) (λ us u. pop u (λ v u. call_on (lowered p s) n place (number_in (method_table p) name) us v u))) (takes zs (word.Object a ∷ stack) k many)
+        ∙ ap (λ c. if c then enter_method (lowered p s) a (number_in (method_table p) name) zs (state x b callers end slots stack m) (slice_get m.objects a) else Halt TooDeep []) (le-ltb (length callers) n (omega arith)));
   }
   calls_run (suc d) = let run = calls_run d in record {
     by = λ i x sight w0 m0 b callers at end stack w m slots r deep place a name k vs zs same many code.
-      call_runs p s ok n d (open_calls p s d) run i x sight w0 m0 b callers at end stack w m slots r deep place a name k vs zs same many code;
+        call_runs p s ok n d (open_calls p s d) run i x sight w0 m0 b callers at end stack w m slots r deep place a name k vs zs same many code;
   }

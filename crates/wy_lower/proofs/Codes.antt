@@ -1,45 +1,25 @@
 -- Where the code of a program has the scopes of instances, their literals, the methods of objects, and grants.
-use Rattle.std.proofs.Common.{codes, ◌≡◌, ◌⊎◌, inl, inr, ℕ, zero, suc, ◌+◌, ◌<◌, Bool, true, false, ◌&&◌, List, [], ◌∷◌, ◌++◌, length, map, take, Option, Some, None, refl, sym, ap, ◌∙◌, subst, arith, nat_eq, bytes_eq, if◌then◌else◌}
+use Rattle.std.proofs.Common.{◌≡◌, inl, inr, ℕ, zero, suc, ◌+◌, ◌<◌, Bool, true, false, ◌&&◌, List, [], ◌∷◌, ◌++◌, length, map, Option, Some, None, refl, sym, ap, ◌∙◌, subst, arith, nat_eq, bytes_eq, if◌then◌else◌}
 use Rattle.std.proofs.lemmas.Bool.{eqb-true, eq-eqb, ne_eqb, and_parts, both_ways}
 use Rattle.std.proofs.lemmas.Slice.Eq.{bytes_eq-Decides}
 use Rattle.std.specs.Prelude.{slice_get}
 use Rattle.wy_effects.specs.Members.{In}
 use Rattle.wy_effects.proofs.Lists.{In-left, In-right}
-use Rattle.wy_types.specs.declared.types.TypeRef.{TypeRef}
-use Rattle.wy_types.specs.declared.types.TypeRef.TheVariants.{Int, Bool as Truth, Text, Unit as Nothing, Named, At, Own}
-use Rattle.wy_types.specs.declared.types.Method as method
-use Rattle.wy_types.specs.declared.resolved.TypeDecl.{TypeDecl}
-use Rattle.wy_types.specs.declared.resolved.OwnName.{OwnName}
-use Rattle.wy_types.specs.declared.resolved.Origin.{Origin}
-use Rattle.wy_types.specs.declared.resolved.Origin.TheVariants as origin
 use Rattle.wy_types.specs.declared.resolved.Literal.{Literal}
-use Rattle.wy_types.specs.Core.{IsCore, IsPrimitive, ScopeFits}
-use Rattle.wy_types.specs.Primitive.{primitive_types}
 use Rattle.wy_types.specs.Program.{Program, Scope, Body}
-use Rattle.wy_device.specs.Operation.{method_text}
-use Rattle.wy_device.specs.Requests.{operations_of, operation_called, operation_given, operation_of}
-use Rattle.wy_device.specs.declared.operation.Kind.{Kind}
-use Rattle.wy_device.specs.declared.operation.Op.{Op}
-use Rattle.wy_device.specs.declared.operation.OpName.{OpName}
-use Rattle.wy_device.specs.declared.operation.OpName.TheVariants as name
 use Rattle.wy_meaning.specs.Starts.{Started, Starts, all_started, scope_started, scope_of_instance}
 use Rattle.wy_meaning.specs.Eval.{Method, find_body, method_in, started_name, instance_name}
-use Rattle.wy_code.specs.declared.code.Code.{Code}
-use Rattle.wy_code.specs.declared.code.Grant as g
 use Rattle.wy_code.specs.declared.code.Instance as x
 use Rattle.wy_code.specs.declared.code.Literal as item
-use Rattle.wy_code.specs.declared.code.Scope as s
 use Rattle.wy_code.specs.Machine.{all_instances, scope_in, literal_of_scope, literal_of, name_in, body_called, body_numbered, method_of_literal}
 use Rattle.wy_lower.specs.Inside.{capture_sources}
 use Rattle.wy_lower.specs.Laws.{Stands}
-use Rattle.wy_lower.specs.Lowerable.{Lowerable, GrantsStandFirst}
-use Rattle.wy_lower.specs.Lowering.{declared_names, written_names, method_table, body_code, methods_code, inside_maker, captures_code, literals_code, grant_code, grants_code, instance_code, lowered}
+use Rattle.wy_lower.specs.Lowering.{declared_names, written_names, method_table, body_code, methods_code, inside_maker, captures_code, literals_code, instance_code, lowered}
 use Rattle.wy_lower.specs.Parts.{number_in}
 use Rattle.wy_lower.proofs.Looking.{some_is}
 use Rattle.wy_lower.proofs.Numbers.{has_method_names}
 use Rattle.wy_lower.proofs.Slots.{picked, not_picked}
 use Rattle.wy_lower.proofs.Standing.{bodies_stand}
-use Rattle.wy_lower.proofs.Steps.{HasGrants}
 
 pub in_list : {X : Type 0} (xs : List X) (k : ℕ) (x : X) → slice_get xs k ≡ Some x → In x xs
 in_list [] k x e = absurd cc
@@ -149,8 +129,8 @@ module _ (p : Program) (st : Starts) where
   numbers_differ : (a b : List ℕ) → HasNumber a → HasNumber b → bytes_eq a b ≡ false → nat_eq (number_in (method_table p) a) (number_in (method_table p) b) ≡ false
   numbers_differ a b h k e =
       ne_eqb (number_in (method_table p) a) (number_in (method_table p) b) (λ same.
-        let z : a ≡ b = some_is (sym h ∙ (ap (slice_get (method_table p)) same ∙ k)) in
-        both_ways (bytes_eq a b) e ((bytes_eq-Decides a b).1 z))
+      let z : a ≡ b = some_is (sym h ∙ (ap (slice_get (method_table p)) same ∙ k)) in
+      both_ways (bytes_eq a b) e ((bytes_eq-Decides a b).1 z))
 
   called_from : (k l : ℕ) (name : List ℕ) (bodies : List Body) (first : ℕ) (m : Method) → ((b : Body) → In b bodies → HasNumber b.signature.name) → HasNumber name → find_body k l name bodies ≡ Some m → Called k l name bodies first m
   called_from k l name [] first m all h e = absurd cc
@@ -224,9 +204,12 @@ module _ (p : Program) (st : Starts) where
       let h : HasNumber name = subst (λ (t : List ℕ). HasNumber t) n.2 (all n.0 n.1) in
       let r = called_from 0 l name sc.bodies (c.stands.first + 1) m all h f in
       let z : r.offset ≡ m.number = omega (arith, r.number) in
-      let is : slice_get sc.bodies m.number ≡ Some m.body = ap (slice_get sc.bodies) (sym z) ∙ r.is in
-      (is, r.owner, r.named,
-      ap (λ o. method_of_literal (lowered p st) o (number_in (method_table p) name)) (literal_is k sc c l literal e)
-      ∙ ap (body_numbered (lowered p st)) r.coded
-      ∙ ap (λ (j : ℕ). slice_get (lowered p st).bodies (c.stands.first + 1 + j)) z
-      ∙ c.stands.bodies m.number m.body is)
+      let is : slice_get sc.bodies m.number ≡ Some m.body = ap (slice_get sc.bodies) (sym z) ∙ r.is in (
+        is,
+        r.owner,
+        r.named,
+        ap (λ o. method_of_literal (lowered p st) o (number_in (method_table p) name)) (literal_is k sc c l literal e)
+            ∙ ap (body_numbered (lowered p st)) r.coded
+            ∙ ap (λ (j : ℕ). slice_get (lowered p st).bodies (c.stands.first + 1 + j)) z
+            ∙ c.stands.bodies m.number m.body is,
+      )

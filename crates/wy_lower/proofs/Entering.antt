@@ -1,6 +1,6 @@
 -- The slots of a body that begins: the current object, the arguments, and room for the `val`s.
-use Rattle.std.proofs.Common.{◌≡◌, ◌≢◌, ◌⊎◌, inl, inr, ℕ, zero, suc, ◌+◌, ◌<◌, ◌≤◌, Bool, true, false, ◌&&◌, ◌==◌, List, [], ◌∷◌, ◌++◌, length, length-append, map, replicate, Option, Some, None, refl, sym, ap, ◌∙◌, subst, arith}
-use Rattle.std.proofs.lemmas.Bool.{eqb-true, eq-eqb, ne_eqb, and_left, both_ways, cases_eq, cases_lt}
+use Rattle.std.proofs.Common.{◌≡◌, ◌⊎◌, inl, inr, ℕ, suc, ◌+◌, ◌<◌, ◌≤◌, Bool, true, false, ◌&&◌, ◌==◌, List, [], ◌∷◌, ◌++◌, length, length-append, replicate, Option, Some, None, refl, sym, ap, ◌∙◌, subst, arith}
+use Rattle.std.proofs.lemmas.Bool.{eqb-true, eq-eqb, ne_eqb, and_left, both_ways, cases_eq}
 use Rattle.std.proofs.lemmas.List.{length-replicate}
 use Rattle.std.specs.Prelude.{slice_get}
 use Rattle.wy_effects.specs.Members.{In}
@@ -11,12 +11,12 @@ use Rattle.wy_meaning.specs.Eval.{Sight, parameters}
 use Rattle.wy_meaning.specs.Start.{outside}
 use Rattle.wy_code.specs.Stores as word
 use Rattle.wy_code.specs.Stores.{Word, Store}
-use Rattle.wy_lower.specs.Inside.{Inside, is_val, is_number, is_own, slot_of}
+use Rattle.wy_lower.specs.Inside.{Inside, is_number, is_own, slot_of}
 use Rattle.wy_lower.proofs.Bodies.{is_among_vals}
 use Rattle.wy_lower.proofs.Looking.{some_is, get_front, get_within}
 use Rattle.wy_lower.proofs.Making.{names_of}
-use Rattle.wy_lower.proofs.Relation.{Same, SameAll, all_count, all_found, Found}
-use Rattle.wy_lower.proofs.Slots.{picked, not_picked, variable_is, seen_of, SeenOf, newest, older, Self, Alone, Holds}
+use Rattle.wy_lower.proofs.Relation.{SameAll, all_count, all_found, Found}
+use Rattle.wy_lower.proofs.Slots.{not_picked, seen_of, SeenOf, newest, older, Holds}
 
 -- a variable that is in sight has a name among those that were captured
 pub named_there : (c : Named) (y : Variable) (v : Value) → value_named c y ≡ Some v → In y (names_of c)
@@ -78,8 +78,8 @@ is_numbered : (i : Inside) (k : ℕ) → i.number ≡ Some k → is_number k i.n
 is_numbered i k e = ap (is_number k) e ∙ eq-eqb k k refl
 
 module _ (i : Inside) (x k : ℕ) (numbered : i.number ≡ Some k) (t : List (List ℕ)) (w : World) (a : ℕ) (o : Thing) (is : slice_get w.objects a ≡ Some o) (instance : o.instance ≡ x)
-  (names : names_of o.captured ≡ i.captures) (own_vals : (n : ℕ) → In (Local n) i.captures → In n i.vals → ⊥) (own_parameters : (j : ℕ) → In (Parameter k j) i.captures → j < i.parameters)
-  (vs : List Value) (zs : List Word) (same : SameAll t vs zs) (count : length vs ≡ i.parameters) where
+    (names : names_of o.captured ≡ i.captures) (own_vals : (n : ℕ) → In (Local n) i.captures → In n i.vals → ⊥) (own_parameters : (j : ℕ) → In (Parameter k j) i.captures → j < i.parameters)
+    (vs : List Value) (zs : List Word) (same : SameAll t vs zs) (count : length vs ≡ i.parameters) where
   abbrev sight : Sight
   sight = record { instance = x; this = Some a; variables = parameters k 0 vs ++ o.captured }
 
@@ -118,10 +118,10 @@ module _ (i : Inside) (x k : ℕ) (numbered : i.number ≡ Some k) (t : List (Li
   method_holds = record {
     instance = refl;
     long =
-      let c = all_count t vs zs same in
-      let l = length-append zs (replicate (length i.vals) word.Nothing) in
-      let r = length-replicate (length i.vals) word.Nothing in
-      omega (arith, count);
+        let c = all_count t vs zs same in
+        let l = length-append zs (replicate (length i.vals) word.Nothing) in
+        let r = length-replicate (length i.vals) word.Nothing in
+        omega (arith, count);
     held = own_found;
     few = few_parameters;
     self = inl (record {

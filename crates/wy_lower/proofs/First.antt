@@ -1,19 +1,16 @@
 -- The first world and the first store correspond.
-use Rattle.std.proofs.Common.{◌≡◌, ℕ, zero, suc, ◌+◌, ◌<◌, ◌≤◌, Bool, true, false, List, [], ◌∷◌, ◌++◌, length, length-append, map, replicate, Option, Some, None, option_map, refl, sym, ap, ◌∙◌, subst, arith, if◌then◌else◌}
+use Rattle.std.proofs.Common.{◌≡◌, ℕ, zero, suc, ◌+◌, ◌<◌, List, [], ◌∷◌, length, length-append, map, replicate, Some, refl, sym, ap, ◌∙◌, subst, arith}
 use Rattle.std.proofs.lemmas.List.{length-replicate}
-use Rattle.std.proofs.lemmas.Option.{slice_get-map}
 use Rattle.std.specs.Prelude.{slice_get}
 use Rattle.wy_types.specs.declared.linked.Actual.{Actual}
 use Rattle.wy_types.specs.declared.linked.Actual.TheVariants as actual
-use Rattle.wy_types.specs.declared.resolved.Literal.{Literal}
-use Rattle.wy_types.specs.Core.{ScopeFits, literal_fields}
-use Rattle.wy_types.specs.Program.{Program, Scope}
+use Rattle.wy_types.specs.Core.{literal_fields}
+use Rattle.wy_types.specs.Program.{Program}
 use Rattle.wy_device.specs.Tapes.{Tapes}
-use Rattle.wy_meaning.specs.Values.{Thing, World}
+use Rattle.wy_meaning.specs.Values.{Thing}
 use Rattle.wy_meaning.specs.Starts.{Started, Starts, all_started, actual_in, scope_started, scope_of_instance}
 use Rattle.wy_meaning.specs.Start.{objects_at_first, world_at_first}
 use Rattle.wy_code.specs.declared.code.Code.{Code}
-use Rattle.wy_code.specs.declared.code.Instance.{Instance}
 use Rattle.wy_code.specs.Stores as word
 use Rattle.wy_code.specs.Stores.{Word, Store}
 use Rattle.wy_code.specs.Running as code
@@ -21,12 +18,12 @@ use Rattle.wy_code.specs.Running.{field_count, store_at_first}
 use Rattle.wy_code.specs.Machine.{literal_of_scope, scope_in}
 use Rattle.wy_lower.specs.Lowerable.{Lowerable, IsModuleStarted}
 use Rattle.wy_lower.specs.Lowering.{is_program, text_table, argument_of, instance_code, lowered}
-use Rattle.wy_lower.proofs.Codes.{ScopeCoded, scope_coded, literal_is, literal_code, in_list}
+use Rattle.wy_lower.proofs.Codes.{scope_coded, literal_is, in_list}
 use Rattle.wy_lower.proofs.Looking.{some_is, get_front, get_within, there}
 use Rattle.wy_lower.proofs.Names.{length_map}
-use Rattle.wy_lower.proofs.Relation.{Grows, grows_refl, own_count, word_handed, SameThing, FoundThing, SameWorld}
+use Rattle.wy_lower.proofs.Relation.{grows_refl, own_count, word_handed, SameThing, FoundThing, SameWorld}
 use Rattle.wy_lower.proofs.Slots.{not_picked}
-use Rattle.wy_lower.proofs.Starting.{HasFields, Unstarted}
+use Rattle.wy_lower.proofs.Starting.{Unstarted}
 
 abbrev pub instance_object : ℕ → Thing
 instance_object x = record { instance = x; literal = 0; captured = []; fields = [] }
@@ -102,19 +99,19 @@ module _ (p : Program) (s : Starts) (ok : Lowerable p s) where
       stands = instance_stands;
       names = sym (ok.bare i.scope module_started.scope module_started.stands);
       own = λ kind k a e.
-        let f : slice_get i.actuals k ≡ Some a = sym (ap (λ o. actual_in o k) started) ∙ e in
-        let l = get_within i.actuals k a f in
-        let c : own_count module_started.scope ≡ length module_started.scope.names = not_picked (is_program module_started.scope.kind) 0 (length module_started.scope.names) kind in
-        (omega (arith, module_started.handed), get_front _ _ k _ (handed_words i.actuals k a f));
+          let f : slice_get i.actuals k ≡ Some a = sym (ap (λ o. actual_in o k) started) ∙ e in
+          let l = get_within i.actuals k a f in
+          let c : own_count module_started.scope ≡ length module_started.scope.names = not_picked (is_program module_started.scope.kind) 0 (length module_started.scope.names) kind in
+          (omega (arith, module_started.handed), get_front _ _ k _ (handed_words i.actuals k a f));
       caught = λ k c e. absurd cc;
       fields = λ k v e. absurd cc;
       long =
-        let c : own_count module_started.scope ≡ length module_started.scope.names = not_picked (is_program module_started.scope.kind) 0 (length module_started.scope.names) module_started.is_module in
-        let a = length-append (map code.word_handed (map argument_of i.actuals)) (replicate (field_count (literal_of_scope (scope_in (lowered p s) (Some (instance_code i))) 0)) word.Nothing) in
-        let b = length_map code.word_handed (map argument_of i.actuals) in
-        let d = length_map argument_of i.actuals in
-        let e = length-replicate (field_count (literal_of_scope (scope_in (lowered p s) (Some (instance_code i))) 0)) word.Nothing in
-        omega (arith, module_started.handed, fields_counted);
+          let c : own_count module_started.scope ≡ length module_started.scope.names = not_picked (is_program module_started.scope.kind) 0 (length module_started.scope.names) module_started.is_module in
+          let a = length-append (map code.word_handed (map argument_of i.actuals)) (replicate (field_count (literal_of_scope (scope_in (lowered p s) (Some (instance_code i))) 0)) word.Nothing) in
+          let b = length_map code.word_handed (map argument_of i.actuals) in
+          let d = length_map argument_of i.actuals in
+          let e = length-replicate (field_count (literal_of_scope (scope_in (lowered p s) (Some (instance_code i))) 0)) word.Nothing in
+          omega (arith, module_started.handed, fields_counted);
     }
 
   abbrev first_store : Tapes → Store
@@ -146,6 +143,6 @@ module _ (p : Program) (s : Starts) (ok : Lowerable p s) where
   pub first_unstarted : (tapes : Tapes) → Unstarted (world_at_first s tapes) 0 (length s.instances)
   first_unstarted tapes = record {
     by = λ y a b.
-      let z : 0 + y ≡ y = omega arith in
-      record { thing = instance_object y; is = object_there 0 s.instances y b ∙ ap (λ (q : ℕ). Some (instance_object q)) z; instance = refl; literal = refl; captured = refl; fields = refl };
+        let z : 0 + y ≡ y = omega arith in
+        record { thing = instance_object y; is = object_there 0 s.instances y b ∙ ap (λ (q : ℕ). Some (instance_object q)) z; instance = refl; literal = refl; captured = refl; fields = refl };
   }

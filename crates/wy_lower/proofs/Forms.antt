@@ -1,24 +1,21 @@
 -- The code of each form does what the form means.
-use Rattle.std.proofs.Common.{◌≡◌, ◌≢◌, inl, inr, ℕ, zero, suc, ◌+◌, ◌<◌, ◌≤◌, max, Bool, true, false, List, [], ◌∷◌, ◌++◌, length, drop, Option, Some, None, refl, sym, ap, ◌∙◌, subst, arith, if◌then◌else◌}
+use Rattle.std.proofs.Common.{◌≡◌, inl, ℕ, suc, ◌+◌, ◌<◌, ◌≤◌, true, false, List, [], ◌∷◌, ◌++◌, length, drop, Option, Some, None, refl, sym, ap, ◌∙◌, subst, arith, if◌then◌else◌}
 use Rattle.std.proofs.lemmas.Bool.{lt-ltb}
 use Rattle.std.specs.Prelude.{slice_get, slice_set}
-use Rattle.wy_effects.specs.Members.{In}
 use Rattle.wy_text.specs.declared.fault.Place.{Place}
 use Rattle.wy_types.specs.declared.code.Variable.{Variable}
 use Rattle.wy_types.specs.declared.code.Variable.TheVariants.{Local}
-use Rattle.wy_types.specs.declared.code.Binding.{Binding}
 use Rattle.wy_types.specs.declared.code.BinaryOperator.{BinaryOperator}
 use Rattle.wy_types.specs.declared.code.BinaryOperator.TheVariants as binary
 use Rattle.wy_types.specs.declared.resolved.Literal.{Literal}
 use Rattle.wy_types.specs.Code as code
 use Rattle.wy_types.specs.Code.{Expr, Number, Quoted, Truth as TruthOf, Nothing as NothingOf, This, Name, Unary, Binary, TextCall, Call, New, Ascribe, Assign, Plain, If, Values, none, more, Block, Last, Then, Val}
-use Rattle.wy_types.specs.Core.{value_count, text_arity, ExprFits, ValueFits, ValuesFit, BlockFits, expr_vals, value_vals, values_vals, block_vals}
+use Rattle.wy_types.specs.Core.{value_count, ExprFits, ValueFits, ValuesFit, BlockFits, expr_vals, value_vals, values_vals, block_vals}
 use Rattle.wy_types.specs.Program.{Program, Scope}
 use Rattle.wy_meaning.specs.Values.{Value, Int, Truth, Nothing, Text, World, value_named}
 use Rattle.wy_meaning.specs.Starts.{Starts}
-use Rattle.wy_meaning.specs.Eval.{Sight, Calls, with_local, assigned, choose, go_on, eval, eval_value, eval_all, eval_block}
-use Rattle.wy_meaning.specs.Operating.{binary_operator}
-use Rattle.wy_meaning.specs.Results.{Result, give, tick, settle, bind}
+use Rattle.wy_meaning.specs.Eval.{Sight, Calls, with_local, go_on, eval, eval_value, eval_all, eval_block}
+use Rattle.wy_meaning.specs.Results.{Result, give}
 use Rattle.wy_code.specs.declared.code.Body.{Body}
 use Rattle.wy_code.specs.declared.code.Code.{Code}
 use Rattle.wy_code.specs.declared.code.Literal as item
@@ -27,23 +24,23 @@ use Rattle.wy_code.specs.declared.instruction.Instruction.TheVariants.{Push, Set
 use Rattle.wy_code.specs.declared.instruction.Placed.{Placed}
 use Rattle.wy_code.specs.Stores as word
 use Rattle.wy_code.specs.Stores.{Word, Store}
-use Rattle.wy_code.specs.Machine.{Frame, State, Next, Go, stuck, literal_of, step}
+use Rattle.wy_code.specs.Machine.{Frame, Go, stuck, literal_of}
 use Rattle.wy_lower.specs.Inside.{Inside, is_val, val_slot, assigned_value, capture_sources}
 use Rattle.wy_lower.specs.Listing.{placed, one, sides, binary_listing, value_mark, listing, value_listing, values_listing, block_listing}
 use Rattle.wy_lower.specs.Lowerable.{Lowerable}
-use Rattle.wy_lower.specs.Lowering.{inside_maker, method_table, lowered}
+use Rattle.wy_lower.specs.Lowering.{inside_maker, lowered}
 use Rattle.wy_lower.specs.Operands.{two_operands, operands, value_operands, values_operands, block_operands}
 use Rattle.wy_lower.specs.Parts.{expr_parts, value_parts, values_parts, block_parts, number_in}
-use Rattle.wy_lower.proofs.Addresses.{Stands, first_stands, rest_stands, end_stands, One, Many, state, pushed, piled, pile, acts, pushes}
+use Rattle.wy_lower.proofs.Addresses.{Stands, first_stands, rest_stands, end_stands, One, state, pushed, piled, acts, pushes}
 use Rattle.wy_lower.proofs.Allowed.{Allowed, first_allowed, rest_allowed, val_allowed, behind_allowed, inner_allowed, some_operands, some_value_operands}
 use Rattle.wy_lower.proofs.Leads.{Runs, give_runs, node_runs, tick_runs, bind_runs, finer_runs}
 use Rattle.wy_lower.proofs.Making.{new_runs}
 use Rattle.wy_lower.proofs.Names.{Belongs, this_runs, name_runs}
 use Rattle.wy_lower.proofs.Ready.{Ready, Fine, FineAll, ready_now, ready_since}
-use Rattle.wy_lower.proofs.Relation.{Same, same_int, same_truth, same_nothing, same_text, SameAll, none_same, more_same, same_stays, Grows}
+use Rattle.wy_lower.proofs.Relation.{Same, same_int, same_truth, same_nothing, same_text, none_same, more_same, same_stays}
 use Rattle.wy_lower.proofs.Setting.{set_next, set_runs, StillReady, assigned_sets}
 use Rattle.wy_lower.proofs.Slots.{Holds, stored_holds, left_holds, val_within}
-use Rattle.wy_lower.proofs.Steps.{Does, constant_runs, operator_runs, unary_runs, text_runs, choose_runs, jump_runs, push_runs, CallsRun, HasGrants, apply_runs}
+use Rattle.wy_lower.proofs.Steps.{Does, constant_runs, operator_runs, unary_runs, text_runs, choose_runs, jump_runs, CallsRun, HasGrants, apply_runs}
 
 -- the code of a body's scope has the literals that are made in the body
 pub record HasLiterals (p : Program) (s : Starts) (sc : Scope) (i : Inside) (x : ℕ) : Type 0 where
@@ -124,9 +121,9 @@ module _ (p : Program) (s : Starts) (ok : Lowerable p s) (has : HasGrants p s) (
         let t = rest_stands b at xs _ end stands in
         bind_runs _ _ _ _ _ _ _ _ _ (run _ _ (first_stands b _ (y (at + length xs)) _ end t) w m w m slots (ready_now p s i x sight w0 m0 w m slots r) (z ∷ stack) (omega arith))
         (λ u w2 c f.
-          operator_runs p s i x sight w0 m0 g n b callers end stack _ w2 c.store c.slots (ready_since p s i x sight w0 m0 w m w2 c.store c.slots r.later f.ready) place _ (v ∷ u ∷ []) (z ∷ c.word ∷ [])
-          (more_same v z (u ∷ []) (c.word ∷ []) (same_stays m.texts c.store.texts f.ready.later.texts v z h) (more_same u c.word [] [] f.same none_same)) refl
-          (room_left c.store.texts w2 sight c.slots stack _ f.ready.holds room (omega arith)) (rest_stands b _ (y (at + length xs)) _ end t))
+        operator_runs p s i x sight w0 m0 g n b callers end stack _ w2 c.store c.slots (ready_since p s i x sight w0 m0 w m w2 c.store c.slots r.later f.ready) place _ (v ∷ u ∷ []) (z ∷ c.word ∷ [])
+        (more_same v z (u ∷ []) (c.word ∷ []) (same_stays m.texts c.store.texts f.ready.later.texts v z h) (more_same u c.word [] [] f.same none_same)) refl
+        (room_left c.store.texts w2 sight c.slots stack _ f.ready.holds room (omega arith)) (rest_stands b _ (y (at + length xs)) _ end t))
 
   left_stands : (place : Place) (o : BinaryOperator) (at : ℕ) (xs : List Placed) (y : ℕ → List Placed) (end : ℕ) → Stands b at (binary_listing place o at xs y) end → Stands b at xs (at + length xs)
   left_stands place binary.And at xs y end h = first_stands b at xs _ end h
@@ -188,9 +185,9 @@ module _ (p : Program) (s : Starts) (ok : Lowerable p s) (has : HasGrants p s) (
         (bind_runs _ _ _ _ _ _ _ _ _ (expr_runs e sight seen f.0 (first_allowed p s sc i sight _ _ _ _ inner) at _ (first_stands b at _ _ end h) w0 m0 w m slots r stack (omega arith))
         (λ v w1 c q. bind_runs _ _ _ _ _ _ _ _ _ (all_run es sight seen f.1 (rest_allowed p s sc i sight _ _ _ _ inner) _ _ (first_stands b _ _ _ end rest) w1 c.store w1 c.store c.slots (ready_now p s i x sight w0 m0 w1 c.store c.slots q.ready) (c.word ∷ stack) (omega arith))
         (λ vs w2 a t.
-          apply_runs p s has n d calls called i x sight w0 m0 b callers _ end stack w2 a.store a.slots (ready_since p s i x sight w0 m0 w1 c.store w2 a.store a.slots q.ready.later t.ready) deep (room_left a.store.texts w2 sight a.slots stack _ t.ready.holds room (omega arith)) place v c.word name (value_count es) vs a.words
-          (same_stays c.store.texts a.store.texts t.ready.later.texts v c.word q.same) t.same t.count
-          (subst (λ l. Stands b (at + length (listing i at e) + length (values_listing i (at + length (listing i at e)) es)) (one place (CallMethod (number_in l name) (value_count es))) end) of_scope.methods (rest_stands b _ _ _ end rest)))))
+        apply_runs p s has n d calls called i x sight w0 m0 b callers _ end stack w2 a.store a.slots (ready_since p s i x sight w0 m0 w1 c.store w2 a.store a.slots q.ready.later t.ready) deep (room_left a.store.texts w2 sight a.slots stack _ t.ready.holds room (omega arith)) place v c.word name (value_count es) vs a.words
+        (same_stays c.store.texts a.store.texts t.ready.later.texts v c.word q.same) t.same t.count
+        (subst (λ l. Stands b (at + length (listing i at e) + length (values_listing i (at + length (listing i at e)) es)) (one place (CallMethod (number_in l name) (value_count es))) end) of_scope.methods (rest_stands b _ _ _ end rest)))))
     expr_runs (New place l es) sight seen f al at end h w0 m0 w m slots r stack room =
         node_runs _ _ _ _ _ _
         (bind_runs _ _ _ _ _ _ _ _ _ (all_run es sight seen f.4 (inner_allowed p s sc i sight _ _ _ al) at _ (first_stands b at _ _ end h) w0 m0 w m slots r stack (omega arith))
@@ -229,12 +226,12 @@ module _ (p : Program) (s : Starts) (ok : Lowerable p s) (has : HasGrants p s) (
         (λ v w1 c q. bind_runs g n (FineAll p s i x sight w1 c.store (value_count es)) (piled x b callers end (c.word ∷ stack)) (FineAll p s i x sight w0 m0 (value_count es + 1)) (piled x b callers end stack) _ _ _
         (all_run es sight seen f.1 (rest_allowed p s sc i sight _ _ _ _ al) _ end (rest_stands b at _ _ end h) w1 c.store w1 c.store c.slots (ready_now p s i x sight w0 m0 w1 c.store c.slots q.ready) (c.word ∷ stack) (omega arith))
         (λ vs w2 a t.
-          give_runs g n (FineAll p s i x sight w0 m0 (value_count es + 1)) (piled x b callers end stack) (v ∷ vs) w2 (record { words = c.word ∷ a.words; store = a.store; slots = a.slots })
-          (record {
-            same = more_same v c.word vs a.words (same_stays c.store.texts a.store.texts t.ready.later.texts v c.word q.same) t.same;
-            count = one_more a.words (value_count es) t.count;
-            ready = ready_since p s i x sight w0 m0 w1 c.store w2 a.store a.slots q.ready.later t.ready;
-          })))
+        give_runs g n (FineAll p s i x sight w0 m0 (value_count es + 1)) (piled x b callers end stack) (v ∷ vs) w2 (record { words = c.word ∷ a.words; store = a.store; slots = a.slots })
+        (record {
+          same = more_same v c.word vs a.words (same_stays c.store.texts a.store.texts t.ready.later.texts v c.word q.same) t.same;
+          count = one_more a.words (value_count es) t.count;
+          ready = ready_since p s i x sight w0 m0 w1 c.store w2 a.store a.slots q.ready.later t.ready;
+        })))
 
     pub block_runs : (e : Block) (sight : Sight) (seen : List Variable) → BlockFits p sc owner seen e → Allowed p s sc i sight (block_parts e) (block_vals e) → (at end : ℕ) → Stands b at (block_listing i at e) end → (w0 : World) (m0 : Store) (w : World) (m : Store) (slots : List Word) → Ready p s i x sight w0 m0 w m slots → (stack : List Word) → HasRoom stack (block_operands e) →
         Runs g n (Fine p s i x sight w0 m0) (pushed x b callers end stack) (state x b callers at slots stack m) (eval_block p s calls sight e w)

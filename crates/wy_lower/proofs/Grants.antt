@@ -1,5 +1,5 @@
 -- The code has the program's grants at their numbers, and the names of all methods that grants have.
-use Rattle.std.proofs.Common.{codes, ◌≡◌, ◌⊎◌, inl, inr, ℕ, zero, suc, ◌+◌, ◌<◌, Bool, true, false, List, [], ◌∷◌, ◌++◌, map, take, Option, Some, None, refl, sym, ap, ◌∙◌, subst, arith, bytes_eq, if◌then◌else◌}
+use Rattle.std.proofs.Common.{◌≡◌, ◌⊎◌, inl, inr, ℕ, zero, suc, Bool, true, false, List, [], ◌∷◌, ◌++◌, map, take, Option, Some, None, refl, sym, ap, ◌∙◌, subst, arith, bytes_eq, if◌then◌else◌}
 use Rattle.std.proofs.lemmas.Slice.Eq.{bytes_eq-Decides}
 use Rattle.std.specs.Prelude.{slice_get}
 use Rattle.wy_effects.specs.Members.{In}
@@ -15,15 +15,14 @@ use Rattle.wy_types.specs.Core.{IsPrimitive, OriginFits}
 use Rattle.wy_types.specs.Primitive.{primitive_types}
 use Rattle.wy_types.specs.Program.{Program, Scope}
 use Rattle.wy_device.specs.Operation.{method_text}
-use Rattle.wy_device.specs.Requests.{operations_of, operation_called, operation_given, operation_of}
-use Rattle.wy_device.specs.declared.operation.Kind.{Kind}
+use Rattle.wy_device.specs.Requests.{operations_of, operation_called, operation_given}
 use Rattle.wy_device.specs.declared.operation.Op.{Op}
 use Rattle.wy_device.specs.declared.operation.OpName.{OpName}
 use Rattle.wy_device.specs.declared.operation.OpName.TheVariants as name
 use Rattle.wy_meaning.specs.Starts.{Starts, GrantIs, kind_of_type, grant_of_kind, grant_from, grant_named, grant_of, scope_names, last_scope}
 use Rattle.wy_code.specs.declared.code.Grant as g
 use Rattle.wy_lower.specs.Lowerable.{Lowerable, GrantsStandFirst}
-use Rattle.wy_lower.specs.Lowering.{declared_names, written_names, method_table, grant_code, grants_code, lowered}
+use Rattle.wy_lower.specs.Lowering.{declared_names, method_table, grant_code, grants_code, lowered}
 use Rattle.wy_lower.specs.Parts.{number_in}
 use Rattle.wy_lower.proofs.Codes.{in_list}
 use Rattle.wy_lower.proofs.Looking.{some_is}
@@ -143,8 +142,8 @@ module _ (p : Program) (st : Starts) (ok : Lowerable p st) where
   has_grants = record {
     grants = coded_grants;
     methods = λ y method ts op e.
-      let c = given_name ts (operation_called method (operations_of y.kind)) op e in
-      let z = called_name method (operations_of y.kind) c.0 c.1 in
-      let j = subst (λ (l : List TypeDecl). In (method_text c.0) (declared_names l)) (sym ok.core.primitives) (primitive_name c.0) in
-      method_numbered method (subst (λ (l : List ℕ). In l (declared_names p.declarations)) z (taken_names 4 p.declarations _ j));
+        let c = given_name ts (operation_called method (operations_of y.kind)) op e in
+        let z = called_name method (operations_of y.kind) c.0 c.1 in
+        let j = subst (λ (l : List TypeDecl). In (method_text c.0) (declared_names l)) (sym ok.core.primitives) (primitive_name c.0) in
+        method_numbered method (subst (λ (l : List ℕ). In l (declared_names p.declarations)) z (taken_names 4 p.declarations _ j));
   }

@@ -1,5 +1,5 @@
 -- From a state of the machine to what a result says.
-use Rattle.std.proofs.Common.{◌≡◌, ◌≢◌, ℕ, zero, suc, ◌+◌, List, [], ◌∷◌, ◌++◌, refl, sym, ap, ◌∙◌, arith, append_assoc}
+use Rattle.std.proofs.Common.{◌≡◌, ◌≢◌, ℕ, suc, ◌+◌, List, [], ◌∷◌, ◌++◌, refl, sym, ap, ◌∙◌, arith, append_assoc}
 use Rattle.wy_device.specs.declared.deed.Event.{Event}
 use Rattle.wy_device.specs.RunEnds.{RunEnd, Wrong}
 use Rattle.wy_meaning.specs.Values.{Value, World, Outcome, Gives, Stops, stopped}
@@ -30,56 +30,56 @@ module _ (g : Code) (n : ℕ) where
   none_leads : (s : State) → Leads s 0 [] s
   none_leads s = record {
     by = λ k.
-      let e : 0 + k ≡ k = omega arith in
-      let t : (steps g n k s).taken ≡ 0 + (steps g n k s).taken = omega arith in
-      ap (λ (m : ℕ). steps g n m s) e ∙ ran_is (steps g n k s).end (steps g n k s).events (steps g n k s).events _ _ refl t;
+        let e : 0 + k ≡ k = omega arith in
+        let t : (steps g n k s).taken ≡ 0 + (steps g n k s).taken = omega arith in
+        ap (λ (m : ℕ). steps g n m s) e ∙ ran_is (steps g n k s).end (steps g n k s).events (steps g n k s).events _ _ refl t;
   }
 
   pub leads_leads : (s t u : State) (q r : ℕ) (es fs : List Event) → Leads s q es t → Leads t r fs u → Leads s (q + r) (es ++ fs) u
   leads_leads s t u q r es fs a b = record {
     by = λ k.
-      let m : q + r + k ≡ q + (r + k) = omega arith in
-      ap (λ (m : ℕ). steps g n m s) m ∙ a.by (r + k) ∙ ap (ahead q es) (b.by k) ∙ ahead_ahead q r es fs (steps g n k u);
+        let m : q + r + k ≡ q + (r + k) = omega arith in
+        ap (λ (m : ℕ). steps g n m s) m ∙ a.by (r + k) ∙ ap (ahead q es) (b.by k) ∙ ahead_ahead q r es fs (steps g n k u);
   }
 
   pub leads_ends : (s t : State) (q r : ℕ) (es fs : List Event) (e : RunEnd) → Leads s q es t → Ends t r fs e → Ends s (q + r) (es ++ fs) e
   leads_ends s t q r es fs e a b = record {
     by = λ k.
-      let m : q + r + k ≡ q + (r + k) = omega arith in
-      ap (λ (m : ℕ). steps g n m s) m ∙ a.by (r + k) ∙ ap (ahead q es) (b.by k);
+        let m : q + r + k ≡ q + (r + k) = omega arith in
+        ap (λ (m : ℕ). steps g n m s) m ∙ a.by (r + k) ∙ ap (ahead q es) (b.by k);
   }
 
   pub one_leads : (s t : State) (es : List Event) → step g n s ≡ Go es t → Leads s (suc 0) es t
   unfolding steps
   one_leads s t es e = record {
     by = λ k.
-      let m : suc 0 + k ≡ suc k = omega arith in
-      let c : suc (steps g n k t).taken ≡ suc 0 + (steps g n k t).taken = omega arith in
-      ap (λ (m : ℕ). steps g n m s) m ∙ ap (λ (x : Next). and_then x (steps g n k)) e ∙ ran_is (steps g n k t).end _ _ _ _ refl c;
+        let m : suc 0 + k ≡ suc k = omega arith in
+        let c : suc (steps g n k t).taken ≡ suc 0 + (steps g n k t).taken = omega arith in
+        ap (λ (m : ℕ). steps g n m s) m ∙ ap (λ (x : Next). and_then x (steps g n k)) e ∙ ran_is (steps g n k t).end _ _ _ _ refl c;
   }
 
   pub one_ends : (s : State) (e : RunEnd) (es : List Event) → step g n s ≡ Halt e es → Ends s (suc 0) es e
   unfolding steps
   one_ends s e es h = record {
     by = λ k.
-      let m : suc 0 + k ≡ suc k = omega arith in
-      ap (λ (m : ℕ). steps g n m s) m ∙ ap (λ (x : Next). and_then x (steps g n k)) h;
+        let m : suc 0 + k ≡ suc k = omega arith in
+        ap (λ (m : ℕ). steps g n m s) m ∙ ap (λ (x : Next). and_then x (steps g n k)) h;
   }
 
   one_more : (s t u : State) (q : ℕ) (es fs : List Event) → step g n s ≡ Go es t → Leads t q fs u → Leads s (suc q) (es ++ fs) u
   one_more s t u q es fs e l = record {
     by = λ k.
-      let m : suc q + k ≡ suc 0 + q + k = omega arith in
-      let c : suc 0 + q + (steps g n k u).taken ≡ suc q + (steps g n k u).taken = omega arith in
-      ap (λ (m : ℕ). steps g n m s) m ∙ (leads_leads s t u (suc 0) q es fs (one_leads s t es e) l).by k ∙ ran_is (steps g n k u).end _ _ _ _ refl c;
+        let m : suc q + k ≡ suc 0 + q + k = omega arith in
+        let c : suc 0 + q + (steps g n k u).taken ≡ suc q + (steps g n k u).taken = omega arith in
+        ap (λ (m : ℕ). steps g n m s) m ∙ (leads_leads s t u (suc 0) q es fs (one_leads s t es e) l).by k ∙ ran_is (steps g n k u).end _ _ _ _ refl c;
   }
 
   one_more_ends : (s t : State) (q : ℕ) (es fs : List Event) (e : RunEnd) → step g n s ≡ Go es t → Ends t q fs e → Ends s (suc q) (es ++ fs) e
   one_more_ends s t q es fs e h l = record {
     by = λ k.
-      let m : suc q + k ≡ suc 0 + q + k = omega arith in
-      let c : suc 0 + q ≡ suc q = omega arith in
-      ap (λ (m : ℕ). steps g n m s) m ∙ (leads_ends s t (suc 0) q es fs e (one_leads s t es h) l).by k ∙ ran_is e _ _ _ _ refl c;
+        let m : suc q + k ≡ suc 0 + q + k = omega arith in
+        let c : suc 0 + q ≡ suc q = omega arith in
+        ap (λ (m : ℕ). steps g n m s) m ∙ (leads_ends s t (suc 0) q es fs e (one_leads s t es h) l).by k ∙ ran_is e _ _ _ _ refl c;
   }
 
   -- from a state the machine does what a result says: it comes to the state that what is given leads to, with choices

@@ -1,6 +1,6 @@
 -- What makes an object of a literal makes one that corresponds: the module's own names, the variables that the literal
 -- captures, and the fields.
-use Rattle.std.proofs.Common.{◌≡◌, ◌⊎◌, inl, inr, ℕ, zero, suc, ◌+◌, ◌<◌, Bool, true, false, List, [], ◌∷◌, ◌++◌, length, length-append, map, Option, Some, None, refl, sym, ap, ◌∙◌, subst, arith, nat_lt, nat_eq, append_assoc, if◌then◌else◌}
+use Rattle.std.proofs.Common.{◌≡◌, ◌⊎◌, inl, inr, ℕ, zero, suc, ◌+◌, ◌<◌, Bool, true, false, List, [], ◌∷◌, ◌++◌, length, length-append, map, Option, Some, None, refl, sym, ap, ◌∙◌, subst, arith, nat_lt, nat_eq, if◌then◌else◌}
 use Rattle.std.proofs.lemmas.Bool.{both_ways, eqb-true}
 use Rattle.std.specs.Prelude.{slice_get}
 use Rattle.wy_text.specs.declared.fault.Place.{Place}
@@ -14,7 +14,7 @@ use Rattle.wy_device.specs.Traps.{most_objects, Crowded}
 use Rattle.wy_meaning.specs.Values.{Value, Object, Named, Thing, World, Reply, value_named, replied, stopped, object_made}
 use Rattle.wy_meaning.specs.Starts.{Starts, actual_of, scope_of_instance, literal_in}
 use Rattle.wy_meaning.specs.Eval.{Sight, with_named, captured_from, object_with, object_new}
-use Rattle.wy_meaning.specs.Results.{stop, tick, settle}
+use Rattle.wy_meaning.specs.Results.{tick, settle}
 use Rattle.wy_code.specs.declared.code.Body.{Body}
 use Rattle.wy_code.specs.declared.code.Code.{Code}
 use Rattle.wy_code.specs.declared.code.Literal as item
@@ -23,19 +23,19 @@ use Rattle.wy_code.specs.declared.code.Source.TheVariants as source
 use Rattle.wy_code.specs.declared.instruction.Instruction.TheVariants.{New as Make}
 use Rattle.wy_code.specs.Stores as word
 use Rattle.wy_code.specs.Stores.{Word, Store, Replies, Ends as EndsRun, value_at}
-use Rattle.wy_code.specs.Machine.{Frame, State, Next, push_reply, first_of, with_word, word_from, words_from, on_taken, make_with, make, literal_of, step}
+use Rattle.wy_code.specs.Machine.{Frame, State, push_reply, first_of, with_word, word_from, words_from, on_taken, make_with, make, literal_of, step}
 use Rattle.wy_lower.specs.Inside.{Inside, is_own, slot_of, own_values, capture_value, source_of, own_sources, sources_of, capture_sources}
 use Rattle.wy_lower.specs.Listing.{one}
 use Rattle.wy_lower.specs.Lowerable.{Lowerable}
 use Rattle.wy_lower.specs.Lowering.{is_program}
-use Rattle.wy_lower.proofs.Addresses.{Stands, One, state, pushed, piled, pile, takes, acts, replied_answers, stopped_answers, wrong_answers, answer_runs}
+use Rattle.wy_lower.proofs.Addresses.{Stands, state, pushed, pile, takes, acts, replied_answers, stopped_answers, answer_runs}
 use Rattle.wy_lower.proofs.Leads.{Runs, wrong_reply_runs}
-use Rattle.wy_lower.proofs.Looking.{some_is, get_front, get_behind, get_within, there}
-use Rattle.wy_lower.proofs.Names.{Belongs, owned, Mine, mine, captured_found, own_slot_found, length_map}
+use Rattle.wy_lower.proofs.Looking.{some_is, get_front, get_behind, there}
+use Rattle.wy_lower.proofs.Names.{Belongs, owned, mine, captured_found, own_slot_found, length_map}
 use Rattle.wy_lower.proofs.Ready.{Ready, Fine, ready_after}
 use Rattle.wy_lower.proofs.Relation.{Same, same_object, SameAll, none_same, more_same, all_count, all_found, Found, found_at, word_handed, own_count, SameThing}
 use Rattle.wy_lower.proofs.Replies.{Fits}
-use Rattle.wy_lower.proofs.Slots.{picked, not_picked, Self, Alone, Holds}
+use Rattle.wy_lower.proofs.Slots.{picked, not_picked, Self, Alone}
 use Rattle.wy_lower.proofs.Worlds.{object_world, object_store, object_added, object_later}
 
 ------------------------------------------------------------
@@ -145,10 +145,10 @@ module _ (p : Program) (s : Starts) (ok : Lowerable p s) (sc : Scope) (i : Insid
         of (inl h) false t =
             let q = mine p s ok sc i x of_scope sight w0 m0 w m slots r h in
             owns f m 0 (own_values i) (λ k l.
-              let z : 0 + k ≡ k = omega arith in
-              let within : k < length q.item.values = omega (arith, q.offset, q.same.long) in
-              let y = there q.item.values k within in
-              (y.0, ap (value_at m (first_of f.slots)) z ∙ (ap (λ (t : List Word). value_at m (first_of t) k) frame ∙ (q.read k ∙ y.1))))
+            let z : 0 + k ≡ k = omega arith in
+            let within : k < length q.item.values = omega (arith, q.offset, q.same.long) in
+            let y = there q.item.values k within in
+            (y.0, ap (value_at m (first_of f.slots)) z ∙ (ap (λ (t : List Word). value_at m (first_of t) k) frame ∙ (q.read k ∙ y.1))))
 
     own_word : (ws : Owns f m 0 (own_values i)) → i.program ≡ false → (k : ℕ) (a : Actual) → actual_of s sight.instance k ≡ Some a → (k < own_values i) × (slice_get ws.words k ≡ Some (word_handed a))
     own_word ws other k a e = of r.holds.self
@@ -204,19 +204,19 @@ module _ (p : Program) (s : Starts) (ok : Lowerable p s) (sc : Scope) (i : Insid
         stands = ap (scope_of_instance p s) r.holds.instance ∙ of_scope.stands;
         names = captured_names sight.variables literal.captures c captured ∙ ap literal_captures (sym stands);
         own = λ kind k a e.
-          let g = own_word f frame ws (of_scope.program ∙ kind) k a e in
-          let o = owned p s sc i x of_scope in
-          (omega (arith, g.0, o), get_front (ws.words ++ us.words) zs k _ (get_front ws.words us.words k _ g.1));
+            let g = own_word f frame ws (of_scope.program ∙ kind) k a e in
+            let o = owned p s sc i x of_scope in
+            (omega (arith, g.0, o), get_front (ws.words ++ us.words) zs k _ (get_front ws.words us.words k _ g.1));
         caught = caught_word;
         fields = field_word;
         long =
-          let a = length-append ws.words us.words in
-          let b = all_count m.texts (values_of c) us.words us.same in
-          let d = length_map (λ (e : Variable × Value). e.1) c in
-          let e = length-append (ws.words ++ us.words) zs in
-          let h = all_count m.texts vs zs same in
-          let g : length (literal_fields (slice_get sc.literals l)) ≡ length literal.fields = ap (λ o. length (literal_fields o)) stands in
-          omega (arith, offset, full);
+            let a = length-append ws.words us.words in
+            let b = all_count m.texts (values_of c) us.words us.same in
+            let d = length_map (λ (e : Variable × Value). e.1) c in
+            let e = length-append (ws.words ++ us.words) zs in
+            let h = all_count m.texts vs zs same in
+            let g : length (literal_fields (slice_get sc.literals l)) ≡ length literal.fields = ap (λ o. length (literal_fields o)) stands in
+            omega (arith, offset, full);
       }
 
   made_fits : (place : Place) (o : Thing) (y : word.Thing) → SameThing p s m.texts o y → Fits p s i x sight w0 m0 slots (settle (object_made place o w)) (word.object_made place y m)
@@ -238,7 +238,7 @@ module _ (p : Program) (s : Starts) (ok : Lowerable p s) (sc : Scope) (i : Insid
   -- The instruction
 
   module _ (g : Code) (n : ℕ) (b : Body) (callers : List Frame) (at end : ℕ) (operands : List Word) (room : length slots + length operands < b.slots) (place : Place) (l : ℕ)
-    (literal_there : (literal : Literal) → slice_get sc.literals l ≡ Some literal → (y : item.Literal) × (literal_of g x l ≡ Some y) × (y.captures ≡ capture_sources i literal.captures) × (y.fields ≡ length literal.fields)) where
+      (literal_there : (literal : Literal) → slice_get sc.literals l ≡ Some literal → (y : item.Literal) × (literal_of g x l ≡ Some y) × (y.captures ≡ capture_sources i literal.captures) × (y.fields ≡ length literal.fields)) where
     pub new_runs : Stands b at (one place (Make l)) end → (vs : List Value) (zs : List Word) → SameAll m.texts vs zs →
         Runs g n (Fine p s i x sight w0 m0) (pushed x b callers end operands) (state x b callers at slots (pile zs operands) m) (tick (settle (object_new place sight l vs w (literal_in (scope_of_instance p s sight.instance) l))))
     new_runs code vs zs same =

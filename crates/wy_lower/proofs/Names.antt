@@ -1,5 +1,5 @@
 -- What pushes a name's value finds it: in a slot, among the values of the current object, or as a constant.
-use Rattle.std.proofs.Common.{◌≡◌, ◌≢◌, ◌⊎◌, inl, inr, ℕ, zero, suc, ◌+◌, ◌<◌, ◌≤◌, ◌-◌, Bool, true, false, List, [], ◌∷◌, ◌++◌, length, map, Option, Some, None, refl, sym, ap, ◌∙◌, subst, arith, if◌then◌else◌}
+use Rattle.std.proofs.Common.{◌≡◌, ◌⊎◌, inl, inr, ℕ, zero, suc, ◌+◌, ◌<◌, ◌≤◌, ◌-◌, Bool, true, false, List, [], ◌∷◌, length, map, Option, Some, None, refl, sym, ap, ◌∙◌, subst, arith, if◌then◌else◌}
 use Rattle.std.proofs.lemmas.Bool.{cases_lt, both_ways}
 use Rattle.std.specs.Prelude.{slice_get}
 use Rattle.wy_text.specs.declared.fault.Place.{Place}
@@ -9,8 +9,8 @@ use Rattle.wy_types.specs.declared.code.Binding.TheVariants as to
 use Rattle.wy_types.specs.declared.linked.Actual.{Actual}
 use Rattle.wy_types.specs.declared.linked.Actual.TheVariants as actual
 use Rattle.wy_types.specs.Program.{Program, Scope}
-use Rattle.wy_meaning.specs.Values.{Value, Object, Grant, Named, Thing, World, same_variable, value_named, found, object_of, field_in}
-use Rattle.wy_meaning.specs.Starts.{Started, Starts, all_started, actual_in, actual_of, scope_started, scope_of_instance}
+use Rattle.wy_meaning.specs.Values.{Value, Object, Named, Thing, World, same_variable, value_named, found, object_of, field_in}
+use Rattle.wy_meaning.specs.Starts.{Starts, all_started, actual_in, actual_of, scope_started, scope_of_instance}
 use Rattle.wy_meaning.specs.Eval.{Sight, object_value, actual_value, value_of_name}
 use Rattle.wy_meaning.specs.Results.{tick, settle}
 use Rattle.wy_code.specs.declared.code.Body.{Body}
@@ -18,18 +18,18 @@ use Rattle.wy_code.specs.declared.code.Code.{Code}
 use Rattle.wy_code.specs.declared.instruction.Instruction.TheVariants.{Push, Load, Get}
 use Rattle.wy_code.specs.Stores as word
 use Rattle.wy_code.specs.Stores.{Word, Store, Reply, Replies, value_in, value_at}
-use Rattle.wy_code.specs.Machine.{Frame, State, Next, push_reply, first_of, word_of, act, step}
+use Rattle.wy_code.specs.Machine.{Frame, State, push_reply, first_of, word_of, act, step}
 use Rattle.wy_lower.specs.Inside.{Inside, is_own, slot_of, own_values, capture_from, capture_value, field_value, handed_constant, name_code}
 use Rattle.wy_lower.specs.Listing.{one}
-use Rattle.wy_lower.specs.Lowerable.{Lowerable, IsModuleStarted}
+use Rattle.wy_lower.specs.Lowerable.{Lowerable}
 use Rattle.wy_lower.specs.Lowering.{is_program, text_table, method_table}
-use Rattle.wy_lower.proofs.Addresses.{Stands, One, state, pushed, acts, Answers, wrong_answers, answer_runs}
+use Rattle.wy_lower.proofs.Addresses.{Stands, state, pushed, acts, wrong_answers, answer_runs}
 use Rattle.wy_lower.proofs.Leads.{Runs}
 use Rattle.wy_lower.proofs.Looking.{some_is, get_front, get_behind, there}
 use Rattle.wy_lower.proofs.Ready.{Ready, Fine}
-use Rattle.wy_lower.proofs.Relation.{Same, same_object, same_grant, Found, found_at, word_handed, own_count, SameThing, FoundThing, SameWorld}
+use Rattle.wy_lower.proofs.Relation.{Same, same_object, same_grant, Found, found_at, word_handed, own_count, SameThing}
 use Rattle.wy_lower.proofs.Replies.{Fits, replied_fits}
-use Rattle.wy_lower.proofs.Slots.{picked, not_picked, first_is, Self, Alone, Holds}
+use Rattle.wy_lower.proofs.Slots.{picked, not_picked, first_is, Self, Alone}
 
 pub length_map : {A B : Type 0} (f : A → B) (xs : List A) → length (map f xs) ≡ length xs
 length_map f [] = refl

@@ -1,13 +1,13 @@
 -- What the meaning's values, objects and worlds are to the machine, and that what was the same stays the same while
 -- texts and objects are added.
-use Rattle.std.proofs.Common.{◌≡◌, ℕ, ◌+◌, ◌<◌, ℤ, Bool, false, List, [], ◌∷◌, length, map, Option, Some, None, refl, sym, ap, ◌∙◌, subst, if◌then◌else◌}
+use Rattle.std.proofs.Common.{◌≡◌, ℕ, ◌+◌, ◌<◌, ℤ, Bool, false, List, [], ◌∷◌, length, map, Option, Some, refl, ap, ◌∙◌, subst, if◌then◌else◌}
 use Rattle.std.specs.Prelude.{slice_get}
 use Rattle.wy_types.specs.declared.code.Variable.{Variable}
 use Rattle.wy_types.specs.declared.linked.Actual.{Actual}
 use Rattle.wy_types.specs.declared.linked.Actual.TheVariants as actual
 use Rattle.wy_types.specs.Core.{literal_captures, literal_fields}
 use Rattle.wy_types.specs.Program.{Program, Scope}
-use Rattle.wy_meaning.specs.Values.{Value, Int, Truth, Nothing, Text, Object, Grant, Named, Thing, World}
+use Rattle.wy_meaning.specs.Values.{Value, Int, Truth, Nothing, Text, Object, Grant, Thing, World}
 use Rattle.wy_meaning.specs.Starts.{Starts, actual_of, scope_of_instance}
 use Rattle.wy_meaning.specs.Operating.{operand}
 use Rattle.wy_code.specs.Stores as word
@@ -148,9 +148,9 @@ pub later_later : (w : World) (m : Store) (w' : World) (m' : Store) (w'' : World
 later_later w m w' m' w'' m'' h l = record {
   texts = grows_trans m.texts m'.texts m''.texts h.texts l.texts;
   objects = λ a o e.
-    let x = h.objects a o e in
-    let y = l.objects a x.thing x.is in
-    record { thing = y.thing; is = y.is; instance = y.instance ∙ x.instance; literal = y.literal ∙ x.literal; captured = y.captured ∙ x.captured; fields = y.fields ∙ x.fields };
+      let x = h.objects a o e in
+      let y = l.objects a x.thing x.is in
+      record { thing = y.thing; is = y.is; instance = y.instance ∙ x.instance; literal = y.literal ∙ x.literal; captured = y.captured ∙ x.captured; fields = y.fields ∙ x.fields };
   next = l.next ∙ h.next;
 }
 

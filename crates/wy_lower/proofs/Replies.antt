@@ -1,6 +1,5 @@
 -- The machine replies to operators and to operations on grants as the meaning does.
-use Rattle.std.proofs.Common.{◌≡◌, ℕ, ◌+◌, Bool, true, false, not, ◌&&◌, List, [], ◌∷◌, length, Option, Some, None, refl, sym, ap, ◌∙◌, subst, nat_lt, if◌then◌else◌}
-use Rattle.std.specs.Prelude.{slice_get}
+use Rattle.std.proofs.Common.{◌≡◌, ℕ, Bool, true, false, not, ◌&&◌, List, [], ◌∷◌, length, Option, Some, None, refl, sym, ap, ◌∙◌, subst, nat_lt, if◌then◌else◌}
 use Rattle.wy_text.specs.declared.fault.Place.{Place}
 use Rattle.wy_types.specs.Program.{Program}
 use Rattle.wy_device.specs.declared.deed.Event.{Event}
@@ -12,11 +11,11 @@ use Rattle.wy_device.specs.Requests.{operation_of, has_good_name, answers_text, 
 use Rattle.wy_device.specs.RunEnds.{RunEnd, Trap, Waiting, Wrong}
 use Rattle.wy_device.specs.Tapes.{Tapes}
 use Rattle.wy_device.specs.Traps.{most_texts, BadName, Crowded}
-use Rattle.wy_meaning.specs.Values.{Value, Int, Truth, Nothing, Text, Object, Grant, World, Reply, replied, stopped, text_built}
+use Rattle.wy_meaning.specs.Values.{Value, Int, Truth, Nothing, Text, World, replied, stopped, text_built}
 use Rattle.wy_meaning.specs.Starts.{Starts, GrantIs}
 use Rattle.wy_meaning.specs.Eval.{Sight}
-use Rattle.wy_meaning.specs.Operating.{operand, computed, operated}
-use Rattle.wy_meaning.specs.Performing.{text_of, with_text as with_first_text, texts_of, value_answered, answered, deed, requested, requested_of, perform}
+use Rattle.wy_meaning.specs.Operating.{computed, operated}
+use Rattle.wy_meaning.specs.Performing.{text_of, with_text as with_first_text, texts_of, value_answered, answered, requested, requested_of, perform}
 use Rattle.wy_meaning.specs.Results.{Result, stop, told, settle}
 use Rattle.wy_code.specs.declared.code.Grant.{Grant as CodeGrant}
 use Rattle.wy_code.specs.declared.instruction.Operator.{Operator as CodeOperator}
@@ -25,10 +24,10 @@ use Rattle.wy_code.specs.Stores.{Word, Store, Replies, Ends as EndsRun}
 use Rattle.wy_code.specs.Operations as code
 use Rattle.wy_code.specs.Operations.{operator_meant, with_first, operand_text, texts_named, deed_event}
 use Rattle.wy_lower.specs.Inside.{Inside}
-use Rattle.wy_lower.proofs.Addresses.{One, Answers, replied_answers, stopped_answers, wrong_answers}
+use Rattle.wy_lower.proofs.Addresses.{Answers, replied_answers, stopped_answers, wrong_answers}
 use Rattle.wy_lower.proofs.Looking.{get_last}
 use Rattle.wy_lower.proofs.Ready.{Ready, Fine, ready_after}
-use Rattle.wy_lower.proofs.Relation.{Same, same_int, same_truth, same_nothing, same_text, same_object, same_grant, SameAll, none_same, more_same, operand_is, operands_are, SameWorld, Later, later_later}
+use Rattle.wy_lower.proofs.Relation.{Same, same_int, same_truth, same_nothing, same_text, same_object, same_grant, SameAll, none_same, more_same, operands_are}
 use Rattle.wy_lower.proofs.Worlds.{answered_world, answered_store, answer_taken, answer_later, text_world, text_added, text_later}
 
 ------------------------------------------------------------
@@ -138,8 +137,8 @@ module _ (p : Program) (s : Starts) (i : Inside) (x : ℕ) (sight : Sight) (w0 :
     asked_fits place grant op =
         either_fits (not (has_good_name op)) _ _ _ _ (stop_fits (Trap BadName place) w)
         (subst (λ (k : ℕ).
-          Fits (if answers_text op && not (nat_lt w.built most_texts) then stop (Trap Crowded place) w else answered grant op w (asked op w.tapes))
-          (if answers_text op && not (nat_lt k most_texts) then EndsRun (Trap Crowded place) [] else code.answered grant op m (asked op m.tapes))) r.world.built
+        Fits (if answers_text op && not (nat_lt w.built most_texts) then stop (Trap Crowded place) w else answered grant op w (asked op w.tapes))
+        (if answers_text op && not (nat_lt k most_texts) then EndsRun (Trap Crowded place) [] else code.answered grant op m (asked op m.tapes))) r.world.built
         (either_fits (answers_text op && not (nat_lt w.built most_texts)) _ _ _ _ (stop_fits (Trap Crowded place) w)
         (subst (λ (t : Tapes). Fits (answered grant op w (asked op w.tapes)) (code.answered grant op m (asked op t))) r.world.tapes (told_fits grant op (asked op w.tapes)))))
 

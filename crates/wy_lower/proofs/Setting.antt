@@ -1,12 +1,11 @@
 -- What sets a field of the current object sets it in the machine's store.
-use Rattle.std.proofs.Common.{◌≡◌, ◌≢◌, ◌⊎◌, inl, inr, ℕ, ◌+◌, ◌<◌, Bool, true, false, List, [], ◌∷◌, length, Option, Some, None, refl, sym, ap, ◌∙◌, subst, arith, nat_lt, if◌then◌else◌}
+use Rattle.std.proofs.Common.{◌≡◌, ◌≢◌, ◌⊎◌, inl, inr, ℕ, ◌+◌, ◌<◌, Bool, true, false, List, [], length, Option, Some, None, refl, sym, ap, ◌∙◌, subst, arith, nat_lt, if◌then◌else◌}
 use Rattle.std.proofs.lemmas.Bool.{cases_eq, ltb-true, lt-ltb}
 use Rattle.std.specs.Prelude.{slice_get, slice_set}
 use Rattle.wy_types.specs.declared.code.Variable.{Variable}
 use Rattle.wy_types.specs.declared.code.Binding.{Binding}
 use Rattle.wy_types.specs.declared.code.Binding.TheVariants as to
 use Rattle.wy_types.specs.Program.{Program, Scope}
-use Rattle.wy_device.specs.declared.deed.Event.{Event}
 use Rattle.wy_device.specs.RunEnds.{Wrong}
 use Rattle.wy_meaning.specs.Values.{Value, Nothing, Thing, World, Outcome, Gives, Stops, Reply, replied, stopped, field_set, write_field}
 use Rattle.wy_meaning.specs.Starts.{Starts}
@@ -24,8 +23,8 @@ use Rattle.wy_lower.proofs.Leads.{RunsTo, Runs, one_leads}
 use Rattle.wy_lower.proofs.Looking.{some_is, there, get_within, get_set_same, get_set_other, length_set}
 use Rattle.wy_lower.proofs.Names.{Belongs, Mine, mine, length_map}
 use Rattle.wy_lower.proofs.Ready.{Ready, ready_after}
-use Rattle.wy_lower.proofs.Relation.{Same, own_count, SameThing, FoundThing}
-use Rattle.wy_lower.proofs.Slots.{first_is, Self, Alone, Holds}
+use Rattle.wy_lower.proofs.Relation.{Same, own_count}
+use Rattle.wy_lower.proofs.Slots.{first_is, Self, Alone}
 use Rattle.wy_lower.proofs.Worlds.{Written, thing_with, item_with, thing_written, thing_set, set_later}
 
 module _ (x : ℕ) (b : Body) (callers : List Frame) where
@@ -110,8 +109,8 @@ module _ (p : Program) (s : Starts) (ok : Lowerable p s) (sc : Scope) (i : Insid
                 with_item h.object (item_with q.item (own_count q.same.scope + length h.thing.captured + k) z),
                 record {
                   ready = ready_after p s i x sight w0 m0 w m _ _ slots r
-                    (thing_set p s w m r.world h.object h.thing _ q.item _ h.is q.is changed)
-                    (set_later p s w m r.world h.object h.thing _ q.item _ h.is q.is refl refl refl (length_set h.thing.fields k v));
+                      (thing_set p s w m r.world h.object h.thing _ q.item _ h.is q.is changed)
+                      (set_later p s w m r.world h.object h.thing _ q.item _ h.is q.is refl refl refl (length_set h.thing.fields k v));
                 },
                 ap (λ (c : ℕ). stored (value_set (first_of slots) c z m) (after m)) at ∙ ap (λ o. stored o (after m)) set,
               );

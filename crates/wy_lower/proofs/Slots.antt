@@ -1,6 +1,6 @@
 -- What a body's slots and its current object hold: the variables that are in sight, and what they leave untouched.
-use Rattle.std.proofs.Common.{◌≡◌, ◌≢◌, ◌⊎◌, inl, inr, ℕ, zero, suc, ◌+◌, ◌<◌, ◌≤◌, Bool, true, false, ◌&&◌, ◌||◌, ◌==◌, List, [], ◌∷◌, length, map, Option, Some, None, refl, sym, ap, ◌∙◌, subst, arith, if◌then◌else◌, nat_eq}
-use Rattle.std.proofs.lemmas.Bool.{eqb-true, eq-eqb, ne_eqb, and_parts, or_cases, cases_eq, both_ways}
+use Rattle.std.proofs.Common.{◌≡◌, ◌≢◌, ◌⊎◌, inl, inr, ℕ, ◌+◌, ◌<◌, ◌≤◌, Bool, true, false, ◌==◌, List, [], ◌∷◌, length, map, Some, None, refl, sym, ap, ◌∙◌, subst, arith, if◌then◌else◌, nat_eq}
+use Rattle.std.proofs.lemmas.Bool.{eqb-true, eq-eqb, and_parts, or_cases, both_ways}
 use Rattle.std.specs.Prelude.{slice_get, slice_set}
 use Rattle.wy_types.specs.declared.code.Variable.{Variable}
 use Rattle.wy_types.specs.declared.code.Variable.TheVariants.{Parameter, Local}
@@ -9,9 +9,9 @@ use Rattle.wy_meaning.specs.Eval.{Sight, with_local}
 use Rattle.wy_code.specs.Stores as word
 use Rattle.wy_code.specs.Stores.{Word, Store}
 use Rattle.wy_code.specs.Machine.{first_of}
-use Rattle.wy_lower.specs.Inside.{Inside, place_from, is_val, is_number, is_own, val_slot, slot_of}
+use Rattle.wy_lower.specs.Inside.{Inside, place_from, is_val, is_own, val_slot, slot_of}
 use Rattle.wy_lower.proofs.Looking.{some_is, get_set_same, get_set_other, length_set}
-use Rattle.wy_lower.proofs.Relation.{Same, Found, Grows, found_stays, found_at, Kept, Later, SameWorld}
+use Rattle.wy_lower.proofs.Relation.{Same, Found, found_stays, found_at, Later}
 
 ------------------------------------------------------------
 -- Variables

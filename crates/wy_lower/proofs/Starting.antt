@@ -1,30 +1,29 @@
 -- The code of a body that starts does what the start of its scope means: the initialisers of a module's fields, each of
 -- which is set as soon as its value is there, or the program's own block.
-use Rattle.std.proofs.Common.{◌≡◌, ◌≢◌, ◌⊎◌, inl, inr, ℕ, zero, suc, ◌+◌, ◌<◌, ◌≤◌, Bool, true, false, List, [], ◌∷◌, ◌++◌, length, length-append, max, Option, Some, None, refl, sym, ap, ◌∙◌, subst, arith}
-use Rattle.std.proofs.lemmas.Bool.{both_ways, cases_eq, lt-ltb}
+use Rattle.std.proofs.Common.{◌≡◌, ◌≢◌, ◌⊎◌, inl, inr, ℕ, suc, ◌+◌, ◌<◌, ◌≤◌, false, List, [], ◌∷◌, ◌++◌, length, length-append, Some, None, refl, sym, ap, ◌∙◌, subst, arith}
+use Rattle.std.proofs.lemmas.Bool.{both_ways}
 use Rattle.std.specs.Prelude.{slice_get, slice_set}
 use Rattle.wy_types.specs.declared.code.Variable.{Variable}
-use Rattle.wy_types.specs.declared.resolved.Literal.{Literal}
 use Rattle.wy_types.specs.Code as code
 use Rattle.wy_types.specs.Code.{Values, none, more}
 use Rattle.wy_types.specs.Core.{value_count, ValuesFit, literal_fields, values_vals}
 use Rattle.wy_types.specs.Program.{Program, Scope}
-use Rattle.wy_meaning.specs.Values.{Value, Nothing, Thing, World, Reply, replied, stopped, field_added, fill_field}
-use Rattle.wy_meaning.specs.Starts.{Starts, scope_of_instance}
-use Rattle.wy_meaning.specs.Eval.{Sight, Calls}
-use Rattle.wy_meaning.specs.Results.{Result, give, tick, settle, bind}
+use Rattle.wy_meaning.specs.Values.{Value, Nothing, Thing, World, Reply, replied, field_added, fill_field}
+use Rattle.wy_meaning.specs.Starts.{Starts}
+use Rattle.wy_meaning.specs.Eval.{Calls}
+use Rattle.wy_meaning.specs.Results.{give}
 use Rattle.wy_meaning.specs.Start.{fill_all, outside}
 use Rattle.wy_code.specs.declared.code.Body.{Body}
 use Rattle.wy_code.specs.declared.code.Code.{Code}
 use Rattle.wy_code.specs.declared.instruction.Instruction.TheVariants.{Set}
 use Rattle.wy_code.specs.Stores as word
 use Rattle.wy_code.specs.Stores.{Word, Store, with_value, value_set}
-use Rattle.wy_code.specs.Machine.{Frame, State, Next, Go, first_of, stored, step}
+use Rattle.wy_code.specs.Machine.{Frame, State, Next, first_of, stored}
 use Rattle.wy_lower.specs.Inside.{Inside, field_value}
 use Rattle.wy_lower.specs.Listing.{one, value_mark, value_listing, fields_listing}
 use Rattle.wy_lower.specs.Lowerable.{Lowerable}
-use Rattle.wy_lower.specs.Lowering.{is_program, lowered}
-use Rattle.wy_lower.specs.Operands.{value_operands, fields_operands}
+use Rattle.wy_lower.specs.Lowering.{lowered}
+use Rattle.wy_lower.specs.Operands.{fields_operands}
 use Rattle.wy_lower.specs.Parts.{values_parts}
 use Rattle.wy_lower.proofs.Addresses.{Stands, first_stands, rest_stands, One, state, pushed, acts}
 use Rattle.wy_lower.proofs.Allowed.{Allowed, first_allowed, rest_allowed}
@@ -33,10 +32,10 @@ use Rattle.wy_lower.proofs.Forms.{HasLiterals, value_runs}
 use Rattle.wy_lower.proofs.Leads.{Runs, give_runs, bind_runs}
 use Rattle.wy_lower.proofs.Looking.{some_is, get_within, get_joined, get_set_same, get_set_other}
 use Rattle.wy_lower.proofs.Making.{names_of}
-use Rattle.wy_lower.proofs.Names.{Belongs, Mine, mine, length_map}
+use Rattle.wy_lower.proofs.Names.{Belongs, mine}
 use Rattle.wy_lower.proofs.Ready.{Ready, Fine}
-use Rattle.wy_lower.proofs.Relation.{Same, own_count, SameThing, SameWorld, Kept, Later, later_itself}
-use Rattle.wy_lower.proofs.Setting.{set_next, Sets, set_runs, value_is_set, with_item}
+use Rattle.wy_lower.proofs.Relation.{Same, own_count, SameThing, SameWorld, Later, later_itself}
+use Rattle.wy_lower.proofs.Setting.{set_next, Sets, set_runs, value_is_set}
 use Rattle.wy_lower.proofs.Slots.{Self, Alone, Holds}
 use Rattle.wy_lower.proofs.Steps.{CallsRun, HasGrants}
 use Rattle.wy_lower.proofs.Worlds.{Written, thing_with, item_with, thing_written, thing_set}

@@ -1,5 +1,5 @@
 -- The instructions of forms: constants, operators, jumps, and calls.
-use Rattle.std.proofs.Common.{◌≡◌, ◌≢◌, ℕ, zero, suc, ◌+◌, ◌<◌, Bool, true, false, List, [], ◌∷◌, ◌++◌, length, drop, Option, Some, None, refl, sym, ap, ◌∙◌, subst, arith}
+use Rattle.std.proofs.Common.{◌≡◌, ℕ, ◌+◌, ◌<◌, true, false, List, [], ◌∷◌, length, drop, Some, refl, sym, ap, ◌∙◌, subst}
 use Rattle.std.specs.Prelude.{slice_get}
 use Rattle.wy_text.specs.declared.fault.Place.{Place}
 use Rattle.wy_types.specs.declared.code.UnaryOperator.{UnaryOperator}
@@ -10,11 +10,11 @@ use Rattle.wy_types.specs.Core.{text_arity}
 use Rattle.wy_types.specs.Program.{Program}
 use Rattle.wy_device.specs.declared.operation.Op.{Op}
 use Rattle.wy_device.specs.Requests.{operation_of}
-use Rattle.wy_meaning.specs.Values.{Value, Int, Truth, Nothing, Text, Object, Grant, World}
+use Rattle.wy_meaning.specs.Values.{Value, World}
 use Rattle.wy_meaning.specs.Starts.{Starts, GrantIs, grant_of}
 use Rattle.wy_meaning.specs.Eval.{Sight, Calls, choose, apply}
 use Rattle.wy_meaning.specs.Operating.{unary_operator, text_operator, operated}
-use Rattle.wy_meaning.specs.Results.{Result, give, tick, settle, bind}
+use Rattle.wy_meaning.specs.Results.{Result, give, tick, settle}
 use Rattle.wy_code.specs.declared.code.Body.{Body}
 use Rattle.wy_code.specs.declared.code.Code.{Code}
 use Rattle.wy_code.specs.declared.instruction.Constant.{Constant}
@@ -25,13 +25,13 @@ use Rattle.wy_code.specs.Stores as word
 use Rattle.wy_code.specs.Stores.{Word, Store}
 use Rattle.wy_code.specs.Operations as machine
 use Rattle.wy_code.specs.Operations.{operator_meant, operand_count, performed}
-use Rattle.wy_code.specs.Machine.{Frame, State, Next, Go, push_reply, on_taken, popped, pop, call_on, word_of, act, step}
+use Rattle.wy_code.specs.Machine.{Frame, State, Go, push_reply, on_taken, pop, call_on, word_of, step}
 use Rattle.wy_lower.specs.Inside.{Inside}
-use Rattle.wy_lower.specs.Listing.{placed, one, unary_code, text_code}
+use Rattle.wy_lower.specs.Listing.{one, unary_code, text_code}
 use Rattle.wy_lower.specs.Lowering.{method_table, lowered}
 use Rattle.wy_lower.specs.Parts.{number_in}
-use Rattle.wy_lower.proofs.Addresses.{Stands, end_stands, One, state, pushed, pile, takes, acts, pushes, answer_runs}
-use Rattle.wy_lower.proofs.Leads.{Runs, give_runs, tick_runs, bind_runs, wrong_step_runs}
+use Rattle.wy_lower.proofs.Addresses.{Stands, state, pushed, pile, takes, acts, pushes, answer_runs}
+use Rattle.wy_lower.proofs.Leads.{Runs, give_runs, tick_runs, wrong_step_runs}
 use Rattle.wy_lower.proofs.Ready.{Ready, Fine}
 use Rattle.wy_lower.proofs.Relation.{Same, same_int, same_truth, same_nothing, same_text, same_object, same_grant, SameAll}
 use Rattle.wy_lower.proofs.Replies.{operated_fits, performed_fits}

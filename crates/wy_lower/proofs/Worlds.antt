@@ -1,18 +1,15 @@
 -- What adds a text or an object, sets a field or takes an answer does so to the machine's store as to the world.
-use Rattle.std.proofs.Common.{◌≡◌, ◌≢◌, ◌⊎◌, inl, inr, ℕ, ◌+◌, ◌<◌, false, List, [], ◌∷◌, ◌++◌, length, length-append, Option, Some, refl, sym, ap, ◌∙◌, subst, arith}
+use Rattle.std.proofs.Common.{◌≡◌, ◌≢◌, ◌⊎◌, inl, inr, ℕ, ◌+◌, ◌<◌, List, [], ◌∷◌, ◌++◌, length, length-append, Some, refl, sym, ap, ◌∙◌, subst, arith}
 use Rattle.std.proofs.lemmas.Bool.{cases_eq}
 use Rattle.std.specs.Prelude.{slice_get, slice_set}
-use Rattle.wy_types.specs.declared.code.Variable.{Variable}
-use Rattle.wy_types.specs.declared.linked.Actual.{Actual}
 use Rattle.wy_types.specs.Program.{Program}
 use Rattle.wy_device.specs.Tapes.{Tapes}
 use Rattle.wy_meaning.specs.Values.{Value, Thing, World}
-use Rattle.wy_meaning.specs.Starts.{Starts, actual_of}
+use Rattle.wy_meaning.specs.Starts.{Starts}
 use Rattle.wy_code.specs.Stores as word
 use Rattle.wy_code.specs.Stores.{Word, Store, with_text}
-use Rattle.wy_lower.specs.Lowering.{is_program}
 use Rattle.wy_lower.proofs.Looking.{some_is, get_front, get_last, get_within, get_joined, get_set_same, get_set_other, length_set}
-use Rattle.wy_lower.proofs.Relation.{Same, Found, found_at, Grows, grows_refl, grows_trans, own_count, word_handed, SameThing, FoundThing, SameWorld, found_thing_stays, Kept, Later, kept_itself}
+use Rattle.wy_lower.proofs.Relation.{Same, Found, found_at, Grows, grows_refl, grows_trans, own_count, SameThing, FoundThing, SameWorld, found_thing_stays, Kept, Later, kept_itself}
 
 pub grows_more : (t : List (List ℕ)) (bytes : List ℕ) → Grows t (t ++ bytes ∷ [])
 grows_more t bytes = record { by = λ k b e. get_front t (bytes ∷ []) k b e }
@@ -112,8 +109,8 @@ module _ (p : Program) (s : Starts) where
       names = h.names;
       own = λ kind j a e. let f = h.own kind j a e in (f.0, get_set_other x.values place j z (λ y. absurd (omega (arith, f.0))) ∙ f.1);
       caught = λ j c e.
-        let l = get_within o.captured j c e in
-        found_at t c.1 _ _ (get_set_other x.values place (own_count h.scope + j) z (λ y. absurd (omega arith))) (h.caught j c e);
+          let l = get_within o.captured j c e in
+          found_at t c.1 _ _ (get_set_other x.values place (own_count h.scope + j) z (λ y. absurd (omega arith))) (h.caught j c e);
       fields = λ j u e. of j u (written j u e);
       long = length_set x.values place z ∙ h.long;
     }

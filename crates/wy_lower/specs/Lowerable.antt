@@ -1,6 +1,6 @@
 -- Which programs, with their instances in start order, are lowered to code that does what they mean.
 -- (docs/LANGUAGE.md, "Code of programs")
-use Rattle.std.specs.Prelude.{◌≡◌, ℕ, suc, ◌<◌, List, [], ◌∷◌, ◌++◌, Some, true, false, length, slice_get}
+use Rattle.std.specs.Prelude.{◌≡◌, ℕ, List, [], ◌∷◌, ◌++◌, Some, false, length, slice_get}
 use Rattle.wy_effects.specs.Members.{In, Apart}
 use Rattle.wy_types.specs.declared.resolved.OwnName.{OwnName}
 use Rattle.wy_types.specs.declared.resolved.Origin.TheVariants.{Grant}
