@@ -41,7 +41,8 @@ abbrev pub pile : List Word → List Word → List Word
 pile [] operands = operands
 pile (v ∷ vs) operands = pile vs (v ∷ operands)
 
-take_pile : (vs : List Word) (j : ℕ) (operands all : List Word) → take_operands (length vs + j) (pile vs operands) all ≡ take_operands j operands (vs ++ all)
+take_pile : (vs : List Word) (j : ℕ) (operands all : List Word) →
+    take_operands (length vs + j) (pile vs operands) all ≡ take_operands j operands (vs ++ all)
 take_pile [] j operands all = ap (λ (m : ℕ). take_operands m operands all) (zero-add j)
 take_pile (v ∷ vs) j operands all =
     let e : length (v ∷ vs) + j ≡ length vs + suc j = omega arith in
@@ -67,7 +68,11 @@ module _ (x : ℕ) (b : Body) (callers : List Frame) where
   -- a body of an instance at an address, with these slots and operands
   abbrev pub state : ℕ → List Word → List Word → Store → State
   state at slots operands m =
-      record { frame = record { instance = x; body = b; rest = drop at b.instructions; slots = slots; operands = operands }; callers = callers; store = m }
+      record {
+        frame = record { instance = x; body = b; rest = drop at b.instructions; slots = slots; operands = operands };
+        callers = callers;
+        store = m;
+      }
 
   abbrev pub pushed : {A : Type 0} → ℕ → List Word → A → World → One → State
   pushed end operands v w c = state end c.slots (c.word ∷ operands) c.store
@@ -75,11 +80,13 @@ module _ (x : ℕ) (b : Body) (callers : List Frame) where
   abbrev pub piled : {A : Type 0} → ℕ → List Word → A → World → Many → State
   piled end operands vs w c = state end c.slots (pile c.words operands) c.store
 
-  pub acts : (g : Code) (n at : ℕ) (place : Place) (i : Instruction) (end : ℕ) (slots operands : List Word) (m : Store) → Stands b at (one place i) end → step g n (state at slots operands m) ≡ act g n place i (state end slots operands m)
+  pub acts : (g : Code) (n at : ℕ) (place : Place) (i : Instruction) (end : ℕ) (slots operands : List Word) (m : Store) →
+      Stands b at (one place i) end → step g n (state at slots operands m) ≡ act g n place i (state end slots operands m)
   unfolding step
   acts g n at place i end slots operands m h = ap (λ (l : List Placed). act_first g n l (state at slots operands m)) h.by
 
-  pub pushes : (at : ℕ) (slots operands : List Word) (m : Store) (z : Word) (es : List Event) → length slots + length operands < b.slots → push z es (state at slots operands m) ≡ Go es (state at slots (z ∷ operands) m)
+  pub pushes : (at : ℕ) (slots operands : List Word) (m : Store) (z : Word) (es : List Event) → length slots + length operands < b.slots →
+      push z es (state at slots operands m) ≡ Go es (state at slots (z ∷ operands) m)
   pushes at slots operands m z es h =
       ap (λ c. if c then Go es (state at slots (z ∷ operands) m) else stuck) (lt-ltb (length slots + length operands) b.slots h)
 
@@ -95,7 +102,8 @@ module _ (fine : Value → World → One → Type 0) (slots : List Word) where
   pub record Answers (r : Result Value) (a : Reply) : Type 0 where
     pub by : AnswersTo r.out r.world r.events r.steps a
 
-  pub replied_answers : (v : Value) (w : World) (z : Word) (m : Store) → fine v w (record { word = z; store = m; slots = slots }) → Answers (settle (replied v w)) (Replies z m [])
+  pub replied_answers : (v : Value) (w : World) (z : Word) (m : Store) → fine v w (record { word = z; store = m; slots = slots }) →
+      Answers (settle (replied v w)) (Replies z m [])
   unfolding settle
   replied_answers v w z m f = record { by = (refl, z, m, f, refl) }
 
@@ -109,17 +117,21 @@ module _ (fine : Value → World → One → Type 0) (slots : List Word) where
 
 module _ (x : ℕ) (b : Body) (callers : List Frame) (fine : Value → World → One → Type 0) (slots : List Word) where
   module _ (g : Code) (n end : ℕ) (operands : List Word) (m : Store) (t : State) (room : length slots + length operands < b.slots) where
-    answers_to : (o : Outcome Value) (w : World) (es : List Event) (q : ℕ) (a : Reply) → AnswersTo fine slots o w es q a → step g n t ≡ push_reply a (state x b callers end slots operands m) → RunsTo g n fine (pushed x b callers end operands) t o w es (suc q)
+    answers_to : (o : Outcome Value) (w : World) (es : List Event) (q : ℕ) (a : Reply) → AnswersTo fine slots o w es q a →
+        step g n t ≡ push_reply a (state x b callers end slots operands m) → RunsTo g n fine (pushed x b callers end operands) t o w es (suc q)
     answers_to (Stops e) w es q a h st =
-        λ ne. subst (λ (k : ℕ). Ends g n t (suc k) es e) (sym h.0) (one_ends g n t e es (st ∙ ap (λ a. push_reply a (state x b callers end slots operands m)) (h.1 ne)))
+        λ ne. subst (λ (k : ℕ). Ends g n t (suc k) es e) (sym h.0)
+        (one_ends g n t e es (st ∙ ap (λ a. push_reply a (state x b callers end slots operands m)) (h.1 ne)))
     answers_to (Gives v) w es q a h st = (
       record { word = h.1; store = h.2; slots = slots },
       h.3,
       subst (λ (k : ℕ). Leads g n t (suc k) es (state x b callers end slots (h.1 ∷ operands) h.2)) (sym h.0)
-          (one_leads g n t _ es (st ∙ ap (λ a. push_reply a (state x b callers end slots operands m)) h.4 ∙ pushes x b callers end slots operands h.2 h.1 es room)),
+          (one_leads g n t _ es (st ∙ ap (λ a. push_reply a (state x b callers end slots operands m)) h.4
+          ∙ pushes x b callers end slots operands h.2 h.1 es room)),
     )
 
     -- one instruction that pushes what an operation answers
-    pub answer_runs : (r : Result Value) (a : Reply) → Answers fine slots r a → step g n t ≡ push_reply a (state x b callers end slots operands m) → Runs g n fine (pushed x b callers end operands) t (tick r)
+    pub answer_runs : (r : Result Value) (a : Reply) → Answers fine slots r a → step g n t ≡ push_reply a (state x b callers end slots operands m) →
+        Runs g n fine (pushed x b callers end operands) t (tick r)
     unfolding tick
     answer_runs r a h st = record { by = answers_to r.out r.world r.events r.steps a h.by st }

@@ -86,7 +86,8 @@ module _ (p : Program) (s : Starts) (sc : Scope) (i : Inside) where
       good = λ e j. h.good e (In-right e es fs j);
       own = λ k j. h.own k (inr (In-right k ns ms j));
       apart = apart_rest ns ms h.apart.1;
-      fresh = λ k j. not_picked (same_variable (Local n) (Local k)) (Some v) (value_named sight.variables (Local k)) (other k j) ∙ h.fresh k (inr (In-right k ns ms j));
+      fresh = λ k j. not_picked (same_variable (Local n) (Local k)) (Some v) (value_named sight.variables (Local k)) (other k j)
+          ∙ h.fresh k (inr (In-right k ns ms j));
     }
       where
         other : (k : ℕ) → In k ms → same_variable (Local n) (Local k) ≡ false

@@ -47,7 +47,10 @@ use Rattle.wy_lower.proofs.Steps.{Does, CallsRun}
 
 -- the instructions of a body stand from its first address on
 pub whole_stands : (b : Body) (xs : List Placed) → b.instructions ≡ xs → Stands b 0 xs (length b.instructions)
-whole_stands b xs e = record { by = e ∙ (sym (append-nil xs) ∙ ap (λ l. xs ++ l) (sym (drop_all (length b.instructions) b.instructions (omega arith)))) }
+whole_stands b xs e = record {
+  by = e
+      ∙ (sym (append-nil xs) ∙ ap (λ l. xs ++ l) (sym (drop_all (length b.instructions) b.instructions (omega arith))));
+}
 
 module _ (p : Program) (s : Starts) (ok : Lowerable p s) where
   pub scope_literals : (sc : Scope) (i : Inside) (x : ℕ) → scope_of_instance p s x ≡ Some sc → HasLiterals p s sc i x
@@ -58,7 +61,9 @@ module _ (p : Program) (s : Starts) (ok : Lowerable p s) where
   }
 
   -- a method of an object, in the scope of the object's instance
-  module _ (sc : Scope) (o : Thing) (stands : scope_of_instance p s o.instance ≡ Some sc) (names : names_of o.captured ≡ literal_captures (slice_get sc.literals o.literal)) (k : ℕ) (b : Method) (is : slice_get sc.bodies k ≡ Some b) (owner : b.owner ≡ o.literal) where
+  module _ (sc : Scope) (o : Thing) (stands : scope_of_instance p s o.instance ≡ Some sc)
+      (names : names_of o.captured ≡ literal_captures (slice_get sc.literals o.literal)) (k : ℕ) (b : Method) (is : slice_get sc.bodies k ≡ Some b)
+      (owner : b.owner ≡ o.literal) where
     abbrev within : Inside
     within = inside_body p s sc k b
 
@@ -90,7 +95,9 @@ module _ (p : Program) (s : Starts) (ok : Lowerable p s) where
             let z : c.0 ≡ b = some_is (sym c.1 ∙ is) in
             subst (λ (y : Method). j < length y.signature.params) z c.2
 
-    pub method_allowed : (a : ℕ) (vs : List Value) → Allowed p s sc (inside_body p s sc k b) (record { instance = o.instance; this = Some a; variables = parameters k 0 vs ++ o.captured }) (block_parts b.block) (block_vals b.block)
+    pub method_allowed : (a : ℕ) (vs : List Value) →
+        Allowed p s sc (inside_body p s sc k b) (record { instance = o.instance; this = Some a; variables = parameters k 0 vs ++ o.captured })
+        (block_parts b.block) (block_vals b.block)
     method_allowed a vs =
         let c = scope_coded p s o.instance sc stands in
         record {
@@ -103,15 +110,18 @@ module _ (p : Program) (s : Starts) (ok : Lowerable p s) where
         }
 
 -- the literal of a method is there
-literal_there : (p : Program) (s : Starts) → Lowerable p s → (o : Thing) (sc : Scope) → scope_of_instance p s o.instance ≡ Some sc → (name : List ℕ) (y : eval.Method) → method_in (Some sc) o.literal name ≡ Some y → (kind : Literal) × (slice_get sc.literals o.literal ≡ Some kind)
+literal_there : (p : Program) (s : Starts) → Lowerable p s → (o : Thing) (sc : Scope) → scope_of_instance p s o.instance ≡ Some sc →
+    (name : List ℕ) (y : eval.Method) → method_in (Some sc) o.literal name ≡ Some y → (kind : Literal) × (slice_get sc.literals o.literal ≡ Some kind)
 literal_there p s ok o sc stands name y found =
     let m = found_method 0 o.literal name sc.bodies y found in
     let c = scope_coded p s o.instance sc stands in
     let fits = (ok.core.scopes sc (in_list p.scopes c.instance.scope sc c.there)).bodies m.0 y.body m.1 in
     there sc.literals o.literal (subst (λ (l : ℕ). l < length sc.literals) m.2 fits.0)
 
-module _ (p : Program) (s : Starts) (ok : Lowerable p s) (n d : ℕ) (calls : Calls) (run : CallsRun p s n d calls) (i : Inside) (x : ℕ) (sight : Sight) (w0 : World) (m0 : Store) (b : Body) (callers : List Frame) (at end : ℕ) (stack : List Word) (w : World) (m : Store) (slots : List Word)
-    (r : Ready p s i x sight w0 m0 w m slots) (deep : suc d + length callers ≡ n) (place : Place) (a : ℕ) (name : List ℕ) (k : ℕ) (vs : List Value) (zs : List Word) (same : SameAll m.texts vs zs) (many : length zs ≡ k)
+module _ (p : Program) (s : Starts) (ok : Lowerable p s) (n d : ℕ) (calls : Calls) (run : CallsRun p s n d calls) (i : Inside) (x : ℕ) (sight : Sight)
+    (w0 : World) (m0 : Store) (b : Body) (callers : List Frame) (at end : ℕ) (stack : List Word) (w : World) (m : Store) (slots : List Word)
+    (r : Ready p s i x sight w0 m0 w m slots) (deep : suc d + length callers ≡ n) (place : Place) (a : ℕ) (name : List ℕ) (k : ℕ) (vs : List Value)
+    (zs : List Word) (same : SameAll m.texts vs zs) (many : length zs ≡ k)
     (code : Stands b at (one place (Call (number_in (method_table p) name) k)) end) where
   abbrev g : Code
   g = lowered p s
@@ -127,11 +137,16 @@ module _ (p : Program) (s : Starts) (ok : Lowerable p s) (n d : ℕ) (calls : Ca
   stepped =
       let l : length callers < n = omega arith in
       acts x b callers g n at place (Call (number_in (method_table p) name) k) end slots (pile zs (word.Object a ∷ stack)) m code
-      ∙ ap (λ t. on_taken t (state x b callers end slots (pile zs (word.Object a ∷ stack)) m) (λ us u. pop u (λ v u. call_on g n place (number_in (method_table p) name) us v u))) (takes zs (word.Object a ∷ stack) k many)
-      ∙ ap (λ c. if c then enter_method g a (number_in (method_table p) name) zs S (slice_get m.objects a) else Halt TooDeep []) (lt-ltb (length callers) n l)
+      ∙ ap (λ t. on_taken t (state x b callers end slots (pile zs (word.Object a ∷ stack)) m)
+      (λ us u. pop u (λ v u. call_on g n place (number_in (method_table p) name) us v u))) (takes zs (word.Object a ∷ stack) k many)
+      ∙ ap (λ c. if c then enter_method g a (number_in (method_table p) name) zs S (slice_get m.objects a) else Halt TooDeep [])
+      (lt-ltb (length callers) n l)
 
-  module _ (o : Thing) (is : slice_get w.objects a ≡ Some o) (y : eval.Method) (sc : Scope) (stands : scope_of_instance p s o.instance ≡ Some sc) (found : method_in (Some sc) o.literal name ≡ Some y) (full : length vs ≡ length y.body.signature.params)
-      (names : names_of o.captured ≡ literal_captures (slice_get sc.literals o.literal)) (item : word.Thing) (item_is : slice_get m.objects a ≡ Some item) (instance : item.instance ≡ o.instance) (literal : item.literal ≡ o.literal) (kind : Literal) (has_kind : slice_get sc.literals o.literal ≡ Some kind) where
+  module _ (o : Thing) (is : slice_get w.objects a ≡ Some o) (y : eval.Method) (sc : Scope) (stands : scope_of_instance p s o.instance ≡ Some sc)
+      (found : method_in (Some sc) o.literal name ≡ Some y) (full : length vs ≡ length y.body.signature.params)
+      (names : names_of o.captured ≡ literal_captures (slice_get sc.literals o.literal)) (item : word.Thing)
+      (item_is : slice_get m.objects a ≡ Some item) (instance : item.instance ≡ o.instance) (literal : item.literal ≡ o.literal) (kind : Literal)
+      (has_kind : slice_get sc.literals o.literal ≡ Some kind) where
     abbrev body : Body
     body = body_code p s sc y.number y.body
 
@@ -171,10 +186,13 @@ module _ (p : Program) (s : Starts) (ok : Lowerable p s) (n d : ℕ) (calls : Ca
     body_stands : Stands body 0 (block_listing inner 0 y.body.block ++ one y.body.place Return) (length body.instructions)
     body_stands = whole_stands body _ refl
 
-    method_ready : (y.body.owner ≡ o.literal) → slice_get sc.bodies y.number ≡ Some y.body → Ready p s inner o.instance inner_sight w m w m first_slots
+    method_ready : (y.body.owner ≡ o.literal) → slice_get sc.bodies y.number ≡ Some y.body →
+        Ready p s inner o.instance inner_sight w m w m first_slots
     method_ready owner here = record {
       world = r.world;
-      holds = method_holds inner o.instance y.number refl m.texts w a o is refl (method_names p s ok sc o stands names y.number y.body here owner) (not_own p s ok sc o stands names y.number y.body here owner) (own_parameter p s ok sc o stands names y.number y.body here owner) vs zs same full;
+      holds = method_holds inner o.instance y.number refl m.texts w a o is refl (method_names p s ok sc o stands names y.number y.body here owner)
+          (not_own p s ok sc o stands names y.number y.body here owner)
+          (own_parameter p s ok sc o stands names y.number y.body here owner) vs zs same full;
       later = later_itself w m;
     }
 
@@ -187,12 +205,17 @@ module _ (p : Program) (s : Starts) (ok : Lowerable p s) (n d : ℕ) (calls : Ca
         let room : 1 + inner.parameters + length inner.vals + length {A = Word} [] + block_operands y.body.block ≤ body.slots = omega arith in
         told_runs g n (Fine p s i x sight w0 m0) (pushed x b callers end stack) T first enters _ enters_body
         (node_runs g n (Fine p s i x sight w0 m0) (pushed x b callers end stack) _ _
-        (bind_runs g n (Fine p s inner o.instance inner_sight w m) (pushed o.instance body (S.frame ∷ callers) code_end []) (Fine p s i x sight w0 m0) (pushed x b callers end stack) (λ v w. tick (told Leave (give v w))) first (eval_block p s calls inner_sight y.body.block w)
-        (block_runs p s ok (has_grants p s ok) n d calls run sc inner o.instance (method_belongs p s ok sc o stands names y.number y.body c.0 c.1) (scope_literals p s ok sc inner o.instance stands) (Some y.body.owner) body (S.frame ∷ callers) deeper
-        y.body.block inner_sight _ fits.1 (method_allowed p s ok sc o stands names y.number y.body c.0 c.1 a vs) 0 code_end (first_stands body 0 _ (one y.body.place Return) _ body_stands) w m w m first_slots (method_ready c.1 c.0) [] room)
+        (bind_runs g n (Fine p s inner o.instance inner_sight w m) (pushed o.instance body (S.frame ∷ callers) code_end []) (Fine p s i x sight w0 m0)
+        (pushed x b callers end stack) (λ v w. tick (told Leave (give v w))) first (eval_block p s calls inner_sight y.body.block w)
+        (block_runs p s ok (has_grants p s ok) n d calls run sc inner o.instance (method_belongs p s ok sc o stands names y.number y.body c.0 c.1)
+        (scope_literals p s ok sc inner o.instance stands) (Some y.body.owner) body (S.frame ∷ callers) deeper
+        y.body.block inner_sight _ fits.1 (method_allowed p s ok sc o stands names y.number y.body c.0 c.1 a vs) 0 code_end
+        (first_stands body 0 _ (one y.body.place Return) _ body_stands) w m w m first_slots (method_ready c.1 c.0) [] room)
         (λ v w1 t q.
-        told_runs g n (Fine p s i x sight w0 m0) (pushed x b callers end stack) _ (state x b callers end slots (t.word ∷ stack) t.store) Leave (give v w1)
-        (acts o.instance body (S.frame ∷ callers) g n code_end y.body.place Return _ t.slots (t.word ∷ []) t.store (rest_stands body 0 _ (one y.body.place Return) _ body_stands))
+        told_runs g n (Fine p s i x sight w0 m0) (pushed x b callers end stack) _ (state x b callers end slots (t.word ∷ stack) t.store) Leave
+        (give v w1)
+        (acts o.instance body (S.frame ∷ callers) g n code_end y.body.place Return _ t.slots (t.word ∷ []) t.store
+        (rest_stands body 0 _ (one y.body.place Return) _ body_stands))
         (give_runs g n (Fine p s i x sight w0 m0) (pushed x b callers end stack) v w1 (record { word = t.word; store = t.store; slots = slots })
         (record { same = q.same; ready = ready_after p s i x sight w0 m0 w m w1 t.store slots r q.ready.world q.ready.later })))))
 
@@ -205,19 +228,31 @@ module _ (p : Program) (s : Starts) (ok : Lowerable p s) (n d : ℕ) (calls : Ca
   pub call_runs : Goal (called_on p s calls a name vs w (slice_get w.objects a))
   call_runs = of_thing (slice_get w.objects a) refl
     where
-      of_kind : (o : Thing) (is : slice_get w.objects a ≡ Some o) (y : eval.Method) → method_in (scope_of_instance p s o.instance) o.literal name ≡ Some y → length vs ≡ length y.body.signature.params → Goal (whole (Enter (instance_name s o.instance) (body_text o.literal name)) (eval_block p s calls (record { instance = o.instance; this = Some a; variables = parameters y.number 0 vs ++ o.captured }) y.body.block w))
+      of_kind : (o : Thing) (is : slice_get w.objects a ≡ Some o) (y : eval.Method) →
+          method_in (scope_of_instance p s o.instance) o.literal name ≡ Some y → length vs ≡ length y.body.signature.params →
+          Goal (whole (Enter (instance_name s o.instance) (body_text o.literal name))
+          (eval_block p s calls (record { instance = o.instance; this = Some a; variables = parameters y.number 0 vs ++ o.captured }) y.body.block w))
       of_kind o is y found full =
           let f = r.world.objects a o is in
           let here : method_in (Some f.same.scope) o.literal name ≡ Some y = sym (ap (λ c. method_in c o.literal name) f.same.stands) ∙ found in
           let kind = literal_there p s ok o f.same.scope f.same.stands name y here in
           method_runs o is y f.same.scope f.same.stands here full f.same.names f.thing f.is f.same.instance f.same.literal kind.0 kind.1
 
-      of_count : (o : Thing) → slice_get w.objects a ≡ Some o → (y : eval.Method) → method_in (scope_of_instance p s o.instance) o.literal name ≡ Some y → (c : Bool) → nat_eq (length vs) (length y.body.signature.params) ≡ c →
-          Goal (if c then whole (Enter (instance_name s o.instance) (body_text o.literal name)) (eval_block p s calls (record { instance = o.instance; this = Some a; variables = parameters y.number 0 vs ++ o.captured }) y.body.block w) else stop Wrong w)
+      of_count : (o : Thing) → slice_get w.objects a ≡ Some o → (y : eval.Method) →
+          method_in (scope_of_instance p s o.instance) o.literal name ≡ Some y → (c : Bool) →
+          nat_eq (length vs) (length y.body.signature.params) ≡ c →
+          Goal (if c then whole (Enter (instance_name s o.instance) (body_text o.literal name))
+          (eval_block p s calls (record {
+            instance = o.instance;
+            this = Some a;
+            variables =
+                parameters y.number 0 vs ++ o.captured;
+          }) y.body.block w) else stop Wrong w)
       of_count o is y found true e = of_kind o is y found (eqb-true _ _ e)
       of_count o is y found false e = wrong
 
-      of_method : (o : Thing) → slice_get w.objects a ≡ Some o → (c : Option eval.Method) → method_in (scope_of_instance p s o.instance) o.literal name ≡ c → Goal (called p s calls a o name vs w c)
+      of_method : (o : Thing) → slice_get w.objects a ≡ Some o → (c : Option eval.Method) →
+          method_in (scope_of_instance p s o.instance) o.literal name ≡ c → Goal (called p s calls a o name vs w c)
       of_method o is None e = wrong
       of_method o is (Some y) e = of_count o is y e _ refl
 
@@ -232,8 +267,10 @@ module _ (p : Program) (s : Starts) (ok : Lowerable p s) (n : ℕ) where
     by = λ i x sight w0 m0 b callers at end stack w m slots r deep place a name k vs zs same many code.
         halt_runs (lowered p s) n (Fine p s i x sight w0 m0) (pushed x b callers end stack) _ TooDeep w
         (acts x b callers (lowered p s) n at place _ end slots (pile zs (word.Object a ∷ stack)) m code
-        ∙ ap (λ t. on_taken t (state x b callers end slots (pile zs (word.Object a ∷ stack)) m) (λ us u. pop u (λ v u. call_on (lowered p s) n place (number_in (method_table p) name) us v u))) (takes zs (word.Object a ∷ stack) k many)
-        ∙ ap (λ c. if c then enter_method (lowered p s) a (number_in (method_table p) name) zs (state x b callers end slots stack m) (slice_get m.objects a) else Halt TooDeep []) (le-ltb (length callers) n (omega arith)));
+        ∙ ap (λ t. on_taken t (state x b callers end slots (pile zs (word.Object a ∷ stack)) m)
+        (λ us u. pop u (λ v u. call_on (lowered p s) n place (number_in (method_table p) name) us v u))) (takes zs (word.Object a ∷ stack) k many)
+        ∙ ap (λ c. if c then enter_method (lowered p s) a (number_in (method_table p) name) zs (state x b callers end slots stack m)
+        (slice_get m.objects a) else Halt TooDeep []) (le-ltb (length callers) n (omega arith)));
   }
   calls_run (suc d) = let run = calls_run d in record {
     by = λ i x sight w0 m0 b callers at end stack w m slots r deep place a name k vs zs same many code.

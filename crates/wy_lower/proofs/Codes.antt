@@ -36,18 +36,35 @@ pub record Coded (i : Started) (o : Option x.Instance) : Type 0 where
   pub name : instance.name ≡ i.name
   pub scope : instance.scope ≡ i.scope
 
-coded_from : (is : List Started) (main : Started) (k : ℕ) (i : Started) → slice_get (is ++ main ∷ []) k ≡ Some i → Coded i (slice_get (map instance_code is ++ instance_code (record main { actuals = [] }) ∷ []) k)
-coded_from [] main zero i e = record { instance = instance_code (record main { actuals = [] }); is = refl; name = ap (λ (t : Started). t.name) (some_is e); scope = ap (λ (t : Started). t.scope) (some_is e) }
+coded_from : (is : List Started) (main : Started) (k : ℕ) (i : Started) → slice_get (is ++ main ∷ []) k ≡ Some i →
+    Coded i (slice_get (map instance_code is ++ instance_code (record main { actuals = [] }) ∷ []) k)
+coded_from [] main zero i e = record {
+  instance = instance_code (record main { actuals = [] });
+  is = refl;
+  name =
+      ap (λ (t : Started). t.name) (some_is e);
+  scope = ap (λ (t : Started). t.scope) (some_is e);
+}
 coded_from [] main (suc k) i e = absurd cc
-coded_from (j ∷ is) main zero i e = record { instance = instance_code j; is = refl; name = ap (λ (t : Started). t.name) (some_is e); scope = ap (λ (t : Started). t.scope) (some_is e) }
+coded_from (j ∷ is) main zero i e =
+    record {
+      instance = instance_code j;
+      is = refl;
+      name = ap (λ (t : Started). t.name) (some_is e);
+      scope =
+          ap (λ (t : Started). t.scope) (some_is e);
+    }
 coded_from (j ∷ is) main (suc k) i e = coded_from is main k i e
 
 -- the method that is found is one of these bodies, and of that owner
-pub found_method : (k l : ℕ) (name : List ℕ) (bodies : List Body) (m : Method) → find_body k l name bodies ≡ Some m → (j : ℕ) × (slice_get bodies j ≡ Some m.body) × (m.body.owner ≡ l)
+pub found_method : (k l : ℕ) (name : List ℕ) (bodies : List Body) (m : Method) → find_body k l name bodies ≡ Some m → (j : ℕ) ×
+    (slice_get bodies j ≡ Some m.body) × (m.body.owner ≡ l)
 found_method k l name [] m e = absurd cc
 found_method k l name (b ∷ bs) m e = of (nat_eq b.owner l && bytes_eq b.signature.name name) refl (found_method (k + 1) l name bs m)
   where
-    of : (c : Bool) → (nat_eq b.owner l && bytes_eq b.signature.name name) ≡ c → (find_body (k + 1) l name bs ≡ Some m → (j : ℕ) × (slice_get bs j ≡ Some m.body) × (m.body.owner ≡ l)) → (j : ℕ) × (slice_get (b ∷ bs) j ≡ Some m.body) × (m.body.owner ≡ l)
+    of : (c : Bool) → (nat_eq b.owner l && bytes_eq b.signature.name name) ≡ c →
+        (find_body (k + 1) l name bs ≡ Some m → (j : ℕ) × (slice_get bs j ≡ Some m.body) × (m.body.owner ≡ l)) → (j : ℕ) ×
+        (slice_get (b ∷ bs) j ≡ Some m.body) × (m.body.owner ≡ l)
     of true t rest =
         let f : record { number = k; body = b } ≡ m = some_is (sym (picked _ _ _ t) ∙ e) in
         (0, ap (λ (y : Method). Some y.body) f, sym (ap (λ (y : Method). y.body.owner) f) ∙ eqb-true b.owner l (and_parts _ _ t).0)
@@ -64,7 +81,8 @@ module _ (p : Program) (st : Starts) where
     pub started : slice_get (all_started st) k ≡ Some instance
     pub there : slice_get p.scopes instance.scope ≡ Some sc
     pub stands : Stands p st instance.scope sc
-    pub code : scope_in (lowered p st) (slice_get (all_instances (lowered p st)) k) ≡ Some (record { arguments = length sc.names; start = stands.first; literals = literals_code p st sc stands.first 0 sc.literals })
+    pub code : scope_in (lowered p st) (slice_get (all_instances (lowered p st)) k) ≡ Some
+        (record { arguments = length sc.names; start = stands.first; literals = literals_code p st sc stands.first 0 sc.literals })
     pub name : name_in (slice_get (all_instances (lowered p st)) k) ≡ instance_name st k
 
   pub scope_coded : (k : ℕ) (sc : Scope) → scope_of_instance p st k ≡ Some sc → ScopeCoded k sc
@@ -89,9 +107,11 @@ module _ (p : Program) (st : Starts) where
   -- Literals
 
   abbrev pub literal_code : Scope → ℕ → ℕ → Literal → item.Literal
-  literal_code sc first l literal = record { captures = captures_code p st sc l literal.captures; fields = length literal.fields; methods = methods_code p l (first + 1) sc.bodies }
+  literal_code sc first l literal =
+      record { captures = captures_code p st sc l literal.captures; fields = length literal.fields; methods = methods_code p l (first + 1) sc.bodies }
 
-  literal_from : (sc : Scope) (first k : ℕ) (literals : List Literal) (l : ℕ) (literal : Literal) → slice_get literals l ≡ Some literal → slice_get (literals_code p st sc first k literals) l ≡ Some (literal_code sc first (k + l) literal)
+  literal_from : (sc : Scope) (first k : ℕ) (literals : List Literal) (l : ℕ) (literal : Literal) → slice_get literals l ≡ Some literal →
+      slice_get (literals_code p st sc first k literals) l ≡ Some (literal_code sc first (k + l) literal)
   literal_from sc first k [] l literal e = absurd cc
   literal_from sc first k (y ∷ ys) zero literal e =
       let z : k ≡ k + 0 = omega arith in
@@ -100,16 +120,21 @@ module _ (p : Program) (st : Starts) where
       let z : k + 1 + l ≡ k + suc l = omega arith in
       literal_from sc first (k + 1) ys l literal e ∙ ap (λ (j : ℕ). Some (literal_code sc first j literal)) z
 
-  pub literal_is : (k : ℕ) (sc : Scope) (c : ScopeCoded k sc) (l : ℕ) (literal : Literal) → slice_get sc.literals l ≡ Some literal → literal_of (lowered p st) k l ≡ Some (literal_code sc c.stands.first l literal)
+  pub literal_is : (k : ℕ) (sc : Scope) (c : ScopeCoded k sc) (l : ℕ) (literal : Literal) → slice_get sc.literals l ≡ Some literal →
+      literal_of (lowered p st) k l ≡ Some (literal_code sc c.stands.first l literal)
   literal_is k sc c l literal e =
       let z : 0 + l ≡ l = omega arith in
-      ap (λ o. literal_of_scope o l) c.code ∙ (literal_from sc c.stands.first 0 sc.literals l literal e ∙ ap (λ (j : ℕ). Some (literal_code sc c.stands.first j literal)) z)
+      ap (λ o. literal_of_scope o l) c.code
+      ∙ (literal_from sc c.stands.first 0 sc.literals l literal e ∙ ap (λ (j : ℕ). Some (literal_code sc c.stands.first j literal)) z)
 
   -- the literal of a `new` has the values that the literal captures where it is made
-  pub made_literal : (k : ℕ) (sc : Scope) → scope_of_instance p st k ≡ Some sc → (l : ℕ) → 0 < l → (literal : Literal) → slice_get sc.literals l ≡ Some literal →
-      (y : item.Literal) × (literal_of (lowered p st) k l ≡ Some y) × (y.captures ≡ capture_sources (inside_maker p st sc l 0 sc.bodies) literal.captures) × (y.fields ≡ length literal.fields)
+  pub made_literal : (k : ℕ) (sc : Scope) → scope_of_instance p st k ≡ Some sc → (l : ℕ) → 0 < l → (literal : Literal) →
+      slice_get sc.literals l ≡ Some literal →
+      (y : item.Literal) × (literal_of (lowered p st) k l ≡ Some y) ×
+      (y.captures ≡ capture_sources (inside_maker p st sc l 0 sc.bodies) literal.captures) × (y.fields ≡ length literal.fields)
   made_literal k sc here zero h literal e = absurd (omega arith)
-  made_literal k sc here (suc l) h literal e = let c = scope_coded k sc here in (literal_code sc c.stands.first (suc l) literal, literal_is k sc c (suc l) literal e, refl, refl)
+  made_literal k sc here (suc l) h literal e = let c = scope_coded k sc here in
+      (literal_code sc c.stands.first (suc l) literal, literal_is k sc c (suc l) literal e, refl, refl)
 
   ------------------------------------------------------------
   -- Methods
@@ -126,26 +151,38 @@ module _ (p : Program) (st : Starts) where
   abbrev HasNumber : List ℕ → Type 0
   HasNumber name = slice_get (method_table p) (number_in (method_table p) name) ≡ Some name
 
-  numbers_differ : (a b : List ℕ) → HasNumber a → HasNumber b → bytes_eq a b ≡ false → nat_eq (number_in (method_table p) a) (number_in (method_table p) b) ≡ false
+  numbers_differ : (a b : List ℕ) → HasNumber a → HasNumber b → bytes_eq a b ≡ false →
+      nat_eq (number_in (method_table p) a) (number_in (method_table p) b) ≡ false
   numbers_differ a b h k e =
       ne_eqb (number_in (method_table p) a) (number_in (method_table p) b) (λ same.
       let z : a ≡ b = some_is (sym h ∙ (ap (slice_get (method_table p)) same ∙ k)) in
       both_ways (bytes_eq a b) e ((bytes_eq-Decides a b).1 z))
 
-  called_from : (k l : ℕ) (name : List ℕ) (bodies : List Body) (first : ℕ) (m : Method) → ((b : Body) → In b bodies → HasNumber b.signature.name) → HasNumber name → find_body k l name bodies ≡ Some m → Called k l name bodies first m
+  called_from : (k l : ℕ) (name : List ℕ) (bodies : List Body) (first : ℕ) (m : Method) → ((b : Body) → In b bodies → HasNumber b.signature.name) →
+      HasNumber name → find_body k l name bodies ≡ Some m → Called k l name bodies first m
   called_from k l name [] first m all h e = absurd cc
-  called_from k l name (b ∷ bs) first m all h e = of (nat_eq b.owner l) (bytes_eq b.signature.name name) refl refl (λ f j. called_from (k + 1) l name bs j m (λ c i. all c (inr i)) h f)
+  called_from k l name (b ∷ bs) first m all h e =
+      of (nat_eq b.owner l) (bytes_eq b.signature.name name) refl refl (λ f j. called_from (k + 1) l name bs j m (λ c i. all c (inr i)) h f)
     where
       T : List (List ℕ)
       T = method_table p
 
-      found : (c d : Bool) → nat_eq b.owner l ≡ c → bytes_eq b.signature.name name ≡ d → find_body k l name (b ∷ bs) ≡ (if c && d then Some (record { number = k; body = b }) else find_body (k + 1) l name bs)
-      found c d t u = ap (λ q. if q && bytes_eq b.signature.name name then Some (record { number = k; body = b }) else find_body (k + 1) l name bs) t ∙ ap (λ q. if c && q then Some (record { number = k; body = b }) else find_body (k + 1) l name bs) u
+      found : (c d : Bool) → nat_eq b.owner l ≡ c → bytes_eq b.signature.name name ≡ d →
+          find_body k l name (b ∷ bs) ≡ (if c && d then Some (record { number = k; body = b }) else find_body (k + 1) l name bs)
+      found c d t u = ap (λ q. if q && bytes_eq b.signature.name name then Some (record { number = k; body = b }) else find_body (k + 1) l name bs) t
+          ∙ ap (λ q. if c && q then Some (record { number = k; body = b }) else find_body (k + 1) l name bs) u
 
-      methods : (c : Bool) → nat_eq b.owner l ≡ c → body_called (number_in T name) (methods_code p l first (b ∷ bs)) ≡ body_called (number_in T name) (if c then record { method = number_in T b.signature.name; body = first } ∷ methods_code p l (first + 1) bs else methods_code p l (first + 1) bs)
-      methods c t = ap (λ q. body_called (number_in T name) (if q then record { method = number_in T b.signature.name; body = first } ∷ methods_code p l (first + 1) bs else methods_code p l (first + 1) bs)) t
+      methods : (c : Bool) → nat_eq b.owner l ≡ c →
+          body_called (number_in T name) (methods_code p l first (b ∷ bs)) ≡ body_called (number_in T name)
+          (if c then record { method = number_in T b.signature.name; body = first } ∷ methods_code p l (first + 1) bs else methods_code p l
+          (first + 1) bs)
+      methods c t = ap (λ q. body_called (number_in T name)
+          (if q then record { method = number_in T b.signature.name; body = first } ∷ methods_code p l (first + 1) bs else methods_code p l
+          (first + 1) bs)) t
 
-      later : Called (k + 1) l name bs (first + 1) m → body_called (number_in T name) (methods_code p l first (b ∷ bs)) ≡ body_called (number_in T name) (methods_code p l (first + 1) bs) → Called k l name (b ∷ bs) first m
+      later : Called (k + 1) l name bs (first + 1) m →
+          body_called (number_in T name) (methods_code p l first (b ∷ bs)) ≡ body_called (number_in T name) (methods_code p l (first + 1) bs) →
+          Called k l name (b ∷ bs) first m
       later r c = record {
         offset = suc r.offset;
         number = let z : k + 1 + r.offset ≡ k + suc r.offset = omega arith in r.number ∙ z;
@@ -155,7 +192,8 @@ module _ (p : Program) (st : Starts) where
         coded = let z : first + 1 + r.offset ≡ first + suc r.offset = omega arith in c ∙ (r.coded ∙ ap (λ (j : ℕ). Some j) z);
       }
 
-      of : (c d : Bool) → nat_eq b.owner l ≡ c → bytes_eq b.signature.name name ≡ d → ((find_body (k + 1) l name bs ≡ Some m) → (j : ℕ) → Called (k + 1) l name bs j m) → Called k l name (b ∷ bs) first m
+      of : (c d : Bool) → nat_eq b.owner l ≡ c → bytes_eq b.signature.name name ≡ d →
+          ((find_body (k + 1) l name bs ≡ Some m) → (j : ℕ) → Called (k + 1) l name bs j m) → Called k l name (b ∷ bs) first m
       of true true t u rest =
           let f : record { number = k; body = b } ≡ m = some_is (sym (found true true t u) ∙ e) in
           let same : b.signature.name ≡ name = (bytes_eq-Decides b.signature.name name).0 u in
@@ -165,16 +203,23 @@ module _ (p : Program) (st : Starts) where
             is = refl;
             owner = eqb-true b.owner l t;
             named = same;
-            coded = methods true t ∙ (picked (nat_eq (number_in T b.signature.name) (number_in T name)) (Some first) (body_called (number_in T name) (methods_code p l (first + 1) bs)) (eq-eqb _ _ (ap (number_in T) same)) ∙ (let z : first ≡ first + 0 = omega arith in ap (λ (j : ℕ). Some j) z));
+            coded = methods true t ∙ (picked (nat_eq (number_in T b.signature.name) (number_in T name)) (Some first)
+                (body_called (number_in T name) (methods_code p l (first + 1) bs)) (eq-eqb _ _ (ap (number_in T) same))
+                ∙ (let z : first ≡ first + 0 = omega arith in ap (λ (j : ℕ). Some j) z));
           })
-      of true false t u rest = later (rest (sym (found true false t u) ∙ e) (first + 1)) (methods true t ∙ not_picked (nat_eq (number_in T b.signature.name) (number_in T name)) (Some first) (body_called (number_in T name) (methods_code p l (first + 1) bs)) (numbers_differ b.signature.name name (all b (inl refl)) h u))
+      of true false t u rest = later (rest (sym (found true false t u) ∙ e) (first + 1))
+          (methods true t ∙ not_picked (nat_eq (number_in T b.signature.name) (number_in T name)) (Some first)
+          (body_called (number_in T name) (methods_code p l (first + 1) bs)) (numbers_differ b.signature.name name (all b (inl refl)) h u))
       of false d t u rest = later (rest (sym (found false d t u) ∙ e) (first + 1)) (methods false t)
 
-  found_named : (k l : ℕ) (name : List ℕ) (bodies : List Body) (m : Method) → find_body k l name bodies ≡ Some m → (b : Body) × In b bodies × (b.signature.name ≡ name)
+  found_named : (k l : ℕ) (name : List ℕ) (bodies : List Body) (m : Method) → find_body k l name bodies ≡ Some m → (b : Body) × In b bodies ×
+      (b.signature.name ≡ name)
   found_named k l name [] m e = absurd cc
   found_named k l name (b ∷ bs) m e = of (nat_eq b.owner l && bytes_eq b.signature.name name) refl (λ f. found_named (k + 1) l name bs m f)
     where
-      of : (c : Bool) → (nat_eq b.owner l && bytes_eq b.signature.name name) ≡ c → ((find_body (k + 1) l name bs ≡ Some m) → (y : Body) × In y bs × (y.signature.name ≡ name)) → (y : Body) × In y (b ∷ bs) × (y.signature.name ≡ name)
+      of : (c : Bool) → (nat_eq b.owner l && bytes_eq b.signature.name name) ≡ c →
+          ((find_body (k + 1) l name bs ≡ Some m) → (y : Body) × In y bs × (y.signature.name ≡ name)) → (y : Body) × In y (b ∷ bs) ×
+          (y.signature.name ≡ name)
       of true t rest = (b, inl refl, (bytes_eq-Decides b.signature.name name).0 (and_parts _ _ t).1)
       of false t rest = let r = rest (sym (not_picked _ _ _ t) ∙ e) in (r.0, inr r.1, r.2)
 
@@ -193,7 +238,8 @@ module _ (p : Program) (st : Starts) where
   body_has_number sc h b j = has_method_names p st b.signature.name (In-right _ (declared_names p.declarations) _ (written_in p.scopes sc b h j))
 
   -- the method that the meaning finds stands among the code's bodies at the number that the literal has for it
-  pub method_coded : (k : ℕ) (sc : Scope) → scope_of_instance p st k ≡ Some sc → (l : ℕ) (literal : Literal) → slice_get sc.literals l ≡ Some literal → (name : List ℕ) (m : Method) → method_in (Some sc) l name ≡ Some m →
+  pub method_coded : (k : ℕ) (sc : Scope) → scope_of_instance p st k ≡ Some sc → (l : ℕ) (literal : Literal) →
+      slice_get sc.literals l ≡ Some literal → (name : List ℕ) (m : Method) → method_in (Some sc) l name ≡ Some m →
       (slice_get sc.bodies m.number ≡ Some m.body) × (m.body.owner ≡ l) × (m.body.signature.name ≡ name) ×
       (method_of_literal (lowered p st) (literal_of (lowered p st) k l) (number_in (method_table p) name) ≡ Some (body_code p st sc m.number m.body))
   method_coded k sc here l literal e name m f =

@@ -36,28 +36,22 @@ not_named c y h = of (value_named c y) refl
 
 module _ (k : ℕ) (c : Named) where
   -- a variable that is no parameter of the body is one that was captured
-  pub past_parameters : (y : Variable) (from : ℕ) (vs : List Value) → ((j : ℕ) → same_variable (Parameter k j) y ≡ false) → value_named (parameters k from vs ++ c) y ≡ value_named c y
+  pub past_parameters : (y : Variable) (from : ℕ) (vs : List Value) → ((j : ℕ) → same_variable (Parameter k j) y ≡ false) →
+      value_named (parameters k from vs ++ c) y ≡ value_named c y
   past_parameters y from [] h = refl
-  past_parameters y from (v ∷ vs) h = not_picked (same_variable (Parameter k from) y) (Some v) (value_named (parameters k (from + 1) vs ++ c) y) (h from) ∙ past_parameters y (from + 1) vs h
-
-  before_is : (from j : ℕ) → j < from → same_variable (Parameter k from) (Parameter k j) ≡ false
-  before_is from j h = of (k == k)
-    where
-      other : (from == j) ≡ false
-      other = ne_eqb from j (λ e. absurd (omega arith))
-
-      of : (b : Bool) → (b && (from == j)) ≡ false
-      of true = other
-      of false = refl
+  past_parameters y from (v ∷ vs) h = not_picked (same_variable (Parameter k from) y) (Some v) (value_named (parameters k (from + 1) vs ++ c) y)
+      (h from) ∙ past_parameters y (from + 1) vs h
 
   -- a parameter has its argument, or was captured
   data ParameterIs (from j : ℕ) (vs : List Value) (v : Value) : Type 0 where
     argument : (place : ℕ) → j ≡ from + place → slice_get vs place ≡ Some v → ParameterIs from j vs v
     beyond : from + length vs ≤ j → value_named c (Parameter k j) ≡ Some v → ParameterIs from j vs v
 
-  parameter_is : (from j : ℕ) (vs : List Value) (v : Value) → from ≤ j → value_named (parameters k from vs ++ c) (Parameter k j) ≡ Some v → ParameterIs from j vs v
+  parameter_is : (from j : ℕ) (vs : List Value) (v : Value) → from ≤ j → value_named (parameters k from vs ++ c) (Parameter k j) ≡ Some v →
+      ParameterIs from j vs v
   parameter_is from j [] v h e = beyond (omega arith) e
-  parameter_is from j (u ∷ vs) v h e = of (seen_of (Parameter k from) u (parameters k (from + 1) vs ++ c) (Parameter k j) v e) (cases_eq from j) (parameter_is (from + 1) j vs v)
+  parameter_is from j (u ∷ vs) v h e = of (seen_of (Parameter k from) u (parameters k (from + 1) vs ++ c) (Parameter k j) v e) (cases_eq from j)
+      (parameter_is (from + 1) j vs v)
     where
       same : from ≡ j → same_variable (Parameter k from) (Parameter k j) ≡ true
       same z = ap (λ b. b && (from == j)) (eq-eqb k k refl) ∙ eq-eqb from j z
@@ -66,7 +60,9 @@ module _ (k : ℕ) (c : Named) where
       later (argument place z g) = argument (suc place) (omega arith) g
       later (beyond z g) = beyond (omega arith) g
 
-      of : SeenOf (Parameter k from) u (parameters k (from + 1) vs ++ c) (Parameter k j) v → (from ≡ j) ⊎ (from ≡ j → ⊥) → (from + 1 ≤ j → value_named (parameters k (from + 1) vs ++ c) (Parameter k j) ≡ Some v → ParameterIs (from + 1) j vs v) → ParameterIs from j (u ∷ vs) v
+      of : SeenOf (Parameter k from) u (parameters k (from + 1) vs ++ c) (Parameter k j) v → (from ≡ j) ⊎ (from ≡ j → ⊥) →
+          (from + 1 ≤ j → value_named (parameters k (from + 1) vs ++ c) (Parameter k j) ≡ Some v → ParameterIs (from + 1) j vs v) →
+          ParameterIs from j (u ∷ vs) v
       of (newest a b) cases rest = let z : from ≡ j = cc in argument 0 (omega arith) (ap (λ (t : Value). Some t) b)
       of (older d f) (inl z) rest = absurd (both_ways _ d (same z))
       of (older d f) (inr ne) rest = later (rest (omega arith) f)
@@ -77,8 +73,10 @@ number_is i k l e h = let z : is_number l (Some k) ≡ true = sym (ap (is_number
 is_numbered : (i : Inside) (k : ℕ) → i.number ≡ Some k → is_number k i.number ≡ true
 is_numbered i k e = ap (is_number k) e ∙ eq-eqb k k refl
 
-module _ (i : Inside) (x k : ℕ) (numbered : i.number ≡ Some k) (t : List (List ℕ)) (w : World) (a : ℕ) (o : Thing) (is : slice_get w.objects a ≡ Some o) (instance : o.instance ≡ x)
-    (names : names_of o.captured ≡ i.captures) (own_vals : (n : ℕ) → In (Local n) i.captures → In n i.vals → ⊥) (own_parameters : (j : ℕ) → In (Parameter k j) i.captures → j < i.parameters)
+module _ (i : Inside) (x k : ℕ) (numbered : i.number ≡ Some k) (t : List (List ℕ)) (w : World) (a : ℕ) (o : Thing)
+    (is : slice_get w.objects a ≡ Some o) (instance : o.instance ≡ x)
+    (names : names_of o.captured ≡ i.captures) (own_vals : (n : ℕ) → In (Local n) i.captures → In n i.vals → ⊥)
+    (own_parameters : (j : ℕ) → In (Parameter k j) i.captures → j < i.parameters)
     (vs : List Value) (zs : List Word) (same : SameAll t vs zs) (count : length vs ≡ i.parameters) where
   abbrev sight : Sight
   sight = record { instance = x; this = Some a; variables = parameters k 0 vs ++ o.captured }
@@ -91,23 +89,35 @@ module _ (i : Inside) (x k : ℕ) (numbered : i.number ≡ Some k) (t : List (Li
 
   parameter_other : (y : Variable) → is_own i y ≡ false → (j : ℕ) → same_variable (Parameter k j) y ≡ false
   parameter_other (Local n) other j = refl
-  parameter_other (Parameter l m) other j = and_left (k == l) (j == m) (ne_eqb k l (λ e. both_ways (is_number l i.number) other (subst (λ (q : ℕ). is_number q i.number ≡ true) e (is_numbered i k numbered))))
+  parameter_other (Parameter l m) other j = and_left (k == l) (j == m)
+      (ne_eqb k l (λ e. both_ways (is_number l i.number) other (subst (λ (q : ℕ). is_number q i.number ≡ true) e (is_numbered i k numbered))))
 
-  own_found : (y : Variable) (v : Value) → is_own i y ≡ true → value_named (parameters k 0 vs ++ o.captured) y ≡ Some v → Found t v (slice_get slots (slot_of i y))
+  own_found : (y : Variable) (v : Value) → is_own i y ≡ true → value_named (parameters k 0 vs ++ o.captured) y ≡ Some v →
+      Found t v (slice_get slots (slot_of i y))
   own_found (Local n) v own e =
       let z : value_named o.captured (Local n) ≡ Some v = sym (past_parameters k o.captured (Local n) 0 vs (λ j. refl)) ∙ e in
       absurd (own_vals n (captured_in (Local n) v z) (is_among_vals n i.vals own))
-  own_found (Parameter l j) v own e = of (parameter_is k o.captured 0 j vs v (omega arith) (subst (λ (q : ℕ). value_named (parameters k 0 vs ++ o.captured) (Parameter q j) ≡ Some v) (number_is i k l numbered own) e))
+  own_found (Parameter l j) v own e = of
+      (parameter_is k o.captured 0 j vs v (omega arith)
+      (subst (λ (q : ℕ). value_named (parameters k 0 vs ++ o.captured) (Parameter q j) ≡ Some v) (number_is i k l numbered own) e))
     where
       of : ParameterIs k o.captured 0 j vs v → Found t v (slice_get slots (1 + j))
       of (argument place z g) =
           let f = all_found t vs zs same place v g in
           let q : 1 + j ≡ suc place = omega arith in
-          record { word = f.word; is = ap (slice_get slots) q ∙ get_front zs (replicate (length i.vals) word.Nothing) place f.word f.is; same = f.same }
+          record {
+            word = f.word;
+            is = ap (slice_get slots) q ∙ get_front zs (replicate (length i.vals) word.Nothing) place f.word f.is;
+            same =
+                f.same;
+          }
       of (beyond z g) = let l = own_parameters j (captured_in (Parameter k j) v g) in absurd (omega arith)
 
-  few_parameters : (l j : ℕ) (v : Value) → is_own i (Parameter l j) ≡ true → value_named (parameters k 0 vs ++ o.captured) (Parameter l j) ≡ Some v → j < i.parameters
-  few_parameters l j v own e = of (parameter_is k o.captured 0 j vs v (omega arith) (subst (λ (q : ℕ). value_named (parameters k 0 vs ++ o.captured) (Parameter q j) ≡ Some v) (number_is i k l numbered own) e))
+  few_parameters : (l j : ℕ) (v : Value) → is_own i (Parameter l j) ≡ true → value_named (parameters k 0 vs ++ o.captured) (Parameter l j) ≡ Some v →
+      j < i.parameters
+  few_parameters l j v own e = of
+      (parameter_is k o.captured 0 j vs v (omega arith)
+      (subst (λ (q : ℕ). value_named (parameters k 0 vs ++ o.captured) (Parameter q j) ≡ Some v) (number_is i k l numbered own) e))
     where
       of : ParameterIs k o.captured 0 j vs v → j < i.parameters
       of (argument place z g) = let l = get_within vs place v g in omega arith
@@ -139,7 +149,8 @@ module _ (i : Inside) (x k : ℕ) (numbered : i.number ≡ Some k) (t : List (Li
 
 -- where no variable is in sight, the slots hold the current object alone
 module _ (i : Inside) (x : ℕ) (t : List (List ℕ)) (w : World) (slots : List Word) (long : length slots ≡ 1 + i.parameters + length i.vals) where
-  pub instance_holds : slice_get slots 0 ≡ Some (word.Object x) → (o : Thing) → slice_get w.objects x ≡ Some o → o.instance ≡ x → names_of o.captured ≡ i.captures → Holds i x t w (outside x) slots
+  pub instance_holds : slice_get slots 0 ≡ Some (word.Object x) → (o : Thing) → slice_get w.objects x ≡ Some o → o.instance ≡ x →
+      names_of o.captured ≡ i.captures → Holds i x t w (outside x) slots
   instance_holds slot o is instance names = record {
     instance = refl;
     long = long;

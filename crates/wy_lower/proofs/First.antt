@@ -29,7 +29,8 @@ abbrev pub instance_object : ℕ → Thing
 instance_object x = record { instance = x; literal = 0; captured = []; fields = [] }
 
 -- the objects of instances from number x on
-pub first_object : (x : ℕ) (is : List Started) (a : ℕ) (o : Thing) → slice_get (objects_at_first x is) a ≡ Some o → (i : Started) × (slice_get is a ≡ Some i) × (o ≡ instance_object (x + a))
+pub first_object : (x : ℕ) (is : List Started) (a : ℕ) (o : Thing) → slice_get (objects_at_first x is) a ≡ Some o → (i : Started) ×
+    (slice_get is a ≡ Some i) × (o ≡ instance_object (x + a))
 first_object x [] a o e = absurd cc
 first_object x (i ∷ is) zero o e = let z : x ≡ x + 0 = omega arith in (i, refl, sym (some_is e) ∙ ap instance_object z)
 first_object x (i ∷ is) (suc a) o e =
@@ -40,17 +41,20 @@ first_object x (i ∷ is) (suc a) o e =
 pub object_there : (x : ℕ) (is : List Started) (a : ℕ) → a < length is → slice_get (objects_at_first x is) a ≡ Some (instance_object (x + a))
 object_there x [] a h = absurd (omega arith)
 object_there x (i ∷ is) zero h = let z : x ≡ x + 0 = omega arith in ap (λ (y : ℕ). Some (instance_object y)) z
-object_there x (i ∷ is) (suc a) h = let z : suc x + a ≡ x + suc a = omega arith in object_there (suc x) is a (omega arith) ∙ ap (λ (y : ℕ). Some (instance_object y)) z
+object_there x (i ∷ is) (suc a) h = let z : suc x + a ≡ x + suc a = omega arith in object_there (suc x) is a (omega arith)
+    ∙ ap (λ (y : ℕ). Some (instance_object y)) z
 
 many_objects : (x : ℕ) (is : List Started) → length (objects_at_first x is) ≡ length is
 many_objects x [] = refl
 many_objects x (i ∷ is) = ap suc (many_objects (suc x) is)
 
-coded_object : (g : Code) (x : ℕ) (is : List Started) (a : ℕ) (i : Started) → slice_get is a ≡ Some i → slice_get (code.objects_at_first g x (map instance_code is)) a ≡ Some (code.object_at_first g (x + a) (instance_code i))
+coded_object : (g : Code) (x : ℕ) (is : List Started) (a : ℕ) (i : Started) → slice_get is a ≡ Some i →
+    slice_get (code.objects_at_first g x (map instance_code is)) a ≡ Some (code.object_at_first g (x + a) (instance_code i))
 coded_object g x [] a i e = absurd cc
 coded_object g x (j ∷ is) zero i e =
     let z : x ≡ x + 0 = omega arith in
-    ap (λ (y : Started). Some (code.object_at_first g x (instance_code y))) (some_is e) ∙ ap (λ (y : ℕ). Some (code.object_at_first g y (instance_code i))) z
+    ap (λ (y : Started). Some (code.object_at_first g x (instance_code y))) (some_is e)
+    ∙ ap (λ (y : ℕ). Some (code.object_at_first g y (instance_code i))) z
 coded_object g x (j ∷ is) (suc a) i e =
     let z : suc x + a ≡ x + suc a = omega arith in
     coded_object g (suc x) is a i e ∙ ap (λ (y : ℕ). Some (code.object_at_first g y (instance_code i))) z
@@ -63,7 +67,8 @@ handed_word : (a : Actual) → code.word_handed (argument_of a) ≡ word_handed 
 handed_word (actual.Grant g) = refl
 handed_word (actual.Instance x) = refl
 
-handed_words : (as' : List Actual) (k : ℕ) (a : Actual) → slice_get as' k ≡ Some a → slice_get (map code.word_handed (map argument_of as')) k ≡ Some (word_handed a)
+handed_words : (as' : List Actual) (k : ℕ) (a : Actual) → slice_get as' k ≡ Some a →
+    slice_get (map code.word_handed (map argument_of as')) k ≡ Some (word_handed a)
 handed_words [] k a e = absurd cc
 handed_words (b ∷ bs) zero a e = ap (λ (y : Actual). Some (code.word_handed (argument_of y))) (some_is e) ∙ ap (λ (y : Word). Some y) (handed_word a)
 handed_words (b ∷ bs) (suc k) a e = handed_words bs k a e
@@ -80,7 +85,8 @@ module _ (p : Program) (s : Starts) (ok : Lowerable p s) where
     instance_stands = ap (scope_started p) started ∙ module_started.stands
 
     -- as many fields as the module has
-    fields_counted : field_count (literal_of_scope (scope_in (lowered p s) (Some (instance_code i))) 0) ≡ length (literal_fields (slice_get module_started.scope.literals 0))
+    fields_counted : field_count (literal_of_scope (scope_in (lowered p s) (Some (instance_code i))) 0) ≡ length
+        (literal_fields (slice_get module_started.scope.literals 0))
     fields_counted =
         let c = scope_coded p s x module_started.scope instance_stands in
         let fits = ok.core.scopes module_started.scope (in_list p.scopes i.scope module_started.scope module_started.stands) in
@@ -101,23 +107,31 @@ module _ (p : Program) (s : Starts) (ok : Lowerable p s) where
       own = λ kind k a e.
           let f : slice_get i.actuals k ≡ Some a = sym (ap (λ o. actual_in o k) started) ∙ e in
           let l = get_within i.actuals k a f in
-          let c : own_count module_started.scope ≡ length module_started.scope.names = not_picked (is_program module_started.scope.kind) 0 (length module_started.scope.names) kind in
+          let c : own_count module_started.scope ≡ length module_started.scope.names = not_picked (is_program module_started.scope.kind) 0
+          (length module_started.scope.names) kind in
           (omega (arith, module_started.handed), get_front _ _ k _ (handed_words i.actuals k a f));
       caught = λ k c e. absurd cc;
       fields = λ k v e. absurd cc;
       long =
-          let c : own_count module_started.scope ≡ length module_started.scope.names = not_picked (is_program module_started.scope.kind) 0 (length module_started.scope.names) module_started.is_module in
-          let a = length-append (map code.word_handed (map argument_of i.actuals)) (replicate (field_count (literal_of_scope (scope_in (lowered p s) (Some (instance_code i))) 0)) word.Nothing) in
+          let c : own_count module_started.scope ≡ length module_started.scope.names = not_picked (is_program module_started.scope.kind) 0
+          (length module_started.scope.names) module_started.is_module in
+          let a = length-append (map code.word_handed (map argument_of i.actuals))
+          (replicate (field_count (literal_of_scope (scope_in (lowered p s) (Some (instance_code i))) 0)) word.Nothing) in
           let b = length_map code.word_handed (map argument_of i.actuals) in
           let d = length_map argument_of i.actuals in
           let e = length-replicate (field_count (literal_of_scope (scope_in (lowered p s) (Some (instance_code i))) 0)) word.Nothing in
           omega (arith, module_started.handed, fields_counted);
     }
 
-  abbrev first_store : Tapes → Store
-  first_store tapes = record { objects = code.objects_at_first (lowered p s) 0 (map instance_code s.instances); made = 0; texts = text_table p; built = 0; tapes = tapes; next = 0 }
-
-  pub first_store_is : (tapes : Tapes) → store_at_first (lowered p s) tapes ≡ record { objects = code.objects_at_first (lowered p s) 0 (map instance_code s.instances); made = 0; texts = text_table p; built = 0; tapes = tapes; next = 0 }
+  pub first_store_is : (tapes : Tapes) → store_at_first
+      (lowered p s) tapes ≡ record {
+        objects = code.objects_at_first (lowered p s) 0 (map instance_code s.instances);
+        made = 0;
+        texts = text_table p;
+        built = 0;
+        tapes = tapes;
+        next = 0;
+      }
   unfolding lowered
   first_store_is tapes = refl
 
@@ -131,18 +145,28 @@ module _ (p : Program) (s : Starts) (ok : Lowerable p s) where
     written = grows_refl (text_table p);
   })
     where
-      of : (a : ℕ) (o : Thing) → (i : Started) × (slice_get s.instances a ≡ Some i) × (o ≡ instance_object (0 + a)) → FoundThing p s (text_table p) o (slice_get (code.objects_at_first (lowered p s) 0 (map instance_code s.instances)) a)
+      of : (a : ℕ) (o : Thing) → (i : Started) × (slice_get s.instances a ≡ Some i) × (o ≡ instance_object (0 + a)) →
+          FoundThing p s (text_table p) o (slice_get (code.objects_at_first (lowered p s) 0 (map instance_code s.instances)) a)
       of a o h =
           let z : 0 + a ≡ a = omega arith in
           record {
             thing = code.object_at_first (lowered p s) a (instance_code h.0);
-            is = coded_object (lowered p s) 0 s.instances a h.0 h.1 ∙ ap (λ (y : ℕ). Some (code.object_at_first (lowered p s) y (instance_code h.0))) z;
-            same = subst (λ (y : Thing). SameThing p s (text_table p) y (code.object_at_first (lowered p s) a (instance_code h.0))) (sym (h.2 ∙ ap instance_object z)) (same_object a h.0 h.1);
+            is = coded_object (lowered p s) 0 s.instances a h.0 h.1
+                ∙ ap (λ (y : ℕ). Some (code.object_at_first (lowered p s) y (instance_code h.0))) z;
+            same = subst (λ (y : Thing). SameThing p s (text_table p) y (code.object_at_first (lowered p s) a (instance_code h.0)))
+                (sym (h.2 ∙ ap instance_object z)) (same_object a h.0 h.1);
           }
 
   pub first_unstarted : (tapes : Tapes) → Unstarted (world_at_first s tapes) 0 (length s.instances)
   first_unstarted tapes = record {
     by = λ y a b.
         let z : 0 + y ≡ y = omega arith in
-        record { thing = instance_object y; is = object_there 0 s.instances y b ∙ ap (λ (q : ℕ). Some (instance_object q)) z; instance = refl; literal = refl; captured = refl; fields = refl };
+        record {
+          thing = instance_object y;
+          is = object_there 0 s.instances y b ∙ ap (λ (q : ℕ). Some (instance_object q)) z;
+          instance = refl;
+          literal = refl;
+          captured = refl;
+          fields = refl;
+        };
   }

@@ -50,12 +50,14 @@ only_grants n (origin.Import m arguments bound) y e = absurd cc
 first_coded : (o : Option GrantIs) (y : GrantIs) (rest : List g.Grant) → o ≡ Some y → grant_code o ++ rest ≡ grant_record y ∷ rest
 first_coded o y rest e = ap (λ c. grant_code c ++ rest) e
 
-grants_from : (ns : List OwnName) → GrantsStandFirst ns → AreOfKinds ns → (k : ℕ) (y : GrantIs) → grant_named (slice_get ns k) ≡ Some y → slice_get (grants_code ns) k ≡ Some (grant_record y)
+grants_from : (ns : List OwnName) → GrantsStandFirst ns → AreOfKinds ns → (k : ℕ) (y : GrantIs) → grant_named (slice_get ns k) ≡ Some y →
+    slice_get (grants_code ns) k ≡ Some (grant_record y)
 grants_from [] first kinds k y e = absurd cc
 grants_from (n ∷ ns) first kinds zero y e = ap (λ l. slice_get l 0) (first_coded (grant_named (Some n)) y (grants_code ns) e)
 grants_from (n ∷ ns) first kinds (suc k) y e = of (slice_get ns k) refl (grants_from ns first.1 (λ m j. kinds m (inr j)) k y e)
   where
-    of : (o : Option OwnName) → slice_get ns k ≡ o → slice_get (grants_code ns) k ≡ Some (grant_record y) → slice_get (grants_code (n ∷ ns)) (suc k) ≡ Some (grant_record y)
+    of : (o : Option OwnName) → slice_get ns k ≡ o → slice_get (grants_code ns) k ≡ Some (grant_record y) →
+        slice_get (grants_code (n ∷ ns)) (suc k) ≡ Some (grant_record y)
     of None t rest = let z : grant_named (slice_get ns k) ≡ None = ap grant_named t in absurd cc
     of (Some m) t rest =
         let z : grant_from m.origin m ≡ Some y = sym (ap grant_named t) ∙ e in
@@ -126,11 +128,13 @@ module _ (p : Program) (st : Starts) (ok : Lowerable p st) where
   taken_names (suc k) [] x j = absurd j
   taken_names (suc k) (d ∷ ds) x j = of (In-cases x (map (λ (m : Method). m.name) d.methods) (declared_names (take k ds)) j) (taken_names k ds x)
     where
-      of : In x (map (λ (m : Method). m.name) d.methods) ⊎ In x (declared_names (take k ds)) → (In x (declared_names (take k ds)) → In x (declared_names ds)) → In x (declared_names (d ∷ ds))
+      of : In x (map (λ (m : Method). m.name) d.methods) ⊎ In x (declared_names (take k ds)) →
+          (In x (declared_names (take k ds)) → In x (declared_names ds)) → In x (declared_names (d ∷ ds))
       of (inl h) rest = In-left x _ _ h
       of (inr h) rest = In-right x _ _ (rest h)
 
-  method_numbered : (method : List ℕ) → In method (declared_names p.declarations) → slice_get (lowered p st).methods (number_in (method_table p) method) ≡ Some method
+  method_numbered : (method : List ℕ) → In method (declared_names p.declarations) →
+      slice_get (lowered p st).methods (number_in (method_table p) method) ≡ Some method
   unfolding lowered
   method_numbered method j = has_method_names p st method (In-left method _ _ j)
 

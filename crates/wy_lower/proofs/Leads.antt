@@ -12,8 +12,10 @@ use Rattle.wy_code.specs.Running.{Ran, and_then, steps}
 abbrev pub ahead : ℕ → List Event → Ran → Ran
 ahead q es r = record { end = r.end; events = es ++ r.events; taken = q + r.taken }
 
-ran_is : (e : RunEnd) (es fs : List Event) (q r : ℕ) → es ≡ fs → q ≡ r → (let x : Ran = record { end = e; events = es; taken = q } in x) ≡ record { end = e; events = fs; taken = r }
-ran_is e es fs q r p t = ap (λ (l : List Event). let x : Ran = record { end = e; events = l; taken = q } in x) p ∙ ap (λ (k : ℕ). let x : Ran = record { end = e; events = fs; taken = k } in x) t
+ran_is : (e : RunEnd) (es fs : List Event) (q r : ℕ) → es ≡ fs → q ≡ r →
+    (let x : Ran = record { end = e; events = es; taken = q } in x) ≡ record { end = e; events = fs; taken = r }
+ran_is e es fs q r p t = ap (λ (l : List Event). let x : Ran = record { end = e; events = l; taken = q } in x) p
+    ∙ ap (λ (k : ℕ). let x : Ran = record { end = e; events = fs; taken = k } in x) t
 
 ahead_ahead : (q r : ℕ) (es fs : List Event) (x : Ran) → ahead q es (ahead r fs x) ≡ ahead (q + r) (es ++ fs) x
 ahead_ahead q r es fs x = ran_is x.end _ _ _ _ (sym (append_assoc es fs x.events)) (omega arith)
@@ -100,15 +102,12 @@ module _ (g : Code) (n : ℕ) where
     unfolding node
     node_runs s r h = record { by = h.by }
 
-    pub wrong_runs : (s : State) (w : World) → Runs fine next s (stop Wrong w)
-    unfolding stop
-    wrong_runs s w = record { by = λ ne. absurd (ne refl) }
-
     pub wrong_step_runs : (s : State) (w : World) → Runs fine next s (tick (stop Wrong w))
     unfolding stop tick
     wrong_step_runs s w = record { by = λ ne. absurd (ne refl) }
 
-    go_to : (s t : State) (o : Outcome A) (w : World) (q : ℕ) (es fs : List Event) → step g n s ≡ Go es t → RunsTo fine next t o w fs q → RunsTo fine next s o w (es ++ fs) (suc q)
+    go_to : (s t : State) (o : Outcome A) (w : World) (q : ℕ) (es fs : List Event) → step g n s ≡ Go es t → RunsTo fine next t o w fs q →
+        RunsTo fine next s o w (es ++ fs) (suc q)
     go_to s t (Stops e) w q es fs h r = λ ne. one_more_ends s t q es fs e h (r ne)
     go_to s t (Gives a) w q es fs h r = (r.0, r.1, one_more s t (next a w r.0) q es fs h r.2)
 
@@ -127,16 +126,19 @@ module _ (g : Code) (n : ℕ) where
     unfolding tick stop
     halt_runs s e w h = record { by = λ ne. one_ends s e [] h }
 
-    leads_to : (s t : State) (o : Outcome A) (w : World) (q r : ℕ) (es fs : List Event) → Leads s q es t → RunsTo fine next t o w fs r → RunsTo fine next s o w (es ++ fs) (q + r)
+    leads_to : (s t : State) (o : Outcome A) (w : World) (q r : ℕ) (es fs : List Event) → Leads s q es t → RunsTo fine next t o w fs r →
+        RunsTo fine next s o w (es ++ fs) (q + r)
     leads_to s t (Stops e) w q r es fs l a = λ ne. leads_ends s t q r es fs e l (a ne)
     leads_to s t (Gives b) w q r es fs l a = (a.0, a.1, leads_leads s t (next b w a.0) q r es fs l a.2)
 
   -- a reply that is wrong
-  pub wrong_reply_runs : {X : Type 0} (fine : Value → World → X → Type 0) (next : Value → World → X → State) (s : State) (w : World) → Runs fine next s (tick (settle (stopped Wrong w)))
+  pub wrong_reply_runs : {X : Type 0} (fine : Value → World → X → Type 0) (next : Value → World → X → State) (s : State) (w : World) →
+      Runs fine next s (tick (settle (stopped Wrong w)))
   unfolding settle tick
   wrong_reply_runs fine next s w = record { by = λ ne. absurd (ne refl) }
 
-  module _ {A X : Type 0} (fine better : A → World → X → Type 0) (next : A → World → X → State) (finer : (a : A) (w : World) (x : X) → fine a w x → better a w x) where
+  module _ {A X : Type 0} (fine better : A → World → X → Type 0) (next : A → World → X → State)
+      (finer : (a : A) (w : World) (x : X) → fine a w x → better a w x) where
     finer_to : (s : State) (o : Outcome A) (w : World) (es : List Event) (q : ℕ) → RunsTo fine next s o w es q → RunsTo better next s o w es q
     finer_to s (Stops e) w es q r = r
     finer_to s (Gives a) w es q r = (r.0, finer a w r.0 r.1, r.2)
@@ -145,8 +147,10 @@ module _ (g : Code) (n : ℕ) where
     pub finer_runs : (s : State) (r : Result A) → Runs fine next s r → Runs better next s r
     finer_runs s r h = record { by = finer_to s r.out r.world r.events r.steps h.by }
 
-  module _ {A B X Y : Type 0} (fine : A → World → X → Type 0) (next : A → World → X → State) (fine' : B → World → Y → Type 0) (next' : B → World → Y → State) (f : A → World → Result B) where
-    carried_runs : (s : State) (o : Outcome A) (w : World) (es : List Event) (c q : ℕ) → RunsTo fine next s o w es q → ((a : A) (w : World) (x : X) → fine a w x → Runs fine' next' (next a w x) (f a w)) → Runs fine' next' s (carried o w es c q f)
+  module _ {A B X Y : Type 0} (fine : A → World → X → Type 0) (next : A → World → X → State) (fine' : B → World → Y → Type 0)
+      (next' : B → World → Y → State) (f : A → World → Result B) where
+    carried_runs : (s : State) (o : Outcome A) (w : World) (es : List Event) (c q : ℕ) → RunsTo fine next s o w es q →
+        ((a : A) (w : World) (x : X) → fine a w x → Runs fine' next' (next a w x) (f a w)) → Runs fine' next' s (carried o w es c q f)
     unfolding added
     carried_runs s (Stops e) w es c q h k = record { by = h }
     carried_runs s (Gives a) w es c q h k = record {
@@ -154,6 +158,7 @@ module _ (g : Code) (n : ℕ) where
     }
 
     -- a part, and what comes after its value
-    pub bind_runs : (s : State) (r : Result A) → Runs fine next s r → ((a : A) (w : World) (x : X) → fine a w x → Runs fine' next' (next a w x) (f a w)) → Runs fine' next' s (bind r f)
+    pub bind_runs : (s : State) (r : Result A) → Runs fine next s r →
+        ((a : A) (w : World) (x : X) → fine a w x → Runs fine' next' (next a w x) (f a w)) → Runs fine' next' s (bind r f)
     unfolding bind
     bind_runs s r h k = carried_runs s r.out r.world r.events r.nodes r.steps h.by k

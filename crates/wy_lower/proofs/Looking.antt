@@ -32,7 +32,8 @@ module _ {A : Type 0} where
   there (z ∷ xs) (suc k) h = there xs k (omega arith)
 
   -- of a list with one more element: one of the list, or the new one
-  pub get_joined : (xs : List A) (y : A) (k : ℕ) (x : A) → slice_get (xs ++ y ∷ []) k ≡ Some x → (slice_get xs k ≡ Some x) ⊎ ((k ≡ length xs) × (y ≡ x))
+  pub get_joined : (xs : List A) (y : A) (k : ℕ) (x : A) → slice_get (xs ++ y ∷ []) k ≡ Some x →
+      (slice_get xs k ≡ Some x) ⊎ ((k ≡ length xs) × (y ≡ x))
   get_joined [] y zero x e = inr (refl, some_is e)
   get_joined [] y (suc k) x e = absurd cc
   get_joined (z ∷ xs) y zero x e = inl e

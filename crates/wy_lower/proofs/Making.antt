@@ -42,11 +42,14 @@ use Rattle.wy_lower.proofs.Worlds.{object_world, object_store, object_added, obj
 -- Words from their sources
 
 module _ (f : Frame) (m : Store) where
-  pub joined_words : (xs ys : List Source) (zs us : List Word) → words_from f m xs ≡ Some zs → words_from f m ys ≡ Some us → words_from f m (xs ++ ys) ≡ Some (zs ++ us)
+  pub joined_words : (xs ys : List Source) (zs us : List Word) → words_from f m xs ≡ Some zs → words_from f m ys ≡ Some us →
+      words_from f m (xs ++ ys) ≡ Some (zs ++ us)
   joined_words [] ys zs us e h = let z : [] ≡ zs = some_is e in h ∙ ap (λ (l : List Word). Some (l ++ us)) z
   joined_words (x ∷ xs) ys zs us e h = of (word_from f m x) (words_from f m xs) refl refl e (λ rest b. joined_words xs ys rest us b h)
     where
-      of : (o : Option Word) (r : Option (List Word)) → word_from f m x ≡ o → words_from f m xs ≡ r → with_word o r ≡ Some zs → ((rest : List Word) → words_from f m xs ≡ Some rest → words_from f m (xs ++ ys) ≡ Some (rest ++ us)) → words_from f m (x ∷ (xs ++ ys)) ≡ Some (zs ++ us)
+      of : (o : Option Word) (r : Option (List Word)) → word_from f m x ≡ o → words_from f m xs ≡ r → with_word o r ≡ Some zs →
+          ((rest : List Word) → words_from f m xs ≡ Some rest → words_from f m (xs ++ ys) ≡ Some (rest ++ us)) →
+          words_from f m (x ∷ (xs ++ ys)) ≡ Some (zs ++ us)
       of None r a b e more = absurd cc
       of (Some z) None a b e more = absurd cc
       of (Some z) (Some rest) a b e more =
@@ -64,7 +67,9 @@ module _ (f : Frame) (m : Store) where
   pub owns : (from count : ℕ) → ((k : ℕ) → k < count → (z : Word) × (value_at m (first_of f.slots) (from + k) ≡ Some z)) → Owns from count
   owns from zero h = record { words = []; are = refl; many = refl; each = λ k l. absurd (omega arith) }
   owns from (suc count) h =
-      let rest = owns (from + 1) count (λ k l. let y = h (suc k) (omega arith) in let z : from + 1 + k ≡ from + suc k = omega arith in (y.0, ap (value_at m (first_of f.slots)) z ∙ y.1)) in
+      let rest = owns (from + 1) count
+      (λ k l. let y = h (suc k) (omega arith) in let z : from + 1 + k ≡ from + suc k = omega arith in
+      (y.0, ap (value_at m (first_of f.slots)) z ∙ y.1)) in
       let y = h 0 (omega arith) in
       let z : from ≡ from + 0 = omega arith in
       let here : value_at m (first_of f.slots) from ≡ Some y.0 = ap (value_at m (first_of f.slots)) z ∙ y.1 in
@@ -75,11 +80,14 @@ module _ (f : Frame) (m : Store) where
         each = each rest y.0 (sym y.1);
       }
     where
-      each : (rest : Owns (from + 1) count) (y : Word) → Some y ≡ value_at m (first_of f.slots) (from + 0) → (k : ℕ) → k < suc count → slice_get (y ∷ rest.words) k ≡ value_at m (first_of f.slots) (from + k)
+      each : (rest : Owns (from + 1) count) (y : Word) → Some y ≡ value_at m (first_of f.slots) (from + 0) → (k : ℕ) → k < suc count →
+          slice_get (y ∷ rest.words) k ≡ value_at m (first_of f.slots) (from + k)
       each rest y e zero l = e
-      each rest y e (suc k) l = rest.each k (omega arith) ∙ (let z : from + 1 + k ≡ from + suc k = omega arith in ap (value_at m (first_of f.slots)) z)
+      each rest y e (suc k) l = rest.each k (omega arith)
+          ∙ (let z : from + 1 + k ≡ from + suc k = omega arith in ap (value_at m (first_of f.slots)) z)
 
-named_parts : (x : Variable) (o : Option Value) (r : Option Named) (c : Named) → with_named x o r ≡ Some c → (v : Value) × (rest : Named) × (o ≡ Some v) × (r ≡ Some rest) × ((x, v) ∷ rest ≡ c)
+named_parts : (x : Variable) (o : Option Value) (r : Option Named) (c : Named) → with_named x o r ≡ Some c → (v : Value) × (rest : Named) ×
+    (o ≡ Some v) × (r ≡ Some rest) × ((x, v) ∷ rest ≡ c)
 named_parts x None r c e = absurd cc
 named_parts x (Some v) None c e = absurd cc
 named_parts x (Some v) (Some rest) c e = (v, rest, refl, refl, some_is e)
@@ -102,17 +110,20 @@ value_at_place [] k e h = absurd cc
 value_at_place (x ∷ c) zero e h = ap (λ (o : Variable × Value). Some o.1) (some_is h)
 value_at_place (x ∷ c) (suc k) e h = value_at_place c k e h
 
-module _ (p : Program) (s : Starts) (ok : Lowerable p s) (sc : Scope) (i : Inside) (x : ℕ) (of_scope : Belongs p s sc i x) (sight : Sight) (w0 : World) (m0 : Store) (w : World) (m : Store) (slots : List Word) (r : Ready p s i x sight w0 m0 w m slots) where
+module _ (p : Program) (s : Starts) (ok : Lowerable p s) (sc : Scope) (i : Inside) (x : ℕ) (of_scope : Belongs p s sc i x) (sight : Sight)
+    (w0 : World) (m0 : Store) (w : World) (m : Store) (slots : List Word) (r : Ready p s i x sight w0 m0 w m slots) where
   module _ (f : Frame) (frame : f.slots ≡ slots) where
     source_found : (y : Variable) (v : Value) → value_named sight.variables y ≡ Some v → Found m.texts v (word_from f m (source_of i y))
     source_found y v e = of (is_own i y) refl
       where
         of : (c : Bool) → is_own i y ≡ c → Found m.texts v (word_from f m (source_of i y))
         of true o =
-            found_at m.texts v _ _ (ap (word_from f m) (picked (is_own i y) (source.Slot (slot_of i y)) (source.Value (capture_value i y)) o) ∙ ap (λ (l : List Word). slice_get l (slot_of i y)) frame)
+            found_at m.texts v _ _ (ap (word_from f m) (picked (is_own i y) (source.Slot (slot_of i y)) (source.Value (capture_value i y)) o)
+            ∙ ap (λ (l : List Word). slice_get l (slot_of i y)) frame)
             (own_slot_found p s ok sc i x of_scope sight w0 m0 w m slots r y v o e)
         of false o =
-            found_at m.texts v _ _ (ap (word_from f m) (not_picked (is_own i y) (source.Slot (slot_of i y)) (source.Value (capture_value i y)) o) ∙ ap (λ (l : List Word). value_at m (first_of l) (capture_value i y)) frame)
+            found_at m.texts v _ _ (ap (word_from f m) (not_picked (is_own i y) (source.Slot (slot_of i y)) (source.Value (capture_value i y)) o)
+            ∙ ap (λ (l : List Word). value_at m (first_of l) (capture_value i y)) frame)
             (captured_found p s ok sc i x of_scope sight w0 m0 w m slots r y v o e)
 
     pub record Sourced (xs : List Variable) (c : Named) : Type 0 where
@@ -137,7 +148,8 @@ module _ (p : Program) (s : Starts) (ok : Lowerable p s) (sc : Scope) (i : Insid
     owned_words = of r.holds.self i.program refl
       where
         none : i.program ≡ true → Owns f m 0 (own_values i)
-        none t = let z : 0 ≡ own_values i = sym (ap (λ b. if b then 0 else i.owns) t) in subst (λ (k : ℕ). Owns f m 0 k) z (owns f m 0 0 (λ k l. absurd (omega arith)))
+        none t = let z : 0 ≡ own_values i = sym (ap (λ b. if b then 0 else i.owns) t) in
+            subst (λ (k : ℕ). Owns f m 0 k) z (owns f m 0 0 (λ k l. absurd (omega arith)))
 
         of : Self i x w sight slots ⊎ Alone i x sight → (c : Bool) → i.program ≡ c → Owns f m 0 (own_values i)
         of c true t = none t
@@ -150,7 +162,8 @@ module _ (p : Program) (s : Starts) (ok : Lowerable p s) (sc : Scope) (i : Insid
             let y = there q.item.values k within in
             (y.0, ap (value_at m (first_of f.slots)) z ∙ (ap (λ (t : List Word). value_at m (first_of t) k) frame ∙ (q.read k ∙ y.1))))
 
-    own_word : (ws : Owns f m 0 (own_values i)) → i.program ≡ false → (k : ℕ) (a : Actual) → actual_of s sight.instance k ≡ Some a → (k < own_values i) × (slice_get ws.words k ≡ Some (word_handed a))
+    own_word : (ws : Owns f m 0 (own_values i)) → i.program ≡ false → (k : ℕ) (a : Actual) → actual_of s sight.instance k ≡ Some a →
+        (k < own_values i) × (slice_get ws.words k ≡ Some (word_handed a))
     own_word ws other k a e = of r.holds.self
       where
         of : Self i x w sight slots ⊎ Alone i x sight → (k < own_values i) × (slice_get ws.words k ≡ Some (word_handed a))
@@ -167,7 +180,9 @@ module _ (p : Program) (s : Starts) (ok : Lowerable p s) (sc : Scope) (i : Insid
   ------------------------------------------------------------
   -- The new object
 
-  module _ (f : Frame) (frame : f.slots ≡ slots) (l : ℕ) (literal : Literal) (stands : slice_get sc.literals l ≡ Some literal) (c : Named) (captured : captured_from sight.variables literal.captures ≡ Some c) (vs : List Value) (zs : List Word) (same : SameAll m.texts vs zs) (full : length vs ≡ length literal.fields) where
+  module _ (f : Frame) (frame : f.slots ≡ slots) (l : ℕ) (literal : Literal) (stands : slice_get sc.literals l ≡ Some literal) (c : Named)
+      (captured : captured_from sight.variables literal.captures ≡ Some c) (vs : List Value) (zs : List Word) (same : SameAll m.texts vs zs)
+      (full : length vs ≡ length literal.fields) where
     abbrev object : Thing
     object = record { instance = sight.instance; literal = l; captured = c; fields = vs }
 
@@ -178,7 +193,8 @@ module _ (p : Program) (s : Starts) (ok : Lowerable p s) (sc : Scope) (i : Insid
       offset : length ws.words ≡ own_count sc
       offset = ws.many ∙ owned p s sc i x of_scope
 
-      caught_word : (k : ℕ) (e : Variable × Value) → slice_get c k ≡ Some e → Found m.texts e.1 (slice_get ((ws.words ++ us.words) ++ zs) (own_count sc + k))
+      caught_word : (k : ℕ) (e : Variable × Value) → slice_get c k ≡ Some e →
+          Found m.texts e.1 (slice_get ((ws.words ++ us.words) ++ zs) (own_count sc + k))
       caught_word k e h =
           let g = all_found m.texts (values_of c) us.words us.same k e.1 (value_at_place c k e h) in
           let z : own_count sc + k ≡ length ws.words + k = omega (arith, offset) in
@@ -188,7 +204,8 @@ module _ (p : Program) (s : Starts) (ok : Lowerable p s) (sc : Scope) (i : Insid
             same = g.same;
           }
 
-      field_word : (k : ℕ) (v : Value) → slice_get vs k ≡ Some v → Found m.texts v (slice_get ((ws.words ++ us.words) ++ zs) (own_count sc + length c + k))
+      field_word : (k : ℕ) (v : Value) → slice_get vs k ≡ Some v →
+          Found m.texts v (slice_get ((ws.words ++ us.words) ++ zs) (own_count sc + length c + k))
       field_word k v h =
           let a = length-append ws.words us.words in
           let b = all_count m.texts (values_of c) us.words us.same in
@@ -219,31 +236,41 @@ module _ (p : Program) (s : Starts) (ok : Lowerable p s) (sc : Scope) (i : Insid
             omega (arith, offset, full);
       }
 
-  made_fits : (place : Place) (o : Thing) (y : word.Thing) → SameThing p s m.texts o y → Fits p s i x sight w0 m0 slots (settle (object_made place o w)) (word.object_made place y m)
+  made_fits : (place : Place) (o : Thing) (y : word.Thing) → SameThing p s m.texts o y →
+      Fits p s i x sight w0 m0 slots (settle (object_made place o w)) (word.object_made place y m)
   made_fits place o y same =
-      subst (λ (k : ℕ). Fits p s i x sight w0 m0 slots (settle (object_made place o w)) (if nat_lt k most_objects then Replies (word.Object (length m.objects)) (object_store m y) [] else EndsRun (Trap Crowded place) []))
+      subst (λ (k : ℕ). Fits p s i x sight w0 m0 slots (settle (object_made place o w))
+      (if nat_lt k most_objects then Replies (word.Object (length m.objects)) (object_store m y) [] else EndsRun (Trap Crowded place) []))
       r.world.made (of (nat_lt w.made most_objects))
     where
-      fine : Fine p s i x sight w0 m0 (Object (length w.objects)) (object_world w o) (record { word = word.Object (length m.objects); store = object_store m y; slots = slots })
+      fine : Fine p s i x sight w0 m0 (Object (length w.objects)) (object_world w o)
+          (record { word = word.Object (length m.objects); store = object_store m y; slots = slots })
       fine = record {
         same = subst (λ (k : ℕ). Same m.texts (Object (length w.objects)) (word.Object k)) (sym r.world.count) (same_object (length w.objects));
         ready = ready_after p s i x sight w0 m0 w m _ _ slots r (object_added p s w m o y r.world same) (object_later p s w m o y);
       }
 
-      of : (b : Bool) → Fits p s i x sight w0 m0 slots (settle (if b then replied (Object (length w.objects)) (object_world w o) else stopped (Trap Crowded place) w)) (if b then Replies (word.Object (length m.objects)) (object_store m y) [] else EndsRun (Trap Crowded place) [])
+      of : (b : Bool) → Fits p s i x sight w0 m0 slots
+          (settle (if b then replied (Object (length w.objects)) (object_world w o) else stopped (Trap Crowded place) w))
+          (if b then Replies (word.Object (length m.objects)) (object_store m y) [] else EndsRun (Trap Crowded place) [])
       of true = replied_answers _ slots _ _ _ _ fine
       of false = stopped_answers _ slots (Trap Crowded place) w
 
   ------------------------------------------------------------
   -- The instruction
 
-  module _ (g : Code) (n : ℕ) (b : Body) (callers : List Frame) (at end : ℕ) (operands : List Word) (room : length slots + length operands < b.slots) (place : Place) (l : ℕ)
-      (literal_there : (literal : Literal) → slice_get sc.literals l ≡ Some literal → (y : item.Literal) × (literal_of g x l ≡ Some y) × (y.captures ≡ capture_sources i literal.captures) × (y.fields ≡ length literal.fields)) where
+  module _ (g : Code) (n : ℕ) (b : Body) (callers : List Frame) (at end : ℕ) (operands : List Word) (room : length slots + length operands < b.slots)
+      (place : Place) (l : ℕ)
+      (literal_there : (literal : Literal) → slice_get sc.literals l ≡ Some literal → (y : item.Literal) × (literal_of g x l ≡ Some y) ×
+      (y.captures ≡ capture_sources i literal.captures) × (y.fields ≡ length literal.fields)) where
     pub new_runs : Stands b at (one place (Make l)) end → (vs : List Value) (zs : List Word) → SameAll m.texts vs zs →
-        Runs g n (Fine p s i x sight w0 m0) (pushed x b callers end operands) (state x b callers at slots (pile zs operands) m) (tick (settle (object_new place sight l vs w (literal_in (scope_of_instance p s sight.instance) l))))
+        Runs g n (Fine p s i x sight w0 m0) (pushed x b callers end operands) (state x b callers at slots (pile zs operands) m)
+        (tick (settle (object_new place sight l vs w (literal_in (scope_of_instance p s sight.instance) l))))
     new_runs code vs zs same =
-        let e : literal_in (scope_of_instance p s sight.instance) l ≡ slice_get sc.literals l = ap (λ o. literal_in o l) (ap (scope_of_instance p s) r.holds.instance ∙ of_scope.stands) in
-        subst (λ o. Runs g n (Fine p s i x sight w0 m0) (pushed x b callers end operands) T (tick (settle (object_new place sight l vs w o)))) (sym e) (of_literal (slice_get sc.literals l) refl)
+        let e : literal_in (scope_of_instance p s sight.instance) l ≡ slice_get sc.literals l = ap (λ o. literal_in o l)
+        (ap (scope_of_instance p s) r.holds.instance ∙ of_scope.stands) in
+        subst (λ o. Runs g n (Fine p s i x sight w0 m0) (pushed x b callers end operands) T (tick (settle (object_new place sight l vs w o)))) (sym e)
+        (of_literal (slice_get sc.literals l) refl)
       where
         T : State
         T = state x b callers at slots (pile zs operands) m
@@ -257,17 +284,22 @@ module _ (p : Program) (s : Starts) (ok : Lowerable p s) (sc : Scope) (i : Insid
         wrong : Goal (stopped Wrong w)
         wrong = wrong_reply_runs g n (Fine p s i x sight w0 m0) (pushed x b callers end operands) T w
 
-        stepped : (literal : Literal) (stands : slice_get sc.literals l ≡ Some literal) (c : Named) → length vs ≡ length literal.fields → (ws : Owns S.frame m 0 (own_values i)) (us : Sourced S.frame refl literal.captures c) → step g n T ≡ push_reply (word.object_made place (record { instance = x; literal = l; values = (ws.words ++ us.words) ++ zs }) m) S
+        stepped : (literal : Literal) (stands : slice_get sc.literals l ≡ Some literal) (c : Named) → length vs ≡ length literal.fields →
+            (ws : Owns S.frame m 0 (own_values i)) (us : Sourced S.frame refl literal.captures c) →
+            step g n T ≡ push_reply (word.object_made place (record { instance = x; literal = l; values = (ws.words ++ us.words) ++ zs }) m) S
         stepped literal stands c full ws us =
             let y = literal_there literal stands in
             let many : length zs ≡ y.0.fields = sym (all_count m.texts vs zs same) ∙ (full ∙ sym y.3) in
-            let words : words_from S.frame m y.0.captures ≡ Some (ws.words ++ us.words) = ap (words_from S.frame m) y.2 ∙ joined_words S.frame m _ _ ws.words us.words ws.are us.are in
+            let words : words_from S.frame m y.0.captures ≡ Some (ws.words ++ us.words) = ap (words_from S.frame m) y.2
+            ∙ joined_words S.frame m _ _ ws.words us.words ws.are us.are in
             acts x b callers g n at place (Make l) end slots (pile zs operands) m code
             ∙ ap (make place l (state x b callers end slots (pile zs operands) m)) y.1
-            ∙ ap (λ t. on_taken t (state x b callers end slots (pile zs operands) m) (λ fields u. make_with place l fields u (words_from u.frame u.store y.0.captures))) (takes zs operands y.0.fields many)
+            ∙ ap (λ t. on_taken t (state x b callers end slots (pile zs operands) m)
+            (λ fields u. make_with place l fields u (words_from u.frame u.store y.0.captures))) (takes zs operands y.0.fields many)
             ∙ ap (make_with place l zs S) words
 
-        of_captured : (literal : Literal) → slice_get sc.literals l ≡ Some literal → length vs ≡ length literal.fields → (o : Option Named) → captured_from sight.variables literal.captures ≡ o → Goal (object_with place sight l vs w o)
+        of_captured : (literal : Literal) → slice_get sc.literals l ≡ Some literal → length vs ≡ length literal.fields → (o : Option Named) →
+            captured_from sight.variables literal.captures ≡ o → Goal (object_with place sight l vs w o)
         of_captured literal stands full None e = wrong
         of_captured literal stands full (Some c) e =
             let ws = owned_words S.frame refl in
@@ -276,7 +308,8 @@ module _ (p : Program) (s : Starts) (ok : Lowerable p s) (sc : Scope) (i : Insid
             (made_fits place _ _ (made_same S.frame refl l literal stands c e vs zs same full ws us))
             (stepped literal stands c full ws us)
 
-        of_count : (literal : Literal) → slice_get sc.literals l ≡ Some literal → (d : Bool) → nat_eq (length vs) (length literal.fields) ≡ d → Goal (if d then object_with place sight l vs w (captured_from sight.variables literal.captures) else stopped Wrong w)
+        of_count : (literal : Literal) → slice_get sc.literals l ≡ Some literal → (d : Bool) → nat_eq (length vs) (length literal.fields) ≡ d →
+            Goal (if d then object_with place sight l vs w (captured_from sight.variables literal.captures) else stopped Wrong w)
         of_count literal stands true e = of_captured literal stands (eqb-true (length vs) (length literal.fields) e) _ refl
         of_count literal stands false e = wrong
 

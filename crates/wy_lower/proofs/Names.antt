@@ -43,14 +43,17 @@ pub record Caught (y : Variable) (v : Value) (c : Named) (from place : ℕ) : Ty
   pub is : slice_get c offset ≡ Some entry
   pub value : entry.1 ≡ v
 
-pub caught_at : (y : Variable) (v : Value) (c : Named) (from : ℕ) → value_named c y ≡ Some v → Caught y v c from (capture_from from y (map (λ (e : Variable × Value). e.0) c))
+pub caught_at : (y : Variable) (v : Value) (c : Named) (from : ℕ) → value_named c y ≡ Some v →
+    Caught y v c from (capture_from from y (map (λ (e : Variable × Value). e.0) c))
 caught_at y v [] from e = absurd cc
 caught_at y v (x ∷ c) from e = of (same_variable x.0 y) refl (λ h. caught_at y v c (from + 1) h)
   where
     names : List Variable
     names = map (λ (e : Variable × Value). e.0) c
 
-    of : (b : Bool) → same_variable x.0 y ≡ b → (value_named c y ≡ Some v → Caught y v c (from + 1) (capture_from (from + 1) y (map (λ (e : Variable × Value). e.0) c))) → Caught y v (x ∷ c) from (capture_from from y (map (λ (e : Variable × Value). e.0) (x ∷ c)))
+    of : (b : Bool) → same_variable x.0 y ≡ b →
+        (value_named c y ≡ Some v → Caught y v c (from + 1) (capture_from (from + 1) y (map (λ (e : Variable × Value). e.0) c))) →
+        Caught y v (x ∷ c) from (capture_from from y (map (λ (e : Variable × Value). e.0) (x ∷ c)))
     of true t rest = record {
       offset = 0;
       entry = x;
@@ -63,7 +66,8 @@ caught_at y v (x ∷ c) from e = of (same_variable x.0 y) refl (λ h. caught_at 
         record {
           offset = suc r.offset;
           entry = r.entry;
-          at = not_picked (same_variable x.0 y) from (capture_from (from + 1) y names) t ∙ (r.at ∙ (let z : from + 1 + r.offset ≡ from + suc r.offset = omega arith in z));
+          at = not_picked (same_variable x.0 y) from (capture_from (from + 1) y names) t
+              ∙ (r.at ∙ (let z : from + 1 + r.offset ≡ from + suc r.offset = omega arith in z));
           is = r.is;
           value = r.value;
         }
@@ -117,7 +121,8 @@ module _ (p : Program) (s : Starts) (ok : Lowerable p s) where
       of (inl l) = absurd (module_only l)
       of (inr l) = at_end (x - length s.instances) (omega arith)
 
-  module _ (sc : Scope) (i : Inside) (x : ℕ) (of_scope : Belongs p s sc i x) (sight : Sight) (w0 : World) (m0 : Store) (w : World) (m : Store) (slots : List Word) (r : Ready p s i x sight w0 m0 w m slots) where
+  module _ (sc : Scope) (i : Inside) (x : ℕ) (of_scope : Belongs p s sc i x) (sight : Sight) (w0 : World) (m0 : Store) (w : World) (m : Store)
+      (slots : List Word) (r : Ready p s i x sight w0 m0 w m slots) where
     -- the current object, as the machine has it
     pub record Mine (a : ℕ) (o : Thing) : Type 0 where
       pub item : word.Thing
@@ -141,7 +146,8 @@ module _ (p : Program) (s : Starts) (ok : Lowerable p s) where
         }
 
     -- a variable that is not the body's own
-    pub captured_found : (y : Variable) (v : Value) → is_own i y ≡ false → value_named sight.variables y ≡ Some v → Found m.texts v (value_at m (first_of slots) (capture_value i y))
+    pub captured_found : (y : Variable) (v : Value) → is_own i y ≡ false → value_named sight.variables y ≡ Some v →
+        Found m.texts v (value_at m (first_of slots) (capture_value i y))
     captured_found y v o e = of r.holds.self
       where
         of : Self i x w sight slots ⊎ Alone i x sight → Found m.texts v (value_at m (first_of slots) (capture_value i y))
@@ -158,7 +164,8 @@ module _ (p : Program) (s : Starts) (ok : Lowerable p s) where
               same = subst (λ (u : Value). Same m.texts u f.word) c.value f.same;
             }
 
-    pub own_slot_found : (y : Variable) (v : Value) → is_own i y ≡ true → value_named sight.variables y ≡ Some v → Found m.texts v (slice_get slots (slot_of i y))
+    pub own_slot_found : (y : Variable) (v : Value) → is_own i y ≡ true → value_named sight.variables y ≡ Some v →
+        Found m.texts v (slice_get slots (slot_of i y))
     own_slot_found y v o e = r.holds.held y v o e
 
     this_found : (v : Value) → object_value sight.this ≡ Some v → Found m.texts v (slice_get slots 0)
@@ -173,23 +180,28 @@ module _ (p : Program) (s : Starts) (ok : Lowerable p s) where
             record {
               word = word.Object h.object;
               is = h.slot;
-              same = subst (λ (u : Value). Same m.texts u (word.Object h.object)) f (subst (λ (k : ℕ). Same m.texts (Object b) (word.Object k)) (h.this b t) (same_object b));
+              same = subst (λ (u : Value). Same m.texts u (word.Object h.object)) f
+                  (subst (λ (k : ℕ). Same m.texts (Object b) (word.Object k)) (h.this b t) (same_object b));
             }
 
     field_found : (k : ℕ) (v : Value) → field_in (object_of w sight.this) k ≡ Some v → Found m.texts v (value_at m (first_of slots) (field_value i k))
     field_found k v e = of r.holds.self sight.this refl
       where
-        of : Self i x w sight slots ⊎ Alone i x sight → (o : Option ℕ) → sight.this ≡ o → Found m.texts v (value_at m (first_of slots) (field_value i k))
+        of : Self i x w sight slots ⊎ Alone i x sight → (o : Option ℕ) → sight.this ≡ o →
+            Found m.texts v (value_at m (first_of slots) (field_value i k))
         of c None t = let z : field_in (object_of w sight.this) k ≡ None = ap (λ o. field_in (object_of w o) k) t in absurd cc
         of (inr a) (Some b) t = let z = a.this in absurd cc
         of (inl h) (Some b) t =
             let q = mine h in
-            let f : field_in (object_of w sight.this) k ≡ slice_get h.thing.fields k = ap (λ o. field_in (object_of w o) k) t ∙ (ap (λ (c : ℕ). field_in (slice_get w.objects c) k) (h.this b t) ∙ ap (λ o. field_in o k) h.is) in
-            let n : length i.captures ≡ length h.thing.captured = ap length (sym h.names) ∙ length_map (λ (c : Variable × Value). c.0) h.thing.captured in
+            let f : field_in (object_of w sight.this) k ≡ slice_get h.thing.fields k = ap (λ o. field_in (object_of w o) k) t
+            ∙ (ap (λ (c : ℕ). field_in (slice_get w.objects c) k) (h.this b t) ∙ ap (λ o. field_in o k) h.is) in
+            let n : length i.captures ≡ length h.thing.captured = ap length (sym h.names)
+            ∙ length_map (λ (c : Variable × Value). c.0) h.thing.captured in
             let z : field_value i k ≡ own_count q.same.scope + length h.thing.captured + k = omega (arith, n, q.offset) in
             found_at m.texts v _ _ (q.read (field_value i k) ∙ ap (slice_get q.item.values) z) (q.same.fields k v (sym f ∙ e))
 
-    own_found : (k : ℕ) (v : Value) → i.program ≡ false → actual_value (actual_of s sight.instance k) ≡ Some v → Found m.texts v (value_at m (first_of slots) k)
+    own_found : (k : ℕ) (v : Value) → i.program ≡ false → actual_value (actual_of s sight.instance k) ≡ Some v →
+        Found m.texts v (value_at m (first_of slots) k)
     own_found k v other e = of r.holds.self
       where
         of : Self i x w sight slots ⊎ Alone i x sight → Found m.texts v (value_at m (first_of slots) k)
@@ -203,49 +215,71 @@ module _ (p : Program) (s : Starts) (ok : Lowerable p s) where
             record { word = word_handed a.0; is = q.read k ∙ f.1; same = handed_same m.texts a.0 v (sym (ap actual_value a.1) ∙ e) }
 
     -- what the program's own names stand for is known
-    own_constant : (k : ℕ) (v : Value) → i.program ≡ true → actual_value (actual_of s sight.instance k) ≡ Some v → Same m.texts v (word_of (handed_constant (slice_get i.actuals k)))
+    own_constant : (k : ℕ) (v : Value) → i.program ≡ true → actual_value (actual_of s sight.instance k) ≡ Some v →
+        Same m.texts v (word_of (handed_constant (slice_get i.actuals k)))
     own_constant k v here e =
         let a = handed_some (actual_of s sight.instance k) v e in
-        let main : slice_get (all_started s) sight.instance ≡ Some s.main = ap (slice_get (all_started s)) r.holds.instance ∙ main_is x sc of_scope.stands (sym of_scope.program ∙ here) in
+        let main : slice_get (all_started s) sight.instance ≡ Some s.main = ap (slice_get (all_started s)) r.holds.instance
+        ∙ main_is x sc of_scope.stands (sym of_scope.program ∙ here) in
         let there : slice_get i.actuals k ≡ Some a.0 = ap (λ l. slice_get l k) of_scope.actuals ∙ (sym (ap (λ o. actual_in o k) main) ∙ a.1) in
-        subst (λ (z : Word). Same m.texts v z) (sym (ap (λ o. word_of (handed_constant o)) there ∙ constant_handed a.0)) (handed_same m.texts a.0 v (sym (ap actual_value a.1) ∙ e))
+        subst (λ (z : Word). Same m.texts v z) (sym (ap (λ o. word_of (handed_constant o)) there ∙ constant_handed a.0))
+        (handed_same m.texts a.0 v (sym (ap actual_value a.1) ∙ e))
 
     ------------------------------------------------------------
     -- The instruction of a name
 
-    module _ (g : Code) (n : ℕ) (b : Body) (callers : List Frame) (at end : ℕ) (operands : List Word) (room : length slots + length operands < b.slots) (place : Place) where
-      found_runs : (t : State) (o : Option Value) (z : Option Word) → ((v : Value) → o ≡ Some v → Found m.texts v z) → step g n t ≡ push_reply (word.found z m) (state x b callers end slots operands m) → Runs g n (Fine p s i x sight w0 m0) (pushed x b callers end operands) t (tick (settle (found o w)))
+    module _ (g : Code) (n : ℕ) (b : Body) (callers : List Frame) (at end : ℕ) (operands : List Word)
+        (room : length slots + length operands < b.slots) (place : Place) where
+      found_runs : (t : State) (o : Option Value) (z : Option Word) → ((v : Value) → o ≡ Some v → Found m.texts v z) →
+          step g n t ≡ push_reply (word.found z m) (state x b callers end slots operands m) →
+          Runs g n (Fine p s i x sight w0 m0) (pushed x b callers end operands) t (tick (settle (found o w)))
       found_runs t o z h st = answer_runs x b callers (Fine p s i x sight w0 m0) slots g n end operands m t room _ _ (of o refl) st
         where
           of : (c : Option Value) → o ≡ c → Fits p s i x sight w0 m0 slots (settle (found c w)) (word.found z m)
           of None e = wrong_answers _ slots w _
           of (Some v) e =
               let f = h v e in
-              subst (λ d. Fits p s i x sight w0 m0 slots (settle (found (Some v) w)) (word.found d m)) (sym f.is) (replied_fits p s i x sight w0 m0 slots w m r v f.word f.same)
+              subst (λ d. Fits p s i x sight w0 m0 slots (settle (found (Some v) w)) (word.found d m)) (sym f.is)
+              (replied_fits p s i x sight w0 m0 slots w m r v f.word f.same)
 
-      pub this_runs : Stands b at (one place (Load 0)) end → Runs g n (Fine p s i x sight w0 m0) (pushed x b callers end operands) (state x b callers at slots operands m) (tick (settle (found (object_value sight.this) w)))
+      pub this_runs : Stands b at (one place (Load 0)) end →
+          Runs g n (Fine p s i x sight w0 m0) (pushed x b callers end operands) (state x b callers at slots operands m)
+          (tick (settle (found (object_value sight.this) w)))
       this_runs code = found_runs _ _ (slice_get slots 0) this_found (acts x b callers g n at place (Load 0) end slots operands m code)
 
-      pub name_runs : (name : Binding) → Stands b at (one place (name_code i name)) end → Runs g n (Fine p s i x sight w0 m0) (pushed x b callers end operands) (state x b callers at slots operands m) (tick (settle (found (value_of_name s sight w name) w)))
+      pub name_runs : (name : Binding) → Stands b at (one place (name_code i name)) end →
+          Runs g n (Fine p s i x sight w0 m0) (pushed x b callers end operands) (state x b callers at slots operands m)
+          (tick (settle (found (value_of_name s sight w name) w)))
       name_runs (to.Variable y) code = of (is_own i y) refl
         where
-          of : (c : Bool) → is_own i y ≡ c → Runs g n (Fine p s i x sight w0 m0) (pushed x b callers end operands) (state x b callers at slots operands m) (tick (settle (found (value_named sight.variables y) w)))
+          of : (c : Bool) → is_own i y ≡ c → Runs g n (Fine p s i x sight w0 m0) (pushed x b callers end operands)
+              (state x b callers at slots operands m) (tick (settle (found (value_named sight.variables y) w)))
           of true o =
               found_runs _ _ (slice_get slots (slot_of i y)) (λ v e. own_slot_found y v o e)
-              (acts x b callers g n at place _ end slots operands m code ∙ ap (λ k. act g n place k (state x b callers end slots operands m)) (picked (is_own i y) (Load (slot_of i y)) (Get (capture_value i y)) o))
+              (acts x b callers g n at place _ end slots operands m code
+              ∙ ap (λ k. act g n place k (state x b callers end slots operands m))
+              (picked (is_own i y) (Load (slot_of i y)) (Get (capture_value i y)) o))
           of false o =
               found_runs _ _ (value_at m (first_of slots) (capture_value i y)) (λ v e. captured_found y v o e)
-              (acts x b callers g n at place _ end slots operands m code ∙ ap (λ k. act g n place k (state x b callers end slots operands m)) (not_picked (is_own i y) (Load (slot_of i y)) (Get (capture_value i y)) o))
-      name_runs (to.Field k) code = found_runs _ _ (value_at m (first_of slots) (field_value i k)) (field_found k) (acts x b callers g n at place _ end slots operands m code)
+              (acts x b callers g n at place _ end slots operands m code
+              ∙ ap (λ k. act g n place k (state x b callers end slots operands m))
+              (not_picked (is_own i y) (Load (slot_of i y)) (Get (capture_value i y)) o))
+      name_runs (to.Field k) code = found_runs _ _ (value_at m (first_of slots) (field_value i k)) (field_found k)
+          (acts x b callers g n at place _ end slots operands m code)
       name_runs (to.Own k) code = of i.program refl
         where
           constant : Word
           constant = word_of (handed_constant (slice_get i.actuals k))
 
-          of : (c : Bool) → i.program ≡ c → Runs g n (Fine p s i x sight w0 m0) (pushed x b callers end operands) (state x b callers at slots operands m) (tick (settle (found (actual_value (actual_of s sight.instance k)) w)))
+          of : (c : Bool) → i.program ≡ c → Runs g n (Fine p s i x sight w0 m0) (pushed x b callers end operands)
+              (state x b callers at slots operands m) (tick (settle (found (actual_value (actual_of s sight.instance k)) w)))
           of true t =
               found_runs _ _ (Some constant) (λ v e. record { word = constant; is = refl; same = own_constant k v t e })
-              (acts x b callers g n at place _ end slots operands m code ∙ ap (λ c. act g n place c (state x b callers end slots operands m)) (picked i.program (Push (handed_constant (slice_get i.actuals k))) (Get k) t))
+              (acts x b callers g n at place _ end slots operands m code
+              ∙ ap (λ c. act g n place c (state x b callers end slots operands m))
+              (picked i.program (Push (handed_constant (slice_get i.actuals k))) (Get k) t))
           of false t =
               found_runs _ _ (value_at m (first_of slots) k) (λ v e. own_found k v t e)
-              (acts x b callers g n at place _ end slots operands m code ∙ ap (λ c. act g n place c (state x b callers end slots operands m)) (not_picked i.program (Push (handed_constant (slice_get i.actuals k))) (Get k) t))
+              (acts x b callers g n at place _ end slots operands m code
+              ∙ ap (λ c. act g n place c (state x b callers end slots operands m))
+              (not_picked i.program (Push (handed_constant (slice_get i.actuals k))) (Get k) t))

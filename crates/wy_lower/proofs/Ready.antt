@@ -31,11 +31,13 @@ module _ (p : Program) (s : Starts) (i : Inside) (x : ℕ) (sight : Sight) where
   pub ready_now : (w0 : World) (m0 : Store) (w : World) (m : Store) (slots : List Word) → Ready w0 m0 w m slots → Ready w m w m slots
   ready_now w0 m0 w m slots r = record { world = r.world; holds = r.holds; later = later_itself w m }
 
-  pub ready_since : (w0 : World) (m0 : Store) (w1 : World) (m1 : Store) (w : World) (m : Store) (slots : List Word) → Later w0 m0 w1 m1 → Ready w1 m1 w m slots → Ready w0 m0 w m slots
+  pub ready_since : (w0 : World) (m0 : Store) (w1 : World) (m1 : Store) (w : World) (m : Store) (slots : List Word) → Later w0 m0 w1 m1 →
+      Ready w1 m1 w m slots → Ready w0 m0 w m slots
   ready_since w0 m0 w1 m1 w m slots l r = record { world = r.world; holds = r.holds; later = later_later w0 m0 w1 m1 w m l r.later }
 
   -- the world changes, and the slots stay as they are
-  pub ready_after : (w0 : World) (m0 : Store) (w : World) (m : Store) (w' : World) (m' : Store) (slots : List Word) → Ready w0 m0 w m slots → SameWorld p s w' m' → Later w m w' m' → Ready w0 m0 w' m' slots
+  pub ready_after : (w0 : World) (m0 : Store) (w : World) (m : Store) (w' : World) (m' : Store) (slots : List Word) → Ready w0 m0 w m slots →
+      SameWorld p s w' m' → Later w m w' m' → Ready w0 m0 w' m' slots
   ready_after w0 m0 w m w' m' slots r h l = record {
     world = h;
     holds = holds_stays i x w m w' m' sight slots l r.holds;

@@ -66,9 +66,11 @@ pub all_count : (t : List (List ℕ)) (vs : List Value) (zs : List Word) → Sam
 all_count t vs zs none_same = refl
 all_count t vs zs (more_same x y xs ys h r) = let e = all_count t xs ys r in ap ℕ.suc e
 
-pub all_found : (t : List (List ℕ)) (vs : List Value) (zs : List Word) → SameAll t vs zs → (k : ℕ) (v : Value) → slice_get vs k ≡ Some v → Found t v (slice_get zs k)
+pub all_found : (t : List (List ℕ)) (vs : List Value) (zs : List Word) → SameAll t vs zs → (k : ℕ) (v : Value) → slice_get vs k ≡ Some v →
+    Found t v (slice_get zs k)
 all_found t vs zs none_same k v e = absurd cc
-all_found t vs zs (more_same x y xs ys h r) ℕ.zero v e = record { word = y; is = refl; same = let z : x ≡ v = cc in subst (λ (a : Value). Same t a y) z h }
+all_found t vs zs (more_same x y xs ys h r) ℕ.zero v e =
+    record { word = y; is = refl; same = let z : x ≡ v = cc in subst (λ (a : Value). Same t a y) z h }
 all_found t vs zs (more_same x y xs ys h r) (ℕ.suc k) v e = all_found t xs ys r k v e
 
 -- what an instance is handed
@@ -88,7 +90,8 @@ module _ (p : Program) (s : Starts) where
     pub scope : Scope
     pub stands : scope_of_instance p s o.instance ≡ Some scope
     pub names : map (λ (c : Variable × Value). c.0) o.captured ≡ literal_captures (slice_get scope.literals o.literal)
-    pub own : is_program scope.kind ≡ false → (k : ℕ) (a : Actual) → actual_of s o.instance k ≡ Some a → (k < own_count scope) × (slice_get x.values k ≡ Some (word_handed a))
+    pub own : is_program scope.kind ≡ false → (k : ℕ) (a : Actual) → actual_of s o.instance k ≡ Some a → (k < own_count scope) ×
+        (slice_get x.values k ≡ Some (word_handed a))
     pub caught : (k : ℕ) (c : Variable × Value) → slice_get o.captured k ≡ Some c → Found t c.1 (slice_get x.values (own_count scope + k))
     pub fields : (k : ℕ) (v : Value) → slice_get o.fields k ≡ Some v → Found t v (slice_get x.values (own_count scope + length o.captured + k))
     pub long : length x.values ≡ own_count scope + length o.captured + length (literal_fields (slice_get scope.literals o.literal))
@@ -144,13 +147,21 @@ kept_itself w a o e = record { thing = o; is = e; instance = refl; literal = ref
 pub later_itself : (w : World) (m : Store) → Later w m w m
 later_itself w m = record { texts = grows_refl m.texts; objects = kept_itself w; next = refl }
 
-pub later_later : (w : World) (m : Store) (w' : World) (m' : Store) (w'' : World) (m'' : Store) → Later w m w' m' → Later w' m' w'' m'' → Later w m w'' m''
+pub later_later : (w : World) (m : Store) (w' : World) (m' : Store) (w'' : World) (m'' : Store) → Later w m w' m' → Later w' m' w'' m'' →
+    Later w m w'' m''
 later_later w m w' m' w'' m'' h l = record {
   texts = grows_trans m.texts m'.texts m''.texts h.texts l.texts;
   objects = λ a o e.
       let x = h.objects a o e in
       let y = l.objects a x.thing x.is in
-      record { thing = y.thing; is = y.is; instance = y.instance ∙ x.instance; literal = y.literal ∙ x.literal; captured = y.captured ∙ x.captured; fields = y.fields ∙ x.fields };
+      record {
+        thing = y.thing;
+        is = y.is;
+        instance = y.instance ∙ x.instance;
+        literal = y.literal ∙ x.literal;
+        captured = y.captured ∙ x.captured;
+        fields = y.fields ∙ x.fields;
+      };
   next = l.next ∙ h.next;
 }
 

@@ -70,7 +70,8 @@ module _ (p : Program) (s : Starts) (i : Inside) (x : ℕ) (sight : Sight) (w0 :
   unfolding told stop
   told_stop_fits d e w = record { by = (refl, λ ne. refl) }
 
-  told_replied_fits : (d : Event) (v : Value) (w : World) (z : Word) (m : Store) → Fine p s i x sight w0 m0 v w (record { word = z; store = m; slots = slots }) → Fits (told d (settle (replied v w))) (Replies z m (d ∷ []))
+  told_replied_fits : (d : Event) (v : Value) (w : World) (z : Word) (m : Store) →
+      Fine p s i x sight w0 m0 v w (record { word = z; store = m; slots = slots }) → Fits (told d (settle (replied v w))) (Replies z m (d ∷ []))
   unfolding told settle
   told_replied_fits d v w z m f = record { by = (refl, z, m, f, refl) }
 
@@ -82,7 +83,8 @@ module _ (p : Program) (s : Starts) (i : Inside) (x : ℕ) (sight : Sight) (w0 :
     pub replied_fits : (v : Value) (z : Word) → Same m.texts v z → Fits (settle (replied v w)) (Replies z m [])
     replied_fits v z h = replied_answers _ slots v w z m (plain_fine v z h)
 
-    text_fine : (bytes : List ℕ) → Fine p s i x sight w0 m0 (Text bytes) (text_world w) (record { word = word.Text (length m.texts); store = word.with_text bytes m; slots = slots })
+    text_fine : (bytes : List ℕ) → Fine p s i x sight w0 m0 (Text bytes) (text_world w)
+        (record { word = word.Text (length m.texts); store = word.with_text bytes m; slots = slots })
     text_fine bytes = record {
       same = same_text bytes (length m.texts) (get_last m.texts bytes);
       ready = ready_after p s i x sight w0 m0 w m _ _ slots r (text_added p s w m bytes r.world) (text_later p s w m bytes);
@@ -90,10 +92,12 @@ module _ (p : Program) (s : Starts) (i : Inside) (x : ℕ) (sight : Sight) (w0 :
 
     built_fits : (place : Place) (bytes : List ℕ) → Fits (settle (text_built place bytes w)) (word.text_built place bytes m)
     built_fits place bytes =
-        subst (λ (k : ℕ). Fits (settle (text_built place bytes w)) (if nat_lt k most_texts then Replies (word.Text (length m.texts)) (word.with_text bytes m) [] else EndsRun (Trap Crowded place) []))
+        subst (λ (k : ℕ). Fits (settle (text_built place bytes w))
+        (if nat_lt k most_texts then Replies (word.Text (length m.texts)) (word.with_text bytes m) [] else EndsRun (Trap Crowded place) []))
         r.world.built (of (nat_lt w.built most_texts))
       where
-        of : (b : Bool) → Fits (settle (if b then replied (Text bytes) (text_world w) else stopped (Trap Crowded place) w)) (if b then Replies (word.Text (length m.texts)) (word.with_text bytes m) [] else EndsRun (Trap Crowded place) [])
+        of : (b : Bool) → Fits (settle (if b then replied (Text bytes) (text_world w) else stopped (Trap Crowded place) w))
+            (if b then Replies (word.Text (length m.texts)) (word.with_text bytes m) [] else EndsRun (Trap Crowded place) [])
         of true = replied_answers _ slots (Text bytes) (text_world w) (word.Text (length m.texts)) (word.with_text bytes m) (text_fine bytes)
         of false = stopped_answers _ slots (Trap Crowded place) w
 
@@ -104,9 +108,11 @@ module _ (p : Program) (s : Starts) (i : Inside) (x : ℕ) (sight : Sight) (w0 :
     computed_fits place (Traps kind) = stopped_answers _ slots (Trap kind place) w
     computed_fits place Misfits = wrong_answers _ slots w _
 
-    pub operated_fits : (place : Place) (o : CodeOperator) (vs : List Value) (zs : List Word) → SameAll m.texts vs zs → Fits (settle (operated place (Some (operator_meant o)) vs w)) (code.operated place o zs m)
+    pub operated_fits : (place : Place) (o : CodeOperator) (vs : List Value) (zs : List Word) → SameAll m.texts vs zs →
+        Fits (settle (operated place (Some (operator_meant o)) vs w)) (code.operated place o zs m)
     operated_fits place o vs zs h =
-        subst (λ c. Fits (settle (operated place (Some (operator_meant o)) vs w)) (code.computed place m (operate (operator_meant o) c))) (sym (operands_are m vs zs h))
+        subst (λ c. Fits (settle (operated place (Some (operator_meant o)) vs w)) (code.computed place m (operate (operator_meant o) c)))
+        (sym (operands_are m vs zs h))
         (computed_fits place _)
 
     ------------------------------------------------------------
@@ -116,7 +122,8 @@ module _ (p : Program) (s : Starts) (i : Inside) (x : ℕ) (sight : Sight) (w0 :
     answer_ready tapes = ready_after p s i x sight w0 m0 w m _ _ slots r (answer_taken p s w m tapes r.world) (answer_later p s w m tapes)
 
   -- an answer, after the deed
-  answered_fits : (w : World) (m : Store) → Ready p s i x sight w0 m0 w m slots → (d : Event) (a : Answer) → Fits (told d (settle (value_answered a w))) (code.word_answered a m (d ∷ []))
+  answered_fits : (w : World) (m : Store) → Ready p s i x sight w0 m0 w m slots → (d : Event) (a : Answer) →
+      Fits (told d (settle (value_answered a w))) (code.word_answered a m (d ∷ []))
   answered_fits w m r d (answer.Bytes bytes) = told_replied_fits d (Text bytes) _ _ _ (text_fine w m r bytes)
   answered_fits w m r d (answer.Truth b) = told_replied_fits d (Truth b) w (word.Truth b) m (plain_fine w m r (Truth b) (word.Truth b) (same_truth b))
   answered_fits w m r d (answer.Number k) = told_replied_fits d (Int k) w (word.Int k) m (plain_fine w m r (Int k) (word.Int k) (same_int k))
@@ -138,28 +145,40 @@ module _ (p : Program) (s : Starts) (i : Inside) (x : ℕ) (sight : Sight) (w0 :
         either_fits (not (has_good_name op)) _ _ _ _ (stop_fits (Trap BadName place) w)
         (subst (λ (k : ℕ).
         Fits (if answers_text op && not (nat_lt w.built most_texts) then stop (Trap Crowded place) w else answered grant op w (asked op w.tapes))
-        (if answers_text op && not (nat_lt k most_texts) then EndsRun (Trap Crowded place) [] else code.answered grant op m (asked op m.tapes))) r.world.built
+        (if answers_text op && not (nat_lt k most_texts) then EndsRun (Trap Crowded place) [] else code.answered grant op m
+        (asked op m.tapes))) r.world.built
         (either_fits (answers_text op && not (nat_lt w.built most_texts)) _ _ _ _ (stop_fits (Trap Crowded place) w)
-        (subst (λ (t : Tapes). Fits (answered grant op w (asked op w.tapes)) (code.answered grant op m (asked op t))) r.world.tapes (told_fits grant op (asked op w.tapes)))))
+        (subst (λ (t : Tapes). Fits (answered grant op w (asked op w.tapes)) (code.answered grant op m (asked op t))) r.world.tapes
+        (told_fits grant op (asked op w.tapes)))))
 
     -- the machine has the grant, and the method's name where the grant has such an operation
-    pub performed_fits : (place : Place) (g : Option GrantIs) (h : Option CodeGrant) (method : List ℕ) (name : Option (List ℕ)) (vs : List Value) (zs : List Word) → SameAll m.texts vs zs → ((y : GrantIs) → g ≡ Some y → h ≡ Some (record { name = y.name; kind = y.kind })) → ((y : GrantIs) (ts : List (List ℕ)) (op : Op) → operation_of y.kind method ts ≡ Some op → name ≡ Some method) → Fits (perform place g method vs w) (code.performed place h name zs m)
+    pub performed_fits : (place : Place) (g : Option GrantIs) (h : Option CodeGrant) (method : List ℕ) (name : Option (List ℕ)) (vs : List Value)
+        (zs : List Word) → SameAll m.texts vs zs → ((y : GrantIs) → g ≡ Some y → h ≡ Some (record { name = y.name; kind = y.kind })) →
+        ((y : GrantIs) (ts : List (List ℕ)) (op : Op) → operation_of y.kind method ts ≡ Some op → name ≡ Some method) →
+        Fits (perform place g method vs w) (code.performed place h name zs m)
     unfolding perform
     performed_fits place g h method name vs zs same grant there = of_grant g refl
       where
-        of_op : (y : GrantIs) (ts : List (List ℕ)) (op : Option Op) → operation_of y.kind method ts ≡ op → Fits (requested place y.name w op) (code.requested_of place (record { name = y.name; kind = y.kind }) m name (Some ts))
+        of_op : (y : GrantIs) (ts : List (List ℕ)) (op : Option Op) → operation_of y.kind method ts ≡ op →
+            Fits (requested place y.name w op) (code.requested_of place (record { name = y.name; kind = y.kind }) m name (Some ts))
         of_op y ts None e = wrong_fits w _
         of_op y ts (Some op) e =
-            subst (λ o. Fits (requested place y.name w (Some op)) (code.requested_of place (record { name = y.name; kind = y.kind }) m o (Some ts))) (sym (there y ts op e))
+            subst (λ o. Fits (requested place y.name w (Some op)) (code.requested_of place (record { name = y.name; kind = y.kind }) m o (Some ts)))
+            (sym (there y ts op e))
             (subst (λ o. Fits (requested place y.name w (Some op)) (code.requested place y.name m o)) (sym e) (asked_fits place y.name op))
 
-        of_texts : (y : GrantIs) (o : Option (List (List ℕ))) → texts_named m zs ≡ o → Fits (requested_of place (Some y) method w o) (code.requested_of place (record { name = y.name; kind = y.kind }) m name (texts_named m zs))
+        of_texts : (y : GrantIs) (o : Option (List (List ℕ))) → texts_named m zs ≡ o →
+            Fits (requested_of place (Some y) method w o)
+            (code.requested_of place (record { name = y.name; kind = y.kind }) m name (texts_named m zs))
         of_texts y None e = wrong_fits w _
         of_texts y (Some ts) e =
-            subst (λ o. Fits (requested place y.name w (operation_of y.kind method ts)) (code.requested_of place (record { name = y.name; kind = y.kind }) m name o)) (sym e) (of_op y ts _ refl)
+            subst (λ o. Fits (requested place y.name w (operation_of y.kind method ts))
+            (code.requested_of place (record { name = y.name; kind = y.kind }) m name o)) (sym e) (of_op y ts _ refl)
 
         of_grant : (o : Option GrantIs) → g ≡ o → Fits (requested_of place o method w (texts_of vs)) (code.performed place h name zs m)
         of_grant None e = wrong_fits w _
         of_grant (Some y) e =
             subst (λ c. Fits (requested_of place (Some y) method w (texts_of vs)) (code.performed place c name zs m)) (sym (grant y e))
-            (subst (λ o. Fits (requested_of place (Some y) method w o) (code.requested_of place (record { name = y.name; kind = y.kind }) m name (texts_named m zs))) (texts_are_named m vs zs same) (of_texts y _ refl))
+            (subst (λ o. Fits (requested_of place (Some y) method w o)
+            (code.requested_of place (record { name = y.name; kind = y.kind }) m name (texts_named m zs))) (texts_are_named m vs zs same)
+            (of_texts y _ refl))

@@ -35,18 +35,21 @@ module _ (x : ℕ) (b : Body) (callers : List Frame) where
   module _ (fine : Value → World → One → Type 0) (end : ℕ) (slots operands : List Word) where
     abbrev pub SetsTo : Outcome Value → World → Next → Type 0
     SetsTo (Stops e) w t = e ≡ Wrong
-    SetsTo (Gives v) w t = (m : Store) × fine v w (record { word = word.Nothing; store = m; slots = slots }) × (t ≡ Go [] (state x b callers end slots operands m))
+    SetsTo (Gives v) w t = (m : Store) × fine v w (record { word = word.Nothing; store = m; slots = slots }) ×
+        (t ≡ Go [] (state x b callers end slots operands m))
 
     -- the machine goes on where the reply is a value
     pub record Sets (q : Reply) (t : Next) : Type 0 where
       pub by : SetsTo q.out q.world t
 
-    sets_to : (g : Code) (n : ℕ) (t : State) (o : Outcome Value) (w : World) (u : Next) → SetsTo o w u → step g n t ≡ u → RunsTo g n fine (set_next end operands) t o w [] (ℕ.suc 0)
+    sets_to : (g : Code) (n : ℕ) (t : State) (o : Outcome Value) (w : World) (u : Next) → SetsTo o w u → step g n t ≡ u →
+        RunsTo g n fine (set_next end operands) t o w [] (ℕ.suc 0)
     sets_to g n t (Stops e) w u h st = λ ne. absurd (ne h)
     sets_to g n t (Gives v) w u h st = (record { word = word.Nothing; store = h.0; slots = slots }, h.1, one_leads g n t _ [] (st ∙ h.2))
 
     -- one instruction that sets
-    pub set_runs : (g : Code) (n : ℕ) (t : State) (q : Reply) (u : Next) → Sets q u → step g n t ≡ u → Runs g n fine (set_next end operands) t (tick (settle q))
+    pub set_runs : (g : Code) (n : ℕ) (t : State) (q : Reply) (u : Next) → Sets q u → step g n t ≡ u →
+        Runs g n fine (set_next end operands) t (tick (settle q))
     unfolding tick settle
     set_runs g n t q u h st = record { by = sets_to g n t q.out q.world u h.by st }
 
@@ -58,7 +61,8 @@ set_written fields k v h j u e = of (cases_eq k j)
     of (inl same) = inl (sym same, some_is (sym (get_set_same fields k v h) ∙ (ap (slice_get (slice_set fields k v)) same ∙ e)))
     of (inr other) = inr (other, sym (get_set_other fields k j v other) ∙ e)
 
-module _ (p : Program) (s : Starts) (ok : Lowerable p s) (sc : Scope) (i : Inside) (x : ℕ) (of_scope : Belongs p s sc i x) (sight : Sight) (w0 : World) (m0 : Store) (w : World) (m : Store) (slots : List Word) (r : Ready p s i x sight w0 m0 w m slots) where
+module _ (p : Program) (s : Starts) (ok : Lowerable p s) (sc : Scope) (i : Inside) (x : ℕ) (of_scope : Belongs p s sc i x) (sight : Sight)
+    (w0 : World) (m0 : Store) (w : World) (m : Store) (slots : List Word) (r : Ready p s i x sight w0 m0 w m slots) where
   -- a value of the current object, set in the store
   abbrev pub with_item : ℕ → word.Thing → Store
   with_item a y = record m { objects = slice_set m.objects a y }
@@ -66,7 +70,8 @@ module _ (p : Program) (s : Starts) (ok : Lowerable p s) (sc : Scope) (i : Insid
   abbrev pub with_object : ℕ → Thing → World
   with_object a y = record w { objects = slice_set w.objects a y }
 
-  pub value_is_set : (h : Self i x w sight slots) (q : Mine p s ok sc i x of_scope sight w0 m0 w m slots r h.object h.thing) (k : ℕ) (z : Word) → k < length q.item.values → value_set (first_of slots) k z m ≡ Some (with_item h.object (item_with q.item k z))
+  pub value_is_set : (h : Self i x w sight slots) (q : Mine p s ok sc i x of_scope sight w0 m0 w m slots r h.object h.thing) (k : ℕ) (z : Word) →
+      k < length q.item.values → value_set (first_of slots) k z m ≡ Some (with_item h.object (item_with q.item k z))
   value_is_set h q k z l =
       ap (λ (y : Word). value_set y k z m) (first_is slots _ h.slot)
       ∙ ap (with_value h.object k z m) q.is
@@ -86,13 +91,15 @@ module _ (p : Program) (s : Starts) (ok : Lowerable p s) (sc : Scope) (i : Insid
     wrong_sets : (t : Next) → Writes (stopped Wrong w) t
     wrong_sets t = record { by = refl }
 
-    field_sets : (k : ℕ) (v : Value) (z : Word) → Same m.texts v z → Writes (write_field sight.this k v w) (stored (value_set (first_of slots) (field_value i k) z m) (after m))
+    field_sets : (k : ℕ) (v : Value) (z : Word) → Same m.texts v z →
+        Writes (write_field sight.this k v w) (stored (value_set (first_of slots) (field_value i k) z m) (after m))
     field_sets k v z same = of r.holds.self sight.this refl
       where
         N : Next
         N = stored (value_set (first_of slots) (field_value i k) z m) (after m)
 
-        in_object : (h : Self i x w sight slots) (c : Bool) → nat_lt k (length h.thing.fields) ≡ c → Writes (if c then replied Nothing (with_object h.object (thing_with h.thing (slice_set h.thing.fields k v))) else stopped Wrong w) N
+        in_object : (h : Self i x w sight slots) (c : Bool) → nat_lt k (length h.thing.fields) ≡ c →
+            Writes (if c then replied Nothing (with_object h.object (thing_with h.thing (slice_set h.thing.fields k v))) else stopped Wrong w) N
         in_object h false e = wrong_sets N
         in_object h true e =
             let q = mine p s ok sc i x of_scope sight w0 m0 w m slots r h in
@@ -100,7 +107,8 @@ module _ (p : Program) (s : Starts) (ok : Lowerable p s) (sc : Scope) (i : Insid
             let old = there h.thing.fields k within in
             let o = q.same.fields k old.0 old.1 in
             let l = get_within q.item.values _ o.word o.is in
-            let n : length i.captures ≡ length h.thing.captured = ap length (sym h.names) ∙ length_map (λ (c : Variable × Value). c.0) h.thing.captured in
+            let n : length i.captures ≡ length h.thing.captured = ap length (sym h.names)
+            ∙ length_map (λ (c : Variable × Value). c.0) h.thing.captured in
             let at : field_value i k ≡ own_count q.same.scope + length h.thing.captured + k = omega (arith, n, q.offset) in
             let set = value_is_set h q _ z l in
             let changed = thing_written p s m.texts h.thing q.item q.same k v z same _ (set_written h.thing.fields k v within) l in
@@ -124,7 +132,8 @@ module _ (p : Program) (s : Starts) (ok : Lowerable p s) (sc : Scope) (i : Insid
             ap (λ o. write_field o k v w) t ∙ (ap (λ (c : ℕ). write_field (Some c) k v w) (h.this d t) ∙ ap (field_set h.object k v w) h.is) in
             subst (λ (y : Reply). Writes y N) (sym e) (in_object h (nat_lt k (length h.thing.fields)) refl)
 
-    pub assigned_sets : (name : Binding) (v : Value) (z : Word) → Same m.texts v z → Writes (assigned sight name v w) (stored (value_set (first_of slots) (assigned_value i name) z m) (after m))
+    pub assigned_sets : (name : Binding) (v : Value) (z : Word) → Same m.texts v z →
+        Writes (assigned sight name v w) (stored (value_set (first_of slots) (assigned_value i name) z m) (after m))
     assigned_sets (to.Field k) v z same = field_sets k v z same
     assigned_sets (to.Variable y) v z same = wrong_sets _
     assigned_sets (to.Own k) v z same = wrong_sets _

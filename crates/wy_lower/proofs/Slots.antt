@@ -43,11 +43,13 @@ seen_of y v vars x u e = of (same_variable y x) refl
     of false t = older t (sym (not_picked (same_variable y x) (Some v) (value_named vars x) t) ∙ e)
 
 -- a variable that is in sight is not one that is not
-pub not_seen : (n : ℕ) (vars : Named) (x : Variable) (u : Value) → value_named vars (Local n) ≡ None → value_named vars x ≡ Some u → same_variable (Local n) x ≡ false
+pub not_seen : (n : ℕ) (vars : Named) (x : Variable) (u : Value) → value_named vars (Local n) ≡ None → value_named vars x ≡ Some u →
+    same_variable (Local n) x ≡ false
 not_seen n vars x u h e = of (same_variable (Local n) x) refl
   where
     of : (b : Bool) → same_variable (Local n) x ≡ b → same_variable (Local n) x ≡ false
-    of true t = let same : Local n ≡ x = variable_is (Local n) x t in let z : value_named vars x ≡ None = subst (λ (y : Variable). value_named vars y ≡ None) same h in absurd cc
+    of true t = let same : Local n ≡ x = variable_is (Local n) x t in
+        let z : value_named vars x ≡ None = subst (λ (y : Variable). value_named vars y ≡ None) same h in absurd cc
     of false t = t
 
 ------------------------------------------------------------
@@ -57,7 +59,8 @@ pub val_within : (k n : ℕ) (ms : List ℕ) → is_val n ms ≡ true → place_
 val_within k n [] e = absurd cc
 val_within k n (m ∷ ms) e = of (nat_eq m n) refl (or_cases (nat_eq m n) (is_val n ms) e) (val_within (k + 1) n ms)
   where
-    of : (b : Bool) → nat_eq m n ≡ b → (nat_eq m n ≡ true) ⊎ (is_val n ms ≡ true) → (is_val n ms ≡ true → place_from (k + 1) n ms < k + 1 + length ms) → place_from k n (m ∷ ms) < k + length (m ∷ ms)
+    of : (b : Bool) → nat_eq m n ≡ b → (nat_eq m n ≡ true) ⊎ (is_val n ms ≡ true) →
+        (is_val n ms ≡ true → place_from (k + 1) n ms < k + 1 + length ms) → place_from k n (m ∷ ms) < k + length (m ∷ ms)
     of true t h rest = let z = picked (nat_eq m n) k (place_from (k + 1) n ms) t in omega arith
     of false t (inl h) rest = absurd (both_ways (nat_eq m n) t h)
     of false t (inr h) rest = let z = not_picked (nat_eq m n) k (place_from (k + 1) n ms) t in let r = rest h in omega arith
@@ -73,9 +76,11 @@ from_start k n (m ∷ ms) = of (nat_eq m n) refl (from_start (k + 1) n ms)
 -- two `val`s have two slots
 pub places_differ : (k n j : ℕ) (ms : List ℕ) → is_val n ms ≡ true → n ≢ j → place_from k n ms ≢ place_from k j ms
 places_differ k n j [] e ne = absurd cc
-places_differ k n j (m ∷ ms) e ne = of (nat_eq m n) (nat_eq m j) refl refl (or_cases (nat_eq m n) (is_val n ms) e) (λ h. places_differ (k + 1) n j ms h ne)
+places_differ k n j (m ∷ ms) e ne = of (nat_eq m n) (nat_eq m j) refl refl (or_cases (nat_eq m n) (is_val n ms) e)
+    (λ h. places_differ (k + 1) n j ms h ne)
   where
-    of : (b c : Bool) → nat_eq m n ≡ b → nat_eq m j ≡ c → (nat_eq m n ≡ true) ⊎ (is_val n ms ≡ true) → (is_val n ms ≡ true → place_from (k + 1) n ms ≢ place_from (k + 1) j ms) → place_from k n (m ∷ ms) ≢ place_from k j (m ∷ ms)
+    of : (b c : Bool) → nat_eq m n ≡ b → nat_eq m j ≡ c → (nat_eq m n ≡ true) ⊎ (is_val n ms ≡ true) →
+        (is_val n ms ≡ true → place_from (k + 1) n ms ≢ place_from (k + 1) j ms) → place_from k n (m ∷ ms) ≢ place_from k j (m ∷ ms)
     of true true t u h rest = λ same. ne (sym (eqb-true m n t) ∙ eqb-true m j u)
     of true false t u h rest = λ same.
         let a = picked (nat_eq m n) k (place_from (k + 1) n ms) t in
@@ -129,7 +134,8 @@ module _ (i : Inside) (x : ℕ) where
     pub few : (k j : ℕ) (v : Value) → is_own i (Parameter k j) ≡ true → value_named sight.variables (Parameter k j) ≡ Some v → j < i.parameters
     pub self : Self w sight slots ⊎ Alone sight
 
-  self_stays : (w : World) (m : Store) (w' : World) (m' : Store) (sight : Sight) (slots : List Word) → Later w m w' m' → Self w sight slots → Self w' sight slots
+  self_stays : (w : World) (m : Store) (w' : World) (m' : Store) (sight : Sight) (slots : List Word) → Later w m w' m' → Self w sight slots →
+      Self w' sight slots
   self_stays w m w' m' sight slots l h =
       let k = l.objects h.object h.thing h.is in
       record {
@@ -144,7 +150,8 @@ module _ (i : Inside) (x : ℕ) where
         starting = h.starting;
       }
 
-  pub holds_stays : (w : World) (m : Store) (w' : World) (m' : Store) (sight : Sight) (slots : List Word) → Later w m w' m' → Holds m.texts w sight slots → Holds m'.texts w' sight slots
+  pub holds_stays : (w : World) (m : Store) (w' : World) (m' : Store) (sight : Sight) (slots : List Word) → Later w m w' m' →
+      Holds m.texts w sight slots → Holds m'.texts w' sight slots
   holds_stays w m w' m' sight slots l h = record {
     instance = h.instance;
     long = h.long;
@@ -165,7 +172,8 @@ module _ (i : Inside) (x : ℕ) where
     slot = val_slot i n
 
     -- the slot of another variable
-    other_slot : (y : Variable) (v : Value) → Holds t w sight slots → is_own i y ≡ true → same_variable (Local n) y ≡ false → value_named sight.variables y ≡ Some v → slot ≢ slot_of i y
+    other_slot : (y : Variable) (v : Value) → Holds t w sight slots → is_own i y ≡ true → same_variable (Local n) y ≡ false →
+        value_named sight.variables y ≡ Some v → slot ≢ slot_of i y
     other_slot (Parameter k j) v h o d e = λ same. let l = h.few k j v o e in absurd (omega arith)
     other_slot (Local m) v h o d e = λ same.
         let ne : n ≢ m = λ z. both_ways (n == m) d (eq-eqb n m z) in
@@ -208,7 +216,8 @@ module _ (i : Inside) (x : ℕ) where
 
       held_stored : (y : Variable) (u : Value) → is_own i y ≡ true → SeenOf (Local n) v sight.variables y u → Found t u (slice_get now (slot_of i y))
       held_stored y u o (newest a b) =
-          let here : slice_get now (slot_of i y) ≡ Some z = subst (λ (c : Variable). slice_get now (slot_of i c) ≡ Some z) a (get_set_same slots slot z within) in
+          let here : slice_get now (slot_of i y) ≡ Some z = subst (λ (c : Variable). slice_get now (slot_of i c) ≡ Some z) a
+          (get_set_same slots slot z within) in
           record { word = z; is = here; same = subst (λ (c : Value). Same t c z) b same }
       held_stored y u o (older d e) = found_at t u _ _ (get_set_other slots slot (slot_of i y) z (other_slot y u h o d e)) (h.held y u o e)
 
@@ -229,7 +238,8 @@ module _ (i : Inside) (x : ℕ) where
           of (inl s) = inl (self_stored s)
           of (inr a) = inr (alone_stored a)
 
-  module _ (t : List (List ℕ)) (w : World) (sight : Sight) (slots : List Word) (n : ℕ) (v : Value) (fresh : value_named sight.variables (Local n) ≡ None) where
+  module _ (t : List (List ℕ)) (w : World) (sight : Sight) (slots : List Word) (n : ℕ) (v : Value)
+      (fresh : value_named sight.variables (Local n) ≡ None) where
     also : (y : Variable) (u : Value) → value_named sight.variables y ≡ Some u → value_named ((Local n, v) ∷ sight.variables) y ≡ Some u
     also y u e = not_picked (same_variable (Local n) y) (Some v) (value_named sight.variables y) (not_seen n sight.variables y u fresh e) ∙ e
 

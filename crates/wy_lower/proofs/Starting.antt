@@ -65,18 +65,22 @@ fields_stay w m w' m' x k l h =
       fields = y.fields ∙ h.fields;
     }
 
-pub unstarted_stay : (w : World) (m : Store) (w' : World) (m' : Store) (from count : ℕ) → Later w m w' m' → Unstarted w from count → Unstarted w' from count
+pub unstarted_stay : (w : World) (m : Store) (w' : World) (m' : Store) (from count : ℕ) → Later w m w' m' → Unstarted w from count →
+    Unstarted w' from count
 unstarted_stay w m w' m' from count l h = record { by = λ y a b. fields_stay w m w' m' y 0 l (h.by y a b) }
 
 -- one more field is the last one
 added_written : (fields : List Value) (v : Value) → Written (length fields) v fields (fields ++ v ∷ [])
 added_written fields v j u e = of (get_joined fields v j u e)
   where
-    of : (slice_get fields j ≡ Some u) ⊎ ((j ≡ length fields) × (v ≡ u)) → ((j ≡ length fields) × (v ≡ u)) ⊎ ((length fields ≢ j) × (slice_get fields j ≡ Some u))
+    of : (slice_get fields j ≡ Some u) ⊎ ((j ≡ length fields) × (v ≡ u)) →
+        ((j ≡ length fields) × (v ≡ u)) ⊎ ((length fields ≢ j) × (slice_get fields j ≡ Some u))
     of (inl h) = inr ((λ e. let l = get_within fields j u h in absurd (omega arith)), h)
     of (inr h) = inl h
 
-module _ (p : Program) (s : Starts) (ok : Lowerable p s) (has : HasGrants p s) (n : ℕ) (calls : Calls) (called : CallsRun p s n n calls) (sc : Scope) (i : Inside) (x : ℕ) (of_scope : Belongs p s sc i x) (literals : HasLiterals p s sc i x) (b : Body) (bare : i.captures ≡ []) (module_only : i.program ≡ false) (following count : ℕ) where
+module _ (p : Program) (s : Starts) (ok : Lowerable p s) (has : HasGrants p s) (n : ℕ) (calls : Calls) (called : CallsRun p s n n calls) (sc : Scope)
+    (i : Inside) (x : ℕ) (of_scope : Belongs p s sc i x) (literals : HasLiterals p s sc i x) (b : Body) (bare : i.captures ≡ [])
+    (module_only : i.program ≡ false) (following count : ℕ) where
   abbrev g : Code
   g = lowered p s
 
@@ -91,7 +95,8 @@ module _ (p : Program) (s : Starts) (ok : Lowerable p s) (has : HasGrants p s) (
   pub record Filled (k : ℕ) (v : Value) (w : World) (c : One) : Type 0 where
     pub by : Filling k w c.store c.slots
 
-  still_filling : (k : ℕ) (w : World) (m : Store) (slots : List Word) → Filling k w m slots → (w' : World) (m' : Store) (slots' : List Word) → Ready p s i x (outside x) w m w' m' slots' → Filling k w' m' slots'
+  still_filling : (k : ℕ) (w : World) (m : Store) (slots : List Word) → Filling k w m slots → (w' : World) (m' : Store) (slots' : List Word) →
+      Ready p s i x (outside x) w m w' m' slots' → Filling k w' m' slots'
   still_filling k w m slots h w' m' slots' r = record {
     world = r.world;
     holds = r.holds;
@@ -101,7 +106,8 @@ module _ (p : Program) (s : Starts) (ok : Lowerable p s) (has : HasGrants p s) (
   }
 
   -- the next field of the instance's own object is set
-  module _ (k : ℕ) (w : World) (m : Store) (slots : List Word) (h : Filling k w m slots) (within : k < length (literal_fields (slice_get sc.literals 0))) (v : Value) (z : Word) (same : Same m.texts v z) (at : ℕ) where
+  module _ (k : ℕ) (w : World) (m : Store) (slots : List Word) (h : Filling k w m slots)
+      (within : k < length (literal_fields (slice_get sc.literals 0))) (v : Value) (z : Word) (same : Same m.texts v z) (at : ℕ) where
     abbrev after : Store → State
     after m' = state x b [] at slots [] m'
 
@@ -124,21 +130,29 @@ module _ (p : Program) (s : Starts) (ok : Lowerable p s) (has : HasGrants p s) (
             let nothing : own.thing.captured ≡ [] = ap (λ (y : Thing). y.captured) (sym t) ∙ h.object.captured in
             let none_captured : length own.thing.captured ≡ 0 = ap length nothing in
             let own_literal : own.thing.literal ≡ 0 = ap (λ (y : Thing). y.literal) (sym t) ∙ h.object.literal in
-            let size : length (literal_fields (slice_get q.same.scope.literals own.thing.literal)) ≡ length (literal_fields (slice_get sc.literals 0)) =
-            ap (λ (c : Scope). length (literal_fields (slice_get c.literals own.thing.literal))) q.scope ∙ ap (λ (l : ℕ). length (literal_fields (slice_get sc.literals l))) own_literal in
-            let l : own_count q.same.scope + length own.thing.captured + length own.thing.fields < length q.item.values = omega (arith, q.same.long, size, fields) in
+            let size : length (literal_fields (slice_get q.same.scope.literals own.thing.literal)) ≡ length
+            (literal_fields (slice_get sc.literals 0)) =
+            ap (λ (c : Scope). length (literal_fields (slice_get c.literals own.thing.literal))) q.scope
+            ∙ ap (λ (l : ℕ). length (literal_fields (slice_get sc.literals l))) own_literal in
+            let l : own_count q.same.scope + length own.thing.captured + length own.thing.fields < length q.item.values = omega
+            (arith, q.same.long, size, fields) in
             let no_captures : length i.captures ≡ 0 = ap length bare in
             let place : field_value i k ≡ own_count q.same.scope + length own.thing.captured + length own.thing.fields = omega (arith, q.offset) in
-            let changed : SameThing p s m.texts (thing_with own.thing (own.thing.fields ++ v ∷ [])) (item_with q.item (own_count q.same.scope + length own.thing.captured + length own.thing.fields) z) =
+            let changed : SameThing p s m.texts (thing_with own.thing (own.thing.fields ++ v ∷ []))
+            (item_with q.item (own_count q.same.scope + length own.thing.captured + length own.thing.fields) z) =
             thing_written p s m.texts own.thing q.item q.same (length own.thing.fields) v z same _ (added_written own.thing.fields v) l in
             let set = value_is_set p s ok sc i x of_scope (outside x) w m w m slots ready own q _ z l in
             let after_world : World = record w { objects = slice_set w.objects own.object (thing_with own.thing (own.thing.fields ++ v ∷ [])) } in
-            let after_store : Store = record m { objects = slice_set m.objects own.object (item_with q.item (own_count q.same.scope + length own.thing.captured + length own.thing.fields) z) } in
+            let after_store : Store = record m {
+              objects = slice_set m.objects own.object
+                  (item_with q.item (own_count q.same.scope + length own.thing.captured + length own.thing.fields) z);
+            } in
             let filled : fill_field x v w ≡ replied Nothing after_world =
             ap (λ (y : ℕ). field_added y v w (slice_get w.objects y)) (sym (own.starting refl)) ∙ ap (field_added own.object v w) own.is in
             let now : HasFields after_world x (suc k) = record {
               thing = thing_with own.thing (own.thing.fields ++ v ∷ []);
-              is = ap (slice_get after_world.objects) (sym (own.starting refl)) ∙ get_set_same w.objects own.object _ (get_within w.objects own.object own.thing own.is);
+              is = ap (slice_get after_world.objects) (sym (own.starting refl))
+                  ∙ get_set_same w.objects own.object _ (get_within w.objects own.object own.thing own.is);
               instance = own.instance;
               literal = own_literal;
               captured = nothing;
@@ -150,7 +164,9 @@ module _ (p : Program) (s : Starts) (ok : Lowerable p s) (has : HasGrants p s) (
                 record {
                   by = record {
                     world = thing_set p s w m h.world own.object own.thing _ q.item _ own.is q.is changed;
-                    holds = instance_holds i x m.texts after_world slots h.holds.long (own.slot ∙ ap (λ (y : ℕ). Some (word.Object y)) (own.starting refl)) now.thing now.is now.instance (ap names_of nothing ∙ sym bare);
+                    holds = instance_holds i x m.texts after_world slots h.holds.long
+                        (own.slot ∙ ap (λ (y : ℕ). Some (word.Object y)) (own.starting refl)) now.thing now.is now.instance
+                        (ap names_of nothing ∙ sym bare);
                     object = now;
                     next = h.next;
                     others = record { by = λ y c d. other own.object own.thing (own.starting refl) v y c (h.others.by y c d) };
@@ -160,7 +176,8 @@ module _ (p : Program) (s : Starts) (ok : Lowerable p s) (has : HasGrants p s) (
               );
             })
           where
-            other : (a : ℕ) (o : Thing) → a ≡ x → (u : Value) (y : ℕ) → suc x ≤ y → HasFields w y 0 → HasFields (record w { objects = slice_set w.objects a (thing_with o (o.fields ++ u ∷ [])) }) y 0
+            other : (a : ℕ) (o : Thing) → a ≡ x → (u : Value) (y : ℕ) → suc x ≤ y → HasFields w y 0 →
+                HasFields (record w { objects = slice_set w.objects a (thing_with o (o.fields ++ u ∷ [])) }) y 0
             other a o here u y c f = record {
               thing = f.thing;
               is = get_set_other w.objects a y _ (λ e. absurd (omega arith)) ∙ f.is;
@@ -170,27 +187,40 @@ module _ (p : Program) (s : Starts) (ok : Lowerable p s) (has : HasGrants p s) (
               fields = f.fields;
             }
 
-  pub fill_runs : (es : Values) (seen : List Variable) → ValuesFit p sc None seen es → Allowed p s sc i (outside x) (values_parts es) (values_vals es) → (at k end : ℕ) → Stands b at (fields_listing i at k es) end → value_count es + k ≡ length (literal_fields (slice_get sc.literals 0)) →
+  pub fill_runs : (es : Values) (seen : List Variable) → ValuesFit p sc None seen es →
+      Allowed p s sc i (outside x) (values_parts es) (values_vals es) → (at k end : ℕ) → Stands b at (fields_listing i at k es) end →
+      value_count es + k ≡ length (literal_fields (slice_get sc.literals 0)) →
       (w : World) (m : Store) (slots : List Word) → Filling k w m slots → 1 + i.parameters + length i.vals + fields_operands es ≤ b.slots →
-      Runs g n (Filled (length (literal_fields (slice_get sc.literals 0)))) (set_next x b [] end []) (state x b [] at slots [] m) (fill_all p s calls (outside x) x es w)
+      Runs g n (Filled (length (literal_fields (slice_get sc.literals 0)))) (set_next x b [] end []) (state x b [] at slots [] m)
+      (fill_all p s calls (outside x) x es w)
   unfolding fill_all fields_listing fields_operands
   fill_runs none seen f al at k end h full w m slots filling room =
       let z : k ≡ length (literal_fields (slice_get sc.literals 0)) = omega arith in
-      subst (λ l. Runs g n (Filled (length (literal_fields (slice_get sc.literals 0)))) (set_next x b [] end []) (record { frame = record { instance = x; body = b; rest = l; slots = slots; operands = [] }; callers = []; store = m }) (give Nothing w)) (sym h.by)
-      (give_runs g n (Filled (length (literal_fields (slice_get sc.literals 0)))) (set_next x b [] end []) Nothing w (record { word = word.Nothing; store = m; slots = slots }) (record { by = subst (λ (c : ℕ). Filling c w m slots) z filling }))
+      subst (λ l. Runs g n (Filled (length (literal_fields (slice_get sc.literals 0)))) (set_next x b [] end [])
+      (record { frame = record { instance = x; body = b; rest = l; slots = slots; operands = [] }; callers = []; store = m }) (give Nothing w))
+      (sym h.by)
+      (give_runs g n (Filled (length (literal_fields (slice_get sc.literals 0)))) (set_next x b [] end []) Nothing w
+      (record { word = word.Nothing; store = m; slots = slots }) (record { by = subst (λ (c : ℕ). Filling c w m slots) z filling }))
   fill_runs (more e es) seen f al at k end h full w m slots filling room =
       let a = first_stands b at (value_listing i at e ++ one (value_mark e) (Set (field_value i k))) _ end h in
       let deep : n + length {A = Frame} [] ≡ n = omega arith in
       bind_runs g n (Fine p s i x (outside x) w m) (pushed x b [] (at + length (value_listing i at e)) []) _ _ _ _ _
-      (value_runs p s ok has n n calls called sc i x of_scope literals None b [] deep e (outside x) seen f.0 (first_allowed p s sc i (outside x) _ _ _ _ al) at _ (first_stands b at _ _ _ a) w m w m slots
+      (value_runs p s ok has n n calls called sc i x of_scope literals None b [] deep e (outside x) seen f.0
+      (first_allowed p s sc i (outside x) _ _ _ _ al) at _ (first_stands b at _ _ _ a) w m w m slots
       (record { world = filling.world; holds = filling.holds; later = later_itself w m }) [] (omega arith))
-      (λ v w1 c q. bind_runs g n (Filled (suc k)) (set_next x b [] (at + length (value_listing i at e ++ one (value_mark e) (Set (field_value i k)))) []) _ _ _ _ _
-      (set_runs x b [] (Filled (suc k)) _ c.slots [] g n _ _ _ (filled_sets k w1 c.store c.slots (still_filling k w m slots filling w1 c.store c.slots q.ready) (omega arith) v c.word q.same _)
+      (λ v w1 c q. bind_runs g n (Filled (suc k))
+      (set_next x b [] (at + length (value_listing i at e ++ one (value_mark e) (Set (field_value i k)))) []) _ _ _ _ _
+      (set_runs x b [] (Filled (suc k)) _ c.slots [] g n _ _ _
+      (filled_sets k w1 c.store c.slots (still_filling k w m slots filling w1 c.store c.slots q.ready) (omega arith) v c.word q.same _)
       (acts x b [] g n _ (value_mark e) (Set (field_value i k)) _ c.slots (c.word ∷ []) c.store (rest_stands b at _ _ _ a)))
-      (λ u w2 d t. fill_runs es seen f.1 (rest_allowed p s sc i (outside x) _ _ _ _ al) _ (suc k) end (next_fields at k e es end h) (omega arith) w2 d.store d.slots t.by (omega arith)))
+      (λ u w2 d t. fill_runs es seen f.1 (rest_allowed p s sc i (outside x) _ _ _ _ al) _ (suc k) end (next_fields at k e es end h)
+      (omega arith) w2 d.store d.slots t.by (omega arith)))
     where
-      next_fields : (at k : ℕ) (e : code.Value) (es : Values) (end : ℕ) → Stands b at (fields_listing i at k (more e es)) end → Stands b (at + length (value_listing i at e ++ one (value_mark e) (Set (field_value i k)))) (fields_listing i (at + length (value_listing i at e ++ one (value_mark e) (Set (field_value i k)))) (suc k) es) end
+      next_fields : (at k : ℕ) (e : code.Value) (es : Values) (end : ℕ) → Stands b at (fields_listing i at k (more e es)) end →
+          Stands b (at + length (value_listing i at e ++ one (value_mark e) (Set (field_value i k))))
+          (fields_listing i (at + length (value_listing i at e ++ one (value_mark e) (Set (field_value i k)))) (suc k) es) end
       next_fields at k e es end h =
           let z : k + 1 ≡ suc k = omega arith in
-          subst (λ (j : ℕ). Stands b (at + length (value_listing i at e ++ one (value_mark e) (Set (field_value i k)))) (fields_listing i (at + length (value_listing i at e ++ one (value_mark e) (Set (field_value i k)))) j es) end) z
+          subst (λ (j : ℕ). Stands b (at + length (value_listing i at e ++ one (value_mark e) (Set (field_value i k))))
+          (fields_listing i (at + length (value_listing i at e ++ one (value_mark e) (Set (field_value i k)))) j es) end) z
           (rest_stands b at (value_listing i at e ++ one (value_mark e) (Set (field_value i k))) _ end h)

@@ -58,7 +58,8 @@ text_count text.Code = refl
 text_count text.Byte = refl
 text_count text.Show = refl
 
-module _ (p : Program) (s : Starts) (i : Inside) (x : ℕ) (sight : Sight) (w0 : World) (m0 : Store) (g : Code) (n : ℕ) (b : Body) (callers : List Frame) (end : ℕ) (stack : List Word) where
+module _ (p : Program) (s : Starts) (i : Inside) (x : ℕ) (sight : Sight) (w0 : World) (m0 : Store) (g : Code) (n : ℕ) (b : Body)
+    (callers : List Frame) (end : ℕ) (stack : List Word) where
   -- what a form does in a state: it pushes its value's word
   abbrev pub Does : State → Result Value → Type 0
   Does t q = Runs g n (Fine p s i x sight w0 m0) (pushed x b callers end stack) t q
@@ -68,71 +69,107 @@ module _ (p : Program) (s : Starts) (i : Inside) (x : ℕ) (sight : Sight) (w0 :
     here operands = state x b callers at slots operands m
 
     -- a word that is pushed as it stands
-    pub push_runs : (t : State) (v : Value) (z : Word) → Same m.texts v z → step g n t ≡ Go [] (state x b callers end slots (z ∷ stack) m) → Does t (tick (give v w))
+    pub push_runs : (t : State) (v : Value) (z : Word) → Same m.texts v z → step g n t ≡ Go [] (state x b callers end slots (z ∷ stack) m) →
+        Does t (tick (give v w))
     push_runs t v z h st =
         tick_runs g n (Fine p s i x sight w0 m0) (pushed x b callers end stack) t (state x b callers end slots (z ∷ stack) m) (give v w) st
-        (give_runs g n (Fine p s i x sight w0 m0) (pushed x b callers end stack) v w (record { word = z; store = m; slots = slots }) (record { same = h; ready = r }))
+        (give_runs g n (Fine p s i x sight w0 m0) (pushed x b callers end stack) v w (record { word = z; store = m; slots = slots })
+        (record { same = h; ready = r }))
 
-    pub constant_runs : (place : Place) (c : Constant) (v : Value) → Same m.texts v (word_of c) → length slots + length stack < b.slots → Stands b at (one place (Push c)) end → Does (here stack) (tick (give v w))
+    pub constant_runs : (place : Place) (c : Constant) (v : Value) → Same m.texts v (word_of c) → length slots + length stack < b.slots →
+        Stands b at (one place (Push c)) end → Does (here stack) (tick (give v w))
     constant_runs place c v h room code =
-        push_runs (here stack) v (word_of c) h (acts x b callers g n at place (Push c) end slots stack m code ∙ pushes x b callers end slots stack m (word_of c) [] room)
+        push_runs (here stack) v (word_of c) h
+        (acts x b callers g n at place (Push c) end slots stack m code ∙ pushes x b callers end slots stack m (word_of c) [] room)
 
-    pub operator_runs : (place : Place) (o : Operator) (vs : List Value) (zs : List Word) → SameAll m.texts vs zs → length zs ≡ operand_count o → length slots + length stack < b.slots → Stands b at (one place (Operate o)) end → Does (here (pile zs stack)) (tick (settle (operated place (Some (operator_meant o)) vs w)))
+    pub operator_runs : (place : Place) (o : Operator) (vs : List Value) (zs : List Word) → SameAll m.texts vs zs → length zs ≡ operand_count o →
+        length slots + length stack < b.slots → Stands b at (one place (Operate o)) end →
+        Does (here (pile zs stack)) (tick (settle (operated place (Some (operator_meant o)) vs w)))
     operator_runs place o vs zs h many room code =
-        answer_runs x b callers (Fine p s i x sight w0 m0) slots g n end stack m (here (pile zs stack)) room _ _ (operated_fits p s i x sight w0 m0 slots w m r place o vs zs h)
+        answer_runs x b callers (Fine p s i x sight w0 m0) slots g n end stack m (here (pile zs stack)) room _ _
+        (operated_fits p s i x sight w0 m0 slots w m r place o vs zs h)
         (acts x b callers g n at place (Operate o) end slots (pile zs stack) m code
-        ∙ ap (λ t. on_taken t (state x b callers end slots (pile zs stack) m) (λ us u. push_reply (machine.operated place o us u.store) u)) (takes zs stack (operand_count o) many))
+        ∙ ap (λ t. on_taken t (state x b callers end slots (pile zs stack) m) (λ us u. push_reply (machine.operated place o us u.store) u))
+        (takes zs stack (operand_count o) many))
 
-    pub unary_runs : (place : Place) (o : UnaryOperator) (vs : List Value) (zs : List Word) → SameAll m.texts vs zs → length zs ≡ 1 → length slots + length stack < b.slots → Stands b at (one place (Operate (unary_code o))) end → Does (here (pile zs stack)) (tick (settle (operated place (Some (unary_operator o)) vs w)))
+    pub unary_runs : (place : Place) (o : UnaryOperator) (vs : List Value) (zs : List Word) → SameAll m.texts vs zs → length zs ≡ 1 →
+        length slots + length stack < b.slots → Stands b at (one place (Operate (unary_code o))) end →
+        Does (here (pile zs stack)) (tick (settle (operated place (Some (unary_operator o)) vs w)))
     unary_runs place o vs zs h many room code =
         subst (λ c. Does (here (pile zs stack)) (tick (settle (operated place (Some c) vs w)))) (unary_meant o)
         (operator_runs place (unary_code o) vs zs h (many ∙ sym (unary_count o)) room code)
 
-    pub text_runs : (place : Place) (o : TextOperator) (vs : List Value) (zs : List Word) → SameAll m.texts vs zs → length zs ≡ text_arity o → length slots + length stack < b.slots → Stands b at (one place (Operate (text_code o))) end → Does (here (pile zs stack)) (tick (settle (operated place (Some (text_operator o)) vs w)))
+    pub text_runs : (place : Place) (o : TextOperator) (vs : List Value) (zs : List Word) → SameAll m.texts vs zs → length zs ≡ text_arity o →
+        length slots + length stack < b.slots → Stands b at (one place (Operate (text_code o))) end →
+        Does (here (pile zs stack)) (tick (settle (operated place (Some (text_operator o)) vs w)))
     text_runs place o vs zs h many room code =
         subst (λ c. Does (here (pile zs stack)) (tick (settle (operated place (Some c) vs w)))) (text_meant o)
         (operator_runs place (text_code o) vs zs h (many ∙ sym (text_count o)) room code)
 
     -- a test is popped, and one of two sides goes on
-    pub choose_runs : (place : Place) (to : ℕ) (next : ℕ) (v : Value) (z : Word) (fa fb : World → Result Value) → Same m.texts v z → Stands b at (one place (JumpFalse to)) next → Does (state x b callers next slots stack m) (fa w) → Does (state x b callers to slots stack m) (fb w) → Does (here (z ∷ stack)) (tick (choose v fa fb w))
+    pub choose_runs : (place : Place) (to : ℕ) (next : ℕ) (v : Value) (z : Word) (fa fb : World → Result Value) → Same m.texts v z →
+        Stands b at (one place (JumpFalse to)) next → Does (state x b callers next slots stack m) (fa w) →
+        Does (state x b callers to slots stack m) (fb w) → Does (here (z ∷ stack)) (tick (choose v fa fb w))
     choose_runs place to next v z fa fb (same_truth true) code ra rb =
-        tick_runs g n (Fine p s i x sight w0 m0) (pushed x b callers end stack) _ (state x b callers next slots stack m) (fa w) (acts x b callers g n at place (JumpFalse to) next slots _ m code) ra
+        tick_runs g n (Fine p s i x sight w0 m0) (pushed x b callers end stack) _ (state x b callers next slots stack m) (fa w)
+        (acts x b callers g n at place (JumpFalse to) next slots _ m code) ra
     choose_runs place to next v z fa fb (same_truth false) code ra rb =
-        tick_runs g n (Fine p s i x sight w0 m0) (pushed x b callers end stack) _ (state x b callers to slots stack m) (fb w) (acts x b callers g n at place (JumpFalse to) next slots _ m code) rb
+        tick_runs g n (Fine p s i x sight w0 m0) (pushed x b callers end stack) _ (state x b callers to slots stack m) (fb w)
+        (acts x b callers g n at place (JumpFalse to) next slots _ m code) rb
     choose_runs place to next v z fa fb (same_int k) code ra rb = wrong_step_runs g n (Fine p s i x sight w0 m0) (pushed x b callers end stack) _ w
     choose_runs place to next v z fa fb same_nothing code ra rb = wrong_step_runs g n (Fine p s i x sight w0 m0) (pushed x b callers end stack) _ w
-    choose_runs place to next v z fa fb (same_text bytes k e) code ra rb = wrong_step_runs g n (Fine p s i x sight w0 m0) (pushed x b callers end stack) _ w
+    choose_runs place to next v z fa fb (same_text bytes k e) code ra rb =
+        wrong_step_runs g n (Fine p s i x sight w0 m0) (pushed x b callers end stack) _ w
     choose_runs place to next v z fa fb (same_object a) code ra rb = wrong_step_runs g n (Fine p s i x sight w0 m0) (pushed x b callers end stack) _ w
     choose_runs place to next v z fa fb (same_grant a) code ra rb = wrong_step_runs g n (Fine p s i x sight w0 m0) (pushed x b callers end stack) _ w
 
     -- a jump to where the form ends
-    pub jump_runs : (place : Place) (to next : ℕ) (v : Value) (z : Word) → Same m.texts v z → Stands b at (one place (Jump to)) next → drop to b.instructions ≡ drop end b.instructions → Does (here (z ∷ stack)) (tick (give v w))
+    pub jump_runs : (place : Place) (to next : ℕ) (v : Value) (z : Word) → Same m.texts v z → Stands b at (one place (Jump to)) next →
+        drop to b.instructions ≡ drop end b.instructions → Does (here (z ∷ stack)) (tick (give v w))
     jump_runs place to next v z h code e =
         push_runs (here (z ∷ stack)) v z h
         (acts x b callers g n at place (Jump to) next slots (z ∷ stack) m code
-        ∙ ap (λ (l : List Placed). Go [] (record { frame = record { instance = x; body = b; rest = l; slots = slots; operands = z ∷ stack }; callers = callers; store = m })) e)
+        ∙ ap (λ (l : List Placed). Go []
+        (record { frame = record { instance = x; body = b; rest = l; slots = slots; operands = z ∷ stack }; callers = callers; store = m })) e)
 
 -- what calls on objects do, where so many more may be open
 pub record CallsRun (p : Program) (s : Starts) (n d : ℕ) (calls : Calls) : Type 0 where
-  pub by : (i : Inside) (x : ℕ) (sight : Sight) (w0 : World) (m0 : Store) (b : Body) (callers : List Frame) (at end : ℕ) (stack : List Word) (w : World) (m : Store) (slots : List Word) →
-      Ready p s i x sight w0 m0 w m slots → d + length callers ≡ n → (place : Place) (a : ℕ) (name : List ℕ) (k : ℕ) (vs : List Value) (zs : List Word) → SameAll m.texts vs zs → length zs ≡ k →
-      Stands b at (one place (Call (number_in (method_table p) name) k)) end → Does p s i x sight w0 m0 (lowered p s) n b callers end stack (state x b callers at slots (pile zs (word.Object a ∷ stack)) m) (tick (calls a name vs w))
+  pub by : (i : Inside) (x : ℕ) (sight : Sight) (w0 : World) (m0 : Store) (b : Body) (callers : List Frame) (at end : ℕ) (stack : List Word)
+      (w : World) (m : Store) (slots : List Word) →
+      Ready p s i x sight w0 m0 w m slots → d + length callers ≡ n →
+      (place : Place) (a : ℕ) (name : List ℕ) (k : ℕ) (vs : List Value) (zs : List Word) → SameAll m.texts vs zs → length zs ≡ k →
+      Stands b at (one place (Call (number_in (method_table p) name) k)) end →
+      Does p s i x sight w0 m0 (lowered p s) n b callers end stack (state x b callers at slots (pile zs (word.Object a ∷ stack)) m)
+      (tick (calls a name vs w))
 
 -- the code has the program's grants, and the names of the methods that they have
 pub record HasGrants (p : Program) (s : Starts) : Type 0 where
   pub grants : (k : ℕ) (y : GrantIs) → grant_of p k ≡ Some y → slice_get (lowered p s).grants k ≡ Some (record { name = y.name; kind = y.kind })
-  pub methods : (y : GrantIs) (name : List ℕ) (ts : List (List ℕ)) (op : Op) → operation_of y.kind name ts ≡ Some op → slice_get (lowered p s).methods (number_in (method_table p) name) ≡ Some name
+  pub methods : (y : GrantIs) (name : List ℕ) (ts : List (List ℕ)) (op : Op) → operation_of y.kind name ts ≡ Some op →
+      slice_get (lowered p s).methods (number_in (method_table p) name) ≡ Some name
 
-module _ (p : Program) (s : Starts) (has : HasGrants p s) (n d : ℕ) (calls : Calls) (ok : CallsRun p s n d calls) (i : Inside) (x : ℕ) (sight : Sight) (w0 : World) (m0 : Store) (b : Body) (callers : List Frame) (at end : ℕ) (stack : List Word) (w : World) (m : Store) (slots : List Word) (r : Ready p s i x sight w0 m0 w m slots) (deep : d + length callers ≡ n) (room : length slots + length stack < b.slots) where
+module _ (p : Program) (s : Starts) (has : HasGrants p s) (n d : ℕ) (calls : Calls) (ok : CallsRun p s n d calls) (i : Inside) (x : ℕ) (sight : Sight)
+    (w0 : World) (m0 : Store) (b : Body) (callers : List Frame) (at end : ℕ) (stack : List Word) (w : World) (m : Store) (slots : List Word)
+    (r : Ready p s i x sight w0 m0 w m slots) (deep : d + length callers ≡ n) (room : length slots + length stack < b.slots) where
   -- a call on an object, or an operation on a grant
-  pub apply_runs : (place : Place) (v : Value) (z : Word) (name : List ℕ) (k : ℕ) (vs : List Value) (zs : List Word) → Same m.texts v z → SameAll m.texts vs zs → length zs ≡ k → Stands b at (one place (Call (number_in (method_table p) name) k)) end → Does p s i x sight w0 m0 (lowered p s) n b callers end stack (state x b callers at slots (pile zs (z ∷ stack)) m) (tick (apply p calls place v name vs w))
-  apply_runs place v z name k vs zs (same_object a) same many code = ok.by i x sight w0 m0 b callers at end stack w m slots r deep place a name k vs zs same many code
+  pub apply_runs : (place : Place) (v : Value) (z : Word) (name : List ℕ) (k : ℕ) (vs : List Value) (zs : List Word) → Same m.texts v z →
+      SameAll m.texts vs zs → length zs ≡ k → Stands b at (one place (Call (number_in (method_table p) name) k)) end →
+      Does p s i x sight w0 m0 (lowered p s) n b callers end stack (state x b callers at slots (pile zs (z ∷ stack)) m)
+      (tick (apply p calls place v name vs w))
+  apply_runs place v z name k vs zs (same_object a) same many code =
+      ok.by i x sight w0 m0 b callers at end stack w m slots r deep place a name k vs zs same many code
   apply_runs place v z name k vs zs (same_grant a) same many code =
       answer_runs x b callers (Fine p s i x sight w0 m0) slots (lowered p s) n end stack m _ room _ _
-      (performed_fits p s i x sight w0 m0 slots w m r place (grant_of p a) (slice_get (lowered p s).grants a) name (slice_get (lowered p s).methods (number_in (method_table p) name)) vs zs same (has.grants a) (λ y ts op e. has.methods y name ts op e))
+      (performed_fits p s i x sight w0 m0 slots w m r place (grant_of p a) (slice_get (lowered p s).grants a) name
+      (slice_get (lowered p s).methods (number_in (method_table p) name)) vs zs same (has.grants a) (λ y ts op e. has.methods y name ts op e))
       (acts x b callers (lowered p s) n at place _ end slots (pile zs (word.Grant a ∷ stack)) m code
-      ∙ ap (λ t. on_taken t (state x b callers end slots (pile zs (word.Grant a ∷ stack)) m) (λ us u. pop u (λ c u. call_on (lowered p s) n place (number_in (method_table p) name) us c u))) (takes zs (word.Grant a ∷ stack) k many))
-  apply_runs place v z name k vs zs (same_int q) same many code = wrong_step_runs (lowered p s) n (Fine p s i x sight w0 m0) (pushed x b callers end stack) _ w
-  apply_runs place v z name k vs zs (same_truth q) same many code = wrong_step_runs (lowered p s) n (Fine p s i x sight w0 m0) (pushed x b callers end stack) _ w
-  apply_runs place v z name k vs zs same_nothing same many code = wrong_step_runs (lowered p s) n (Fine p s i x sight w0 m0) (pushed x b callers end stack) _ w
-  apply_runs place v z name k vs zs (same_text bytes q e) same many code = wrong_step_runs (lowered p s) n (Fine p s i x sight w0 m0) (pushed x b callers end stack) _ w
+      ∙ ap (λ t. on_taken t (state x b callers end slots (pile zs (word.Grant a ∷ stack)) m)
+      (λ us u. pop u (λ c u. call_on (lowered p s) n place (number_in (method_table p) name) us c u))) (takes zs (word.Grant a ∷ stack) k many))
+  apply_runs place v z name k vs zs (same_int q) same many code =
+      wrong_step_runs (lowered p s) n (Fine p s i x sight w0 m0) (pushed x b callers end stack) _ w
+  apply_runs place v z name k vs zs (same_truth q) same many code =
+      wrong_step_runs (lowered p s) n (Fine p s i x sight w0 m0) (pushed x b callers end stack) _ w
+  apply_runs place v z name k vs zs same_nothing same many code =
+      wrong_step_runs (lowered p s) n (Fine p s i x sight w0 m0) (pushed x b callers end stack) _ w
+  apply_runs place v z name k vs zs (same_text bytes q e) same many code =
+      wrong_step_runs (lowered p s) n (Fine p s i x sight w0 m0) (pushed x b callers end stack) _ w

@@ -31,14 +31,17 @@ compiles p s ok n k tapes fair = record {
   cut = λ lt.
       let more : ℕ = (meaning n p s tapes).steps - k in
       let z : (meaning n p s tapes).steps + 0 ≡ k + more = omega arith in
-      let all : machine (lowered p s) n (k + more) tapes ≡ record { end = (meaning n p s tapes).end; events = (meaning n p s tapes).events; taken = (meaning n p s tapes).steps } =
+      let all : machine (lowered p s) n
+      (k + more) tapes ≡ record { end = (meaning n p s tapes).end; events = (meaning n p s tapes).events; taken = (meaning n p s tapes).steps } =
       ap (λ (j : ℕ). machine (lowered p s) n j tapes) (sym z) ∙ runs_meant p s ok n tapes fair 0 in
-      let c : IsContinued (machine (lowered p s) n k tapes) (machine (lowered p s) n (k + more) tapes) = more_steps_continue (lowered p s) n k more tapes in
+      let c : IsContinued (machine (lowered p s) n k tapes) (machine (lowered p s) n (k + more) tapes) = more_steps_continue
+      (lowered p s) n k more tapes in
       let few : (machine (lowered p s) n k tapes).taken ≤ k = few_steps_are_taken (lowered p s) n k tapes in
       let spent : (machine (lowered p s) n k tapes).end ≡ Spent = ⊎_elim
       (λ (e : (machine (lowered p s) n k tapes).end ≡ Spent). e)
       (λ (ne : (machine (lowered p s) n k tapes).end ≢ Spent).
-      let y : (meaning n p s tapes).steps ≡ (machine (lowered p s) n k tapes).taken = ap (λ (r : Ran). r.taken) (sym all) ∙ ap (λ (r : Ran). r.taken) (c.ends ne) in
+      let y : (meaning n p s tapes).steps ≡ (machine (lowered p s) n k tapes).taken = ap (λ (r : Ran). r.taken) (sym all)
+      ∙ ap (λ (r : Ran). r.taken) (c.ends ne) in
       absurd (omega arith))
       (is_spent (machine (lowered p s) n k tapes).end) in
       let first = c.spent spent in
@@ -51,5 +54,6 @@ spent_is_fair e h w = cc
 pub never_stuck : (p : Program) (s : Starts) → Lowerable p s → NeverWrong p s → NeverStuck (lowered p s)
 never_stuck p s ok fair n k tapes = ⊎_elim
     (λ (lt : k < (meaning n p s tapes).steps). spent_is_fair _ ((compiles p s ok n k tapes (fair n tapes)).cut lt).0)
-    (λ (le : (meaning n p s tapes).steps ≤ k). λ e. fair n tapes (sym (ap (λ (r : Ran). r.end) ((compiles p s ok n k tapes (fair n tapes)).whole le)) ∙ e))
+    (λ (le : (meaning n p s tapes).steps ≤ k). λ e. fair n tapes
+    (sym (ap (λ (r : Ran). r.end) ((compiles p s ok n k tapes (fair n tapes)).whole le)) ∙ e))
     (cases_lt k (meaning n p s tapes).steps)

@@ -68,7 +68,8 @@ module _ (p : Program) (s : Starts) where
   ------------------------------------------------------------
   -- Objects
 
-  pub object_added : (w : World) (m : Store) (o : Thing) (x : word.Thing) → SameWorld p s w m → SameThing p s m.texts o x → SameWorld p s (object_world w o) (object_store m x)
+  pub object_added : (w : World) (m : Store) (o : Thing) (x : word.Thing) → SameWorld p s w m → SameThing p s m.texts o x →
+      SameWorld p s (object_world w o) (object_store m x)
   object_added w m o x h same = record {
     count = let a = length-append m.objects (x ∷ []) in let b = length-append w.objects (o ∷ []) in let c = h.count in omega arith;
     objects = λ a y e. of a y (get_joined w.objects o a y e);
@@ -78,7 +79,8 @@ module _ (p : Program) (s : Starts) where
     written = h.written;
   }
     where
-      of : (a : ℕ) (y : Thing) → (slice_get w.objects a ≡ Some y) ⊎ ((a ≡ length w.objects) × (o ≡ y)) → FoundThing p s m.texts y (slice_get (m.objects ++ x ∷ []) a)
+      of : (a : ℕ) (y : Thing) → (slice_get w.objects a ≡ Some y) ⊎ ((a ≡ length w.objects) × (o ≡ y)) →
+          FoundThing p s m.texts y (slice_get (m.objects ++ x ∷ []) a)
       of a y (inl e) = let f = h.objects a y e in record { thing = f.thing; is = get_front m.objects (x ∷ []) a f.thing f.is; same = f.same }
       of a y (inr e) = record {
         thing = x;
@@ -96,11 +98,13 @@ module _ (p : Program) (s : Starts) where
   ------------------------------------------------------------
   -- Fields
 
-  module _ (t : List (List ℕ)) (o : Thing) (x : word.Thing) (h : SameThing p s t o x) (k : ℕ) (v : Value) (z : Word) (same : Same t v z) (now : List Value) (written : Written k v o.fields now) where
+  module _ (t : List (List ℕ)) (o : Thing) (x : word.Thing) (h : SameThing p s t o x) (k : ℕ) (v : Value) (z : Word) (same : Same t v z)
+      (now : List Value) (written : Written k v o.fields now) where
     abbrev place : ℕ
     place = own_count h.scope + length o.captured + k
 
-    pub thing_written : own_count h.scope + length o.captured + k < length x.values → SameThing p s t (thing_with o now) (item_with x (own_count h.scope + length o.captured + k) z)
+    pub thing_written : own_count h.scope + length o.captured + k < length x.values →
+        SameThing p s t (thing_with o now) (item_with x (own_count h.scope + length o.captured + k) z)
     thing_written within = record {
       instance = h.instance;
       literal = h.literal;
@@ -115,16 +119,19 @@ module _ (p : Program) (s : Starts) where
       long = length_set x.values place z ∙ h.long;
     }
       where
-        of : (j : ℕ) (u : Value) → ((j ≡ k) × (v ≡ u)) ⊎ ((k ≢ j) × (slice_get o.fields j ≡ Some u)) → Found t u (slice_get (slice_set x.values place z) (own_count h.scope + length o.captured + j))
+        of : (j : ℕ) (u : Value) → ((j ≡ k) × (v ≡ u)) ⊎ ((k ≢ j) × (slice_get o.fields j ≡ Some u)) →
+            Found t u (slice_get (slice_set x.values place z) (own_count h.scope + length o.captured + j))
         of j u (inl e) = record {
           word = z;
-          is = let y : own_count h.scope + length o.captured + j ≡ place = omega (arith, e.0) in ap (slice_get (slice_set x.values place z)) y ∙ get_set_same x.values place z within;
+          is = let y : own_count h.scope + length o.captured + j ≡ place = omega (arith, e.0) in ap (slice_get (slice_set x.values place z)) y
+              ∙ get_set_same x.values place z within;
           same = subst (λ (y : Value). Same t y z) e.1 same;
         }
         of j u (inr e) =
             found_at t u _ _ (get_set_other x.values place (own_count h.scope + length o.captured + j) z (λ y. e.0 (omega arith))) (h.fields j u e.1)
 
-  module _ (w : World) (m : Store) (h : SameWorld p s w m) (a : ℕ) (o y : Thing) (x u : word.Thing) (there : slice_get w.objects a ≡ Some o) (found : slice_get m.objects a ≡ Some x) where
+  module _ (w : World) (m : Store) (h : SameWorld p s w m) (a : ℕ) (o y : Thing) (x u : word.Thing) (there : slice_get w.objects a ≡ Some o)
+      (found : slice_get m.objects a ≡ Some x) where
     abbrev world : World
     world = record w { objects = slice_set w.objects a y }
 
@@ -141,9 +148,11 @@ module _ (p : Program) (s : Starts) where
       written = h.written;
     }
       where
-        of : (b : ℕ) (q : Thing) → slice_get (slice_set w.objects a y) b ≡ Some q → (a ≡ b) ⊎ (a ≡ b → ⊥) → FoundThing p s m.texts q (slice_get (slice_set m.objects a u) b)
+        of : (b : ℕ) (q : Thing) → slice_get (slice_set w.objects a y) b ≡ Some q → (a ≡ b) ⊎ (a ≡ b → ⊥) →
+            FoundThing p s m.texts q (slice_get (slice_set m.objects a u) b)
         of b q e (inl here) =
-            let f : y ≡ q = some_is (sym (get_set_same w.objects a y (get_within w.objects a o there)) ∙ (ap (slice_get (slice_set w.objects a y)) here ∙ e)) in
+            let f : y ≡ q = some_is (sym (get_set_same w.objects a y (get_within w.objects a o there))
+            ∙ (ap (slice_get (slice_set w.objects a y)) here ∙ e)) in
             record {
               thing = u;
               is = ap (slice_get (slice_set m.objects a u)) (sym here) ∙ get_set_same m.objects a u (get_within m.objects a x found);
@@ -154,7 +163,8 @@ module _ (p : Program) (s : Starts) where
             record { thing = f.thing; is = get_set_other m.objects a b u other ∙ f.is; same = f.same }
 
     -- the object keeps all but the values of its fields
-    pub set_later : y.instance ≡ o.instance → y.literal ≡ o.literal → y.captured ≡ o.captured → length y.fields ≡ length o.fields → Later w m world store
+    pub set_later : y.instance ≡ o.instance → y.literal ≡ o.literal → y.captured ≡ o.captured → length y.fields ≡ length o.fields →
+        Later w m world store
     set_later i l c f = record { texts = grows_refl m.texts; objects = λ b q e. of b q e (cases_eq a b); next = refl }
       where
         of : (b : ℕ) (q : Thing) → slice_get w.objects b ≡ Some q → (a ≡ b) ⊎ (a ≡ b → ⊥) → Kept world b q
