@@ -67,8 +67,8 @@ handed_word : (a : Actual) → code.word_handed (argument_of a) ≡ word_handed 
 handed_word (actual.Grant g) = refl
 handed_word (actual.Instance x) = refl
 
-handed_words : (as' : List Actual) (k : ℕ) (a : Actual) → slice_get as' k ≡ Some a →
-    slice_get (map code.word_handed (map argument_of as')) k ≡ Some (word_handed a)
+handed_words : (handed : List Actual) (k : ℕ) (a : Actual) → slice_get handed k ≡ Some a →
+    slice_get (map code.word_handed (map argument_of handed)) k ≡ Some (word_handed a)
 handed_words [] k a e = absurd cc
 handed_words (b ∷ bs) zero a e = ap (λ (y : Actual). Some (code.word_handed (argument_of y))) (some_is e) ∙ ap (λ (y : Word). Some y) (handed_word a)
 handed_words (b ∷ bs) (suc k) a e = handed_words bs k a e

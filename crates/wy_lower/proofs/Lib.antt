@@ -7,6 +7,7 @@ pub mod Codes
 pub mod Counting
 pub mod Entering
 mod ExamplesCode
+mod ExamplesLowerable
 mod ExamplesRuns
 pub mod First
 pub mod Forms
