@@ -15,7 +15,8 @@ use Rattle.wy_rules.specs.Acceptance.{LineHolds, Accepted, parameters_among}
 use Rattle.wy_rules.specs.GroundTypes.{read_by, run_instances}
 use Rattle.wy_rules.specs.GroundTyping.{BoundFits}
 use Rattle.wy_sound.specs.Arguments.{ground_below, actual_type, ArgumentFits, InstanceFits}
-use Rattle.wy_sound.specs.Linking.{opened_count, after_parameters, HasItsType, HaveTheirTypes, MayHave, LinesAreTyped, AcceptedInstancesFit, AcceptedArgumentsFit}
+use Rattle.wy_rules.specs.OwnNames.{opened_count, after_parameters, HasItsType, HaveTheirTypes, MayHave, LinesAreTyped, HavePlainNames}
+use Rattle.wy_sound.specs.Linking.{AcceptedInstancesFit, AcceptedArgumentsFit}
 use Rattle.wy_sound.proofs.LinkingLists.{GoesOn, goes_on_same, goes_on_further, read_next, read_last, read_within}
 use Rattle.wy_sound.proofs.LinkingStates.{count_more, AreActuals, actual_at, actuals_length, Stands}
 use Rattle.wy_sound.proofs.LinkingTables.{no_own, no_own_read, same_at}
@@ -26,7 +27,7 @@ use Rattle.wy_sound.proofs.LinkingScopes.{names_at, Facts, facts_at}
 use Rattle.wy_sound.proofs.LinkingNames.{grant_stands}
 use Rattle.wy_sound.proofs.LinkingLines.{Visiting, VisitStands, instance_stands, import_stands, use_stands}
 
-module _ (p : Program) (c : IsCore p) (t : LinesAreTyped p) (a : Accepted p) where
+module _ (p : Program) (c : IsCore p) (t : LinesAreTyped p) (words : HavePlainNames p) (a : Accepted p) where
   module _ (k : ℕ) (inside : VisitStands p k) (m : ℕ) (s : Scope) (path prefix : List ℕ) (top : List (List ℕ)) (at : Visiting p m s prefix top)
       (way : Way p path m (suc k)) where
     module _ (done : List OwnName) (n : OwnName) (rest : List OwnName) (v : Visited) (names : names_at p m ≡ done ++ n ∷ rest)
@@ -49,11 +50,11 @@ module _ (p : Program) (c : IsCore p) (t : LinesAreTyped p) (a : Accepted p) whe
           (main_is_last p.scopes c.program m s at.facts.there main) (at.main main) e
           at.facts.fits.atoms typed.1
       name_stands (Use j) e typed goes further =
-          use_stands p c t a k inside m s path prefix top at way done n rest v names stands j e (line (Use j) e) typed.0 typed.1 goes further
+          use_stands p c t words a k inside m s path prefix top at way done n rest v names stands j e (line (Use j) e) typed.0 typed.1 goes further
       name_stands (Instance j arguments) e typed goes further =
-          instance_stands p c t a k inside m s path prefix top at way done n rest v names stands j arguments e typed goes further
+          instance_stands p c t words a k inside m s path prefix top at way done n rest v names stands j arguments e typed goes further
       name_stands (Import j arguments bound) e typed goes further =
-          import_stands p c t a k inside m s path prefix top at way done n rest v names stands j arguments bound e typed.0 typed.1 goes further
+          import_stands p c t words a k inside m s path prefix top at way done n rest v names stands j arguments bound e typed.0 typed.1 goes further
 
     -- the own names that are left
     names_stand : (done rest : List OwnName) (v : Visited) → names_at p m ≡ done ++ rest → HaveTheirTypes p (opened_count p done) rest →
@@ -82,7 +83,7 @@ module _ (p : Program) (c : IsCore p) (t : LinesAreTyped p) (a : Accepted p) whe
   main = last_scope p.scopes c.program
 
   main_facts : Facts p (program_number p) main.0
-  main_facts = facts_at p c t a (program_number p) main.0 main.1
+  main_facts = facts_at p c t words a (program_number p) main.0 main.1
 
   no_parameters : parameters_among (names_at p (program_number p)) ≡ []
   no_parameters = subst (λ k. MayHave k (parameters_among (names_at p (program_number p)))) main.2 main_facts.may_have
@@ -170,11 +171,11 @@ module _ (p : Program) (c : IsCore p) (t : LinesAreTyped p) (a : Accepted p) whe
       }
 
 pub accepted_instances_fit : AcceptedInstancesFit
-accepted_instances_fit p c t a = record { each = instance_fits p c t a }
+accepted_instances_fit p c t words a = record { each = instance_fits p c t words a }
 
 pub accepted_arguments_fit : AcceptedArgumentsFit
-accepted_arguments_fit p c t a = record {
-  each = argument_fits p c t a;
+accepted_arguments_fit p c t words a = record {
+  each = argument_fits p c t words a;
   count =
-      λ x i s e scope. (let same = actuals_length p x i.bound i.ground s.names i.arguments (arguments_of p c t a x i s e scope) in omega (arith, same));
+      λ x i s e scope. (let same = actuals_length p x i.bound i.ground s.names i.arguments (arguments_of p c t words a x i s e scope) in omega (arith, same));
 }

@@ -16,7 +16,7 @@ use Rattle.wy_types.specs.Types.{substituted}
 use Rattle.wy_types.specs.Fitting.{FitsType, member_count}
 use Rattle.wy_types.specs.Ground.{abstract_names, members_of, single_sets, argument_sets, arguments_sets}
 use Rattle.wy_rules.specs.Acceptance.{is_parameter, parameters_until, parameters_among}
-use Rattle.wy_sound.specs.Linking.{opens, opened_count, IsOpened}
+use Rattle.wy_rules.specs.OwnNames.{opens, opened_count, IsOpened}
 use Rattle.wy_sound.proofs.LinkingLists.{GoesOn, or_first}
 
 ------------------------------------------------------------
