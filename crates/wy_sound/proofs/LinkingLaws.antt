@@ -11,20 +11,22 @@ use Rattle.wy_types.specs.Program.{Program, Scope}
 use Rattle.wy_types.specs.Types.{is_plain}
 use Rattle.wy_types.specs.Core.{OriginFits, IsCore}
 use Rattle.wy_types.specs.Ground.{Visited, instance_of, visit_name, visit_names, visit, program_number, program_visited, program_sets, start_list}
-use Rattle.wy_rules.specs.Acceptance.{LineHolds, Accepted, parameters_among}
+use Rattle.wy_rules.specs.Acceptance.{LineHolds, Accepted}
 use Rattle.wy_rules.specs.GroundTypes.{read_by, run_instances}
 use Rattle.wy_rules.specs.GroundTyping.{BoundFits}
 use Rattle.wy_sound.specs.Arguments.{ground_below, actual_type, ArgumentFits, InstanceFits}
-use Rattle.wy_rules.specs.OwnNames.{opened_count, after_parameters, HasItsType, HaveTheirTypes, MayHave, LinesAreTyped, HavePlainNames}
-use Rattle.wy_sound.specs.Linking.{AcceptedInstancesFit, AcceptedArgumentsFit}
+use Rattle.wy_rules.specs.OwnNames.{opened_count, HasItsType, HaveTheirTypes, LinesAreTyped, HavePlainNames}
+use Rattle.wy_sound.specs.Linking.{AcceptedInstancesFit, AcceptedArgumentsFit, ResolvedMainFits, ResolvedGrantsFit, AcceptedIsLinked}
 use Rattle.wy_sound.proofs.LinkingLists.{GoesOn, goes_on_same, goes_on_further, read_next, read_last, read_within}
 use Rattle.wy_sound.proofs.LinkingStates.{count_more, AreActuals, actual_at, actuals_length, Stands}
 use Rattle.wy_sound.proofs.LinkingTables.{no_own, no_own_read, same_at}
-use Rattle.wy_sound.proofs.LinkingVisits.{later_names_grow, first_and_after}
+use Rattle.wy_sound.proofs.LinkingVisits.{later_names_grow}
 use Rattle.wy_sound.proofs.LinkingPrograms.{last_scope, main_is_last, one_scope}
 use Rattle.wy_sound.proofs.LinkingWays.{Way, way_ends, way_begins}
-use Rattle.wy_sound.proofs.LinkingScopes.{names_at, Facts, facts_at}
+use Rattle.wy_sound.proofs.LinkingScopes.{names_at, Facts, facts_at, program_typed}
 use Rattle.wy_sound.proofs.LinkingNames.{grant_stands}
+use Rattle.wy_sound.proofs.LinkingMain.{main_fits}
+use Rattle.wy_sound.proofs.LinkingGrants.{grants_fit}
 use Rattle.wy_sound.proofs.LinkingLines.{Visiting, VisitStands, instance_stands, import_stands, use_stands}
 
 module _ (p : Program) (c : IsCore p) (t : LinesAreTyped p) (words : HavePlainNames p) (a : Accepted p) where
@@ -85,17 +87,6 @@ module _ (p : Program) (c : IsCore p) (t : LinesAreTyped p) (words : HavePlainNa
   main_facts : Facts p (program_number p) main.0
   main_facts = facts_at p c t words a (program_number p) main.0 main.1
 
-  no_parameters : parameters_among (names_at p (program_number p)) ≡ []
-  no_parameters = subst (λ k. MayHave k (parameters_among (names_at p (program_number p)))) main.2 main_facts.may_have
-
-  all_after : after_parameters (names_at p (program_number p)) ≡ names_at p (program_number p)
-  all_after = sym (first_and_after (names_at p (program_number p)) ∙ ap (λ l. l ++ after_parameters (names_at p (program_number p))) no_parameters)
-
-  typed : HaveTheirTypes p 0 (names_at p (program_number p))
-  typed =
-      subst (HaveTheirTypes p 0) all_after
-      (subst (λ l. HaveTheirTypes p (opened_count p l) (after_parameters (names_at p (program_number p)))) no_parameters main_facts.others)
-
   program_stands : Stands p None (program_sets p) (names_at p (program_number p)) (program_visited p)
   program_stands =
       let empty : Visited = record { started = []; actuals = []; sets = [] } in
@@ -103,7 +94,7 @@ module _ (p : Program) (c : IsCore p) (t : LinesAreTyped p) (words : HavePlainNa
       record { actuals = tt; count = refl; types = λ x i. absurd i; sets = λ x i. absurd i; started = λ y i e. absurd (cc) } in
       visit_stands (length p.scopes) (program_number p) main.0 [] [] [] (names_at p (program_number p)) empty (program_sets p)
       (record { facts = main_facts; plain = ap is_plain main.2; words = λ i. absurd i; main = λ e. refl })
-      (way_begins p (program_number p)) refl typed refl (goes_on_same (start_list p)) stands
+      (way_begins p (program_number p)) refl (program_typed p c t) refl (goes_on_same (start_list p)) stands
 
   ------------------------------------------------------------
   -- The instances of the run
@@ -178,4 +169,20 @@ accepted_arguments_fit p c t words a = record {
   each = argument_fits p c t words a;
   count =
       λ x i s e scope. (let same = actuals_length p x i.bound i.ground s.names i.arguments (arguments_of p c t words a x i s e scope) in omega (arith, same));
+}
+
+pub resolved_main_fits : ResolvedMainFits
+resolved_main_fits p r = main_fits p r.core r.lines r.names
+
+pub resolved_grants_fit : ResolvedGrantsFit
+resolved_grants_fit p r = grants_fit p r.core r.lines r.grants
+
+pub accepted_is_linked : AcceptedIsLinked
+accepted_is_linked p r a = record {
+  core = r.core;
+  accepted = a;
+  instances = accepted_instances_fit p r.core r.lines r.names a;
+  arguments = accepted_arguments_fit p r.core r.lines r.names a;
+  main = main_fits p r.core r.lines r.names;
+  captures = r.captures;
 }

@@ -73,7 +73,7 @@ union-nothing n s h =
     sets_equal 0 n (union s []) s (IsSetFrom-union 0 n s [] h tt) h
     (λ a i. elim (union-cases a s [] i) [ inl j ↦ j | inr j ↦ absurd j ]) (λ a i. In-union-left a s [] i)
 
-or_there : {X : Type 0} (xs ys : List X) (x d : X) → slice_index_or (xs ++ x ∷ ys) (length xs) d ≡ x
+pub or_there : {X : Type 0} (xs ys : List X) (x d : X) → slice_index_or (xs ++ x ∷ ys) (length xs) d ≡ x
 or_there [] ys x d = refl
 or_there (y ∷ xs) ys x d = or_there xs ys x d
 
