@@ -16,6 +16,7 @@ use Rattle.wy_rules.specs.GroundTypes.{read_by, run_instances}
 use Rattle.wy_rules.specs.GroundTyping.{BoundFits}
 use Rattle.wy_sound.specs.Arguments.{ground_below, actual_type, ArgumentFits, InstanceFits}
 use Rattle.wy_rules.specs.OwnNames.{opened_count, HasItsType, HaveTheirTypes, LinesAreTyped, HavePlainNames}
+use Rattle.wy_sound.specs.Programs.{IsResolved}
 use Rattle.wy_sound.specs.Linking.{AcceptedInstancesFit, AcceptedArgumentsFit, ResolvedMainFits, ResolvedGrantsFit, AcceptedIsLinked}
 use Rattle.wy_sound.proofs.LinkingLists.{GoesOn, goes_on_same, goes_on_further, read_next, read_last, read_within}
 use Rattle.wy_sound.proofs.LinkingStates.{count_more, AreActuals, actual_at, actuals_length, Stands}
@@ -160,6 +161,23 @@ module _ (p : Program) (c : IsCore p) (t : LinesAreTyped p) (words : HavePlainNa
             subst (ground_below p (actual_type p r.0))
             (same_at 0 x (read_by i.bound i.ground n.typ) (no_own_read i.bound i.ground n.typ (no_own p (length s.atoms) n.typ written))) r.2.below;
       }
+
+-- an instance of the start list is one of a module, and is handed something for each of its own names
+pub record IsModuleInstance (p : Program) (i : Started) : Type 0 where
+  pub scope : Scope
+  pub there : slice_get p.scopes i.scope ≡ Some scope
+  pub is_module : scope.kind ≡ Main → ⊥
+  pub handed : length i.arguments ≡ length scope.names
+
+pub accepted_modules : (p : Program) → IsResolved p → Accepted p → (x : ℕ) (i : Started) → slice_get (start_list p) x ≡ Some i → IsModuleInstance p i
+accepted_modules p r a x i e =
+    let fit = (program_stands p r.core r.lines r.names a).started x i e in
+    record {
+      scope = fit.scope;
+      there = fit.there;
+      is_module = fit.is_module;
+      handed = actuals_length p x i.bound i.ground fit.scope.names i.arguments fit.actuals;
+    }
 
 pub accepted_instances_fit : AcceptedInstancesFit
 accepted_instances_fit p c t words a = record { each = instance_fits p c t words a }
