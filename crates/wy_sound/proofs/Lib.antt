@@ -6,10 +6,13 @@ pub mod Calling
 pub mod Effects
 pub mod Evaluating
 pub mod Heaps
+mod LinkingAdded
 mod LinkingExamples
+mod LinkingGrants
 pub mod LinkingLaws
 mod LinkingLines
 mod LinkingLists
+mod LinkingMain
 mod LinkingNames
 mod LinkingPrograms
 mod LinkingReads

@@ -1,4 +1,4 @@
--- A program's run with its start list, what each call in it may do, and what resolving gives of a program beside what every core keeps.
+-- A program's run with its start list, what each call in it may do, what resolving gives of a program beside what every core keeps, and what linking does.
 -- (docs/LANGUAGE.md, "Starting a program" and "Authority and report")
 use Rattle.std.specs.Prelude.{◌≡◌, ℕ, List, [], ◌∷◌, ◌++◌, Some, map, bytes_eq, slice_get, if◌then◌else◌}
 use Rattle.wy_text.specs.declared.fault.AtomName.{AtomName}
@@ -8,9 +8,10 @@ use Rattle.wy_types.specs.declared.linked.Actual.TheVariants.{Grant}
 use Rattle.wy_types.specs.declared.resolved.Origin.TheVariants as origin
 use Rattle.wy_types.specs.declared.resolved.OwnName.{OwnName}
 use Rattle.wy_types.specs.Program.{Program, Scope}
-use Rattle.wy_types.specs.Core.{literal_captures}
+use Rattle.wy_types.specs.Core.{literal_captures, IsCore}
 use Rattle.wy_types.specs.Ground.{members_of, program_visited, start_list}
 use Rattle.wy_rules.specs.GroundTypes.{GroundType, Int, Bool, Text, Nothing, Named, At, Own}
+use Rattle.wy_rules.specs.OwnNames.{LinesAreTyped, HavePlainNames, GrantsStandFirst}
 use Rattle.wy_authority.specs.declared.rows.BodyRow.{BodyRow}
 use Rattle.wy_authority.specs.declared.rows.InstanceRow.{InstanceRow}
 use Rattle.wy_authority.specs.Authority.{authority_of}
@@ -44,13 +45,24 @@ allowed p call = call_atoms (authority_of p).atoms call (authority_of p).rows
 ------------------------------------------------------------
 -- What resolving gives
 
--- `main` is handed by name what the visits of its lines settle
-abbrev pub MainFits : Program → Type 0
-MainFits p = (program_starts p).main.actuals ≡ (program_visited p).actuals
-
 -- methods of a module see no variable but their parameters
 abbrev pub ModulesCaptureNothing : Program → Type 0
 ModulesCaptureNothing p = (s : Scope) → In s p.scopes → literal_captures (slice_get s.literals 0) ≡ []
+
+-- a program as resolving makes it: a core, whose own names have their types and names that no hidden instance has, the program's grants first
+pub record IsResolved (p : Program) : Type 0 where
+  pub core : IsCore p
+  pub lines : LinesAreTyped p
+  pub names : HavePlainNames p
+  pub grants : GrantsStandFirst (program_names p)
+  pub captures : ModulesCaptureNothing p
+
+------------------------------------------------------------
+-- What linking gives
+
+-- `main` is handed by name what the visits of its lines settle
+abbrev pub MainFits : Program → Type 0
+MainFits p = (program_starts p).main.actuals ≡ (program_visited p).actuals
 
 abbrev pub sets_of : GroundType → List (List ℕ)
 sets_of Int = []
