@@ -17,7 +17,7 @@ use Rattle.wy_meaning.specs.Starts.{scope_of_instance}
 use Rattle.wy_meaning.specs.Results.{Result, stop, whole}
 use Rattle.wy_meaning.specs.Eval.{Calls, Method, method_in, parameters, body_text, instance_name, eval_block, called, called_on, open_calls}
 use Rattle.wy_sound.specs.Programs.{program_starts}
-use Rattle.wy_sound.specs.Laws.{IsLinked}
+use Rattle.wy_sound.proofs.Linked.{IsLinked}
 use Rattle.wy_sound.proofs.Lists.{pick_true, pick_false, map_length}
 use Rattle.wy_sound.proofs.Effects.{call_of, May}
 use Rattle.wy_sound.proofs.Allowing.{may_method}

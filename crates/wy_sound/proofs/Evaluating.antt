@@ -25,7 +25,7 @@ use Rattle.wy_meaning.specs.Operating.{binary_operator, operated}
 use Rattle.wy_meaning.specs.Starts.{literal_in, scope_of_instance}
 use Rattle.wy_meaning.specs.Eval.{Sight, Calls, object_value, with_local, object_new, go_on, apply, eval, eval_value, eval_all, eval_block}
 use Rattle.wy_sound.specs.Programs.{program_starts}
-use Rattle.wy_sound.specs.Laws.{IsLinked}
+use Rattle.wy_sound.proofs.Linked.{IsLinked}
 use Rattle.wy_sound.proofs.Lists.{some_same}
 use Rattle.wy_sound.proofs.Below.{Below}
 use Rattle.wy_sound.proofs.Heaps.{Placed, kind_at, fields_at, many, ValueHas, AllHave, WellHeap, ThisHas, SightHas, sight_grows, sight_more, value_grows, value_below}

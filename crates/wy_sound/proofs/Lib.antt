@@ -5,7 +5,10 @@ pub mod Below
 pub mod Calling
 pub mod Effects
 pub mod Evaluating
+pub mod Granting
+pub mod Handing
 pub mod Heaps
+pub mod Linked
 mod LinkingExamples
 pub mod LinkingLaws
 mod LinkingLines

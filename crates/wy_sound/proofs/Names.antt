@@ -25,7 +25,7 @@ use Rattle.wy_meaning.specs.Starts.{actual_in, actual_of}
 use Rattle.wy_meaning.specs.Eval.{Sight, actual_value, value_of_name, assigned, with_named, captured_from, parameters}
 use Rattle.wy_sound.specs.Arguments.{IsThere, actual_type, ground_below}
 use Rattle.wy_sound.specs.Programs.{program_starts}
-use Rattle.wy_sound.specs.Laws.{IsLinked}
+use Rattle.wy_sound.proofs.Linked.{IsLinked}
 use Rattle.wy_sound.proofs.Lists.{some_same, pick_true, pick_false, get_within, get_below, get_map, get_mapped}
 use Rattle.wy_sound.proofs.Heaps.{Placed, kind_at, variable_at, fields_at, many, ValueHas, AllHave, VariableHas, NamesHave, WellHeap, ThingHas, all_get, all_set, SightHas, ThisHas, heap_set}
 use Rattle.wy_sound.proofs.Results.{Answers}

@@ -13,7 +13,7 @@ use Rattle.wy_rules.proofs.Grounding.{ground_typing}
 use Rattle.wy_meaning.specs.Starts.{Started, all_started, started_of, scope_started, scope_of_instance}
 use Rattle.wy_meaning.specs.Eval.{instance_name, started_name}
 use Rattle.wy_sound.specs.Programs.{program_starts}
-use Rattle.wy_sound.specs.Laws.{IsLinked}
+use Rattle.wy_sound.proofs.Linked.{IsLinked}
 use Rattle.wy_sound.proofs.Lists.{some_same, get_below, get_mapped, map_append}
 use Rattle.wy_sound.proofs.Performing.{last_number}
 use Rattle.wy_sound.proofs.Heaps.{Placed, fields_at, many}

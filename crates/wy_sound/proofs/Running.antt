@@ -4,6 +4,7 @@ use Rattle.std.specs.Prelude.{slice_get}
 use Rattle.wy_types.specs.declared.linked.Instance.{Instance}
 use Rattle.wy_types.specs.Program.{Program}
 use Rattle.wy_types.specs.Ground.{start_list}
+use Rattle.wy_rules.specs.Acceptance.{Accepted}
 use Rattle.wy_rules.specs.GroundTypes.{run_instances}
 use Rattle.wy_device.specs.declared.deed.Event.{Event}
 use Rattle.wy_device.specs.declared.deed.Event.TheVariants.{Enter}
@@ -15,8 +16,13 @@ use Rattle.wy_meaning.specs.Results.{Result, whole}
 use Rattle.wy_meaning.specs.Eval.{open_calls}
 use Rattle.wy_meaning.specs.Start.{begin, objects_at_first, end_of, world_at_first, meaning}
 use Rattle.wy_meaning.specs.Bounds.{Bounded}
-use Rattle.wy_sound.specs.Programs.{program_starts, allowed, GrantsFit}
-use Rattle.wy_sound.specs.Laws.{IsLinked, NeverWrong, EventsAreBounded}
+use Rattle.wy_sound.specs.Programs.{program_starts, allowed}
+use Rattle.wy_sound.proofs.Linked.{GrantsFit}
+use Rattle.wy_sound.specs.Laws.{IsResolved, course, NeverWrong, EventsAreBounded}
+use Rattle.wy_sound.proofs.LinkingLaws.{accepted_instances_fit, accepted_arguments_fit}
+use Rattle.wy_sound.proofs.Granting.{grants_fit}
+use Rattle.wy_sound.proofs.Handing.{main_fits}
+use Rattle.wy_sound.proofs.Linked.{IsLinked}
 use Rattle.wy_sound.proofs.Lists.{some_same, get_within, get_left, get_either, get_below, get_mapped, map_length}
 use Rattle.wy_sound.proofs.Effects.{call_of, May}
 use Rattle.wy_sound.proofs.Allowing.{init_first, run_first, may_first}
@@ -136,10 +142,27 @@ top_bounded : (p : Program) (ok : Value → World → Type 0) (o : Outcome Value
 top_bounded p ok (Stops e) w es g h = h.1 g
 top_bounded p ok (Gives v) w es g h = h.0 g
 
-pub never_wrong : NeverWrong
+-- an accepted program that resolving makes is linked
+linked : (p : Program) → IsResolved p → Accepted p → IsLinked p
+linked p r a = record {
+  core = r.core;
+  accepted = a;
+  instances = accepted_instances_fit p r.core r.lines a;
+  arguments = accepted_arguments_fit p r.core r.lines a;
+  main = main_fits p r.core r.lines r.stops;
+  captures = r.captures;
+}
+
+pub linked_never_wrong : (p : Program) → IsLinked p → (n : ℕ) (tapes : Tapes) → (course p n tapes).end ≢ Wrong
 unfolding meaning
-never_wrong p linked n tapes = top_never p _ _ _ _ (run_top p linked n tapes).by
+linked_never_wrong p l n tapes = top_never p _ _ _ _ (run_top p l n tapes).by
+
+pub linked_bounded : (p : Program) → IsLinked p → GrantsFit p → (n : ℕ) (tapes : Tapes) → Bounded (allowed p) (course p n tapes).events
+unfolding meaning
+linked_bounded p l g n tapes = top_bounded p _ _ _ _ g (run_top p l n tapes).by
+
+pub never_wrong : NeverWrong
+never_wrong p r a = linked_never_wrong p (linked p r a)
 
 pub events_are_bounded : EventsAreBounded
-unfolding meaning
-events_are_bounded p linked g n tapes = top_bounded p _ _ _ _ g (run_top p linked n tapes).by
+events_are_bounded p r a = linked_bounded p (linked p r a) (grants_fit p r.core r.lines r.grants)

@@ -24,8 +24,9 @@ use Rattle.wy_meaning.specs.Eval.{Calls, eval_block, open_calls}
 use Rattle.wy_meaning.specs.Start.{fill_all, start_of_scope, outside, run_start}
 use Rattle.wy_meaning.specs.Bounds.{Call, Bounded, BoundedFrom}
 use Rattle.wy_meaning.specs.OpenCalls.{open_after}
-use Rattle.wy_sound.specs.Programs.{program_starts, allowed, GrantsFit}
-use Rattle.wy_sound.specs.Laws.{IsLinked}
+use Rattle.wy_sound.specs.Programs.{program_starts, allowed}
+use Rattle.wy_sound.proofs.Linked.{GrantsFit}
+use Rattle.wy_sound.proofs.Linked.{IsLinked}
 use Rattle.wy_sound.proofs.Lists.{some_same, get_within, get_set_same, get_set_other, length_set}
 use Rattle.wy_sound.proofs.Effects.{call_of, May, Kept, Held, kept_none, held_more, kept_more, kept_call, held_call, after_append, bounded_append}
 use Rattle.wy_sound.proofs.Heaps.{Placed, kind_at, fields_at, many, Ready, ValueHas, AllHave, ThingHas, WellHeap, Grows, Extends, value_grows, all_grow, all_append, thing_grows, set_grows, SightHas}
