@@ -56,10 +56,10 @@ adds_one Such xs ys i g s = adds_further Such xs ys (ys ++ i ∷ []) g
 abbrev pub IsInner : List ℕ → Type 0
 IsInner name = In 46 name ⊎ In 32 name
 
-AllUses : List OwnName → Type 0
+unfoldable pub AllUses : List OwnName → Type 0
 AllUses ns = (n : OwnName) → In n ns → is_use n.origin ≡ true
 
-uses_are : (ns : List OwnName) → AllUses (uses_among ns)
+pub uses_are : (ns : List OwnName) → AllUses (uses_among ns)
 unfolding AllUses
 uses_are [] n i = absurd i
 uses_are (m ∷ ns) n i = of_test (is_use m.origin) refl i (uses_are ns n)
@@ -69,6 +69,15 @@ uses_are (m ∷ ns) n i = of_test (is_use m.origin) refl i (uses_are ns n)
     of_test true t (inl e) h = sym (ap (λ (v : OwnName). is_use v.origin) e) ∙ t
     of_test true t (inr j) h = h j
     of_test false t j h = h j
+
+pub uses_within : (ns : List OwnName) (n : OwnName) → In n (uses_among ns) → In n ns
+uses_within [] n i = absurd i
+uses_within (m ∷ ns) n i = of_test (is_use m.origin) i (uses_within ns n)
+  where
+    of_test : (b : Bool) → In n (if b then m ∷ uses_among ns else uses_among ns) → (In n (uses_among ns) → In n ns) → In n (m ∷ ns)
+    of_test true (inl e) h = inl e
+    of_test true (inr j) h = inr (h j)
+    of_test false j h = inr (h j)
 
 pure_inner : (name : List ℕ) → IsInner (codes "pure " ++ name)
 pure_inner name = inr (inr (inr (inr (inr (inl refl)))))
@@ -211,15 +220,6 @@ module _ (p : Program) (core : IsCore p) (typed : LinesAreTyped p) (root : ℕ) 
         let a = all n (inl refl) in
         adds_further IsPureLed v.started _ _ (pure_name m s outer n n.origin v h e a.0 refl a.1)
         (pure_names m s outer ns (visit_name p inside outer [] n n.origin v) h e (λ k i. all k (inr i)))
-
-  uses_within : (ns : List OwnName) (n : OwnName) → In n (uses_among ns) → In n ns
-  uses_within [] n i = absurd i
-  uses_within (m ∷ ns) n i = of_test (is_use m.origin) i (uses_within ns n)
-    where
-      of_test : (b : Bool) → In n (if b then m ∷ uses_among ns else uses_among ns) → (In n (uses_among ns) → In n ns) → In n (m ∷ ns)
-      of_test true (inl e) h = inl e
-      of_test true (inr j) h = inr (h j)
-      of_test false j h = inr (h j)
 
   pub pure_adds : (k m : ℕ) (s : Scope) (v : Visited) → (m ≡ root) ⊎ IsLed m → slice_get p.scopes m ≡ Some s →
       Adds IsPureLed v.started (visit p k (names_of (slice_get p.scopes m)) [] (uses_among (names_of (slice_get p.scopes m))) v).started

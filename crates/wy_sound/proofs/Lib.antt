@@ -32,4 +32,5 @@ pub mod Performing
 pub mod Placing
 pub mod Results
 pub mod Running
+pub mod Silence
 pub mod Starting

@@ -1,12 +1,22 @@
 -- Soundness: no run of an accepted program meets a wrong value, and each operation in one is in the authority of every call that is open.
 -- (docs/LANGUAGE.md, "Authority and report")
-use Rattle.std.specs.Prelude.{◌≢◌, ℕ}
+use Rattle.std.specs.Prelude.{◌≡◌, ◌≢◌, ℕ, List, [], ◌∷◌, ◌++◌}
+use Rattle.wy_effects.specs.Members.{In}
+use Rattle.wy_types.specs.declared.linked.Instance.{Instance}
+use Rattle.wy_types.specs.declared.resolved.ScopeKind.TheVariants.{Pure}
 use Rattle.wy_types.specs.Program.{Program}
 use Rattle.wy_types.specs.Core.{IsCore}
-use Rattle.wy_rules.specs.Acceptance.{Accepted}
+use Rattle.wy_types.specs.Ground.{start_list}
+use Rattle.wy_rules.specs.Acceptance.{IsOfKind, Accepted}
+use Rattle.wy_authority.specs.declared.rows.BodyRow.{BodyRow}
+use Rattle.wy_authority.specs.Authority.{instance_row}
+use Rattle.wy_device.specs.declared.deed.Deed.{Deed as DeedRecord}
+use Rattle.wy_device.specs.declared.deed.Event.{Event}
+use Rattle.wy_device.specs.declared.deed.Event.TheVariants.{Deed}
 use Rattle.wy_device.specs.RunEnds.{Wrong}
 use Rattle.wy_device.specs.Tapes.{Tapes}
-use Rattle.wy_meaning.specs.Bounds.{Bounded}
+use Rattle.wy_meaning.specs.Bounds.{Call, Bounded}
+use Rattle.wy_meaning.specs.OpenCalls.{open_after}
 use Rattle.wy_meaning.specs.Start.{Course, meaning}
 use Rattle.wy_sound.specs.Linking.{LinesAreTyped}
 use Rattle.wy_sound.specs.Programs.{program_starts, allowed, ModulesCaptureNothing, GrantsComeFirst, NamesHaveNoStop}
@@ -28,3 +38,16 @@ NeverWrong = (p : Program) → IsResolved p → Accepted p → (n : ℕ) (tapes 
 
 abbrev pub EventsAreBounded : Type 0
 EventsAreBounded = (p : Program) → IsResolved p → Accepted p → (n : ℕ) (tapes : Tapes) → Bounded (allowed p) (course p n tapes).events
+
+-- no body of an instance of a pure module may do anything
+abbrev pub PureInstancesMayNothing : Type 0
+PureInstancesMayNothing =
+    (p : Program) → IsResolved p → Accepted p → (i : Instance) → In i (start_list p) → IsOfKind p Pure i.scope →
+    (b : BodyRow) → In b (instance_row p i).bodies → b.set ≡ []
+
+-- .. so no operation is done while a call of one is open
+abbrev pub PureInstancesAreSilent : Type 0
+PureInstancesAreSilent =
+    (p : Program) → IsResolved p → Accepted p → (i : Instance) → In i (start_list p) → IsOfKind p Pure i.scope →
+    (n : ℕ) (tapes : Tapes) (before after : List Event) (deed : DeedRecord) → (course p n tapes).events ≡ before ++ Deed deed ∷ after →
+    (call : Call) → In call (open_after [] before) → call.instance ≡ i.name → ⊥
