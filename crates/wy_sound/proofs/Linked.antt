@@ -1,4 +1,5 @@
--- What the proofs of soundness ask of a program: that its instances are handed what fits, by the visits and by name, and that its grants have their own atoms.
+-- What the proofs of soundness ask of a program: its instances are handed what fits, by the visits and by name, and its grants have their own
+-- atoms.
 use Rattle.std.specs.Prelude.{◌≡◌, ℕ, List, [], ◌∷◌, Some, map, slice_get}
 use Rattle.wy_effects.specs.AtomTable.{atom_name}
 use Rattle.wy_types.specs.declared.linked.Actual.TheVariants.{Grant}

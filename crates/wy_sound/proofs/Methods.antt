@@ -15,7 +15,7 @@ use Rattle.wy_rules.specs.Derivations.{BodyDerivation}
 use Rattle.wy_rules.specs.Readings.{Reading}
 use Rattle.wy_meaning.specs.Eval.{Method, find_body}
 use Rattle.wy_sound.proofs.Lists.{some_same}
-use Rattle.wy_sound.proofs.Heaps.{Placed, kind_at}
+use Rattle.wy_sound.specs.TypedHeaps.{Placed, kind_at}
 
 -- the body of a name that a call finds from body k on
 pub record FindsBody (k l : ℕ) (name : List ℕ) (bs : List Body) (g : Signature TypeRef) : Type 0 where

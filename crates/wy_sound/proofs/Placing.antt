@@ -16,7 +16,7 @@ use Rattle.wy_sound.specs.Programs.{program_starts}
 use Rattle.wy_sound.proofs.Linked.{IsLinked}
 use Rattle.wy_sound.proofs.Lists.{some_same, get_below, get_mapped, map_append}
 use Rattle.wy_sound.proofs.Performing.{last_number}
-use Rattle.wy_sound.proofs.Heaps.{Placed, fields_at, many}
+use Rattle.wy_sound.specs.TypedHeaps.{Placed, fields_at, instance_count}
 
 length_more : {X : Type 0} (xs : List X) (y : X) → length (xs ++ y ∷ []) ≡ suc (length xs)
 length_more [] y = refl
@@ -74,18 +74,18 @@ module _ (p : Program) (linked : IsLinked p) where
       }
 
   -- each instance, and `main`, has its place
-  pub place : (x : ℕ) → x ≤ many p → Placed p x
+  pub place : (x : ℕ) → x ≤ instance_count p → Placed p x
   place x le =
       let r = get_below (run_instances p) x (omega (arith, le, length_more (start_list p) main_instance)) in
       place_of x r.0 r.1
 
-  pub kind_main : (x : ℕ) (pl : Placed p x) → pl.scope.kind ≡ kind.Program → x ≡ many p
+  pub kind_main : (x : ℕ) (pl : Placed p x) → pl.scope.kind ≡ kind.Program → x ≡ instance_count p
   kind_main x pl e =
       let f = linked.instances.each x pl.instance pl.is.there in
       let same : pl.scope ≡ f.scope = some_same (sym pl.is.scope ∙ f.is.scope) in
       f.kind.0 (sym (ap (λ (s : Scope). s.kind) same) ∙ e)
 
-  pub main_kind : (x : ℕ) (pl : Placed p x) → x ≡ many p → pl.scope.kind ≡ kind.Program
+  pub main_kind : (x : ℕ) (pl : Placed p x) → x ≡ instance_count p → pl.scope.kind ≡ kind.Program
   main_kind x pl e =
       let f = linked.instances.each x pl.instance pl.is.there in
       let same : pl.scope ≡ f.scope = some_same (sym pl.is.scope ∙ f.is.scope) in
