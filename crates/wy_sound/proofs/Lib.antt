@@ -5,6 +5,7 @@ pub mod Below
 pub mod Calling
 pub mod Effects
 pub mod Evaluating
+mod Examples
 pub mod Granting
 pub mod Handing
 pub mod Heaps
