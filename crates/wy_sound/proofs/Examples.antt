@@ -1,14 +1,15 @@
--- What a call may do in a program with a logger; and programs that run wrong, since they have what resolving does not make: a method of a
--- module that sees a variable of the module's initialisers, and an own name with a full stop.
-use Rattle.std.proofs.Common.{codes, ◌≡◌, ℕ, List, [], ◌∷◌, inl, inr, refl, true, pos}
+-- What a call may do in a program with a logger; and programs that are wrong or may do too little, since they have what resolving does not
+-- make: a method of a module that sees a variable of the module's initialisers, an own name with a full stop, and a grant after a line.
+use Rattle.std.proofs.Common.{codes, Some, ◌≡◌, ℕ, List, [], ◌∷◌, inl, inr, refl, true, pos, ◌++◌, arith}
 use Rattle.wy_effects.specs.AtomTable.{atom_name}
 use Rattle.wy_types.specs.declared.types.TypeRef.{TypeRef}
 use Rattle.wy_types.specs.declared.types.TypeRef.TheVariants.{Named, Unit as Nothing}
 use Rattle.wy_types.specs.declared.code.Variable.TheVariants.{Local}
 use Rattle.wy_types.specs.declared.linked.Actual.TheVariants as actual
-use Rattle.wy_types.specs.declared.resolved.Origin.TheVariants.{Parameter, Grant}
+use Rattle.wy_types.specs.declared.resolved.Origin.TheVariants.{Parameter, Grant, Instance}
 use Rattle.wy_types.specs.Code.{If, Values, none, more}
 use Rattle.wy_types.specs.Program.{Program, Body}
+use Rattle.wy_types.specs.Primitive.{primitive_types, primitive_type}
 use Rattle.wy_types.specs.Ground.{program_visited}
 use Rattle.wy_device.specs.Operators.{operate}
 use Rattle.wy_device.specs.RunEnds.{Wrong}
@@ -18,7 +19,7 @@ use Rattle.wy_meaning.specs.Performing.{perform}
 use Rattle.wy_meaning.specs.Results.{give, stop, node, tick, told, settle, added, bind, whole}
 use Rattle.wy_meaning.specs.Start.{fill_all, begin, meaning}
 use Rattle.wy_meaning.proofs.Programs.{somewhere, number, truth, nothing, own, local, call, last, val, method, bare, literal, own_name, line, unit, main, program, no_tapes}
-use Rattle.wy_sound.specs.Programs.{program_starts, allowed, ModulesCaptureNothing, NamesHaveNoStop}
+use Rattle.wy_sound.specs.Programs.{program_starts, allowed, ModulesCaptureNothing, GrantsComeFirst, NamesHaveNoStop}
 use Rattle.wy_sound.specs.Laws.{course}
 
 ------------------------------------------------------------
@@ -123,3 +124,28 @@ stopping_is_wrong = refl
 stopping_stops : NamesHaveNoStop stopping → ⊥
 unfolding stopping
 stopping_stops h = h (line (codes "a.b") 0 []) (inr (inl refl)) (inr (inl refl))
+
+------------------------------------------------------------
+-- resource module m: Marked, with no effect for the member of Marked
+-- program
+--   instance a = m
+--   grant console: Console, after the line
+--   run: {console.Out}
+
+late : Program
+late = record {
+  declarations = primitive_types ++ primitive_type (codes "Marked") (codes "Mark" ∷ []) [] ∷ [];
+  scopes =
+      record (unit (codes "m") [] (bare ∷ []) none []) { ascribed = Some 4; definitions = [] ∷ [] } ∷
+      record (main (own_name (codes "a") (Named 4 ((0 ∷ []) ∷ [])) (Instance 0 []) ∷ own_name (codes "console") (Named 0 ((1 ∷ []) ∷ (2 ∷ []) ∷ [])) Grant ∷ []) (bare ∷ []) (last nothing) []) { start_effect = 2 ∷ [] } ∷ [];
+}
+
+-- the program's atoms are counted with the line's, and the report's without it: the effect has no name there
+late_may : allowed late (call_of (codes "main") (codes "run")) ≡ atom_name [] [] ∷ []
+unfolding late
+late_may = refl
+
+late_comes_late : GrantsComeFirst late → ⊥
+unfolding late
+late_comes_late h =
+    let line_is_grant = h 0 1 (own_name (codes "a") (Named 4 ((0 ∷ []) ∷ [])) (Instance 0 [])) (own_name (codes "console") (Named 0 ((1 ∷ []) ∷ (2 ∷ []) ∷ [])) Grant) refl refl (omega arith) refl in cc
