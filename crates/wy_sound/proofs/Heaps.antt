@@ -14,7 +14,7 @@ use Rattle.wy_meaning.specs.Values.{Value, Int as Number, Truth, Nothing, Text, 
 use Rattle.wy_meaning.specs.Eval.{Sight, with_local}
 use Rattle.wy_sound.specs.Arguments.{actual_type}
 use Rattle.wy_sound.specs.TypedHeaps.{instance_count, Placed, fields_at, Ready, ValueHas, AllHave, VariableHas, NamesHave, ThingHas, WellHeap, ThisHas, SightHas}
-use Rattle.wy_sound.proofs.Lists.{some_same, get_within, get_set_same, get_set_other, length_set, get_left, get_either}
+use Rattle.wy_sound.proofs.Lists.{length_more, some_same, get_within, get_set_same, get_set_other, length_set, get_left, get_either}
 use Rattle.wy_sound.proofs.Below.{Below, below_trans, AllBelow}
 
 module _ (p : Program) where
@@ -193,12 +193,8 @@ module _ (p : Program) where
           },
         )
       where
-        one_longer : (xs : List Thing) → length (xs ++ t ∷ []) ≡ suc (length xs)
-        one_longer [] = refl
-        one_longer (x ∷ xs) = ap suc (one_longer xs)
-
         longer : instance_count p ≤ length h → instance_count p ≤ length (h ++ t ∷ [])
-        longer l = omega (arith, l, one_longer h)
+        longer l = omega (arith, l, length_more h t)
 
     -- the object at a place has these fields now
     pub set_grows : (h : List Thing) (a : ℕ) (t : Thing) (fields : List Value) → slice_get h a ≡ Some t →

@@ -26,7 +26,7 @@ use Rattle.wy_meaning.specs.Eval.{Sight, actual_value, value_of_name, assigned, 
 use Rattle.wy_sound.specs.Arguments.{IsThere, actual_type, ground_below}
 use Rattle.wy_sound.specs.Programs.{program_starts}
 use Rattle.wy_sound.proofs.Linked.{IsLinked}
-use Rattle.wy_sound.proofs.Lists.{some_same, pick_true, pick_false, get_within, get_below, get_map, get_mapped}
+use Rattle.wy_sound.proofs.Lists.{some_mapped, some_same, pick_true, pick_false, get_within, get_below, get_map, get_mapped}
 use Rattle.wy_sound.specs.TypedHeaps.{Placed, kind_at, variable_at, fields_at, instance_count, ValueHas, AllHave, VariableHas, NamesHave, WellHeap, ThingHas, SightHas, ThisHas}
 use Rattle.wy_sound.proofs.Heaps.{all_get, all_set, heap_set}
 use Rattle.wy_sound.proofs.Results.{Answers}
@@ -214,10 +214,6 @@ module _ (p : Program) (now : ℕ) (w : World) (sight : Sight) (pl : Placed p si
 
 abbrev pub owner_binding : (p : Program) (x : ℕ) → Placed p x → Option ℕ → Binding → Option GroundType
 owner_binding p x pl owner name = binding_type (ground_reading p x pl.instance) pl.scope pl.holds.derivation.locals owner name
-
-some_mapped : {X Y : Type 0} (f : X → Y) (o : Option X) (y : Y) → option_map f o ≡ Some y → (x : X) × (o ≡ Some x) × (f x ≡ y)
-some_mapped f None y e = absurd cc
-some_mapped f (Some x) y e = (x, refl, some_same e)
 
 variable_same : (p : Program) (x : ℕ) (pl : Placed p x) (owner : Option ℕ) (v : Variable) →
     owner_binding p x pl owner (to.Variable v) ≡ variable_at p x pl v

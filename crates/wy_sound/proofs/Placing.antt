@@ -1,5 +1,5 @@
 -- The instances of a run with their scopes: found among the start list, as `main` after it, and with derivations over the types of the run.
-use Rattle.std.proofs.Common.{◌≡◌, codes, ℕ, suc, ◌-◌, ◌≤◌, List, [], ◌∷◌, ◌++◌, length, map, refl, sym, ap, ◌∙◌, subst, Some, None, arith}
+use Rattle.std.proofs.Common.{◌≡◌, codes, ℕ, ◌-◌, ◌≤◌, [], ◌∷◌, ◌++◌, length, map, sym, ap, ◌∙◌, subst, Some, None, arith}
 use Rattle.std.specs.Prelude.{slice_get}
 use Rattle.wy_effects.proofs.Lists.{In-slice_get}
 use Rattle.wy_types.specs.declared.linked.Instance.{Instance}
@@ -14,13 +14,9 @@ use Rattle.wy_meaning.specs.Starts.{Started, all_started, started_of, scope_star
 use Rattle.wy_meaning.specs.Eval.{instance_name, started_name}
 use Rattle.wy_sound.specs.Programs.{program_starts}
 use Rattle.wy_sound.proofs.Linked.{IsLinked}
-use Rattle.wy_sound.proofs.Lists.{some_same, get_below, get_mapped, map_append}
+use Rattle.wy_sound.proofs.Lists.{length_more, some_same, get_below, get_mapped, map_append}
 use Rattle.wy_sound.proofs.Performing.{last_number}
 use Rattle.wy_sound.specs.TypedHeaps.{Placed, fields_at, instance_count}
-
-length_more : {X : Type 0} (xs : List X) (y : X) → length (xs ++ y ∷ []) ≡ suc (length xs)
-length_more [] y = refl
-length_more (x ∷ xs) y = ap suc (length_more xs y)
 
 -- two instances of one number are the same, with the same scope
 pub instance_same : (p : Program) (x : ℕ) (a b : Placed p x) → a.instance ≡ b.instance
