@@ -22,3 +22,7 @@ pub record Follows (c : Course) (k : ℕ) (r : Ran) : Type 0 where
 abbrev pub Compiles : Program → Starts → Code → Type 0
 Compiles p starts code =
     (n k : ℕ) (tapes : Tapes) → (meaning n p starts tapes).end ≢ Wrong → Follows (meaning n p starts tapes) k (machine code n k tapes)
+
+-- no run of the program means something wrong
+abbrev pub NeverWrong : Program → Starts → Type 0
+NeverWrong p starts = (n : ℕ) (tapes : Tapes) → (meaning n p starts tapes).end ≢ Wrong

@@ -3,6 +3,7 @@ pub mod Counts
 pub mod Inside
 pub mod Laws
 pub mod Listing
+pub mod Lowerable
 pub mod Lowering
 pub mod Operands
 pub mod Parts

@@ -1,8 +1,12 @@
 ghost use Rattle.wy_types.specs.Code.{Block};
 ghost use Rattle.wy_types.specs.Program.{Program};
 ghost use Rattle.wy_meaning.specs.Starts.{Starts};
+ghost use Rattle.wy_code.specs.Running.{NeverStuck};
+ghost use Rattle.wy_lower.specs.Correct.{Compiles, NeverWrong};
 ghost use Rattle.wy_lower.specs.Inside.{Inside};
 ghost use Rattle.wy_lower.specs.Laws.{HasCountedBodies, HasItsTexts, HasItsMethodNames, HasItsBodies, HasFixedLength};
+ghost use Rattle.wy_lower.specs.Lowerable.{Lowerable};
+ghost use Rattle.wy_lower.specs.Lowering.{lowered};
 
 /// The code of a program has as many bodies as the limit `bodies` counts in it.
 pub fn bodies_are_counted()
@@ -29,4 +33,16 @@ pub fn bodies_stand_at_their_numbers()
 /// How long the code of a block is does not depend on the address at which it begins.
 pub fn lengths_are_fixed()
     ensures { (i : Inside) (b : Block) → HasFixedLength i b }
+{}
+
+/// The code of a lowerable program does what the program means, at every depth, step bound and answers: it
+/// ends in the same way after exactly as many steps and with the same events, or, where the bound is
+/// smaller, it is spent with the first of them. Nothing is said of runs that mean something wrong.
+pub fn correct_lowering()
+    ensures { (p : Program) (s : Starts) → Lowerable p s → Compiles p s (lowered p s) }
+{}
+
+/// Where no run of a lowerable program means something wrong, no run of its code is stuck.
+pub fn never_stuck_where_never_wrong()
+    ensures { (p : Program) (s : Starts) → Lowerable p s → NeverWrong p s → NeverStuck (lowered p s) }
 {}

@@ -1,12 +1,11 @@
 -- The meaning of writes and the bounds of events, tried on examples.
-use Rattle.std.proofs.Common.{codes, ◌≡◌, ◌<◌, ℕ, List, [], ◌∷◌, Option, Some, None, All, Contains, true, refl, arith}
+use Rattle.std.proofs.Common.{codes, ◌≡◌, ◌<◌, ℕ, List, [], ◌∷◌, Option, Some, None, Contains, true, refl, arith}
 use Rattle.std.proofs.lemmas.List.Elements.{All-cons, All-head, All-nil}
 use Rattle.wy_text.specs.declared.fault.AtomName.{AtomName}
 use Rattle.wy_device.specs.Ends.{Ended, DeviceFailed, Waiting}
 use Rattle.wy_device.specs.Tapes.{Tapes}
 use Rattle.wy_device.specs.declared.operation.Answer.{Answer}
 use Rattle.wy_device.specs.declared.operation.Answer.TheVariants as answer
-use Rattle.wy_device.specs.declared.operation.Op.TheVariants.{ConsoleWrite}
 use Rattle.wy_device.specs.declared.operation.OpName.TheVariants.{ConsoleWrite as ConsoleWriteName}
 use Rattle.wy_device.specs.declared.deed.Event.{Event}
 use Rattle.wy_device.specs.declared.deed.Event.TheVariants.{Enter, Deed, Leave}

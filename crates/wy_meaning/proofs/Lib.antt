@@ -9,4 +9,5 @@ mod ExamplesLines
 mod ExamplesRows
 pub mod Programs
 pub mod Rows
+pub mod Taking
 pub mod Tapings

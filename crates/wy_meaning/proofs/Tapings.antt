@@ -1,10 +1,9 @@
 -- What the meaning of writes does over longer tapes.
 use Rattle.std.proofs.Common.{codes, ◌≡◌, ℕ, List, [], ◌∷◌, ◌++◌, Option, Some, None, refl, ap}
-use Rattle.wy_device.specs.Tapes.{Tapes}
 use Rattle.wy_device.specs.declared.operation.Answer.{Answer}
 use Rattle.wy_device.specs.declared.operation.Answer.TheVariants as answer
 use Rattle.wy_device.specs.declared.deed.Event.{Event}
-use Rattle.wy_device.specs.declared.deed.Event.TheVariants.{Enter, Deed, Leave}
+use Rattle.wy_device.specs.declared.deed.Event.TheVariants.{Enter, Deed}
 use Rattle.wy_meaning.specs.Literals.{literal_meaning, writes, write_deed}
 use Rattle.wy_meaning.specs.Meaning.{GoesOn}
 

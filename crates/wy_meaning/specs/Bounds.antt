@@ -1,5 +1,5 @@
 -- Which effects the operations of a run have, and that every call that is open at one allows its effect.
-use Rattle.std.specs.Prelude.{◌≡◌, ℕ, List, [], ◌∷◌, Contains, All, ⊤}
+use Rattle.std.specs.Prelude.{ℕ, List, [], ◌∷◌, Contains, All, ⊤}
 use Rattle.wy_text.specs.declared.fault.AtomName.{AtomName}
 use Rattle.wy_device.specs.Operation.{member_of}
 use Rattle.wy_device.specs.declared.deed.Deed.{Deed as DeedRecord}

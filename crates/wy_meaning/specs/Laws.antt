@@ -1,9 +1,13 @@
 -- Laws of the meaning. (docs/LANGUAGE.md, "Counting")
-use Rattle.std.specs.Prelude.{◌≡◌, ◌≢◌, ◌≤◌, ◌*◌, ℕ, List, ◌++◌}
+use Rattle.std.specs.Prelude.{◌≡◌, ◌≢◌, ◌≤◌, ◌*◌, ℕ, List, ◌++◌, Option}
 use Rattle.wy_types.specs.Program.{Program}
 use Rattle.wy_device.specs.declared.deed.Event.{Event}
+use Rattle.wy_device.specs.declared.operation.Answer.{Answer}
+use Rattle.wy_device.specs.declared.operation.Kind.{Kind}
+use Rattle.wy_device.specs.Events.{deeds_of}
+use Rattle.wy_device.specs.Requests.{tape_of}
 use Rattle.wy_device.specs.RunEnds.{Waiting}
-use Rattle.wy_device.specs.Tapes.{Tapes, spliced}
+use Rattle.wy_device.specs.Tapes.{Tapes, answers, spliced}
 use Rattle.wy_meaning.specs.Start.{Course, meaning}
 use Rattle.wy_meaning.specs.Starts.{Starts}
 
@@ -22,3 +26,7 @@ pub record IsExtended (c d : Course) : Type 0 where
 
 abbrev pub ExtendsOnly : ℕ → Program → Starts → Type 0
 ExtendsOnly n p s = (tapes more : Tapes) → IsExtended (meaning n p s tapes) (meaning n p s (spliced tapes more))
+
+-- the answers to the deeds of a kind are the first ones of its tape, in their order
+abbrev pub TakesInOrder : ℕ → Program → Starts → Type 0
+TakesInOrder n p s = (tapes : Tapes) (kind : Kind) → (rest : List (Option Answer)) × (tape_of kind tapes ≡ answers (deeds_of kind (meaning n p s tapes).events) ++ rest)

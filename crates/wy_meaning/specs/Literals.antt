@@ -1,5 +1,5 @@
 -- The meaning of a program that writes literals to the console of its one grant.
-use Rattle.std.specs.Prelude.{codes, ◌≡◌, ℕ, List, [], ◌∷◌, Option, Some, None}
+use Rattle.std.specs.Prelude.{codes, ℕ, List, [], ◌∷◌, Option, Some, None}
 use Rattle.wy_meaning.specs.Meaning.{Meaning, after_event}
 use Rattle.wy_device.specs.Ends.{Ended, DeviceFailed, Waiting}
 use Rattle.wy_device.specs.Tapes.{Tapes}
@@ -8,7 +8,6 @@ use Rattle.wy_device.specs.declared.operation.OpName.TheVariants.{ConsoleWrite a
 use Rattle.wy_device.specs.declared.operation.Answer.{Answer}
 use Rattle.wy_device.specs.declared.operation.Answer.TheVariants.{Bytes, Truth, Number, Unit as Done}
 use Rattle.wy_device.specs.declared.deed.Deed.{Deed as DeedRecord}
-use Rattle.wy_device.specs.declared.deed.Event.{Event}
 use Rattle.wy_device.specs.declared.deed.Event.TheVariants.{Enter, Deed, Leave}
 
 abbrev pub write_deed : List ℕ → List ℕ → Option Answer → DeedRecord

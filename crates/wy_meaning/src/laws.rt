@@ -5,7 +5,7 @@ ghost use Rattle.wy_device.specs.Tapes.{Tapes};
 ghost use Rattle.wy_types.specs.Program.{Program};
 ghost use Rattle.wy_meaning.specs.Answers.{TakesWhatFits};
 ghost use Rattle.wy_meaning.specs.Bounds.{Call};
-ghost use Rattle.wy_meaning.specs.Laws.{IsCheap, ExtendsOnly};
+ghost use Rattle.wy_meaning.specs.Laws.{IsCheap, ExtendsOnly, TakesInOrder};
 ghost use Rattle.wy_meaning.specs.Start.{meaning};
 ghost use Rattle.wy_meaning.specs.Starts.{Starts};
 ghost use Rattle.wy_meaning.specs.Literals.{literal_meaning};
@@ -43,4 +43,10 @@ pub fn answers_extend_only()
 /// A run takes an answer exactly where a device may give it to the operation.
 pub fn fitting_answers_are_taken()
     ensures { TakesWhatFits }
+{}
+
+/// A run takes the answers of each kind of device in their order: the answers to its deeds of that kind are
+/// the first ones of the tape.
+pub fn answers_are_taken_in_order()
+    ensures { (n : ℕ) (p : Program) (s : Starts) → TakesInOrder n p s }
 {}
