@@ -11,7 +11,7 @@ use Rattle.wy_rules.specs.Acceptance.{Accepted}
 use Rattle.wy_rules.specs.OwnNames.{GrantsStandFirst}
 use Rattle.wy_meaning.specs.Starts.{Started, started_of, scope_names, last_scope}
 use Rattle.wy_sound.specs.Programs.{IsResolved, program_starts}
-use Rattle.wy_sound.proofs.LinkingLaws.{accepted_modules, accepted_is_linked}
+use Rattle.wy_sound.proofs.LinkingLaws.{accepted_modules}
 use Rattle.wy_sound.proofs.Performing.{names_same, last_number}
 use Rattle.wy_sound.proofs.Running.{never_wrong}
 use Rattle.wy_lower.specs.Laws.{AcceptedIsLowerable, AcceptedCodeFollows, AcceptedIsNeverStuck}
@@ -56,8 +56,8 @@ accepted_is_lowerable p r once a = record {
 
 pub accepted_code_follows : AcceptedCodeFollows
 accepted_code_follows p r once a n k tapes =
-    compiles p (program_starts p) (accepted_is_lowerable p r once a) n k tapes (never_wrong p (accepted_is_linked p r a) n tapes)
+    compiles p (program_starts p) (accepted_is_lowerable p r once a) n k tapes (never_wrong p r a n tapes)
 
 pub accepted_is_never_stuck : AcceptedIsNeverStuck
 accepted_is_never_stuck p r once a =
-    never_stuck p (program_starts p) (accepted_is_lowerable p r once a) (never_wrong p (accepted_is_linked p r a))
+    never_stuck p (program_starts p) (accepted_is_lowerable p r once a) (never_wrong p r a)

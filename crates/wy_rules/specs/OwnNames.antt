@@ -11,6 +11,7 @@ use Rattle.wy_types.specs.declared.resolved.OwnName.{OwnName}
 use Rattle.wy_types.specs.declared.resolved.ScopeKind.{ScopeKind}
 use Rattle.wy_types.specs.declared.resolved.ScopeKind.TheVariants.{Pure, Resource, Plain, Program as Main}
 use Rattle.wy_types.specs.Program.{Program, Scope}
+use Rattle.wy_types.specs.Core.{literal_captures}
 use Rattle.wy_types.specs.Fitting.{FitsType}
 use Rattle.wy_types.specs.Ground.{members_of, abstract_names, single_sets}
 use Rattle.wy_rules.specs.Acceptance.{is_parameter, parameters_among}
@@ -93,3 +94,7 @@ HavePlainNames p = (s : Scope) → In s p.scopes → (n : OwnName) → In n s.na
 abbrev pub GrantsStandFirst : List OwnName → Type 0
 GrantsStandFirst [] = Unit {0}
 GrantsStandFirst (n ∷ ns) = ((m : OwnName) → In m ns → m.origin ≡ Grant → n.origin ≡ Grant) × GrantsStandFirst ns
+
+-- methods of a module see no variable but their parameters
+abbrev pub ModulesCaptureNothing : Program → Type 0
+ModulesCaptureNothing p = (s : Scope) → In s p.scopes → literal_captures (slice_get s.literals 0) ≡ []

@@ -22,10 +22,11 @@ use Rattle.wy_meaning.specs.Eval.{Sight, Calls, choose, apply, captured_from, ob
 use Rattle.wy_meaning.specs.Performing.{perform}
 use Rattle.wy_sound.specs.Arguments.{actual_type}
 use Rattle.wy_sound.specs.Programs.{program_starts}
-use Rattle.wy_sound.specs.Laws.{IsLinked}
+use Rattle.wy_sound.proofs.Linked.{IsLinked}
 use Rattle.wy_sound.proofs.Lists.{pick_true, get_below, get_last, map_length}
 use Rattle.wy_sound.proofs.Below.{Below, StandsFor, method_below}
-use Rattle.wy_sound.proofs.Heaps.{Placed, kind_at, fields_at, Ready, ValueHas, AllHave, VariableHas, ThingHas, WellHeap, SightHas, all_below, all_length, value_below, heap_more}
+use Rattle.wy_sound.specs.TypedHeaps.{Placed, kind_at, fields_at, Ready, ValueHas, AllHave, VariableHas, ThingHas, WellHeap, SightHas}
+use Rattle.wy_sound.proofs.Heaps.{all_below, all_length, value_below, heap_more}
 use Rattle.wy_sound.proofs.BaseTypes.{truth_at, own_kind}
 use Rattle.wy_sound.proofs.Results.{Sound, Answers, Valued, wider_sound, more_sound, trap_answers}
 use Rattle.wy_sound.proofs.Performing.{perform_sound}

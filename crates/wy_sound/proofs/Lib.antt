@@ -5,7 +5,9 @@ pub mod Below
 pub mod Calling
 pub mod Effects
 pub mod Evaluating
+mod Examples
 pub mod Heaps
+pub mod Linked
 mod LinkingAdded
 mod LinkingExamples
 mod LinkingGrants
@@ -32,4 +34,5 @@ pub mod Performing
 pub mod Placing
 pub mod Results
 pub mod Running
+pub mod Silence
 pub mod Starting

@@ -50,16 +50,24 @@ module _ (Named : List ℕ → Type 0) where
 abbrev pub IsHidden : List ℕ → Type 0
 IsHidden name = In 32 name ⊎ In 46 name
 
-abbrev AllUses : List OwnName → Type 0
+abbrev pub AllUses : List OwnName → Type 0
 AllUses ns = (n : OwnName) → In n ns → is_use n.origin ≡ true
 
-uses_are_uses : (ns : List OwnName) → AllUses (uses_among ns)
+pub uses_are_uses : (ns : List OwnName) → AllUses (uses_among ns)
 uses_are_uses [] n = λ i. absurd i
 uses_are_uses (m ∷ ns) n =
     elim (is_use m.origin) as (λ b. is_use m.origin ≡ b → In n (if b then m ∷ uses_among ns else uses_among ns) → is_use n.origin ≡ true) [
       | true ↦ λ e i. elim i [ inl f ↦ subst (λ (v : OwnName). is_use v.origin ≡ true) f e | inr j ↦ uses_are_uses ns n j ]
       | false ↦ λ e i. uses_are_uses ns n i
     ] refl
+
+pub uses_are_names : (ns : List OwnName) (n : OwnName) → In n (uses_among ns) → In n ns
+uses_are_names [] n = λ i. absurd i
+uses_are_names (m ∷ ns) n =
+    elim (is_use m.origin) as (λ b. In n (if b then m ∷ uses_among ns else uses_among ns) → In n (m ∷ ns)) [
+      | true ↦ λ i. elim i [ inl e ↦ inl e | inr j ↦ inr (uses_are_names ns n j) ]
+      | false ↦ λ i. inr (uses_are_names ns n i)
+    ]
 
 pure_hidden : (word : List ℕ) → IsHidden (codes "pure " ++ word)
 pure_hidden word = inl (inr (inr (inr (inr (inl refl)))))
@@ -191,18 +199,10 @@ module _ (p : Program) (c : IsCore p) (t : LinesAreTyped p) where
   use_number n (Instance j arguments) e f = absurd (cc)
   use_number n (Import j arguments bound) e f = absurd (cc)
 
-  among_names : (ns : List OwnName) (n : OwnName) → In n (uses_among ns) → In n ns
-  among_names [] n = λ i. absurd i
-  among_names (m ∷ ns) n =
-      elim (is_use m.origin) as (λ b. In n (if b then m ∷ uses_among ns else uses_among ns) → In n (m ∷ ns)) [
-        | true ↦ λ i. elim i [ inl e ↦ inl e | inr j ↦ inr (among_names ns n j) ]
-        | false ↦ λ i. inr (among_names ns n i)
-      ]
-
   uses_of : (m : ℕ) → m + 1 < length p.scopes → UsesOf m (uses_among (names_of (slice_get p.scopes m)))
   uses_of m lt n i =
       let r = read_there p.scopes m (omega (arith, lt)) in
-      let among : In n r.0.names = subst (λ o. In n (names_of o)) r.1 (among_names (names_of (slice_get p.scopes m)) n i) in
+      let among : In n r.0.names = subst (λ o. In n (names_of o)) r.1 (uses_are_names (names_of (slice_get p.scopes m)) n i) in
       let number = use_number n n.origin (uses_are_uses (names_of (slice_get p.scopes m)) n i) refl in
       (number.0, number.1, use_of m r.0 r.1 n among number.0 number.1)
 

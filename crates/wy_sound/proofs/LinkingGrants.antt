@@ -1,6 +1,6 @@
 -- The own type of a grant of the program has for each member the atom of the grant and the member: grants stand first, and each opens an atom for
 -- each member.
-use Rattle.std.proofs.Common.{◌≡◌, ℕ, zero, suc, ◌+◌, ◌<◌, List, [], ◌∷◌, ◌++◌, map, length, refl, sym, ap, ap₂, ◌∙◌, subst, arith, Option, Some, append_assoc, length-append}
+use Rattle.std.proofs.Common.{◌≡◌, ℕ, zero, suc, ◌+◌, ◌<◌, List, [], ◌∷◌, ◌++◌, map, length, refl, sym, ap, ap₂, ◌∙◌, subst, arith, Some, append_assoc, length-append}
 use Rattle.std.specs.Prelude.{slice_get, slice_index_or}
 use Rattle.std.proofs.Math.ListN.{length-map}
 use Rattle.wy_text.specs.declared.fault.AtomName.{AtomName}
@@ -20,8 +20,9 @@ use Rattle.wy_rules.specs.OwnNames.{opens, HasItsType, HaveTheirTypes, GrantsSta
 use Rattle.wy_authority.specs.Authority.{granted, grant_atoms, authority_of}
 use Rattle.wy_authority.specs.Report.{named_atoms}
 use Rattle.wy_sound.specs.Arguments.{program_names, actual_type}
-use Rattle.wy_sound.specs.Programs.{GrantsFit, sets_of}
+use Rattle.wy_sound.proofs.Linked.{GrantsFit, sets_of}
 use Rattle.wy_sound.proofs.LinkingLists.{GoesOn, goes_on_same, goes_on_further, read_within}
+use Rattle.wy_sound.proofs.Lists.{some_same}
 use Rattle.wy_sound.proofs.LinkingSets.{or_there, singles, single_sets_are, length_singles}
 use Rattle.wy_sound.proofs.LinkingVisits.{later_names_grow}
 use Rattle.wy_sound.proofs.LinkingPrograms.{last_scope}
@@ -55,9 +56,6 @@ names_there atoms before after owner k (m ∷ ms) e at =
     let next : atoms ≡ (before ++ atom_name owner m ∷ []) ++ rest = e ∙ sym (append_assoc before (atom_name owner m ∷ []) rest) in
     let place : k + 1 ≡ length (before ++ atom_name owner m ∷ []) = rw (length-append before (atom_name owner m ∷ [])) (omega (arith, at)) in
     ap₂ (λ a l. (a ∷ []) ∷ l) here (names_there atoms (before ++ atom_name owner m ∷ []) after owner (k + 1) ms next place)
-
-some_name : (a b : OwnName) → ◌≡◌ {A = Option OwnName} (Some a) (Some b) → a ≡ b
-some_name a b e = cc
 
 module _ (p : Program) (depth : ℕ) (outer : List OwnName) (top : List (List ℕ)) where
   visited : OwnName → Visited → Visited
@@ -101,7 +99,7 @@ module _ (p : Program) (depth : ℕ) (outer : List OwnName) (top : List (List �
   unfolding visited
   each_granted [] v k before count same typed first goes g n at e = absurd (cc)
   each_granted (m ∷ ns) v k before count same typed first goes zero n at e =
-      let is : m ≡ n = some_name m n at in
+      let is : m ≡ n = some_same at in
       let grows = later_names_grow p depth outer [] ns (visited m v) in
       subst (IsGranted p top (before ++ grant_atoms p (m ∷ ns))) is
       (first_granted m ns v k before count same typed.0 (goes_on_further _ _ top grows.sets goes) (ap (λ (x : OwnName). x.origin) is ∙ e))

@@ -17,7 +17,7 @@ use Rattle.wy_rules.specs.GroundTyping.{BoundFits}
 use Rattle.wy_sound.specs.Arguments.{ground_below, actual_type, ArgumentFits, InstanceFits}
 use Rattle.wy_rules.specs.OwnNames.{opened_count, HasItsType, HaveTheirTypes, LinesAreTyped, HavePlainNames}
 use Rattle.wy_sound.specs.Programs.{IsResolved}
-use Rattle.wy_sound.specs.Linking.{AcceptedInstancesFit, AcceptedArgumentsFit, ResolvedMainFits, ResolvedGrantsFit, AcceptedIsLinked}
+use Rattle.wy_sound.specs.Linking.{AcceptedInstancesFit, AcceptedArgumentsFit}
 use Rattle.wy_sound.proofs.LinkingLists.{GoesOn, goes_on_same, goes_on_further, read_next, read_last, read_within}
 use Rattle.wy_sound.proofs.LinkingStates.{count_more, AreActuals, actual_at, actuals_length, Stands}
 use Rattle.wy_sound.proofs.LinkingTables.{no_own, no_own_read, same_at}
@@ -26,8 +26,6 @@ use Rattle.wy_sound.proofs.LinkingPrograms.{last_scope, main_is_last, one_scope}
 use Rattle.wy_sound.proofs.LinkingWays.{Way, way_ends, way_begins}
 use Rattle.wy_sound.proofs.LinkingScopes.{names_at, Facts, facts_at, program_typed}
 use Rattle.wy_sound.proofs.LinkingNames.{grant_stands}
-use Rattle.wy_sound.proofs.LinkingMain.{main_fits}
-use Rattle.wy_sound.proofs.LinkingGrants.{grants_fit}
 use Rattle.wy_sound.proofs.LinkingLines.{Visiting, VisitStands, instance_stands, import_stands, use_stands}
 
 module _ (p : Program) (c : IsCore p) (t : LinesAreTyped p) (words : HavePlainNames p) (a : Accepted p) where
@@ -187,20 +185,4 @@ accepted_arguments_fit p c t words a = record {
   each = argument_fits p c t words a;
   count =
       λ x i s e scope. (let same = actuals_length p x i.bound i.ground s.names i.arguments (arguments_of p c t words a x i s e scope) in omega (arith, same));
-}
-
-pub resolved_main_fits : ResolvedMainFits
-resolved_main_fits p r = main_fits p r.core r.lines r.names
-
-pub resolved_grants_fit : ResolvedGrantsFit
-resolved_grants_fit p r = grants_fit p r.core r.lines r.grants
-
-pub accepted_is_linked : AcceptedIsLinked
-accepted_is_linked p r a = record {
-  core = r.core;
-  accepted = a;
-  instances = accepted_instances_fit p r.core r.lines r.names a;
-  arguments = accepted_arguments_fit p r.core r.lines r.names a;
-  main = main_fits p r.core r.lines r.names;
-  captures = r.captures;
 }

@@ -127,9 +127,6 @@ module _ (p : Program) (c : IsCore p) (t : LinesAreTyped p) (words : HavePlainNa
       (ap (λ o. map (replace inner.sets) (definitions_of o)) f.there)
       (subst (λ o. IsOpened p (opened_count p done) (sealed_of o) n.typ) f.there opened) further opening
 
-  inner_prefix : List ℕ
-  inner_prefix = prefix ++ (n.name ++ codes ".")
-
   line_name : NoSpace (prefix ++ n.name)
   line_name = no_space_both prefix n.name at.words (at.facts.words n among)
 

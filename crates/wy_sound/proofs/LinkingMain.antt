@@ -16,8 +16,9 @@ use Rattle.wy_types.specs.Core.{LeadsBy, IsCore}
 use Rattle.wy_types.specs.Ground.{Visited, names_of, uses_among, number_from, used, visit_name, visit_names, visit, program_number, start_list}
 use Rattle.wy_rules.specs.OwnNames.{opens, name_of, HasItsType, HaveTheirTypes, IsPlainName, LinesAreTyped, HavePlainNames}
 use Rattle.wy_meaning.specs.Starts.{started_of, numbered_from, main_actual, main_actuals, scope_names}
-use Rattle.wy_sound.specs.Programs.{MainFits}
+use Rattle.wy_sound.proofs.Linked.{MainFits}
 use Rattle.wy_sound.proofs.LinkingLists.{GoesOn, goes_on_same, goes_on_further, read_there, read_within}
+use Rattle.wy_sound.proofs.Lists.{some_same}
 use Rattle.wy_sound.proofs.LinkingVisits.{later_names_grow}
 use Rattle.wy_sound.proofs.LinkingPrograms.{last_scope, main_is_last, one_module, pure_word}
 use Rattle.wy_sound.proofs.LinkingScopes.{names_at, program_typed}
@@ -44,9 +45,6 @@ numbered_at (x ∷ xs) i rest name k free e =
     ap (λ b. if b then k else numbered_from (k + 1) name (map started_of (xs ++ i ∷ rest))) (not_equal x.name name (free x (inl refl))) ∙
     omega (arith, h)
 
-some_number : (a b : ℕ) → ◌≡◌ {A = Option ℕ} (Some a) (Some b) → a ≡ b
-some_number a b e = cc
-
 -- the number that is found stays
 numbered_same : (k : ℕ) (name : List ℕ) (xs more : List Started) (y : ℕ) → number_from k name xs ≡ Some y →
     numbered_from k name (map started_of (xs ++ more)) ≡ y
@@ -54,7 +52,7 @@ numbered_same k name [] more y = λ e. absurd (cc)
 numbered_same k name (i ∷ xs) more y =
     elim (bytes_eq i.name name) as (λ b. (if b then Some k else number_from (k + 1) name xs) ≡ Some y →
     (if b then k else numbered_from (k + 1) name (map started_of (xs ++ more))) ≡ y) [
-      | true ↦ λ e. some_number k y e
+      | true ↦ λ e. some_same e
       | false ↦ λ e. numbered_same (k + 1) name xs more y e
     ]
 
