@@ -14,7 +14,8 @@ use Rattle.wy_meaning.specs.Values.{Value, Int as Number, Truth, Nothing, Text, 
 use Rattle.wy_meaning.specs.Eval.{Sight, with_local}
 use Rattle.wy_sound.specs.Arguments.{actual_type}
 use Rattle.wy_sound.specs.TypedHeaps.{instance_count, Placed, fields_at, Ready, ValueHas, AllHave, VariableHas, NamesHave, ThingHas, WellHeap, ThisHas, SightHas}
-use Rattle.wy_sound.proofs.Lists.{length_more, some_same, get_within, get_set_same, get_set_other, length_set, get_left, get_either}
+use Rattle.wy_sound.proofs.LinkingLists.{read_within, read_first, read_last}
+use Rattle.wy_sound.proofs.Lists.{length_more, some_same, get_set_same, get_set_other, length_set}
 use Rattle.wy_sound.proofs.Below.{Below, below_trans, AllBelow}
 
 module _ (p : Program) where
@@ -181,15 +182,15 @@ module _ (p : Program) where
 
     pub heap_more : (h : List Thing) (t : Thing) → WellHeap p now h → ThingHas p now h t → Extends h (h ++ t ∷ []) × WellHeap p now (h ++ t ∷ [])
     heap_more h t wh th =
-        let grows : Grows h (h ++ t ∷ []) = λ a u e. (u, get_left h (t ∷ []) a u e, refl, refl) in (
-          record { by = grows; still = λ a u e s. get_left h (t ∷ []) a u e },
+        let grows : Grows h (h ++ t ∷ []) = λ a u e. (u, read_first h (t ∷ []) a u e, refl, refl) in (
+          record { by = grows; still = λ a u e s. read_first h (t ∷ []) a u e },
           record {
-            by = λ a u e s. elim (get_either h t a u e) [
+            by = λ a u e s. elim (read_last h t a u e) [
               | inl f ↦ thing_grows h (h ++ t ∷ []) u grows (wh.by a u f s)
-              | inr f ↦ thing_grows h (h ++ t ∷ []) u grows (subst (λ (v : Thing). ThingHas p now h v) f.0 th)
+              | inr f ↦ thing_grows h (h ++ t ∷ []) u grows (subst (λ (v : Thing). ThingHas p now h v) f.1 th)
             ];
             long = let l = wh.long in longer l;
-            first = λ z lt. let r = wh.first z lt in (r.0, get_left h (t ∷ []) z r.0 r.1, r.2, r.3);
+            first = λ z lt. let r = wh.first z lt in (r.0, read_first h (t ∷ []) z r.0 r.1, r.2, r.3);
           },
         )
       where
@@ -203,7 +204,7 @@ module _ (p : Program) where
         (λ same. let f : t ≡ u = some_same (sym e ∙ ap (slice_get h) same ∙ g) in (
           record t { fields = fields },
           ap (slice_get (slice_set h a (record t { fields = fields }))) (sym same) ∙
-              get_set_same h a (record t { fields = fields }) (get_within h a t e),
+              get_set_same h a (record t { fields = fields }) (read_within h a t e),
           ap (λ (v : Thing). v.instance) f,
           ap (λ (v : Thing). v.literal) f,
         ))
@@ -218,7 +219,7 @@ module _ (p : Program) where
         let u : Thing = record t { fields = fields } in
         let h' : List Thing = slice_set h a u in
         let grows : Grows h h' = set_grows h a t fields e in
-        let same_at : slice_get h' a ≡ Some u = get_set_same h a u (get_within h a t e) in
+        let same_at : slice_get h' a ≡ Some u = get_set_same h a u (read_within h a t e) in
         let new : ThingHas p now h u = record { place = th.place; early = th.early; fields = q; captured = th.captured } in (
           record { by = grows; still = λ b v g s. get_set_other h a b u (λ same. s (subst (Ready p now) same ready)) ∙ g },
           record {

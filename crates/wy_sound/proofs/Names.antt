@@ -26,7 +26,8 @@ use Rattle.wy_meaning.specs.Eval.{Sight, actual_value, value_of_name, assigned, 
 use Rattle.wy_sound.specs.Arguments.{IsThere, actual_type, ground_below}
 use Rattle.wy_sound.specs.Programs.{program_starts}
 use Rattle.wy_sound.proofs.Linked.{IsLinked}
-use Rattle.wy_sound.proofs.Lists.{some_mapped, some_same, pick_true, pick_false, get_within, get_below, get_map, get_mapped}
+use Rattle.wy_sound.proofs.LinkingLists.{read_within, read_there}
+use Rattle.wy_sound.proofs.Lists.{some_mapped, some_same, pick_true, pick_false, get_map, get_mapped}
 use Rattle.wy_sound.specs.TypedHeaps.{Placed, kind_at, variable_at, fields_at, instance_count, ValueHas, AllHave, VariableHas, NamesHave, WellHeap, ThingHas, SightHas, ThisHas}
 use Rattle.wy_sound.proofs.Heaps.{all_get, all_set, heap_set}
 use Rattle.wy_sound.proofs.Results.{Answers}
@@ -150,7 +151,7 @@ module _ (p : Program) (now : ℕ) (h : List Thing) (x : ℕ) (pl : Placed p x) 
   own_parameter v i =
       let r = In-unmap (λ i. Parameter k i) v (range_with_len 0 (length b.signature.params)) i in
       let lt = in_range 0 (length b.signature.params) r.0 r.1 in
-      let t = get_below b.signature.params r.0 (omega (arith, lt)) in
+      let t = read_there b.signature.params r.0 (omega (arith, lt)) in
       subst (λ v. VariableHas p now h x pl (parameters k 0 vs ++ captured) v) r.2
       (parameter_has r.0 (kind_at p x pl t.0) (parameter_typed r.0 ∙ ap (option_map (kind_at p x pl)) t.1))
 
@@ -194,7 +195,7 @@ module _ (p : Program) (now : ℕ) (w : World) (sight : Sight) (pl : Placed p si
       let t : Thing = this.1 in
       let r = all_get p now w.objects t.fields (fields_at p sight.instance pl l) i (kind_at p sight.instance pl f.typ) fields_typed
       (field_kind i f e) in
-      let lt : i < length t.fields = get_within t.fields i r.0 r.1 in
+      let lt : i < length t.fields = read_within t.fields i r.0 r.1 in
       let fields : List Value = slice_set t.fields i v in
       let set = all_set p now w.objects t.fields (fields_at p sight.instance pl l) i (kind_at p sight.instance pl f.typ) v fields_typed
       (field_kind i f e) q in

@@ -14,7 +14,8 @@ use Rattle.wy_meaning.specs.Starts.{Started, all_started, started_of, scope_star
 use Rattle.wy_meaning.specs.Eval.{instance_name, started_name}
 use Rattle.wy_sound.specs.Programs.{program_starts}
 use Rattle.wy_sound.proofs.Linked.{IsLinked}
-use Rattle.wy_sound.proofs.Lists.{length_more, some_same, get_below, get_mapped, map_append}
+use Rattle.wy_sound.proofs.LinkingLists.{read_there}
+use Rattle.wy_sound.proofs.Lists.{length_more, some_same, get_mapped, map_append}
 use Rattle.wy_sound.proofs.Performing.{last_number}
 use Rattle.wy_sound.specs.TypedHeaps.{Placed, fields_at, instance_count}
 
@@ -72,7 +73,7 @@ module _ (p : Program) (linked : IsLinked p) where
   -- each instance, and `main`, has its place
   pub place : (x : ℕ) → x ≤ instance_count p → Placed p x
   place x le =
-      let r = get_below (run_instances p) x (omega (arith, le, length_more (start_list p) main_instance)) in
+      let r = read_there (run_instances p) x (omega (arith, le, length_more (start_list p) main_instance)) in
       place_of x r.0 r.1
 
   pub kind_main : (x : ℕ) (pl : Placed p x) → pl.scope.kind ≡ kind.Program → x ≡ instance_count p

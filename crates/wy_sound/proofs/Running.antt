@@ -22,7 +22,8 @@ use Rattle.wy_sound.proofs.LinkingLaws.{accepted_instances_fit, accepted_argumen
 use Rattle.wy_sound.proofs.LinkingMain.{main_fits}
 use Rattle.wy_sound.proofs.LinkingGrants.{grants_fit}
 use Rattle.wy_sound.proofs.Linked.{IsLinked, GrantsFit}
-use Rattle.wy_sound.proofs.Lists.{some_same, get_within, get_left, get_either, get_below, get_mapped, map_length}
+use Rattle.wy_sound.proofs.LinkingLists.{read_within, read_first, read_last, read_there}
+use Rattle.wy_sound.proofs.Lists.{some_same, get_mapped, map_length}
 use Rattle.wy_sound.proofs.Effects.{call_of, May}
 use Rattle.wy_sound.proofs.Allowing.{init_first, run_first, may_first}
 use Rattle.wy_sound.specs.TypedHeaps.{Placed, fields_at, instance_count, WellHeap}
@@ -43,9 +44,9 @@ module _ (p : Program) (linked : IsLinked p) where
 
   -- the last instance is the program
   main_named : (x : ℕ) (i : Instance) → slice_get (run_instances p) x ≡ Some i → x ≡ instance_count p → i.name ≡ codes "main"
-  main_named x i e last = elim (get_either (start_list p) _ x i e) [
-    | inl f ↦ absurd (let lt = get_within (start_list p) x i f in lt_irrefl x (omega (arith, lt, last)))
-    | inr f ↦ sym (ap (λ (i : Instance). i.name) f.0)
+  main_named x i e last = elim (read_last (start_list p) _ x i e) [
+    | inl f ↦ absurd (let lt = read_within (start_list p) x i f in lt_irrefl x (omega (arith, lt, last)))
+    | inr f ↦ sym (ap (λ (i : Instance). i.name) f.1)
   ]
 
   main_top : (n x : ℕ) (w : World) → x ≡ instance_count p → WellHeap p x w.objects →
@@ -75,7 +76,7 @@ module _ (p : Program) (linked : IsLinked p) where
       let lt : x < instance_count p = omega (arith, count) in
       let a = at 0 x s (omega arith) refl in
       let pl : Placed p x = place p linked x (omega (arith, lt)) in
-      let same : a.0 ≡ pl.instance = some_same (sym (get_left (start_list p) _ x a.0 a.1) ∙ pl.is.there) in
+      let same : a.0 ≡ pl.instance = some_same (sym (read_first (start_list p) _ x a.0 a.1) ∙ pl.is.there) in
       let first : Filling p linked x pl [] w.objects = record {
         heap = wh;
         values = [];
@@ -116,7 +117,7 @@ module _ (p : Program) (linked : IsLinked p) where
   first_heap : WellHeap p 0 at_first
   first_heap = record {
     by = λ a t e r. absurd (let lt =
-        get_within at_first a t e in elim r [ inl l ↦ lt_irrefl a (omega (arith, l)) | inr ge ↦ lt_irrefl a (omega (arith, lt, ge, first_many)) ]);
+        read_within at_first a t e in elim r [ inl l ↦ lt_irrefl a (omega (arith, l)) | inr ge ↦ lt_irrefl a (omega (arith, lt, ge, first_many)) ]);
     long = omega (arith, first_many);
     first = λ z below. (thing_of p z, first_rest.by z (omega arith) below, refl, refl);
   }
@@ -124,8 +125,8 @@ module _ (p : Program) (linked : IsLinked p) where
   all_from : AreFrom 0 (map started_of (start_list p))
   unfolding AreFrom
   all_from i z s e g =
-      let lt : i < instance_count p = let h = get_within (map started_of (start_list p)) i s g in omega (arith, h, map_length started_of (start_list p)) in
-      let a = get_below (start_list p) i lt in
+      let lt : i < instance_count p = let h = read_within (map started_of (start_list p)) i s g in omega (arith, h, map_length started_of (start_list p)) in
+      let a = read_there (start_list p) i lt in
       let f : i ≡ z = omega (arith, e) in
       (a.0, ap (slice_get (start_list p)) (sym f) ∙ a.1, some_same (sym g ∙ get_mapped started_of (start_list p) i a.0 a.1))
 

@@ -31,7 +31,8 @@ use Rattle.wy_sound.specs.Laws.{course, PureInstancesMayNothing, PureInstancesAr
 use Rattle.wy_sound.proofs.LinkingLaws.{accepted_instances_fit}
 use Rattle.wy_sound.proofs.LinkingAdded.{AllUses, uses_are_uses, uses_are_names}
 use Rattle.wy_sound.proofs.LinkingPrograms.{last_scope, NoSpace, no_space_both, no_space_dot, number_found}
-use Rattle.wy_sound.proofs.Lists.{some_same, get_left}
+use Rattle.wy_sound.proofs.LinkingLists.{read_first}
+use Rattle.wy_sound.proofs.Lists.{some_same}
 use Rattle.wy_sound.proofs.Running.{events_are_bounded}
 
 AllEmpty : List (List ℕ) → Type 0
@@ -196,7 +197,7 @@ module _ (p : Program) (resolved : IsResolved p) (accepted : Accepted p) where
   no_bound : (i : Started) → In i (start_list p) → (s : Scope) → slice_get p.scopes i.scope ≡ Some s → s.kind ≡ Pure → i.bound ≡ None
   no_bound i j s at kind =
       let x = In-at i (start_list p) j in
-      let f = (accepted_instances_fit p resolved.core resolved.lines resolved.names accepted).each x.0 i (get_left (start_list p) _ x.0 i x.2) in
+      let f = (accepted_instances_fit p resolved.core resolved.lines resolved.names accepted).each x.0 i (read_first (start_list p) _ x.0 i x.2) in
       let same : f.scope ≡ s = some_same (sym f.is.scope ∙ at) in
       of_bound i.bound (subst (λ b. BoundFits b i.bound) (ap (λ (s : Scope). is_plain s.kind) same ∙ ap is_plain kind) f.is.bound)
     where

@@ -27,7 +27,8 @@ use Rattle.wy_meaning.specs.OpenCalls.{open_after}
 use Rattle.wy_sound.specs.Programs.{program_starts, allowed}
 use Rattle.wy_sound.proofs.Linked.{GrantsFit}
 use Rattle.wy_sound.proofs.Linked.{IsLinked}
-use Rattle.wy_sound.proofs.Lists.{some_same, get_within, get_set_same, get_set_other, length_set}
+use Rattle.wy_sound.proofs.LinkingLists.{read_within}
+use Rattle.wy_sound.proofs.Lists.{some_same, get_set_same, get_set_other, length_set}
 use Rattle.wy_sound.proofs.Effects.{call_of, May, Kept, Held, kept_none, held_more, kept_more, kept_call, held_call, after_append, bounded_append}
 use Rattle.wy_sound.specs.TypedHeaps.{Placed, kind_at, fields_at, instance_count, Ready, ValueHas, AllHave, ThingHas, WellHeap, SightHas}
 use Rattle.wy_sound.proofs.Heaps.{Grows, Extends, value_grows, all_grow, all_append, thing_grows, set_grows}
@@ -202,7 +203,7 @@ module _ (p : Program) (linked : IsLinked p) where
             first = λ z below. let r = q.heap.first z below in let g = grows z r.0 r.1 in (g.0, g.1, g.2 ∙ r.2, g.3 ∙ r.3);
           };
           values = q.values ++ v ∷ [];
-          here = get_set_same h x u (get_within h x t q.here);
+          here = get_set_same h x u (read_within h x t q.here);
           typed = all_append p x h' q.values (v ∷ []) done (k ∷ []) (all_grow p x h h' q.values done grows q.typed)
               (value_grows p x h h' v k grows has, tt);
           rest = record { by = λ z le below. get_set_other h x z u (λ same. lt_irrefl x (omega (arith, le, same))) ∙ q.rest.by z le below };
