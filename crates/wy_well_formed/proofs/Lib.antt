@@ -34,3 +34,10 @@ mod ModuleScopes
 mod ProgramScope
 mod Assembled
 mod Resolved
+mod AtomsOpened
+mod OwnTyped
+mod SealedModules
+mod NamesFit
+mod MadeOnce
+mod NamesAreWords
+mod Examples
