@@ -39,9 +39,12 @@ printed_unplaced = refl
 granted_word : map own_words (writes (at 1 1) (yes (at 4 13))) ≡ (named (codes "c") 2 9 ∷ []) ∷ []
 granted_word = refl
 
--- a word and no word
+-- a word, and two that are none
 is_word : IsWord (named (codes "c") 2 9)
-is_word = ((λ e. cc), tt)
+is_word = (((λ e. cc), (λ e. cc)), tt)
 
-no_word : IsWord (named (codes "c d") 2 9) → ⊥
-no_word h = h.1.0 refl
+spaced : IsWord (named (codes "c d") 2 9) → ⊥
+spaced h = h.1.0.0 refl
+
+stopped : IsWord (named (codes "c.d") 2 9) → ⊥
+stopped h = h.1.0.1 refl

@@ -1,4 +1,4 @@
--- The own words of a file's items are names by layout, which have no space in them.
+-- The own words of a file's items are names by layout, which have no space and no full stop in them.
 use Rattle.std.proofs.Common.{Bool, true, false, List, [], ◌∷◌, ◌++◌, inl, inr, sym, subst}
 use Rattle.std.specs.List.{AllByRecursion}
 use Rattle.wy_text.specs.declared.token.TokenKind.TheVariants as kind
@@ -13,7 +13,7 @@ use Rattle.wy_syntax.specs.Languages.{Lang, Sign, Word, ◌⨟◌, Each, Commas}
 use Rattle.wy_syntax.specs.TypeGrammar.{SpellsModuleParam}
 use Rattle.wy_syntax.specs.Grammar.{SpellsUse, SpellsLine, SpellsGrant, SpellsInside, SpellsItem}
 use Rattle.wy_canonical.specs.OwnWords.{param_names, grant_names, line_words, own_words, IsWord, HaveWords, TreesHaveWords}
-use Rattle.wy_canonical.proofs.PrintedNames.{name_spaceless}
+use Rattle.wy_canonical.proofs.PrintedNames.{name_unbroken}
 use Rattle.wy_canonical.proofs.Source.{AllFair, lexed_fair}
 use Rattle.wy_canonical.proofs.Printing.{fair_front, fair_back, fair_mark}
 
@@ -37,7 +37,7 @@ words_append [] ys h g = g
 words_append (x ∷ xs) ys h g = (h.0, words_append xs ys h.1 g)
 
 is_word : (n : Name) → Of (Word n) → IsWord n
-is_word n x = name_spaceless n.text (fair_mark x.spelled x.fair).0
+is_word n x = name_unbroken n.text (fair_mark x.spelled x.fair).0
 
 uses_are_words : (us : List Name) → Of (Each SpellsUse us) → AreWords us
 uses_are_words [] x = tt

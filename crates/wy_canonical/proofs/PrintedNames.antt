@@ -1,4 +1,4 @@
--- A name is text, and has no line's end and no space in it.
+-- A name is text, and has no line's end, no space and no full stop in it.
 use Rattle.std.proofs.Common.{◌≡◌, ℕ, zero, suc, ◌+◌, ◌/◌, ◌<◌, ◌≤◌, ◌==◌, nat_lt, Bool, true, false, not, cond, ◌&&◌, ◌||◌, List, [], ◌∷◌, ◌++◌, take, drop, slice_index, refl, sym, ap, subst, ◌∙◌, arith, take-append-drop, ltb-true, IsUtf8}
 use Rattle.std.specs.List.{AllByRecursion}
 use Rattle.std.specs.Str.{continuation_len, chars, is_utf8}
@@ -150,16 +150,17 @@ flat_bytes (b ∷ w) h =
 pub name_flat : (w : List ℕ) → is_name w ≡ true → flat w ≡ true
 name_flat w h = flat_bytes w (are_name_bytes w h)
 
--- and none is a space
-spaceless_bytes : (w : List ℕ) → name_bytes w ≡ true → AllByRecursion (λ b. b ≡ 32 → ⊥) w
-spaceless_bytes [] h = tt
-spaceless_bytes (b ∷ w) h = (
-  λ e. (let t : true ≡ false = sym (and_left (is_name_byte b) (name_bytes w) h) ∙ ap is_name_byte e in cc),
-  spaceless_bytes w (and_right (is_name_byte b) (name_bytes w) h),
-)
+-- and none is a space or a full stop
+unbroken_bytes : (w : List ℕ) → name_bytes w ≡ true → AllByRecursion (λ b. (b ≡ 32 → ⊥) × (b ≡ 46 → ⊥)) w
+unbroken_bytes [] h = tt
+unbroken_bytes (b ∷ w) h =
+    let g = and_left (is_name_byte b) (name_bytes w) h in
+    let no_space : b ≡ 32 → ⊥ = λ e. (let t : true ≡ false = sym g ∙ ap is_name_byte e in cc) in
+    let no_stop : b ≡ 46 → ⊥ = λ e. (let t : true ≡ false = sym g ∙ ap is_name_byte e in cc) in
+    ((no_space, no_stop), unbroken_bytes w (and_right (is_name_byte b) (name_bytes w) h))
 
-pub name_spaceless : (w : List ℕ) → is_name w ≡ true → AllByRecursion (λ b. b ≡ 32 → ⊥) w
-name_spaceless w h = spaceless_bytes w (are_name_bytes w h)
+pub name_unbroken : (w : List ℕ) → is_name w ≡ true → AllByRecursion (λ b. (b ≡ 32 → ⊥) × (b ≡ 46 → ⊥)) w
+name_unbroken w h = unbroken_bytes w (are_name_bytes w h)
 
 -- what a name begins with is no blank and no slash
 pub name_first : (b : ℕ) (bs : List ℕ) → is_name (b ∷ bs) ≡ true → (n : ℕ) → n < 128 → (is_ascii_alphabetic n || (n == 95)) ≡ false → (b == n) ≡ false

@@ -1,5 +1,5 @@
 -- The words that scopes have as own names: those that items give to parameters, grants and lines, and those of used modules.
--- In a file none of them has a space in it.
+-- In a file none of them has a space or a full stop in it.
 use Rattle.std.specs.Prelude.{◌≡◌, ℕ, List, [], ◌++◌, map}
 use Rattle.std.specs.List.{AllByRecursion}
 use Rattle.wy_syntax.specs.declared.types.Name.{Name}
@@ -31,9 +31,9 @@ own_words (resource_item place name params sealed inside) = param_names params +
 own_words (plain_item place name params sealed parts) = param_names params
 own_words (program_item place grants uses lines run effect body) = grant_names grants ++ (uses ++ line_words lines)
 
--- no byte of it is a space
+-- no byte of it is a space or a full stop
 abbrev pub IsWord : Name → Type 0
-IsWord n = AllByRecursion (λ b. b ≡ 32 → ⊥) n.text
+IsWord n = AllByRecursion (λ b. (b ≡ 32 → ⊥) × (b ≡ 46 → ⊥)) n.text
 
 abbrev pub HaveWords : List ItemTree → Type 0
 HaveWords items = AllByRecursion (λ i. AllByRecursion IsWord (own_words i)) items

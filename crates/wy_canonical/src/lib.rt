@@ -27,8 +27,8 @@ pub fn tokens_within_limits()
     ensures { TokensWithinLimits }
 {}
 
-/// The words that a file's items give to own names of scopes have no space in them: those of parameters, grants and
-/// lines, and those of used modules.
+/// The words that a file's items give to own names of scopes have no space and no full stop in them: those of
+/// parameters, grants and lines, and those of used modules.
 pub fn trees_have_words()
     ensures { TreesHaveWords }
 {}

@@ -11,6 +11,7 @@ use Rattle.wy_types.specs.declared.resolved.OwnName.{OwnName}
 use Rattle.wy_types.specs.declared.resolved.ScopeKind.{ScopeKind}
 use Rattle.wy_types.specs.declared.resolved.ScopeKind.TheVariants.{Pure, Resource, Plain, Program as Main}
 use Rattle.wy_types.specs.Program.{Program, Scope}
+use Rattle.wy_types.specs.Core.{literal_captures}
 use Rattle.wy_types.specs.Fitting.{FitsType}
 use Rattle.wy_types.specs.Ground.{members_of, abstract_names, single_sets}
 use Rattle.wy_rules.specs.Acceptance.{is_parameter, parameters_among}
@@ -82,6 +83,18 @@ pub record OwnNamesFit (p : Program) (s : Scope) : Type 0 where
 abbrev pub LinesAreTyped : Program → Type 0
 LinesAreTyped p = (s : Scope) → In s p.scopes → OwnNamesFit p s
 
--- no own name has a space in it
-abbrev pub HaveNoSpaces : Program → Type 0
-HaveNoSpaces p = (s : Scope) → In s p.scopes → (n : OwnName) → In n s.names → In 32 n.name → ⊥
+-- no own name has a space or a full stop in it: the instance of a used module is named with a space, those that a line brings with a full stop
+abbrev pub IsPlainName : List ℕ → Type 0
+IsPlainName name = (In 32 name → ⊥) × (In 46 name → ⊥)
+
+abbrev pub HavePlainNames : Program → Type 0
+HavePlainNames p = (s : Scope) → In s p.scopes → (n : OwnName) → In n s.names → IsPlainName n.name
+
+-- a name before a grant is a grant
+abbrev pub GrantsStandFirst : List OwnName → Type 0
+GrantsStandFirst [] = Unit {0}
+GrantsStandFirst (n ∷ ns) = ((m : OwnName) → In m ns → m.origin ≡ Grant → n.origin ≡ Grant) × GrantsStandFirst ns
+
+-- methods of a module see no variable but their parameters
+abbrev pub ModulesCaptureNothing : Program → Type 0
+ModulesCaptureNothing p = (s : Scope) → In s p.scopes → literal_captures (slice_get s.literals 0) ≡ []

@@ -38,6 +38,9 @@ mod AtomsOpened
 mod OwnTyped
 mod SealedModules
 mod NamesFit
+mod EachScope
 mod MadeOnce
 mod NamesAreWords
+mod GrantsFirst
+mod NothingCaptured
 mod Examples

@@ -1,11 +1,10 @@
 -- The literals that a scope makes have the numbers between its counts, each once.
-use Rattle.std.proofs.Common.{◌≡◌, ℕ, List, [], ◌∷◌, ◌++◌, map, inl, inr, refl, sym, ap, ap₂, ◌∙◌, subst, append-nil, append_assoc}
+use Rattle.std.proofs.Common.{◌≡◌, ℕ, List, [], ◌∷◌, ◌++◌, refl, sym, ap, ap₂, ◌∙◌, append-nil, append_assoc}
 use Rattle.wy_text.specs.declared.fault.Place.{Place}
 use Rattle.wy_syntax.specs.Trees as t
-use Rattle.wy_effects.specs.Members.{In, Apart}
-use Rattle.wy_effects.proofs.Lists.{In-cases, In-unmap}
+use Rattle.wy_effects.specs.Members.{Apart}
 use Rattle.wy_types.specs.Code as code
-use Rattle.wy_types.specs.Program.{Program, Scope, Body}
+use Rattle.wy_types.specs.Program.{Scope, Body}
 use Rattle.wy_names.specs.declared.scoping.Head.{Head}
 use Rattle.wy_names.specs.Declarations.{ModuleTree, ProgramTree, types_of, modules_of}
 use Rattle.wy_names.specs.Atoms.{heads_of}
@@ -14,6 +13,7 @@ use Rattle.wy_names.specs.Sight.{Sight, outermost, inside, with_params}
 use Rattle.wy_names.specs.Bodies.{Within, Count, at_start, one_val, one_literal, one_body, rhs_after, stmt_after, stmts_after, part_after, parts_after, tail_after, stmt_sight, last_or, operand, bound, expr_value, expr_values, rhs_value, stmt_block, stmts_block, part_values, with_field, tail_block, rhs_bodies, stmt_bodies, stmts_bodies, part_bodies, parts_bodies, tail_bodies}
 use Rattle.wy_well_formed.specs.News.{expr_news, value_news, values_news, block_news, bodies_news, scope_news}
 use Rattle.wy_well_formed.specs.WellFormed.{ResolvedMakesOnce}
+use Rattle.wy_well_formed.proofs.EachScope.{each_scope}
 use Rattle.wy_well_formed.proofs.Spreads.{Spread, spread_as, spread_none, spread_both, spread_first, spread_method, spread_apart}
 
 bodies_news_append : (xs ys : List Body) → bodies_news (xs ++ ys) ≡ bodies_news xs ++ bodies_news ys
@@ -176,9 +176,4 @@ makes_once items p r =
     let modules = modules_of items in
     let heads = heads_of (types_of items) in
     let P : Scope → Type 0 = λ v. Apart (scope_news v) in
-    let Q : Program → Type 0 = λ v. (s : Scope) → In s v.scopes → P s in
-    subst Q (sym r.bound) (λ s i.
-    elim (In-cases s (map (scope_of_module heads modules) modules) (scope_of_program heads modules r.program ∷ []) i) [
-      | inl j ↦ (let u = In-unmap (scope_of_module heads modules) s modules j in subst P u.2 (module_makes_once heads modules u.0))
-      | inr j ↦ elim j [ inl e ↦ subst P e (program_makes_once heads modules r.program) | inr l ↦ absurd l ]
-    ])
+    each_scope items p r P (λ m i. module_makes_once heads modules m) (program_makes_once heads modules r.program)

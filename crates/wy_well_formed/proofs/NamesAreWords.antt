@@ -1,4 +1,4 @@
--- Own names are the words that the items give them, so they have no space where those have none.
+-- Own names are the words that the items give them, so they are plain where those have no space and no full stop.
 use Rattle.std.proofs.Common.{◌≡◌, ℕ, List, [], ◌∷◌, ◌++◌, map, inl, inr, refl, sym, subst}
 use Rattle.std.specs.List.{AllByRecursion}
 use Rattle.wy_syntax.specs.declared.types.Name.{Name}
@@ -7,16 +7,17 @@ use Rattle.wy_effects.specs.Members.{In}
 use Rattle.wy_effects.proofs.Lists.{In-map, In-unmap, In-cases}
 use Rattle.wy_types.specs.declared.resolved.OwnName.{OwnName}
 use Rattle.wy_types.specs.Types.{is_plain}
-use Rattle.wy_types.specs.Program.{Program, Scope}
-use Rattle.wy_rules.specs.OwnNames.{HaveNoSpaces}
+use Rattle.wy_types.specs.Program.{Scope}
+use Rattle.wy_rules.specs.OwnNames.{IsPlainName}
 use Rattle.wy_names.specs.declared.scoping.Head.{Head}
 use Rattle.wy_names.specs.Declarations.{ModuleTree, ProgramTree, texts, item_modules, item_programs, types_of, modules_of, programs_of}
 use Rattle.wy_names.specs.Atoms.{heads_of}
 use Rattle.wy_names.specs.TypeUses.{param_names}
 use Rattle.wy_names.specs.Lines.{param_name, grant_name}
-use Rattle.wy_names.specs.Scopes.{grant_names, line_words, param_scope, module_own, module_atoms, early_owners, program_scope, program_own, program_atoms, grant_owners, scope_of_module, scope_of_program}
+use Rattle.wy_names.specs.Scopes.{grant_names, line_words, param_scope, module_own, module_atoms, early_owners, program_scope, program_own, program_atoms, grant_owners}
 use Rattle.wy_well_formed.specs.OwnWords.{own_words, IsWord, HaveWords}
 use Rattle.wy_well_formed.specs.WellFormed.{ResolvedNamesAreWords}
+use Rattle.wy_well_formed.proofs.EachScope.{each_scope}
 use Rattle.wy_well_formed.proofs.OwnApart.{own_texts, param_texts, grant_texts, all_texts}
 
 abbrev AreWords : List Name → Type 0
@@ -31,18 +32,27 @@ word_among [] h n i = absurd i
 word_among (m ∷ ns) h n (inl e) = subst (λ v. IsWord v) e h.0
 word_among (m ∷ ns) h n (inr i) = word_among ns h.1 n i
 
-no_space : (bytes : List ℕ) → AllByRecursion (λ b. b ≡ 32 → ⊥) bytes → In 32 bytes → ⊥
+abbrev IsUnbroken : List ℕ → Type 0
+IsUnbroken bytes = AllByRecursion (λ b. (b ≡ 32 → ⊥) × (b ≡ 46 → ⊥)) bytes
+
+no_space : (bytes : List ℕ) → IsUnbroken bytes → In 32 bytes → ⊥
 no_space [] h i = i
-no_space (b ∷ bytes) h (inl e) = h.0 e
+no_space (b ∷ bytes) h (inl e) = h.0.0 e
 no_space (b ∷ bytes) h (inr i) = no_space bytes h.1 i
 
+no_stop : (bytes : List ℕ) → IsUnbroken bytes → In 46 bytes → ⊥
+no_stop [] h i = i
+no_stop (b ∷ bytes) h (inl e) = h.0.1 e
+no_stop (b ∷ bytes) h (inr i) = no_stop bytes h.1 i
+
 -- own names with the texts of words
-spaceless : (names : List OwnName) (ns : List Name) → own_texts names ≡ texts ns → AreWords ns → (n : OwnName) → In n names → In 32 n.name → ⊥
-spaceless names ns e h n i =
+are_plain : (names : List OwnName) (ns : List Name) → own_texts names ≡ texts ns → AreWords ns → (n : OwnName) → In n names → IsPlainName n.name
+are_plain names ns e h n i =
     let P : List (List ℕ) → Type 0 = λ l. In n.name l in
     let r = In-unmap (λ (m : Name). m.text) n.name ns (subst P e (In-map (λ (m : OwnName). m.name) n names i)) in
-    let w : IsWord r.0 = word_among ns h r.0 r.1 in
-    no_space n.name (subst (λ bytes. AllByRecursion (λ b. b ≡ 32 → ⊥) bytes) r.2 w)
+    let word : IsWord r.0 = word_among ns h r.0 r.1 in
+    let bytes = subst (λ v. IsUnbroken v) r.2 word in
+    (no_space n.name bytes, no_stop n.name bytes)
 
 ------------------------------------------------------------
 -- Modules
@@ -67,11 +77,11 @@ words_of_module [] m i h = absurd i
 words_of_module (x ∷ items) m i h =
     elim (In-cases m (item_modules x) (modules_of items) i) [ inl j ↦ item_module x m j h.0 | inr j ↦ words_of_module items m j h.1 ]
 
-module_spaceless : (heads : List Head) (modules : List ModuleTree) (m : ModuleTree) → AreWords (module_words m) → (n : OwnName) →
-    In n (module_own heads modules m) → In 32 n.name → ⊥
-module_spaceless heads modules m h =
+module_plain : (heads : List Head) (modules : List ModuleTree) (m : ModuleTree) → AreWords (module_words m) → (n : OwnName) →
+    In n (module_own heads modules m) → IsPlainName n.name
+module_plain heads modules m h =
     let first = map (param_name (param_scope heads modules m) (is_plain m.kind)) m.params in
-    spaceless (module_own heads modules m) (module_words m)
+    are_plain (module_own heads modules m) (module_words m)
     (all_texts heads modules (module_atoms heads modules m) first (param_names m.params) m.uses (early_owners heads modules m) m.lines
     (param_texts (param_scope heads modules m) (is_plain m.kind) m.params)) h
 
@@ -94,11 +104,11 @@ words_of_program [] g i h = absurd i
 words_of_program (x ∷ items) g i h =
     elim (In-cases g (item_programs x) (programs_of items) i) [ inl j ↦ item_program x g j h.0 | inr j ↦ words_of_program items g j h.1 ]
 
-program_spaceless : (heads : List Head) (modules : List ModuleTree) (g : ProgramTree) → AreWords (program_words g) → (n : OwnName) →
-    In n (program_own heads modules g) → In 32 n.name → ⊥
-program_spaceless heads modules g h =
+program_plain : (heads : List Head) (modules : List ModuleTree) (g : ProgramTree) → AreWords (program_words g) → (n : OwnName) →
+    In n (program_own heads modules g) → IsPlainName n.name
+program_plain heads modules g h =
     let first = map (grant_name (program_scope heads modules g)) g.grants in
-    spaceless (program_own heads modules g) (program_words g)
+    are_plain (program_own heads modules g) (program_words g)
     (all_texts heads modules (program_atoms heads modules g) first (grant_names g.grants) g.uses (grant_owners heads modules g) g.lines
     (grant_texts (program_scope heads modules g) g.grants)) h
 
@@ -109,14 +119,9 @@ pub names_are_words : ResolvedNamesAreWords
 names_are_words items p r h =
     let modules = modules_of items in
     let heads = heads_of (types_of items) in
-    let P : Scope → Type 0 = λ v. (n : OwnName) → In n v.names → In 32 n.name → ⊥ in
-    let Q : Program → Type 0 = λ v. HaveNoSpaces v in
-    let R : List ProgramTree → Type 0 = λ gs. In r.program gs in
-    let mine : In r.program (programs_of items) = subst R (sym r.one) (inl refl) in
-    subst Q (sym r.bound) (λ s i.
-    elim (In-cases s (map (scope_of_module heads modules) modules) (scope_of_program heads modules r.program ∷ []) i) [
-      | inl j ↦ (
-          let u = In-unmap (scope_of_module heads modules) s modules j in
-          subst P u.2 (module_spaceless heads modules u.0 (words_of_module items u.0 u.1 h)))
-      | inr j ↦ elim j [ inl e ↦ subst P e (program_spaceless heads modules r.program (words_of_program items r.program mine h)) | inr l ↦ absurd l ]
-    ])
+    let P : Scope → Type 0 = λ v. (n : OwnName) → In n v.names → IsPlainName n.name in
+    let Q : List ProgramTree → Type 0 = λ gs. In r.program gs in
+    let mine : In r.program (programs_of items) = subst Q (sym r.one) (inl refl) in
+    each_scope items p r P
+    (λ m i. module_plain heads modules m (words_of_module items m i h))
+    (program_plain heads modules r.program (words_of_program items r.program mine h))

@@ -2,7 +2,7 @@
 //! clause.
 #![tactic(auto)]
 
-ghost use Rattle.wy_well_formed.specs.WellFormed.{ResolvedIsCore, ResolvedMakesOnce, ResolvedNamesAreWords, ResolvedNamesFit};
+ghost use Rattle.wy_well_formed.specs.WellFormed.{ResolvedGrantsStandFirst, ResolvedIsCore, ResolvedMakesOnce, ResolvedModulesCaptureNothing, ResolvedNamesAreWords, ResolvedNamesFit};
 
 /// A program whose names resolve is a core: its numbers are in range, its names differ, its types, effects and bodies
 /// have the forms that their kinds of scope ask, and no module leads back to itself.
@@ -17,10 +17,20 @@ pub fn resolved_names_fit()
     ensures { ResolvedNamesFit }
 {}
 
-/// No own name has a space in it, where none of the words has one that the items give to parameters, grants and lines,
-/// or name in a `use`.
+/// No own name has a space or a full stop in it, where none of the words has one that the items give to parameters,
+/// grants and lines, or name in a `use`.
 pub fn resolved_names_are_words()
     ensures { ResolvedNamesAreWords }
+{}
+
+/// Of the program's own names the grants stand first.
+pub fn resolved_grants_stand_first()
+    ensures { ResolvedGrantsStandFirst }
+{}
+
+/// The methods of a module see no variable but their parameters.
+pub fn resolved_modules_capture_nothing()
+    ensures { ResolvedModulesCaptureNothing }
 {}
 
 /// Each object literal is made at one place of its scope.
