@@ -7,6 +7,7 @@ pub mod GroundTyping
 pub mod Judging
 pub mod Nodes
 pub mod Operators
+pub mod OwnNames
 pub mod Polarity
 pub mod Readings
 pub mod Refusals
