@@ -1,11 +1,12 @@
--- Worked examples: trees without places, and what they are printed as.
-use Rattle.std.proofs.Common.{◌≡◌, ℕ, [], ◌∷◌, refl}
+-- Worked examples: trees without places, what they are printed as, and the words that they give to own names.
+use Rattle.std.proofs.Common.{◌≡◌, ℕ, [], ◌∷◌, map, refl}
 use Rattle.std.specs.Prelude.{codes, List}
 use Rattle.wy_text.specs.declared.fault.Place.{Place}
 use Rattle.wy_syntax.specs.declared.types.Name.{Name}
 use Rattle.wy_syntax.specs.Trees.{ExprTree, name, text, yes, no, call, none, more, value, run, no_stmts, more_stmts, long, ItemTree, program_item}
 use Rattle.wy_syntax.specs.Canonical.{canonical_form}
 use Rattle.wy_canonical.specs.Unplaced.{unplaced}
+use Rattle.wy_canonical.specs.OwnWords.{own_words, IsWord}
 
 abbrev at : ℕ → ℕ → Place
 at line column = record { file = 1; line = line; column = column }
@@ -33,3 +34,17 @@ printed_tree = refl
 -- places are gone, and the canonical form stays
 printed_unplaced : canonical_form (unplaced (writes (at 1 1) (text (codes "a") (at 4 13)))) ≡ codes "program\n  grant c: Console\n  run: {}\n    c.write(\"a\")\n"
 printed_unplaced = refl
+
+-- the word of its grant
+granted_word : map own_words (writes (at 1 1) (yes (at 4 13))) ≡ (named (codes "c") 2 9 ∷ []) ∷ []
+granted_word = refl
+
+-- a word, and two that are none
+is_word : IsWord (named (codes "c") 2 9)
+is_word = (((λ e. cc), (λ e. cc)), tt)
+
+spaced : IsWord (named (codes "c d") 2 9) → ⊥
+spaced h = h.1.0.0 refl
+
+stopped : IsWord (named (codes "c.d") 2 9) → ⊥
+stopped h = h.1.0.1 refl

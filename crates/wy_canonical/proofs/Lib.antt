@@ -12,4 +12,5 @@ pub mod Turning
 pub mod Statements
 pub mod Items
 pub mod Files
+pub mod OwnWords
 pub mod Examples

@@ -1,5 +1,6 @@
--- A name is text, and has no line's end in it.
+-- A name is text, and has no line's end, no space and no full stop in it.
 use Rattle.std.proofs.Common.{◌≡◌, ℕ, zero, suc, ◌+◌, ◌/◌, ◌<◌, ◌≤◌, ◌==◌, nat_lt, Bool, true, false, not, cond, ◌&&◌, ◌||◌, List, [], ◌∷◌, ◌++◌, take, drop, slice_index, refl, sym, ap, subst, ◌∙◌, arith, take-append-drop, ltb-true, IsUtf8}
+use Rattle.std.specs.List.{AllByRecursion}
 use Rattle.std.specs.Str.{continuation_len, chars, is_utf8}
 use Rattle.std.specs.Char.{is_ascii_alphabetic, is_ascii_alphanumeric}
 use lib.Utf8.{encode, encodes, next}
@@ -63,7 +64,72 @@ name_utf8 (b ∷ bs) h =
     let g = and_right (starts (b ∷ bs)) (go_on (continuation_len b) bs) h in
     joined b bs (starts_some b bs s) (going_utf8 (continuation_len b) bs g)
 
--- ---- no line's end
+-- ---- the bytes of names
+
+-- a letter, a digit or an underscore, or a byte of a character beyond ASCII
+abbrev is_name_byte : ℕ → Bool
+is_name_byte b = not (nat_lt b 128) || (is_ascii_alphanumeric b || (b == 95))
+
+abbrev name_bytes : List ℕ → Bool
+name_bytes [] = true
+name_bytes (b ∷ bs) = is_name_byte b && name_bytes bs
+
+bytes_append : (u v : List ℕ) → name_bytes u ≡ true → name_bytes v ≡ true → name_bytes (u ++ v) ≡ true
+bytes_append [] v h k = k
+bytes_append (b ∷ u) v h k = both (is_name_byte b) (name_bytes (u ++ v)) (and_left (is_name_byte b) (name_bytes u) h) (bytes_append u v (and_right (is_name_byte b) (name_bytes u) h) k)
+
+high : (b : ℕ) → 128 ≤ b → is_name_byte b ≡ true
+high b h = go (nat_lt b 128) refl
+  where
+    go : (x : Bool) → nat_lt b 128 ≡ x → (not x || (is_ascii_alphanumeric b || (b == 95))) ≡ true
+    go true e = absurd (let l = ltb-true b 128 e in omega arith)
+    go false e = refl
+
+char_bytes : (c : ℕ) → (nat_lt c 128 ≡ true → (is_ascii_alphanumeric c || (c == 95)) ≡ true) → name_bytes (encode c) ≡ true
+unfolding encode
+char_bytes c h = go (nat_lt c 128) refl (nat_lt c 2048) (nat_lt c 65536)
+  where
+    more : (b : ℕ) (bs : List ℕ) → 128 ≤ b → name_bytes bs ≡ true → name_bytes (b ∷ bs) ≡ true
+    more b bs h k = both (is_name_byte b) (name_bytes bs) (high b h) k
+
+    low : nat_lt c 128 ≡ true → is_name_byte c ≡ true
+    low e = ap (λ (x : Bool). not x || (is_ascii_alphanumeric c || (c == 95))) e ∙ h e
+
+    go : (x : Bool) → nat_lt c 128 ≡ x → (y z : Bool) → name_bytes (cond x (c ∷ []) (cond y ((192 + c / 64) ∷ next c ∷ []) (cond z ((224 + c / 4096) ∷ next (c / 64) ∷ next c ∷ []) ((240 + c / 262144) ∷ next (c / 4096) ∷ next (c / 64) ∷ next c ∷ [])))) ≡ true
+    go true e y z = both (is_name_byte c) true (low e) refl
+    go false e true z = more (192 + c / 64) (next c ∷ []) (omega arith) (more (next c) [] (omega arith) refl)
+    go false e false true = more (224 + c / 4096) (next (c / 64) ∷ next c ∷ []) (omega arith) (more (next (c / 64)) (next c ∷ []) (omega arith) (more (next c) [] (omega arith) refl))
+    go false e false false = more (240 + c / 262144) (next (c / 4096) ∷ next (c / 64) ∷ next c ∷ []) (omega arith) (more (next (c / 4096)) (next (c / 64) ∷ next c ∷ []) (omega arith) (more (next (c / 64)) (next c ∷ []) (omega arith) (more (next c) [] (omega arith) refl)))
+
+continue_bytes : (c : ℕ) → is_xid_continue c ≡ true → name_bytes (encode c) ≡ true
+continue_bytes c h = char_bytes c (λ e. sym (is_xid_continue-ascii c (ltb-true c 128 e)) ∙ h)
+
+start_bytes : (c : ℕ) → (is_xid_start c || (c == 95)) ≡ true → name_bytes (encode c) ≡ true
+start_bytes c h = char_bytes c (λ e. wider (sym (ap (λ (b : Bool). b || (c == 95)) (is_xid_start-ascii c (ltb-true c 128 e))) ∙ h))
+  where
+    wider : (is_ascii_alphabetic c || (c == 95)) ≡ true → (is_ascii_alphanumeric c || (c == 95)) ≡ true
+    wider h = grind arith
+
+all_bytes : (cs : List ℕ) → all_continue cs ≡ true → name_bytes (encodes cs) ≡ true
+all_bytes [] h = refl
+all_bytes (c ∷ cs) h = bytes_append (encode c) (encodes cs) (continue_bytes c (and_left (is_xid_continue c) (all_continue cs) h)) (all_bytes cs (and_right (is_xid_continue c) (all_continue cs) h))
+
+named_bytes : (cs : List ℕ) → is_name_of cs ≡ true → name_bytes (encodes cs) ≡ true
+named_bytes [] h = refl
+named_bytes (c ∷ cs) h = bytes_append (encode c) (encodes cs) (start_bytes c (and_left (is_xid_start c || (c == 95)) (all_continue cs) h)) (all_bytes cs (and_right (is_xid_start c || (c == 95)) (all_continue cs) h))
+
+are_name_bytes : (w : List ℕ) → is_name w ≡ true → name_bytes w ≡ true
+are_name_bytes w h =
+    let u = name_utf8 w h in
+    subst (λ (z : List ℕ). name_bytes z ≡ true) (encodes-chars w u) (named_bytes (chars w) (sym (name_characters w u) ∙ h))
+
+-- a byte that names have is none that they have not
+other_byte : (b n : ℕ) → is_name_byte n ≡ false → is_name_byte b ≡ true → (b == n) ≡ false
+other_byte b n none h = go (b == n) refl
+  where
+    go : (x : Bool) → (b == n) ≡ x → (b == n) ≡ false
+    go false e = e
+    go true e = absurd (let t : true ≡ false = sym h ∙ ap is_name_byte (eq_is b n e) ∙ none in cc)
 
 -- no byte is a newline or a carriage return
 abbrev pub flat : List ℕ → Bool
@@ -74,51 +140,27 @@ pub flat_append : (u v : List ℕ) → flat u ≡ true → flat v ≡ true → f
 flat_append [] v h k = k
 flat_append (b ∷ u) v h k = both (not ((b == 10) || (b == 13))) (flat (u ++ v)) (and_left (not ((b == 10) || (b == 13))) (flat u) h) (flat_append u v (and_right (not ((b == 10) || (b == 13))) (flat u) h) k)
 
-high : (b : ℕ) → 128 ≤ b → not ((b == 10) || (b == 13)) ≡ true
-high b h = grind arith
-
-letter : (b : ℕ) → (is_ascii_alphanumeric b || (b == 95)) ≡ true → not ((b == 10) || (b == 13)) ≡ true
-letter b h = go (b == 10) refl (b == 13) refl
-  where
-    go : (x : Bool) → (b == 10) ≡ x → (y : Bool) → (b == 13) ≡ y → not (x || y) ≡ true
-    go true e y f = absurd (let n = eq_is b 10 e in let t : false ≡ true = ap (λ (c : ℕ). is_ascii_alphanumeric c || (c == 95)) (sym n) ∙ h in cc)
-    go false e true f = absurd (let n = eq_is b 13 f in let t : false ≡ true = ap (λ (c : ℕ). is_ascii_alphanumeric c || (c == 95)) (sym n) ∙ h in cc)
-    go false e false f = refl
-
-flat_char : (c : ℕ) → (nat_lt c 128 ≡ true → (is_ascii_alphanumeric c || (c == 95)) ≡ true) → flat (encode c) ≡ true
-unfolding encode
-flat_char c h = go (nat_lt c 128) refl (nat_lt c 2048) (nat_lt c 65536)
-  where
-    one : (b : ℕ) (bs : List ℕ) → 128 ≤ b → flat bs ≡ true → flat (b ∷ bs) ≡ true
-    one b bs h k = both (not ((b == 10) || (b == 13))) (flat bs) (high b h) k
-
-    go : (x : Bool) → nat_lt c 128 ≡ x → (y z : Bool) → flat (cond x (c ∷ []) (cond y ((192 + c / 64) ∷ next c ∷ []) (cond z ((224 + c / 4096) ∷ next (c / 64) ∷ next c ∷ []) ((240 + c / 262144) ∷ next (c / 4096) ∷ next (c / 64) ∷ next c ∷ [])))) ≡ true
-    go true e y z = both (not ((c == 10) || (c == 13))) true (letter c (h e)) refl
-    go false e true z = one (192 + c / 64) (next c ∷ []) (omega arith) (one (next c) [] (omega arith) refl)
-    go false e false true = one (224 + c / 4096) (next (c / 64) ∷ next c ∷ []) (omega arith) (one (next (c / 64)) (next c ∷ []) (omega arith) (one (next c) [] (omega arith) refl))
-    go false e false false = one (240 + c / 262144) (next (c / 4096) ∷ next (c / 64) ∷ next c ∷ []) (omega arith) (one (next (c / 4096)) (next (c / 64) ∷ next c ∷ []) (omega arith) (one (next (c / 64)) (next c ∷ []) (omega arith) (one (next c) [] (omega arith) refl)))
-
-continue_flat : (c : ℕ) → is_xid_continue c ≡ true → flat (encode c) ≡ true
-continue_flat c h = flat_char c (λ e. sym (is_xid_continue-ascii c (ltb-true c 128 e)) ∙ h)
-
-start_flat : (c : ℕ) → (is_xid_start c || (c == 95)) ≡ true → flat (encode c) ≡ true
-start_flat c h = flat_char c (λ e. wider (sym (ap (λ (b : Bool). b || (c == 95)) (is_xid_start-ascii c (ltb-true c 128 e))) ∙ h))
-  where
-    wider : (is_ascii_alphabetic c || (c == 95)) ≡ true → (is_ascii_alphanumeric c || (c == 95)) ≡ true
-    wider h = grind arith
-
-all_flat : (cs : List ℕ) → all_continue cs ≡ true → flat (encodes cs) ≡ true
-all_flat [] h = refl
-all_flat (c ∷ cs) h = flat_append (encode c) (encodes cs) (continue_flat c (and_left (is_xid_continue c) (all_continue cs) h)) (all_flat cs (and_right (is_xid_continue c) (all_continue cs) h))
-
-named_flat : (cs : List ℕ) → is_name_of cs ≡ true → flat (encodes cs) ≡ true
-named_flat [] h = refl
-named_flat (c ∷ cs) h = flat_append (encode c) (encodes cs) (start_flat c (and_left (is_xid_start c || (c == 95)) (all_continue cs) h)) (all_flat cs (and_right (is_xid_start c || (c == 95)) (all_continue cs) h))
+flat_bytes : (w : List ℕ) → name_bytes w ≡ true → flat w ≡ true
+flat_bytes [] h = refl
+flat_bytes (b ∷ w) h =
+    let g = and_left (is_name_byte b) (name_bytes w) h in
+    let here : not ((b == 10) || (b == 13)) ≡ true = rw (other_byte b 10 refl g, other_byte b 13 refl g) refl in
+    both (not ((b == 10) || (b == 13))) (flat w) here (flat_bytes w (and_right (is_name_byte b) (name_bytes w) h))
 
 pub name_flat : (w : List ℕ) → is_name w ≡ true → flat w ≡ true
-name_flat w h =
-    let u = name_utf8 w h in
-    subst (λ (z : List ℕ). flat z ≡ true) (encodes-chars w u) (named_flat (chars w) (sym (name_characters w u) ∙ h))
+name_flat w h = flat_bytes w (are_name_bytes w h)
+
+-- and none is a space or a full stop
+unbroken_bytes : (w : List ℕ) → name_bytes w ≡ true → AllByRecursion (λ b. (b ≡ 32 → ⊥) × (b ≡ 46 → ⊥)) w
+unbroken_bytes [] h = tt
+unbroken_bytes (b ∷ w) h =
+    let g = and_left (is_name_byte b) (name_bytes w) h in
+    let no_space : b ≡ 32 → ⊥ = λ e. (let t : true ≡ false = sym g ∙ ap is_name_byte e in cc) in
+    let no_stop : b ≡ 46 → ⊥ = λ e. (let t : true ≡ false = sym g ∙ ap is_name_byte e in cc) in
+    ((no_space, no_stop), unbroken_bytes w (and_right (is_name_byte b) (name_bytes w) h))
+
+pub name_unbroken : (w : List ℕ) → is_name w ≡ true → AllByRecursion (λ b. (b ≡ 32 → ⊥) × (b ≡ 46 → ⊥)) w
+name_unbroken w h = unbroken_bytes w (are_name_bytes w h)
 
 -- what a name begins with is no blank and no slash
 pub name_first : (b : ℕ) (bs : List ℕ) → is_name (b ∷ bs) ≡ true → (n : ℕ) → n < 128 → (is_ascii_alphabetic n || (n == 95)) ≡ false → (b == n) ≡ false

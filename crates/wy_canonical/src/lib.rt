@@ -1,7 +1,8 @@
-//! The law on printed texts (docs/LANGUAGE.md, "Canonical form"). No function here does anything: what it says is its
-//! clause.
+//! The laws on printed texts (docs/LANGUAGE.md, "Canonical form"), and one on the words of files. No function here does
+//! anything: what each says is its clause.
 #![tactic(auto)]
 
+ghost use Rattle.wy_canonical.specs.OwnWords.{TreesHaveWords};
 ghost use Rattle.wy_canonical.specs.Printed.{PrintedAgain, PrintedOrLimited, PrintedTrees, TokensWithinLimits};
 
 /// The canonical form of a file's tree has tokens that spell the same tree but for places, or it passes a limit of
@@ -24,4 +25,10 @@ pub fn printed_again()
 /// A text that has tokens passes no limit of layout.
 pub fn tokens_within_limits()
     ensures { TokensWithinLimits }
+{}
+
+/// The words that a file's items give to own names of scopes have no space and no full stop in them: those of
+/// parameters, grants and lines, and those of used modules.
+pub fn trees_have_words()
+    ensures { TreesHaveWords }
 {}

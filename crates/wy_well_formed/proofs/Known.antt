@@ -5,6 +5,7 @@ use Rattle.std.proofs.lemmas.List.{map-append}
 use Rattle.wy_syntax.specs.declared.items.TypeDecl.{TypeDecl}
 use Rattle.wy_types.specs.declared.resolved.TypeDecl as core
 use Rattle.wy_types.specs.Fitting.{member_count}
+use Rattle.wy_types.specs.Ground.{abstract_names as declared_members}
 use Rattle.wy_types.specs.Primitive.{primitive_types}
 use Rattle.wy_types.specs.Program.{Program}
 use Rattle.wy_names.specs.declared.scoping.Head.{Head}
@@ -38,13 +39,32 @@ declared_alike : (heads : List Head) (types : List TypeDecl) → AreAlike (map h
 declared_alike heads [] = tt
 declared_alike heads (d ∷ ds) = (refl, declared_alike heads ds)
 
+all_alike : (types : List TypeDecl) → AreAlike (heads_of types) (declarations_of (heads_of types) types)
+all_alike types = (refl, (refl, (refl, (refl, declared_alike (heads_of types) types))))
+
 pub heads_known : (p : Program) (types : List TypeDecl) → p.declarations ≡ declarations_of (heads_of types) types → Knows p (heads_of types)
 heads_known p types e =
-    let alike : AreAlike (heads_of types) (declarations_of (heads_of types) types) = (refl, (refl, (refl, (refl, declared_alike (heads_of types) types)))) in
+    let alike = all_alike types in
     record {
       types = alike_length (heads_of types) (declarations_of (heads_of types) types) alike ∙ ap (λ (l : List core.TypeDecl). length l) (sym e);
       members = λ d. alike_members (heads_of types) (declarations_of (heads_of types) types) alike d ∙ ap (λ l. member_count (slice_get l d)) (sym e);
     }
+
+-- the declarations of a program have the abstract members of the types that are known, by their names
+pub record KnowsMembers (p : Program) (heads : List Head) : Type 0 where
+  pub same : (d : ℕ) → declared_members (slice_get p.declarations d) ≡ abstract_names (members_of heads d)
+
+alike_names : (hs : List Head) (ds : List core.TypeDecl) → AreAlike hs ds → (k : ℕ) → declared_members (slice_get ds k) ≡ abstract_names (members_of hs k)
+alike_names [] [] a k = refl
+alike_names [] (d ∷ ds) a k = absurd a
+alike_names (h ∷ hs) [] a k = absurd a
+alike_names (h ∷ hs) (d ∷ ds) a zero = sym a.0
+alike_names (h ∷ hs) (d ∷ ds) a (suc k) = alike_names hs ds a.1 k
+
+pub members_known : (p : Program) (types : List TypeDecl) → p.declarations ≡ declarations_of (heads_of types) types → KnowsMembers p (heads_of types)
+members_known p types e = record {
+  same = λ d. ap (λ l. declared_members (slice_get l d)) e ∙ alike_names (heads_of types) (declarations_of (heads_of types) types) (all_alike types) d;
+}
 
 -- the names of the types are those of the declarations, in their order
 declared_head_names : (types : List TypeDecl) → head_names (map head types) ≡ texts (type_names types)

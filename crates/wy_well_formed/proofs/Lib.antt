@@ -34,3 +34,13 @@ mod ModuleScopes
 mod ProgramScope
 mod Assembled
 mod Resolved
+mod AtomsOpened
+mod OwnTyped
+mod SealedModules
+mod NamesFit
+mod EachScope
+mod MadeOnce
+mod NamesAreWords
+mod GrantsFirst
+mod NothingCaptured
+mod Examples

@@ -1,4 +1,5 @@
--- The forms of modules by their kind: none is the program's, and a plain one has neither uses nor lines nor a start of its own.
+-- The forms of modules by their kind: none is the program's, a pure one has no parameters, and a plain one has neither uses nor lines nor
+-- a start of its own.
 use Rattle.std.proofs.Common.{◌≡◌, List, [], ◌∷◌, true, None, inl, inr, refl, subst}
 use Rattle.wy_syntax.specs.Trees.{ItemTree, type_item, pure_item, resource_item, plain_item, program_item}
 use Rattle.wy_effects.specs.Members.{In}
@@ -14,7 +15,7 @@ pub record IsBare (m : ModuleTree) : Type 0 where
   pub init : m.init ≡ None
 
 abbrev FormOf : ScopeKind → ModuleTree → Type 0
-FormOf Pure m = Unit {0}
+FormOf Pure m = m.params ≡ []
 FormOf Resource m = Unit {0}
 FormOf Plain m = IsBare m
 FormOf Main m = ⊥
@@ -28,6 +29,9 @@ is_module Resource m h e = cc
 is_module Plain m h e = cc
 is_module Main m h e = h.form
 
+pub pure_is_bare : (m : ModuleTree) → HasForm Pure m → m.params ≡ []
+pure_is_bare m h = h.form
+
 pub plain_is_bare : (kind : ScopeKind) (m : ModuleTree) → HasForm kind m → is_plain kind ≡ true → IsBare m
 plain_is_bare Pure m h e = cc
 plain_is_bare Resource m h e = cc
@@ -36,7 +40,7 @@ plain_is_bare Main m h e = absurd h.form
 
 item_form : (i : ItemTree) (m : ModuleTree) → In m (item_modules i) → HasForm m.kind m
 item_form (type_item d) m i = absurd i
-item_form (pure_item place name sealed within) m (inl e) = let P : ModuleTree → Type 0 = λ v. HasForm v.kind v in subst P e (record { form = tt })
+item_form (pure_item place name sealed within) m (inl e) = let P : ModuleTree → Type 0 = λ v. HasForm v.kind v in subst P e (record { form = refl })
 item_form (pure_item place name sealed within) m (inr i) = absurd i
 item_form (resource_item place name params sealed within) m (inl e) = let P : ModuleTree → Type 0 = λ v. HasForm v.kind v in subst P e (record { form = tt })
 item_form (resource_item place name params sealed within) m (inr i) = absurd i

@@ -47,7 +47,7 @@ pub record IsNamed (modules : List ModuleTree) (words : List Name) (j : ℕ) : T
   pub number : module_number modules word.text ≡ Some j
 
 module _ (heads : List Head) (modules : List ModuleTree) (atoms : List AtomName) where
-  the_number : (word : Name) (o : Option ℕ) (j : ℕ) → unless_number heads modules atoms word o ≡ [] → number_or_zero o ≡ j → o ≡ Some j
+  pub the_number : (word : Name) (o : Option ℕ) (j : ℕ) → unless_number heads modules atoms word o ≡ [] → number_or_zero o ≡ j → o ≡ Some j
   the_number word None j e f = cc
   the_number word (Some k) j e f = ap (λ (n : ℕ). Some n) f
 

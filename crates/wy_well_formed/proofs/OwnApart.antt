@@ -41,7 +41,7 @@ module _ (heads : List Head) (modules : List ModuleTree) (atoms : List AtomName)
   line_texts before (line.Instance x m ns ∷ ls) = ap (λ l. x.text ∷ l) (line_texts (before ++ line_owner (head_names heads) modules (line.Instance x m ns) ∷ []) ls)
   line_texts before (line.Import x m ns set ∷ ls) = ap (λ l. x.text ∷ l) (line_texts (before ++ line_owner (head_names heads) modules (line.Import x m ns set) ∷ []) ls)
 
-  all_texts : (first : List OwnName) (names : List Name) (us : List Name) (before : List Owner) (ls : List Line) → own_texts first ≡ texts names →
+  pub all_texts : (first : List OwnName) (names : List Name) (us : List Name) (before : List Owner) (ls : List Line) → own_texts first ≡ texts names →
       own_texts (first ++ (map (use_name heads modules atoms) us ++ line_names heads modules atoms before ls)) ≡ texts (names ++ (us ++ line_words ls))
   all_texts first names us before ls e =
       let uses = map (use_name heads modules atoms) us in

@@ -71,14 +71,14 @@ names_differ heads d e =
     record { members = a.0; methods = b.0 }
 
 -- the refusals of a program's items, part by part
-record ItemsNotRefused (items : List ItemTree) (g : ProgramTree) : Type 0 where
-  types : repeated primitive_names (type_names (types_of items)) ≡ []
-  names : repeated [] (module_names (modules_of items)) ≡ []
-  declarations : (d : tree.TypeDecl) → In d (types_of items) → NamesDiffer d
-  modules : (m : ModuleTree) → In m (modules_of items) → NotRefused (heads_of (types_of items)) (modules_of items) m
-  program : ProgramNotRefused (heads_of (types_of items)) (modules_of items) g
+pub record ItemsNotRefused (items : List ItemTree) (g : ProgramTree) : Type 0 where
+  pub types : repeated primitive_names (type_names (types_of items)) ≡ []
+  pub names : repeated [] (module_names (modules_of items)) ≡ []
+  pub declarations : (d : tree.TypeDecl) → In d (types_of items) → NamesDiffer d
+  pub modules : (m : ModuleTree) → In m (modules_of items) → NotRefused (heads_of (types_of items)) (modules_of items) m
+  pub program : ProgramNotRefused (heads_of (types_of items)) (modules_of items) g
 
-items_not_refused : (items : List ItemTree) (g : ProgramTree) → programs_of items ≡ g ∷ [] → refusals_of items ≡ [] → ItemsNotRefused items g
+pub items_not_refused : (items : List ItemTree) (g : ProgramTree) → programs_of items ≡ g ∷ [] → refusals_of items ≡ [] → ItemsNotRefused items g
 items_not_refused items g one e =
     let types = types_of items in
     let modules = modules_of items in

@@ -1,5 +1,5 @@
 -- Numbers between two counts, each at most once: those of a value, and those of the bodies in it.
-use Rattle.std.proofs.Common.{◌≡◌, ℕ, ◌+◌, ◌<◌, ◌≤◌, List, [], ◌∷◌, ◌++◌, inl, inr, refl, sym, ap, ◌∙◌, arith, append_assoc}
+use Rattle.std.proofs.Common.{◌≡◌, ℕ, ◌+◌, ◌<◌, ◌≤◌, List, [], ◌∷◌, ◌++◌, inl, inr, refl, sym, ap, ◌∙◌, subst, arith, append_assoc}
 use Rattle.wy_effects.specs.Members.{In, Apart}
 use Rattle.wy_effects.proofs.Lists.{In-cases}
 use Rattle.wy_types.specs.Program.{Body}
@@ -24,6 +24,9 @@ pub record Spread (low high : ℕ) (values bodies : List ℕ) : Type 0 where
   pub apart_values : Apart values
   pub apart_bodies : Apart bodies
   pub distinct : (k : ℕ) → In k values → In k bodies → ⊥
+
+pub spread_as : (low high : ℕ) (vs vs' bs bs' : List ℕ) → vs ≡ vs' → bs ≡ bs' → Spread low high vs bs → Spread low high vs' bs'
+spread_as low high vs vs' bs bs' e f h = subst (λ l. Spread low high vs' l) f (subst (λ l. Spread low high l bs) e h)
 
 between_append : (low high : ℕ) (ks js : List ℕ) → Between low high ks → Between low high js → Between low high (ks ++ js)
 between_append low high ks js h g k i = elim (In-cases k ks js i) [ inl j ↦ h k j | inr j ↦ g k j ]
@@ -64,9 +67,9 @@ module _ (low mid high : ℕ) (vs bs vs' bs' : List ℕ) (h : Spread low mid vs 
             ];
       }
 
--- a `val` before what its right side has
-pub spread_val : (low high : ℕ) (vs bs : List ℕ) → Spread (low + 1) high vs bs → Spread low high (low ∷ vs) bs
-spread_val low high vs bs h =
+-- a number before those behind it
+pub spread_first : (low high : ℕ) (vs bs : List ℕ) → Spread (low + 1) high vs bs → Spread low high (low ∷ vs) bs
+spread_first low high vs bs h =
     let upper = h.ordered in
     record {
       ordered = omega (arith, upper);

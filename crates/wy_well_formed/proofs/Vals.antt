@@ -1,12 +1,12 @@
 -- The `val` statements of a scope have the numbers between its counts, each once.
-use Rattle.std.proofs.Common.{◌≡◌, ℕ, List, [], ◌∷◌, ◌++◌, refl, sym, ap, ap₂, subst, append-nil}
+use Rattle.std.proofs.Common.{◌≡◌, ℕ, List, [], ◌∷◌, ◌++◌, refl, sym, ap, ap₂, append-nil}
 use Rattle.wy_text.specs.declared.fault.Place.{Place}
 use Rattle.wy_syntax.specs.Trees as t
 use Rattle.wy_types.specs.Code as code
 use Rattle.wy_types.specs.Core.{expr_vals, value_vals, values_vals, block_vals, bodies_vals}
 use Rattle.wy_names.specs.Sight.{Sight, inside, with_params}
 use Rattle.wy_names.specs.Bodies.{Within, Count, one_val, one_literal, one_body, rhs_after, stmt_after, stmts_after, part_after, parts_after, tail_after, stmt_sight, last_or, operand, bound, expr_value, expr_values, rhs_value, stmt_block, stmts_block, part_values, with_field, tail_block, rhs_bodies, stmt_bodies, stmts_bodies, part_bodies, parts_bodies, tail_bodies}
-use Rattle.wy_well_formed.proofs.Spreads.{Spread, spread_none, spread_both, spread_val, spread_method, bodies_vals_append}
+use Rattle.wy_well_formed.proofs.Spreads.{Spread, spread_as, spread_none, spread_both, spread_first, spread_method, bodies_vals_append}
 
 both_empty : (xs ys : List ℕ) → xs ≡ [] → ys ≡ [] → xs ++ ys ≡ []
 both_empty xs ys h g = ap₂ (λ a b. a ++ b) h g
@@ -68,9 +68,6 @@ module _ (w : Within) where
   with_field_vals si n (t.field k x u r) rest = refl
   with_field_vals si n (t.method g b) rest = refl
 
-  spread_as : (low high : ℕ) (vs vs' bs bs' : List ℕ) → vs ≡ vs' → bs ≡ bs' → Spread low high vs bs → Spread low high vs' bs'
-  spread_as low high vs vs' bs bs' e f h = subst (λ l. Spread low high vs' l) f (subst (λ l. Spread low high l bs) e h)
-
   -- a tree's own numbers, and those of the bodies in it
   mutual
     pub rhs_spread : (si : Sight) (n : Count) (r : t.RhsTree) → Spread n.vals (rhs_after n r).vals (value_vals (rhs_value w si n r)) (bodies_vals (rhs_bodies w si n r))
@@ -88,7 +85,7 @@ module _ (w : Within) where
 
     stmt_spread : (si : Sight) (n : Count) (x : t.StmtTree) → Spread n.vals (stmt_after n x).vals (stmt_vals si n x) (bodies_vals (stmt_bodies w si n x))
     stmt_spread si n (t.val x u r) =
-        spread_val n.vals (rhs_after (one_val n) r).vals (value_vals (rhs_value w si (one_val n) r)) (bodies_vals (rhs_bodies w si (one_val n) r)) (rhs_spread si (one_val n) r)
+        spread_first n.vals (rhs_after (one_val n) r).vals (value_vals (rhs_value w si (one_val n) r)) (bodies_vals (rhs_bodies w si (one_val n) r)) (rhs_spread si (one_val n) r)
     stmt_spread si n (t.assign x r) = rhs_spread si n r
     stmt_spread si n (t.run r) = rhs_spread si n r
 

@@ -1,10 +1,37 @@
--- What resolving makes: a program whose names resolve has what every core keeps (docs/LANGUAGE.md, "Names").
-use Rattle.std.specs.Prelude.{List}
+-- What resolving makes: a program whose names resolve has what every core keeps, its own names have their types and plain names, its grants
+-- stand first, its modules capture nothing, and each object literal is made at one place (docs/LANGUAGE.md, "Names", "Modules and lines").
+use Rattle.std.specs.Prelude.{List, slice_get}
 use Rattle.wy_syntax.specs.Trees.{ItemTree}
-use Rattle.wy_types.specs.Program.{Program}
+use Rattle.wy_effects.specs.Members.{In, Apart}
+use Rattle.wy_types.specs.Program.{Program, Scope}
 use Rattle.wy_types.specs.Core.{IsCore}
+use Rattle.wy_types.specs.Ground.{names_of, program_number}
+use Rattle.wy_rules.specs.OwnNames.{LinesAreTyped, HavePlainNames, GrantsStandFirst, ModulesCaptureNothing}
 use Rattle.wy_names.specs.Names.{Resolves}
+use Rattle.wy_well_formed.specs.News.{scope_news}
+use Rattle.wy_well_formed.specs.OwnWords.{HaveWords}
 
 -- names that resolve make a core
 abbrev pub ResolvedIsCore : Type 0
 ResolvedIsCore = (items : List ItemTree) (p : Program) → Resolves items p → IsCore p
+
+-- its own names have the types that they are declared with, of the atoms that they open
+abbrev pub ResolvedNamesFit : Type 0
+ResolvedNamesFit = (items : List ItemTree) (p : Program) → Resolves items p → LinesAreTyped p
+
+-- they have no space and no full stop, where the items' words have none
+abbrev pub ResolvedNamesAreWords : Type 0
+ResolvedNamesAreWords = (items : List ItemTree) (p : Program) → Resolves items p → HaveWords items → HavePlainNames p
+
+-- of those of the program grants stand first
+abbrev pub ResolvedGrantsStandFirst : Type 0
+ResolvedGrantsStandFirst =
+    (items : List ItemTree) (p : Program) → Resolves items p → GrantsStandFirst (names_of (slice_get p.scopes (program_number p)))
+
+-- methods of modules see no variable but their parameters
+abbrev pub ResolvedModulesCaptureNothing : Type 0
+ResolvedModulesCaptureNothing = (items : List ItemTree) (p : Program) → Resolves items p → ModulesCaptureNothing p
+
+-- no scope makes a literal at two places
+abbrev pub ResolvedMakesOnce : Type 0
+ResolvedMakesOnce = (items : List ItemTree) (p : Program) → Resolves items p → (s : Scope) → In s p.scopes → Apart (scope_news s)

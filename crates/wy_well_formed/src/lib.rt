@@ -1,11 +1,39 @@
-//! The law on resolved programs (docs/LANGUAGE.md, "Names"). No function here does anything: what it says is its
+//! The laws on resolved programs (docs/LANGUAGE.md, "Names"). No function here does anything: what each says is its
 //! clause.
 #![tactic(auto)]
 
-ghost use Rattle.wy_well_formed.specs.WellFormed.{ResolvedIsCore};
+ghost use Rattle.wy_well_formed.specs.WellFormed.{ResolvedGrantsStandFirst, ResolvedIsCore, ResolvedMakesOnce, ResolvedModulesCaptureNothing, ResolvedNamesAreWords, ResolvedNamesFit};
 
 /// A program whose names resolve is a core: its numbers are in range, its names differ, its types, effects and bodies
 /// have the forms that their kinds of scope ask, and no module leads back to itself.
 pub fn resolved_is_core()
     ensures { ResolvedIsCore }
+{}
+
+/// Its own names have their types: a grant, a use and an instance have the type that they are declared with or their
+/// module is sealed at, of the atoms that they open, an import is at its bound of the atoms before it, and parameters
+/// stand first and have types of their own atoms.
+pub fn resolved_names_fit()
+    ensures { ResolvedNamesFit }
+{}
+
+/// No own name has a space or a full stop in it, where none of the words has one that the items give to parameters,
+/// grants and lines, or name in a `use`.
+pub fn resolved_names_are_words()
+    ensures { ResolvedNamesAreWords }
+{}
+
+/// Of the program's own names the grants stand first.
+pub fn resolved_grants_stand_first()
+    ensures { ResolvedGrantsStandFirst }
+{}
+
+/// The methods of a module see no variable but their parameters.
+pub fn resolved_modules_capture_nothing()
+    ensures { ResolvedModulesCaptureNothing }
+{}
+
+/// Each object literal is made at one place of its scope.
+pub fn resolved_makes_once()
+    ensures { ResolvedMakesOnce }
 {}

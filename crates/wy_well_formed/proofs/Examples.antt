@@ -1,0 +1,149 @@
+-- A small program resolved by hand: what its own names open, which types they have and that they are plain, where its grant stands, and which
+-- literals its bodies make and capture.
+--
+--   type Log
+--     effect Put
+--   resource module log(disk: Folder): Log
+--   program
+--     grant disk: Folder
+--     instance lg = log(disk)
+--     import pl = log(disk) at {lg.Put}
+use Rattle.std.proofs.Common.{◌≡◌, ℕ, List, [], ◌∷◌, ◌++◌, true, Some, None, inl, inr, refl, ap, ◌∙◌, subst, arith}
+use Rattle.std.specs.Prelude.{codes, slice_get}
+use Rattle.wy_text.specs.declared.fault.Place.{Place}
+use Rattle.wy_effects.specs.Members.{In}
+use Rattle.wy_types.specs.declared.types.TypeRef.{TypeRef}
+use Rattle.wy_types.specs.declared.types.TypeRef.TheVariants.{Named, At}
+use Rattle.wy_types.specs.declared.resolved.ScopeKind.TheVariants.{Resource, Program as Main}
+use Rattle.wy_types.specs.declared.resolved.Origin.{Origin}
+use Rattle.wy_types.specs.declared.resolved.Origin.TheVariants.{Parameter, Grant, Instance, Import}
+use Rattle.wy_types.specs.declared.resolved.OwnName.{OwnName}
+use Rattle.wy_types.specs.declared.resolved.Literal.{Literal}
+use Rattle.wy_types.specs.declared.code.Variable.TheVariants.{Local}
+use Rattle.wy_types.specs.Primitive.{primitive_type, primitive_types}
+use Rattle.wy_types.specs.Code.{Plain, New, Nothing, none, more, Block, Last, Then, Val}
+use Rattle.wy_types.specs.Program.{Program, Scope, Init, Run}
+use Rattle.wy_types.specs.Ground.{single_sets}
+use Rattle.wy_types.specs.Core.{literal_captures}
+use Rattle.wy_rules.specs.OwnNames.{opened_count, HasItsType, HaveTheirTypes, IsPlainName, GrantsStandFirst, ModulesCaptureNothing}
+use Rattle.wy_well_formed.specs.News.{scope_news}
+
+nowhere : Place
+nowhere = record { file = 0; line = 0; column = 0 }
+
+abbrev named : List ℕ → TypeRef → Origin → OwnName
+named name typ origin = record { name = name; place = nowhere; typ = typ; origin = origin }
+
+-- the folder has the atoms 0 to 3, the instance the atom 4
+abbrev disk : OwnName
+disk = named (codes "disk") (Named 1 ((0 ∷ []) ∷ (1 ∷ []) ∷ (2 ∷ []) ∷ (3 ∷ []) ∷ [])) Grant
+
+abbrev lg : OwnName
+lg = named (codes "lg") (Named 4 ((4 ∷ []) ∷ [])) (Instance 0 (0 ∷ []))
+
+abbrev pl : OwnName
+pl = named (codes "pl") (At 4 (4 ∷ [])) (Import 0 (0 ∷ []) (4 ∷ []))
+
+-- a literal that captures nothing, and one that captures a `val`
+abbrev nothing : Literal
+nothing = record { captures = []; fields = [] }
+
+abbrev captured : Literal
+captured = record { captures = Local 0 ∷ []; fields = [] }
+
+-- the module, whose own literal is given
+abbrev log_with : Literal → Scope
+log_with own = record {
+  kind = Resource;
+  name = codes "log";
+  place = nowhere;
+  atoms = [];
+  names = named (codes "disk") (Named 1 (single_sets 0 (codes "Read" ∷ codes "Write" ∷ codes "Append" ∷ codes "List" ∷ []))) (Parameter true) ∷ [];
+  ascribed = Some 4;
+  definitions = [];
+  literals = own ∷ [];
+  start_place = nowhere;
+  start_effect = [];
+  start = Init none;
+  bodies = [];
+}
+
+abbrev log : Scope
+log = log_with nothing
+
+-- two literals are made one in the other, and one in a `val`
+abbrev made : Block
+made = Then (Plain (New nowhere 1 (more (Plain (New nowhere 2 none)) none))) (Val nowhere 0 None (Plain (New nowhere 3 none)) (Last (Plain (Nothing nowhere))))
+
+abbrev main : Scope
+main = record {
+  kind = Main;
+  name = codes "main";
+  place = nowhere;
+  atoms = [];
+  names = disk ∷ lg ∷ pl ∷ [];
+  ascribed = None;
+  definitions = [];
+  literals = nothing ∷ captured ∷ nothing ∷ nothing ∷ [];
+  start_place = nowhere;
+  start_effect = [];
+  start = Run made;
+  bodies = [];
+}
+
+abbrev program : Program
+program = record { declarations = primitive_types ++ primitive_type (codes "Log") (codes "Put" ∷ []) [] ∷ []; scopes = log ∷ main ∷ [] }
+
+names_open : opened_count program (main.names) ≡ 5
+names_open = refl
+
+names_have_types : HaveTheirTypes program 0 (main.names)
+names_have_types = ((1, refl), (refl, (((omega arith, omega arith, tt), refl), tt)))
+
+-- with the grant's atoms the instance has not its type
+other_atoms : HasItsType program 4 (named (codes "lg") (Named 4 ((0 ∷ []) ∷ [])) (Instance 0 (0 ∷ []))) (Instance 0 (0 ∷ [])) → ⊥
+other_atoms e = cc
+
+parameter_opens : opened_count program (log.names) ≡ 4
+parameter_opens = refl
+
+made_once : scope_news main ≡ 1 ∷ 2 ∷ 3 ∷ []
+made_once = refl
+
+-- the literal 1 captures, and the literal 0 of no scope does
+abbrev CapturesNothing : Scope → Type 0
+CapturesNothing s = literal_captures (slice_get s.literals 0) ≡ []
+
+nothing_captured : ModulesCaptureNothing program
+nothing_captured s (inl same) = subst CapturesNothing same refl
+nothing_captured s (inr (inl same)) = subst CapturesNothing same refl
+nothing_captured s (inr (inr i)) = absurd i
+
+capturing : ModulesCaptureNothing (record { declarations = []; scopes = log_with captured ∷ main ∷ [] }) → ⊥
+capturing h = absurd (let t = h (log_with captured) (inl refl) in cc)
+
+-- the grant stands first, and would not behind the instance
+grant_first : GrantsStandFirst (main.names)
+grant_first = ((λ m i e. refl), ((λ m i e. others m i e), ((λ m i e. absurd i), tt)))
+  where
+    others : (m : OwnName) → In m (pl ∷ []) → m.origin ≡ Grant → lg.origin ≡ Grant
+    others m (inl same) e = absurd (let t = ap (λ (n : OwnName). n.origin) same ∙ e in cc)
+    others m (inr i) e = absurd i
+
+grant_behind : GrantsStandFirst (lg ∷ disk ∷ []) → ⊥
+grant_behind h = absurd (let t = h.0 disk (inl refl) refl in cc)
+
+-- a plain name, and those of the instances that a line brings with it and of a used module
+plain_name : IsPlainName (codes "lg")
+plain_name = (in_neither 32 (λ e. cc) (λ e. cc), in_neither 46 (λ e. cc) (λ e. cc))
+  where
+    in_neither : (b : ℕ) → (108 ≡ b → ⊥) → (103 ≡ b → ⊥) → In b (codes "lg") → ⊥
+    in_neither b l g (inl e) = l e
+    in_neither b l g (inr (inl e)) = g e
+    in_neither b l g (inr (inr i)) = i
+
+brought_name : IsPlainName (codes "a.b") → ⊥
+brought_name h = h.1 (inr (inl refl))
+
+used_name : IsPlainName (codes "pure log") → ⊥
+used_name h = h.0 (inr (inr (inr (inr (inl refl)))))
