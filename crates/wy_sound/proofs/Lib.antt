@@ -7,6 +7,7 @@ pub mod Effects
 pub mod Evaluating
 pub mod Heaps
 mod LinkingAdded
+mod LinkingApart
 mod LinkingExamples
 mod LinkingGrants
 pub mod LinkingLaws
@@ -30,6 +31,8 @@ pub mod Operating
 pub mod Operations
 pub mod Performing
 pub mod Placing
+pub mod ReportRows
 pub mod Results
 pub mod Running
 pub mod Starting
+mod TellingExamples

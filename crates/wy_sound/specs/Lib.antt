@@ -2,3 +2,4 @@ pub mod Arguments
 pub mod Laws
 pub mod Linking
 pub mod Programs
+pub mod Telling
