@@ -9,6 +9,7 @@ mod Examples
 pub mod Heaps
 pub mod Linked
 mod LinkingAdded
+mod LinkingApart
 mod LinkingExamples
 mod LinkingGrants
 pub mod LinkingLaws
@@ -32,7 +33,9 @@ pub mod Operating
 pub mod Operations
 pub mod Performing
 pub mod Placing
+pub mod ReportRows
 pub mod Results
 pub mod Running
 pub mod Silence
 pub mod Starting
+mod TellingExamples

@@ -1,19 +1,22 @@
 -- What the instances are named that a visit adds: those that a line brings have a full stop in their names, those of used modules a space, which no
 -- own name has; and a use adds instances of modules that its own leads to, hence none of its own.
 use Rattle.std.proofs.Common.{◌≡◌, ℕ, zero, suc, ◌+◌, ◌<◌, List, [], ◌∷◌, ◌++◌, ◌⊎◌, inl, inr, length, refl, sym, ap, ◌∙◌, subst, arith, Option, Some, None, true, false, append_assoc, append-nil}
-use Rattle.std.specs.Prelude.{codes, slice_get, if◌then◌else◌}
+use Rattle.std.specs.Prelude.{codes, slice_get, bytes_eq, if◌then◌else◌}
+use Rattle.std.proofs.lemmas.Slice.Eq.{bytes_eq-Decides}
 use Rattle.wy_effects.specs.Members.{In}
 use Rattle.wy_effects.proofs.Lists.{In-slice_get, In-at, In-left, In-right, In-cases}
 use Rattle.wy_types.specs.declared.linked.Instance.{Instance as Started}
 use Rattle.wy_types.specs.declared.resolved.Origin.{Origin}
 use Rattle.wy_types.specs.declared.resolved.Origin.TheVariants.{Parameter, Grant, Use, Instance, Import}
 use Rattle.wy_types.specs.declared.resolved.OwnName.{OwnName}
+use Rattle.wy_types.specs.declared.resolved.ScopeKind.TheVariants.{Program as Main}
 use Rattle.wy_types.specs.Program.{Program, Scope}
 use Rattle.wy_types.specs.Core.{OriginFits, origin_modules, LeadsTo, LeadsBy, IsCore}
 use Rattle.wy_types.specs.Ground.{Visited, Visit, names_of, is_use, uses_among, handed, number_from, used, visit_name, visit_names, visit}
 use Rattle.wy_rules.specs.Acceptance.{is_parameter, parameters_until, parameters_among}
 use Rattle.wy_rules.specs.OwnNames.{opens, opened_count, after_parameters, name_of, HasItsType, HaveTheirTypes, LinesAreTyped}
 use Rattle.wy_sound.proofs.LinkingLists.{read_there}
+use Rattle.wy_sound.proofs.LinkingPrograms.{main_is_last, one_module, pure_word}
 use Rattle.wy_sound.proofs.LinkingVisits.{first_and_after}
 use Rattle.wy_sound.proofs.LinkingWays.{names_lead}
 
@@ -42,6 +45,30 @@ module _ (Named : List ℕ → Type 0) where
 
   pub adds_wider : (Wider : List ℕ → Type 0) → ((name : List ℕ) → Named name → Wider name) → (xs ys : List Started) → Adds Named xs ys → Adds Wider xs ys
   adds_wider Wider wider xs ys a = record { more = a.more; behind = a.behind; named = λ i j. wider i.name (a.named i j) }
+
+------------------------------------------------------------
+-- Names that no instance has
+
+-- no instance has the name
+abbrev pub IsFree : List ℕ → List Started → Type 0
+IsFree name xs = (i : Started) → In i xs → i.name ≡ name → ⊥
+
+pub none_free : (k : ℕ) (name : List ℕ) (xs : List Started) → number_from k name xs ≡ None → IsFree name xs
+none_free k name [] e i j same = absurd j
+none_free k name (x ∷ xs) e i j same =
+    elim (bytes_eq x.name name) as (λ b. bytes_eq x.name name ≡ b → (if b then Some k else number_from (k + 1) name xs) ≡ None → ⊥) [
+      | true ↦ λ t f. absurd (cc)
+      | false ↦ λ t f. elim j [
+        | inl g ↦ (let s = (bytes_eq-Decides x.name name).1 (ap (λ (v : Started). v.name) g ∙ same) in let u : true ≡ false = sym s ∙ t in cc)
+        | inr m ↦ none_free (k + 1) name xs f i m same
+      ]
+    ] refl e
+
+-- .. of those that are there and those that are added
+pub free_after : (Named : List ℕ → Type 0) (name : List ℕ) (xs ys : List Started) → IsFree name xs → Adds Named xs ys →
+    ((other : List ℕ) → Named other → other ≡ name → ⊥) → IsFree name ys
+free_after Named name xs ys free a not i j e =
+    elim (In-cases i xs a.more (subst (λ l. In i l) a.behind j)) [ inl h ↦ free i h e | inr h ↦ not i.name (a.named i h) e ]
 
 ------------------------------------------------------------
 -- Hidden names
@@ -189,7 +216,7 @@ module _ (p : Program) (c : IsCore p) (t : LinesAreTyped p) where
     pub called : name ≡ codes "pure " ++ name_of (slice_get p.scopes number)
 
   -- the own names of a scope that are uses
-  abbrev UsesOf : ℕ → List OwnName → Type 0
+  abbrev pub UsesOf : ℕ → List OwnName → Type 0
   UsesOf m ns = (n : OwnName) → In n ns → (j : ℕ) × (n.origin ≡ Use j) × IsUseOf p m n j
 
   use_number : (n : OwnName) (o : Origin) → is_use o ≡ true → n.origin ≡ o → (j : ℕ) × (n.origin ≡ Use j)
@@ -199,7 +226,7 @@ module _ (p : Program) (c : IsCore p) (t : LinesAreTyped p) where
   use_number n (Instance j arguments) e f = absurd (cc)
   use_number n (Import j arguments bound) e f = absurd (cc)
 
-  uses_of : (m : ℕ) → m + 1 < length p.scopes → UsesOf m (uses_among (names_of (slice_get p.scopes m)))
+  pub uses_of : (m : ℕ) → m + 1 < length p.scopes → UsesOf m (uses_among (names_of (slice_get p.scopes m)))
   uses_of m lt n i =
       let r = read_there p.scopes m (omega (arith, lt)) in
       let among : In n r.0.names = subst (λ o. In n (names_of o)) r.1 (uses_are_names (names_of (slice_get p.scopes m)) n i) in
@@ -243,3 +270,25 @@ module _ (p : Program) (c : IsCore p) (t : LinesAreTyped p) where
   module_adds k m v lt =
       let names = names_of (slice_get p.scopes m) in
       uses_add k m names (uses_among names) (record { started = v.started; actuals = []; sets = [] }) (uses_of m lt)
+
+  not_main : (j : ℕ) (z : Scope) → slice_get p.scopes j ≡ Some z → j + 1 < length p.scopes → z.kind ≡ Main → ⊥
+  not_main j z e lt main = let last = main_is_last p.scopes c.program j z e main in absurd (omega (arith, lt, last))
+
+  -- a module leads to no instance of its own name
+  not_again : (m j : ℕ) (n : OwnName) → IsUseOf p m n j → (other : List ℕ) → IsPureFrom j other → other ≡ codes "pure " ++ n.name → ⊥
+  not_again m j n u other f e =
+      let a = read_there p.scopes j (omega (arith, u.module_there)) in
+      let b = read_there p.scopes f.number (omega (arith, f.module_there)) in
+      let words : name_of (slice_get p.scopes f.number) ≡ name_of (slice_get p.scopes j) = pure_word _ _ (sym f.called ∙ e) ∙ u.word in
+      let names : b.0.name ≡ a.0.name = ap name_of (sym b.1) ∙ words ∙ ap name_of a.1 in
+      let same = one_module p.scopes c.program c.modules f.number j b.0 a.0 b.1 a.1 (not_main f.number b.0 b.1 f.module_there)
+      (not_main j a.0 a.1 u.module_there) names in
+      c.no_cycle j f.path (subst (LeadsBy p j f.path) same f.leads)
+
+  -- so that of a used module is free until its own instance is added
+  pub use_free : (k m : ℕ) (v : Visited) (n : OwnName) (j : ℕ) → IsUseOf p m n j → number_from 0 (codes "pure " ++ n.name) v.started ≡ None →
+      let names = names_of (slice_get p.scopes j) in
+      IsFree (codes "pure " ++ n.name) (visit p k names [] (uses_among names) (record { started = v.started; actuals = []; sets = [] })).started
+  use_free k m v n j u e =
+      free_after (IsPureFrom j) (codes "pure " ++ n.name) v.started _ (none_free 0 (codes "pure " ++ n.name) v.started e)
+      (module_adds k j v u.module_there) (not_again m j n u)

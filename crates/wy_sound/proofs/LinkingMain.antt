@@ -3,36 +3,31 @@ use Rattle.std.proofs.Common.{◌≡◌, ℕ, zero, suc, ◌+◌, ◌<◌, List,
 use Rattle.std.specs.Prelude.{codes, slice_get, bytes_eq, if◌then◌else◌}
 use Rattle.std.proofs.lemmas.Slice.Eq.{bytes_eq-Decides}
 use Rattle.wy_effects.specs.Members.{In, Apart}
-use Rattle.wy_effects.proofs.Lists.{In-slice_get, In-cases, In-map}
+use Rattle.wy_effects.proofs.Lists.{In-slice_get, In-map}
 use Rattle.wy_types.specs.declared.linked.Actual.{Actual}
 use Rattle.wy_types.specs.declared.linked.Actual.TheVariants as actual
 use Rattle.wy_types.specs.declared.linked.Instance.{Instance as Started}
 use Rattle.wy_types.specs.declared.resolved.Origin.{Origin}
 use Rattle.wy_types.specs.declared.resolved.Origin.TheVariants.{Parameter, Grant, Use, Instance, Import}
 use Rattle.wy_types.specs.declared.resolved.OwnName.{OwnName}
-use Rattle.wy_types.specs.declared.resolved.ScopeKind.TheVariants.{Program as Main}
 use Rattle.wy_types.specs.Program.{Program, Scope}
-use Rattle.wy_types.specs.Core.{LeadsBy, IsCore}
+use Rattle.wy_types.specs.Core.{IsCore}
 use Rattle.wy_types.specs.Ground.{Visited, names_of, uses_among, number_from, used, visit_name, visit_names, visit, program_number, start_list}
-use Rattle.wy_rules.specs.OwnNames.{opens, name_of, HasItsType, HaveTheirTypes, IsPlainName, LinesAreTyped, HavePlainNames}
+use Rattle.wy_rules.specs.OwnNames.{opens, HasItsType, HaveTheirTypes, IsPlainName, LinesAreTyped, HavePlainNames}
 use Rattle.wy_meaning.specs.Starts.{started_of, numbered_from, main_actual, main_actuals, scope_names}
 use Rattle.wy_sound.proofs.Linked.{MainFits}
-use Rattle.wy_sound.proofs.LinkingLists.{GoesOn, goes_on_same, goes_on_further, read_there, read_within}
+use Rattle.wy_sound.proofs.LinkingLists.{GoesOn, goes_on_same, goes_on_further, read_within}
 use Rattle.wy_sound.proofs.Lists.{some_same}
 use Rattle.wy_sound.proofs.LinkingVisits.{later_names_grow}
-use Rattle.wy_sound.proofs.LinkingPrograms.{last_scope, main_is_last, one_module, pure_word}
+use Rattle.wy_sound.proofs.LinkingPrograms.{last_scope}
 use Rattle.wy_sound.proofs.LinkingScopes.{names_at, program_typed}
-use Rattle.wy_sound.proofs.LinkingAdded.{Adds, IsHidden, own_name_adds, line_adds, IsUseOf, use_of, IsPureFrom, module_adds}
+use Rattle.wy_sound.proofs.LinkingAdded.{Adds, IsFree, free_after, IsHidden, own_name_adds, line_adds, IsUseOf, use_of, use_free}
 use Rattle.wy_sound.proofs.Performing.{names_same, last_number}
 
 ------------------------------------------------------------
 -- The first of a name
 
--- no instance has the name
-abbrev IsFree : List ℕ → List Started → Type 0
-IsFree name xs = (i : Started) → In i xs → i.name ≡ name → ⊥
-
-not_equal : (a b : List ℕ) → (a ≡ b → ⊥) → bytes_eq a b ≡ false
+pub not_equal : (a b : List ℕ) → (a ≡ b → ⊥) → bytes_eq a b ≡ false
 not_equal a b h =
     elim (bytes_eq a b) as (λ t. bytes_eq a b ≡ t → t ≡ false) [ true ↦ λ e. absurd (h ((bytes_eq-Decides a b).0 e)) | false ↦ λ e. refl ] refl
 
@@ -56,26 +51,9 @@ numbered_same k name (i ∷ xs) more y =
       | false ↦ λ e. numbered_same (k + 1) name xs more y e
     ]
 
-none_free : (k : ℕ) (name : List ℕ) (xs : List Started) → number_from k name xs ≡ None → IsFree name xs
-none_free k name [] e i j same = absurd j
-none_free k name (x ∷ xs) e i j same =
-    elim (bytes_eq x.name name) as (λ b. bytes_eq x.name name ≡ b → (if b then Some k else number_from (k + 1) name xs) ≡ None → ⊥) [
-      | true ↦ λ t f. absurd (cc)
-      | false ↦ λ t f. elim j [
-        | inl g ↦ (let s = (bytes_eq-Decides x.name name).1 (ap (λ (v : Started). v.name) g ∙ same) in let u : true ≡ false = sym s ∙ t in cc)
-        | inr m ↦ none_free (k + 1) name xs f i m same
-      ]
-    ] refl e
-
 plain_not_hidden : (name : List ℕ) → IsPlainName name → IsHidden name → ⊥
 plain_not_hidden name h (inl space) = h.0 space
 plain_not_hidden name h (inr dot) = h.1 dot
-
--- .. of those that are there and those that are added
-free_after : (Named : List ℕ → Type 0) (name : List ℕ) (xs ys : List Started) → IsFree name xs → Adds Named xs ys →
-    ((other : List ℕ) → Named other → other ≡ name → ⊥) → IsFree name ys
-free_after Named name xs ys free a not i j e =
-    elim (In-cases i xs a.more (subst (λ l. In i l) a.behind j)) [ inl h ↦ free i h e | inr h ↦ not i.name (a.named i h) e ]
 
 ------------------------------------------------------------
 -- What is handed to `main`
@@ -99,20 +77,6 @@ module _ (p : Program) (c : IsCore p) (t : LinesAreTyped p) (m : ℕ) (s : Scope
       sym (ap (λ l. numbered_from 0 n.name (map started_of l)) at ∙ numbered_at inner i goes.0 n.name 0 (free_after IsHidden n.name v.started inner free a not) e ∙
       omega arith)
 
-  not_main : (j : ℕ) (z : Scope) → slice_get p.scopes j ≡ Some z → j + 1 < length p.scopes → z.kind ≡ Main → ⊥
-  not_main j z e lt main = let last = main_is_last p.scopes c.program j z e main in absurd (omega (arith, lt, last))
-
-  -- a module leads to no instance of its own name
-  not_again : (j : ℕ) (n : OwnName) → IsUseOf p m n j → (other : List ℕ) → IsPureFrom p c t j other → other ≡ codes "pure " ++ n.name → ⊥
-  not_again j n u other f e =
-      let a = read_there p.scopes j (omega (arith, u.module_there)) in
-      let b = read_there p.scopes f.number (omega (arith, f.module_there)) in
-      let words : name_of (slice_get p.scopes f.number) ≡ name_of (slice_get p.scopes j) = pure_word _ _ (sym f.called ∙ e) ∙ u.word in
-      let names : b.0.name ≡ a.0.name = ap name_of (sym b.1) ∙ words ∙ ap name_of a.1 in
-      let same = one_module p.scopes c.program c.modules f.number j b.0 a.0 b.1 a.1 (not_main f.number b.0 b.1 f.module_there)
-      (not_main j a.0 a.1 u.module_there) names in
-      c.no_cycle j f.path (subst (LeadsBy p j f.path) same f.leads)
-
   use_found : (all : List Started) (n : OwnName) (j : ℕ) (v : Visited) → IsUseOf p m n j → (there : Option ℕ) →
       number_from 0 (codes "pure " ++ n.name) v.started ≡ there →
       GoesOn (used p (visit p k) v (codes "pure " ++ n.name) j there).started all →
@@ -126,8 +90,7 @@ module _ (p : Program) (c : IsCore p) (t : LinesAreTyped p) (m : ℕ) (s : Scope
       let name = codes "pure " ++ n.name in
       let names = names_of (slice_get p.scopes j) in
       let inner = visit p k names [] (uses_among names) (record { started = v.started; actuals = []; sets = [] }) in
-      let free = free_after (IsPureFrom p c t j) name v.started inner.started (none_free 0 name v.started e) (module_adds p c t k j v u.module_there)
-      (not_again j n u) in
+      let free = use_free p c t k m v n j u e in
       let at : all ≡ inner.started ++ _ ∷ goes.0 = goes.1 ∙ append_assoc inner.started _ goes.0 in
       handed_on v _ _
       (sym (ap (λ l. numbered_from 0 name (map started_of l)) at ∙ numbered_at inner.started _ goes.0 name 0 free refl ∙ omega arith))
