@@ -1,3 +1,4 @@
+pub mod Accepted
 pub mod Addresses
 pub mod Allowed
 pub mod Beginning

@@ -1,12 +1,11 @@
 -- Which programs, with their instances in start order, are lowered to code that does what they mean.
 -- (docs/LANGUAGE.md, "Code of programs")
 use Rattle.std.specs.Prelude.{◌≡◌, ℕ, List, [], ◌∷◌, ◌++◌, Some, false, length, slice_get}
-use Rattle.wy_effects.specs.Members.{In, Apart}
-use Rattle.wy_types.specs.declared.resolved.OwnName.{OwnName}
-use Rattle.wy_types.specs.declared.resolved.Origin.TheVariants.{Grant}
+use Rattle.wy_effects.specs.Members.{Apart}
 use Rattle.wy_types.specs.Code.{Expr, New}
 use Rattle.wy_types.specs.Core.{IsCore, literal_captures}
 use Rattle.wy_types.specs.Program.{Program, Scope}
+pub use Rattle.wy_rules.specs.OwnNames.{GrantsStandFirst}
 use Rattle.wy_meaning.specs.Starts.{Started, Starts, scope_names, last_scope}
 use Rattle.wy_lower.specs.Lowering.{is_program}
 use Rattle.wy_lower.specs.Parts.{scope_parts}
@@ -23,11 +22,6 @@ literals_made_in (e ∷ es) = literal_made e ++ literals_made_in es
 -- the literals of the `new` expressions of a scope
 abbrev pub literals_made : Scope → List ℕ
 literals_made s = literals_made_in (scope_parts s)
-
--- a name before a grant is a grant
-abbrev pub GrantsStandFirst : List OwnName → Type 0
-GrantsStandFirst [] = Unit {0}
-GrantsStandFirst (n ∷ ns) = ((m : OwnName) → In m ns → m.origin ≡ Grant → n.origin ≡ Grant) × GrantsStandFirst ns
 
 -- an instance of a module, which is handed something for each own name of the module
 pub record IsModuleStarted (p : Program) (i : Started) : Type 0 where

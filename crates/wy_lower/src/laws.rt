@@ -4,7 +4,7 @@ ghost use Rattle.wy_meaning.specs.Starts.{Starts};
 ghost use Rattle.wy_code.specs.Running.{NeverStuck};
 ghost use Rattle.wy_lower.specs.Correct.{Compiles, NeverWrong};
 ghost use Rattle.wy_lower.specs.Inside.{Inside};
-ghost use Rattle.wy_lower.specs.Laws.{HasCountedBodies, HasItsTexts, HasItsMethodNames, HasItsBodies, HasFixedLength};
+ghost use Rattle.wy_lower.specs.Laws.{HasCountedBodies, HasItsTexts, HasItsMethodNames, HasItsBodies, HasFixedLength, AcceptedIsLowerable, AcceptedCodeFollows, AcceptedIsNeverStuck};
 ghost use Rattle.wy_lower.specs.Lowerable.{Lowerable};
 ghost use Rattle.wy_lower.specs.Lowering.{lowered};
 
@@ -45,4 +45,19 @@ pub fn correct_lowering()
 /// Where no run of a lowerable program means something wrong, no run of its code is stuck.
 pub fn never_stuck_where_never_wrong()
     ensures { (p : Program) (s : Starts) → Lowerable p s → NeverWrong p s → NeverStuck (lowered p s) }
+{}
+
+/// A program that resolving makes and that is accepted is lowerable, with the instances of its start list.
+pub fn accepted_is_lowerable()
+    ensures { AcceptedIsLowerable }
+{}
+
+/// Its code does what the program means, at every depth, step bound and answers.
+pub fn accepted_code_follows()
+    ensures { AcceptedCodeFollows }
+{}
+
+/// No run of its code is stuck.
+pub fn accepted_is_never_stuck()
+    ensures { AcceptedIsNeverStuck }
 {}

@@ -1,6 +1,6 @@
 -- What the own names of scopes are: parameters stand first, a name opens an atom for each abstract member of its type, and its type is
 -- the one that it is declared with or its module is sealed at, of those atoms (docs/LANGUAGE.md, "Modules and lines").
-use Rattle.std.specs.Prelude.{◌≡◌, ℕ, ◌+◌, List, [], ◌∷◌, Option, Some, None, true, false, length, slice_get, if◌then◌else◌}
+use Rattle.std.specs.Prelude.{codes, ◌≡◌, ◌≤◌, ◌^◌, ℕ, ◌+◌, List, [], ◌∷◌, Option, Some, None, true, false, length, slice_get, if◌then◌else◌}
 use Rattle.wy_effects.specs.Members.{In}
 use Rattle.wy_effects.specs.EffSet.{IsSet}
 use Rattle.wy_types.specs.declared.types.TypeRef.{TypeRef}
@@ -10,7 +10,7 @@ use Rattle.wy_types.specs.declared.resolved.Origin.TheVariants.{Parameter, Grant
 use Rattle.wy_types.specs.declared.resolved.OwnName.{OwnName}
 use Rattle.wy_types.specs.declared.resolved.ScopeKind.{ScopeKind}
 use Rattle.wy_types.specs.declared.resolved.ScopeKind.TheVariants.{Pure, Resource, Plain, Program as Main}
-use Rattle.wy_types.specs.Program.{Program, Scope}
+use Rattle.wy_types.specs.Program.{Program, Scope, Body}
 use Rattle.wy_types.specs.Core.{literal_captures}
 use Rattle.wy_types.specs.Fitting.{FitsType}
 use Rattle.wy_types.specs.Ground.{members_of, abstract_names, single_sets}
@@ -89,6 +89,16 @@ IsPlainName name = (In 32 name → ⊥) × (In 46 name → ⊥)
 
 abbrev pub HavePlainNames : Program → Type 0
 HavePlainNames p = (s : Scope) → In s p.scopes → (n : OwnName) → In n s.names → IsPlainName n.name
+
+abbrev pub IsMethodName : List ℕ → Type 0
+IsMethodName name = (In 46 name → ⊥) × (name ≡ codes "init" → ⊥) × (name ≡ codes "run" → ⊥)
+
+-- the words that a report has for what no name is given to are reserved, so no own name is the program's, and no method is called as what a scope starts
+-- with; a method's name has no full stop, and literals have numbers that can be written out
+pub record HasOrdinaryNames (p : Program) : Type 0 where
+  pub own_names : (s : Scope) → In s p.scopes → (n : OwnName) → In n s.names → n.name ≡ codes "main" → ⊥
+  pub methods : (s : Scope) → In s p.scopes → (b : Body) → In b s.bodies → IsMethodName b.signature.name
+  pub literals : (s : Scope) → In s p.scopes → length s.literals ≤ 2 ^ 64
 
 -- a name before a grant is a grant
 abbrev pub GrantsStandFirst : List OwnName → Type 0

@@ -17,7 +17,8 @@ use Rattle.wy_authority.specs.Report.{named_atoms}
 use Rattle.wy_meaning.specs.Bounds.{Call}
 use Rattle.wy_sound.specs.Programs.{body_atoms, call_atoms, allowed}
 use Rattle.wy_sound.proofs.Effects.{call_of, atom_named, May}
-use Rattle.wy_sound.proofs.Lists.{get_either, get_within, pick_true}
+use Rattle.wy_sound.proofs.LinkingLists.{read_last, read_within}
+use Rattle.wy_sound.proofs.Lists.{pick_true}
 
 same_bytes : (xs : List ℕ) → bytes_eq xs xs ≡ true
 same_bytes xs = (bytes_eq-Decides xs xs).1 refl
@@ -85,15 +86,15 @@ module _ (p : Program) where
 
   pub run_first : (x : ℕ) (i : Instance) → slice_get (run_instances p) x ≡ Some i → x ≡ length (start_list p) → HasFirst x i (codes "run")
   unfolding HasFirst
-  run_first x i e last = elim (get_either (start_list p) _ x i e) [
-    | inl f ↦ absurd (let lt = get_within (start_list p) x i f in lt_irrefl x (omega (arith, lt, last)))
+  run_first x i e last = elim (read_last (start_list p) _ x i e) [
+    | inl f ↦ absurd (let lt = read_within (start_list p) x i f in lt_irrefl x (omega (arith, lt, last)))
     | inr f ↦ In-right (row_with i (codes "run")) (map (instance_row p) (start_list p)) (main_row p ∷ [])
-        (inl (ap (λ i. row_with i (codes "run")) f.0))
+        (inl (ap (λ i. row_with i (codes "run")) f.1))
   ]
 
   pub some_first : (x : ℕ) (i : Instance) → slice_get (run_instances p) x ≡ Some i → (first : List ℕ) × HasFirst x i first
   unfolding HasFirst
-  some_first x i e = elim (get_either (start_list p) _ x i e) [
+  some_first x i e = elim (read_last (start_list p) _ x i e) [
     | inl f ↦ (
       codes "init",
       In-left (row_with i (codes "init")) (map (instance_row p) (start_list p)) (main_row p ∷ [])
@@ -102,7 +103,7 @@ module _ (p : Program) where
     | inr f ↦ (
       codes "run",
       In-right (row_with i (codes "run")) (map (instance_row p) (start_list p)) (main_row p ∷ [])
-          (inl (ap (λ i. row_with i (codes "run")) f.0)),
+          (inl (ap (λ i. row_with i (codes "run")) f.1)),
     )
   ]
 

@@ -22,10 +22,12 @@ use Rattle.wy_meaning.specs.Eval.{Sight, Calls, choose, apply, captured_from, ob
 use Rattle.wy_meaning.specs.Performing.{perform}
 use Rattle.wy_sound.specs.Arguments.{actual_type}
 use Rattle.wy_sound.specs.Programs.{program_starts}
-use Rattle.wy_sound.specs.Laws.{IsLinked}
-use Rattle.wy_sound.proofs.Lists.{pick_true, get_below, get_last, map_length}
+use Rattle.wy_sound.proofs.Linked.{IsLinked}
+use Rattle.wy_sound.proofs.LinkingLists.{read_there, read_next}
+use Rattle.wy_sound.proofs.Lists.{pick_true, map_length}
 use Rattle.wy_sound.proofs.Below.{Below, StandsFor, method_below}
-use Rattle.wy_sound.proofs.Heaps.{Placed, kind_at, fields_at, Ready, ValueHas, AllHave, VariableHas, ThingHas, WellHeap, SightHas, all_below, all_length, value_below, heap_more}
+use Rattle.wy_sound.specs.TypedHeaps.{Placed, kind_at, fields_at, Ready, ValueHas, AllHave, VariableHas, ThingHas, WellHeap, SightHas}
+use Rattle.wy_sound.proofs.Heaps.{all_below, all_length, value_below, heap_more}
 use Rattle.wy_sound.proofs.BaseTypes.{truth_at, own_kind}
 use Rattle.wy_sound.proofs.Results.{Sound, Answers, Valued, wider_sound, more_sound, trap_answers}
 use Rattle.wy_sound.proofs.Performing.{perform_sound}
@@ -98,7 +100,7 @@ module _ (p : Program) (now : ℕ) where
         of_room : (b : Bool) → Answers p now w (Valued p now k)
             (if b then replied (Object (length w.objects)) (record w { objects = w.objects ++ t ∷ []; made = w.made + 1 }) else stopped
             (Trap Crowded place) w)
-        of_room true = let h = heap_more p now w.objects t wh th in record { by = (h.0, h.1, (t, get_last w.objects t, ready, below)) }
+        of_room true = let h = heap_more p now w.objects t wh th in record { by = (h.0, h.1, (t, read_next w.objects [] t, ready, below)) }
         of_room false = trap_answers p now w (Valued p now k) Crowded place w
 
     pub new_answers : (l : ℕ) (vs : List Value) → l < length pl.scope.literals → Within (literal_captures (slice_get pl.scope.literals l)) seen →
@@ -106,7 +108,7 @@ module _ (p : Program) (now : ℕ) where
         Answers p now w (Valued p now (kind_at p sight.instance pl (of.Own l)))
         (object_new place sight l vs w (literal_in (scope_of_instance p (program_starts p) sight.instance) l))
     new_answers l vs lt within typed =
-        let lit = get_below pl.scope.literals l lt in
+        let lit = read_there pl.scope.literals l lt in
         let ok : Value → World → Type 0 = Valued p now (kind_at p sight.instance pl (of.Own l)) in
         let captures : literal_captures (slice_get pl.scope.literals l) ≡ lit.0.captures = ap literal_captures lit.1 in
         let has : (x : Variable) → In x lit.0.captures → VariableHas p now w.objects sight.instance pl sight.variables x =

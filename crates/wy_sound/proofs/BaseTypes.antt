@@ -16,7 +16,7 @@ use Rattle.wy_rules.specs.GroundTypes.{GroundType, Int as Ints, Bool as Truths, 
 use Rattle.wy_meaning.specs.Values.{Value, Int as Number, Truth, Nothing, Text, Object, Grant, Thing}
 use Rattle.wy_sound.specs.Arguments.{program_names, actual_type, IsThere}
 use Rattle.wy_sound.proofs.Below.{Below, below_base}
-use Rattle.wy_sound.proofs.Heaps.{Placed, kind_at, ValueHas}
+use Rattle.wy_sound.specs.TypedHeaps.{Placed, kind_at, ValueHas}
 
 ------------------------------------------------------------
 -- Base types and own types stay, however a scope is read

@@ -17,11 +17,12 @@ use Rattle.wy_meaning.specs.Starts.{scope_of_instance}
 use Rattle.wy_meaning.specs.Results.{Result, stop, whole}
 use Rattle.wy_meaning.specs.Eval.{Calls, Method, method_in, parameters, body_text, instance_name, eval_block, called, called_on, open_calls}
 use Rattle.wy_sound.specs.Programs.{program_starts}
-use Rattle.wy_sound.specs.Laws.{IsLinked}
+use Rattle.wy_sound.proofs.Linked.{IsLinked}
 use Rattle.wy_sound.proofs.Lists.{pick_true, pick_false, map_length}
 use Rattle.wy_sound.proofs.Effects.{call_of, May}
 use Rattle.wy_sound.proofs.Allowing.{may_method}
-use Rattle.wy_sound.proofs.Heaps.{Placed, kind_at, many, Ready, AllHave, WellHeap, ThingHas, SightHas, NamesHave, all_length}
+use Rattle.wy_sound.specs.TypedHeaps.{Placed, kind_at, instance_count, Ready, AllHave, WellHeap, ThingHas, SightHas, NamesHave}
+use Rattle.wy_sound.proofs.Heaps.{all_length}
 use Rattle.wy_sound.proofs.Results.{Sound, Valued, stop_sound, whole_sound}
 use Rattle.wy_sound.proofs.Placing.{scope_there, name_there, scope_fits}
 use Rattle.wy_sound.proofs.Methods.{signature_at, own_body, body_derivation}
@@ -42,7 +43,7 @@ body_called b l name o n =
         (ne_eqb (suc l) 0 (λ e. lt_irrefl 0 (omega (arith, e)))) ∙
         ap (λ xs. codes "new" ++ xs) (sym (append_assoc (decimal (suc l)) (codes ".") name))
 
-module _ (p : Program) (linked : IsLinked p) (now : ℕ) (early : now ≤ many p) where
+module _ (p : Program) (linked : IsLinked p) (now : ℕ) (early : now ≤ instance_count p) where
   module _ (calls : Calls) (ok : CallsSound p now calls) (a : ℕ) (t : Thing) (name : List ℕ) (vs : List Value) (w : World)
       (at : slice_get w.objects a ≡ Some t) (ready : Ready p now a)
       (th : ThingHas p now w.objects t) (wh : WellHeap p now w.objects) where
@@ -84,7 +85,8 @@ module _ (p : Program) (linked : IsLinked p) (now : ℕ) (early : now ≤ many p
         let b : Body = m.body in
         let f : List ℕ = effect_by pl.instance.bound pl.instance.ground b.signature.effect in
         let ok' : Value → World → Type 0 = Valued p now (kind_at p t.instance pl b.signature.result) in
-        let d = body_derivation (ground_reading p t.instance pl.instance) pl.scope pl.holds.derivation.locals pl.holds.derivation.bodies pl.scope.bodies m.number b pl.holds.derives.1 there in
+        let d = body_derivation (ground_reading p t.instance pl.instance) pl.scope pl.holds.derivation.locals
+        pl.holds.derivation.bodies pl.scope.bodies m.number b pl.holds.derives.1 there in
         let r : Result Value = eval_block p (program_starts p) calls
         (record { instance = t.instance; this = Some a; variables = parameters m.number 0 vs ++ t.captured }) b.block w in
         let long : length vs ≡ length b.signature.params = all_length p now w.objects vs (map (kind_at p t.instance pl) b.signature.params) typed ∙

@@ -11,7 +11,8 @@ use Rattle.wy_device.specs.declared.deed.Event.{Event}
 use Rattle.wy_device.specs.declared.deed.Event.TheVariants.{Enter, Deed, Leave}
 use Rattle.wy_meaning.specs.Bounds.{Call, atom_of, BoundedFrom}
 use Rattle.wy_meaning.specs.OpenCalls.{open_after}
-use Rattle.wy_sound.specs.Programs.{allowed, GrantsFit}
+use Rattle.wy_sound.specs.Programs.{allowed}
+use Rattle.wy_sound.proofs.Linked.{GrantsFit}
 
 abbrev pub call_of : List ℕ → List ℕ → Call
 call_of x b = record { instance = x; body = b }

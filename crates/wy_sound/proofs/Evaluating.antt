@@ -25,10 +25,11 @@ use Rattle.wy_meaning.specs.Operating.{binary_operator, operated}
 use Rattle.wy_meaning.specs.Starts.{literal_in, scope_of_instance}
 use Rattle.wy_meaning.specs.Eval.{Sight, Calls, object_value, with_local, object_new, go_on, apply, eval, eval_value, eval_all, eval_block}
 use Rattle.wy_sound.specs.Programs.{program_starts}
-use Rattle.wy_sound.specs.Laws.{IsLinked}
+use Rattle.wy_sound.proofs.Linked.{IsLinked}
 use Rattle.wy_sound.proofs.Lists.{some_same}
 use Rattle.wy_sound.proofs.Below.{Below}
-use Rattle.wy_sound.proofs.Heaps.{Placed, kind_at, fields_at, many, ValueHas, AllHave, WellHeap, ThisHas, SightHas, sight_grows, sight_more, value_grows, value_below}
+use Rattle.wy_sound.specs.TypedHeaps.{Placed, kind_at, fields_at, instance_count, ValueHas, AllHave, WellHeap, ThisHas, SightHas}
+use Rattle.wy_sound.proofs.Heaps.{sight_grows, sight_more, value_grows, value_below}
 use Rattle.wy_sound.proofs.BaseTypes.{number_kind, truth_kind, text_kind, nothing_kind, own_kind}
 use Rattle.wy_sound.proofs.Results.{Sound, Answers, Valued, give_sound, node_sound, tick_sound, more_sound, bind_sound, settle_sound, found_answers}
 use Rattle.wy_sound.proofs.Operating.{IsStrict, unary_answers, text_answers, binary_answers}
@@ -41,7 +42,7 @@ left_within e g h f u w = λ a i. w a (subst (λ s. In a s) (sym u) (In-union-le
 pub right_within : (e g h f : List ℕ) → h ≡ union e g → Within h f → Within g f
 right_within e g h f u w = λ a i. w a (subst (λ s. In a s) (sym u) (In-union-right a e g i))
 
-module _ (p : Program) (linked : IsLinked p) (now : ℕ) (early : now ≤ many p) (calls : Calls) (ok : CallsSound p now calls) where
+module _ (p : Program) (linked : IsLinked p) (now : ℕ) (early : now ≤ instance_count p) (calls : Calls) (ok : CallsSound p now calls) where
   abbrev Typed : (sight : Sight) → Placed p sight.instance → Option ℕ → Derivation GroundType → code.Value → GroundType → List ℕ → Type 0
   Typed sight pl owner d x t e = Derives (ground_reading p sight.instance pl.instance) pl.scope pl.holds.derivation.locals owner d x t e
 

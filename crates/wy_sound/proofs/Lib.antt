@@ -5,11 +5,17 @@ pub mod Below
 pub mod Calling
 pub mod Effects
 pub mod Evaluating
+mod Examples
 pub mod Heaps
+pub mod Linked
+mod LinkingAdded
+mod LinkingApart
 mod LinkingExamples
+mod LinkingGrants
 pub mod LinkingLaws
 mod LinkingLines
 mod LinkingLists
+mod LinkingMain
 mod LinkingNames
 mod LinkingPrograms
 mod LinkingReads
@@ -27,6 +33,9 @@ pub mod Operating
 pub mod Operations
 pub mod Performing
 pub mod Placing
+pub mod ReportRows
 pub mod Results
 pub mod Running
+pub mod Silence
 pub mod Starting
+mod TellingExamples

@@ -19,7 +19,7 @@ use Rattle.wy_types.specs.Fitting.{FitsType}
 use Rattle.wy_types.specs.Primitive.{primitive_types, primitive_type}
 use Rattle.wy_types.specs.Program.{Program, Scope, Init}
 use Rattle.wy_types.specs.Ground.{number_from, instance_of}
-use Rattle.wy_sound.specs.Linking.{HaveTheirTypes, OwnNamesFit, LinesAreTyped}
+use Rattle.wy_rules.specs.OwnNames.{HaveTheirTypes, OwnNamesFit, LinesAreTyped, IsPlainName, HavePlainNames, GrantsStandFirst}
 
 abbrev at : Place
 at = record { file = 1; line = 1; column = 1 }
@@ -77,17 +77,17 @@ main_names typ =
 abbrev program : TypeRef → Program
 program typ = record { declarations = primitive_types ++ log ∷ plain_text ∷ []; scopes = format ∷ logger ∷ plug ∷ scope Main (codes "main") (main_names typ) None ∷ [] }
 
-no_space : (name : List ℕ) → has 32 name ≡ false → In 32 name → ⊥
-no_space name e i = let f : false ≡ true = sym e ∙ has-In 32 name i in cc
+without : (byte : ℕ) (name : List ℕ) → has byte name ≡ false → In byte name → ⊥
+without byte name e i = let f : false ≡ true = sym e ∙ has-In byte name i in cc
 
-abbrev spaceless : List OwnName → Type 0
-spaceless [] = Unit {0}
-spaceless (n ∷ ns) = (has 32 n.name ≡ false) × spaceless ns
+abbrev ArePlain : List OwnName → Type 0
+ArePlain [] = Unit {0}
+ArePlain (n ∷ ns) = (has 32 n.name ≡ false) × (has 46 n.name ≡ false) × ArePlain ns
 
-words : (ns : List OwnName) → spaceless ns → (n : OwnName) → In n ns → In 32 n.name → ⊥
-words [] h n i = absurd i
-words (m ∷ ns) h n (inl e) = subst (λ (v : OwnName). In 32 v.name → ⊥) e (no_space m.name h.0)
-words (m ∷ ns) h n (inr i) = words ns h.1 n i
+plain : (ns : List OwnName) → ArePlain ns → (n : OwnName) → In n ns → IsPlainName n.name
+plain [] h n i = absurd i
+plain (m ∷ ns) h n (inl e) = subst (λ (v : OwnName). IsPlainName v.name) e (without 32 m.name h.0, without 46 m.name h.1)
+plain (m ∷ ns) h n (inr i) = plain ns h.2 n i
 
 two_are_sets : AreSets 2 two
 two_are_sets s (inl e) = subst (IsSet 2) e (omega arith, omega arith, tt)
@@ -95,14 +95,13 @@ two_are_sets s (inr (inl e)) = subst (IsSet 2) e (omega arith, omega arith, tt)
 two_are_sets s (inr (inr i)) = absurd i
 
 format_fits : (typ : TypeRef) → OwnNamesFit (program typ) format
-format_fits typ = record { may_have = refl; parameters = λ n i. absurd i; others = tt; words = λ n i. absurd i }
+format_fits typ = record { may_have = refl; parameters = λ n i. absurd i; others = tt }
 
 logger_fits : (typ : TypeRef) → OwnNamesFit (program typ) logger
 logger_fits typ = record {
   may_have = tt;
   parameters = λ n i. elim i [ inl e ↦ subst (λ (v : OwnName). FitsType (program typ) 2 0 v.typ) e (omega arith, inl refl, two_are_sets) | inr j ↦ absurd j ];
   others = ((refl, refl), tt);
-  words = words logger_names (refl, (refl, tt));
 }
 
 plug_fits : (typ : TypeRef) → OwnNamesFit (program typ) plug
@@ -110,7 +109,6 @@ plug_fits typ = record {
   may_have = tt;
   parameters = λ n i. elim i [ inl e ↦ subst (λ (v : OwnName). FitsType (program typ) 0 0 v.typ) e (omega arith, inr refl, λ s j. absurd j) | inr j ↦ absurd j ];
   others = tt;
-  words = words plug.names (refl, tt);
 }
 
 -- the import stands at its bound, of an atom that is opened before it
@@ -119,7 +117,6 @@ main_fits = record {
   may_have = refl;
   parameters = λ n i. absurd i;
   others = ((0, refl), ((refl, refl), (refl, (((omega arith, omega arith, tt), refl), tt))));
-  words = words (main_names (At 5 (2 ∷ []))) (refl, (refl, (refl, (refl, tt))));
 }
 
 lines_typed : LinesAreTyped (program (At 5 (2 ∷ [])))
@@ -133,9 +130,32 @@ lines_typed s (inr (inr (inr (inr i)))) = absurd i
 at_other_bound : HaveTheirTypes (program (At 5 (1 ∷ []))) 0 (main_names (At 5 (1 ∷ []))) → ⊥
 at_other_bound h = let same : At 5 (1 ∷ []) ≡ At 5 (2 ∷ []) = h.1.1.1.0.1 in cc
 
+names_plain : (typ : TypeRef) → HavePlainNames (program typ)
+names_plain typ s (inl e) = subst (λ (z : Scope). (n : OwnName) → In n z.names → IsPlainName n.name) e (plain [] tt)
+names_plain typ s (inr (inl e)) =
+    subst (λ (z : Scope). (n : OwnName) → In n z.names → IsPlainName n.name) e (plain logger_names (refl, refl, (refl, refl, tt)))
+names_plain typ s (inr (inr (inl e))) = subst (λ (z : Scope). (n : OwnName) → In n z.names → IsPlainName n.name) e (plain plug.names (refl, refl, tt))
+names_plain typ s (inr (inr (inr (inl e)))) =
+    subst (λ (z : Scope). (n : OwnName) → In n z.names → IsPlainName n.name) e
+    (plain (main_names typ) (refl, refl, (refl, refl, (refl, refl, (refl, refl, tt)))))
+names_plain typ s (inr (inr (inr (inr i)))) = absurd i
+
+-- grants stand first where a line follows them, and not where one follows a line
+abbrev grant : OwnName
+grant = own (codes "console") (Named 0 two) Grant
+
+abbrev line : OwnName
+line = own (codes "log") (Named 4 ((2 ∷ []) ∷ [])) (Instance 1 [])
+
+grant_first : GrantsStandFirst (grant ∷ line ∷ [])
+grant_first = ((λ m i e. refl), ((λ m i e. absurd i), tt))
+
+grant_later : GrantsStandFirst (line ∷ grant ∷ []) → ⊥
+grant_later h = let same : Instance 1 [] ≡ Grant = h.0 grant (inl refl) refl in cc
+
 -- a line that had the name of a used module's instance would be taken for it; no own name is of this kind
 taken_for_pure : number_from 0 (codes "pure " ++ codes "format") (instance_of (codes "pure format") 1 [] None [] ∷ []) ≡ Some 0
 taken_for_pure = refl
 
-no_such_name : (p : Program) (s : Scope) → OwnNamesFit p s → (n : OwnName) → In n s.names → n.name ≡ codes "pure format" → ⊥
-no_such_name p s f n i e = f.words n i (subst (λ v. In 32 v) (sym e) (inr (inr (inr (inr (inl refl))))))
+no_such_name : (p : Program) → HavePlainNames p → (s : Scope) → In s p.scopes → (n : OwnName) → In n s.names → n.name ≡ codes "pure format" → ⊥
+no_such_name p plain s among n i e = (plain s among n i).0 (subst (λ v. In 32 v) (sym e) (inr (inr (inr (inr (inl refl))))))

@@ -11,22 +11,24 @@ use Rattle.wy_types.specs.Program.{Program, Scope}
 use Rattle.wy_types.specs.Types.{is_plain}
 use Rattle.wy_types.specs.Core.{OriginFits, IsCore}
 use Rattle.wy_types.specs.Ground.{Visited, instance_of, visit_name, visit_names, visit, program_number, program_visited, program_sets, start_list}
-use Rattle.wy_rules.specs.Acceptance.{LineHolds, Accepted, parameters_among}
+use Rattle.wy_rules.specs.Acceptance.{LineHolds, Accepted}
 use Rattle.wy_rules.specs.GroundTypes.{read_by, run_instances}
 use Rattle.wy_rules.specs.GroundTyping.{BoundFits}
 use Rattle.wy_sound.specs.Arguments.{ground_below, actual_type, ArgumentFits, InstanceFits}
-use Rattle.wy_sound.specs.Linking.{opened_count, after_parameters, HasItsType, HaveTheirTypes, MayHave, LinesAreTyped, AcceptedInstancesFit, AcceptedArgumentsFit}
+use Rattle.wy_rules.specs.OwnNames.{opened_count, HasItsType, HaveTheirTypes, LinesAreTyped, HavePlainNames}
+use Rattle.wy_sound.specs.Programs.{IsResolved}
+use Rattle.wy_sound.specs.Linking.{AcceptedInstancesFit, AcceptedArgumentsFit}
 use Rattle.wy_sound.proofs.LinkingLists.{GoesOn, goes_on_same, goes_on_further, read_next, read_last, read_within}
 use Rattle.wy_sound.proofs.LinkingStates.{count_more, AreActuals, actual_at, actuals_length, Stands}
 use Rattle.wy_sound.proofs.LinkingTables.{no_own, no_own_read, same_at}
-use Rattle.wy_sound.proofs.LinkingVisits.{later_names_grow, first_and_after}
+use Rattle.wy_sound.proofs.LinkingVisits.{later_names_grow}
 use Rattle.wy_sound.proofs.LinkingPrograms.{last_scope, main_is_last, one_scope}
 use Rattle.wy_sound.proofs.LinkingWays.{Way, way_ends, way_begins}
-use Rattle.wy_sound.proofs.LinkingScopes.{names_at, Facts, facts_at}
+use Rattle.wy_sound.proofs.LinkingScopes.{names_at, Facts, facts_at, program_typed}
 use Rattle.wy_sound.proofs.LinkingNames.{grant_stands}
 use Rattle.wy_sound.proofs.LinkingLines.{Visiting, VisitStands, instance_stands, import_stands, use_stands}
 
-module _ (p : Program) (c : IsCore p) (t : LinesAreTyped p) (a : Accepted p) where
+module _ (p : Program) (c : IsCore p) (t : LinesAreTyped p) (words : HavePlainNames p) (a : Accepted p) where
   module _ (k : ℕ) (inside : VisitStands p k) (m : ℕ) (s : Scope) (path prefix : List ℕ) (top : List (List ℕ)) (at : Visiting p m s prefix top)
       (way : Way p path m (suc k)) where
     module _ (done : List OwnName) (n : OwnName) (rest : List OwnName) (v : Visited) (names : names_at p m ≡ done ++ n ∷ rest)
@@ -49,11 +51,11 @@ module _ (p : Program) (c : IsCore p) (t : LinesAreTyped p) (a : Accepted p) whe
           (main_is_last p.scopes c.program m s at.facts.there main) (at.main main) e
           at.facts.fits.atoms typed.1
       name_stands (Use j) e typed goes further =
-          use_stands p c t a k inside m s path prefix top at way done n rest v names stands j e (line (Use j) e) typed.0 typed.1 goes further
+          use_stands p c t words a k inside m s path prefix top at way done n rest v names stands j e (line (Use j) e) typed.0 typed.1 goes further
       name_stands (Instance j arguments) e typed goes further =
-          instance_stands p c t a k inside m s path prefix top at way done n rest v names stands j arguments e typed goes further
+          instance_stands p c t words a k inside m s path prefix top at way done n rest v names stands j arguments e typed goes further
       name_stands (Import j arguments bound) e typed goes further =
-          import_stands p c t a k inside m s path prefix top at way done n rest v names stands j arguments bound e typed.0 typed.1 goes further
+          import_stands p c t words a k inside m s path prefix top at way done n rest v names stands j arguments bound e typed.0 typed.1 goes further
 
     -- the own names that are left
     names_stand : (done rest : List OwnName) (v : Visited) → names_at p m ≡ done ++ rest → HaveTheirTypes p (opened_count p done) rest →
@@ -82,18 +84,7 @@ module _ (p : Program) (c : IsCore p) (t : LinesAreTyped p) (a : Accepted p) whe
   main = last_scope p.scopes c.program
 
   main_facts : Facts p (program_number p) main.0
-  main_facts = facts_at p c t a (program_number p) main.0 main.1
-
-  no_parameters : parameters_among (names_at p (program_number p)) ≡ []
-  no_parameters = subst (λ k. MayHave k (parameters_among (names_at p (program_number p)))) main.2 main_facts.may_have
-
-  all_after : after_parameters (names_at p (program_number p)) ≡ names_at p (program_number p)
-  all_after = sym (first_and_after (names_at p (program_number p)) ∙ ap (λ l. l ++ after_parameters (names_at p (program_number p))) no_parameters)
-
-  typed : HaveTheirTypes p 0 (names_at p (program_number p))
-  typed =
-      subst (HaveTheirTypes p 0) all_after
-      (subst (λ l. HaveTheirTypes p (opened_count p l) (after_parameters (names_at p (program_number p)))) no_parameters main_facts.others)
+  main_facts = facts_at p c t words a (program_number p) main.0 main.1
 
   program_stands : Stands p None (program_sets p) (names_at p (program_number p)) (program_visited p)
   program_stands =
@@ -102,7 +93,7 @@ module _ (p : Program) (c : IsCore p) (t : LinesAreTyped p) (a : Accepted p) whe
       record { actuals = tt; count = refl; types = λ x i. absurd i; sets = λ x i. absurd i; started = λ y i e. absurd (cc) } in
       visit_stands (length p.scopes) (program_number p) main.0 [] [] [] (names_at p (program_number p)) empty (program_sets p)
       (record { facts = main_facts; plain = ap is_plain main.2; words = λ i. absurd i; main = λ e. refl })
-      (way_begins p (program_number p)) refl typed refl (goes_on_same (start_list p)) stands
+      (way_begins p (program_number p)) refl (program_typed p c t) refl (goes_on_same (start_list p)) stands
 
   ------------------------------------------------------------
   -- The instances of the run
@@ -169,12 +160,29 @@ module _ (p : Program) (c : IsCore p) (t : LinesAreTyped p) (a : Accepted p) whe
             (same_at 0 x (read_by i.bound i.ground n.typ) (no_own_read i.bound i.ground n.typ (no_own p (length s.atoms) n.typ written))) r.2.below;
       }
 
+-- an instance of the start list is one of a module, and is handed something for each of its own names
+pub record IsModuleInstance (p : Program) (i : Started) : Type 0 where
+  pub scope : Scope
+  pub there : slice_get p.scopes i.scope ≡ Some scope
+  pub is_module : scope.kind ≡ Main → ⊥
+  pub handed : length i.arguments ≡ length scope.names
+
+pub accepted_modules : (p : Program) → IsResolved p → Accepted p → (x : ℕ) (i : Started) → slice_get (start_list p) x ≡ Some i → IsModuleInstance p i
+accepted_modules p r a x i e =
+    let fit = (program_stands p r.core r.lines r.names a).started x i e in
+    record {
+      scope = fit.scope;
+      there = fit.there;
+      is_module = fit.is_module;
+      handed = actuals_length p x i.bound i.ground fit.scope.names i.arguments fit.actuals;
+    }
+
 pub accepted_instances_fit : AcceptedInstancesFit
-accepted_instances_fit p c t a = record { each = instance_fits p c t a }
+accepted_instances_fit p c t words a = record { each = instance_fits p c t words a }
 
 pub accepted_arguments_fit : AcceptedArgumentsFit
-accepted_arguments_fit p c t a = record {
-  each = argument_fits p c t a;
+accepted_arguments_fit p c t words a = record {
+  each = argument_fits p c t words a;
   count =
-      λ x i s e scope. (let same = actuals_length p x i.bound i.ground s.names i.arguments (arguments_of p c t a x i s e scope) in omega (arith, same));
+      λ x i s e scope. (let same = actuals_length p x i.bound i.ground s.names i.arguments (arguments_of p c t words a x i s e scope) in omega (arith, same));
 }

@@ -17,7 +17,7 @@ use Rattle.wy_types.specs.Ground.{Visited, type_of, definitions_of, members_of, 
 use Rattle.wy_rules.specs.Acceptance.{Accepted, LineHolds, InstanceHolds, ImportFits, ImportHolds, parameters_among, Handed, handed_to}
 use Rattle.wy_rules.specs.GroundTypes.{type_at}
 use Rattle.wy_rules.specs.GroundTyping.{BoundFits}
-use Rattle.wy_sound.specs.Linking.{opens, opened_count, after_parameters, sealed_of, name_of, IsOpened, IsBounded, HaveTheirTypes, LinesAreTyped}
+use Rattle.wy_rules.specs.OwnNames.{opens, opened_count, after_parameters, sealed_of, name_of, IsOpened, IsBounded, HaveTheirTypes, LinesAreTyped, HavePlainNames}
 use Rattle.wy_sound.proofs.LinkingLists.{GoesOn, goes_on_same, goes_on_more, goes_on_further, read_next, read_there}
 use Rattle.wy_sound.proofs.LinkingSets.{Fits-wider, substituted_first, arguments_count}
 use Rattle.wy_sound.proofs.LinkingStates.{read_type, IsActual, AreActuals, Fits, all_more, Stands, Given, given}
@@ -77,7 +77,7 @@ plain_bound : (plain : Truth) (bound : List ℕ) → plain ≡ true → BoundFit
 plain_bound true bound e = tt
 plain_bound false bound e = absurd (cc)
 
-module _ (p : Program) (c : IsCore p) (t : LinesAreTyped p) (a : Accepted p) (k : ℕ) (inside : VisitStands p k)
+module _ (p : Program) (c : IsCore p) (t : LinesAreTyped p) (words : HavePlainNames p) (a : Accepted p) (k : ℕ) (inside : VisitStands p k)
     (m : ℕ) (s : Scope) (path prefix : List ℕ) (top : List (List ℕ)) (at : Visiting p m s prefix top) (way : Way p path m (suc k))
     (done : List OwnName) (n : OwnName) (rest : List OwnName) (v : Visited) (names : names_at p m ≡ done ++ n ∷ rest)
     (stands : Stands p None top done v) where
@@ -126,9 +126,6 @@ module _ (p : Program) (c : IsCore p) (t : LinesAreTyped p) (a : Accepted p) (k 
       (read_next inner.started [] i) f plain
       (ap (λ o. map (replace inner.sets) (definitions_of o)) f.there)
       (subst (λ o. IsOpened p (opened_count p done) (sealed_of o) n.typ) f.there opened) further opening
-
-  inner_prefix : List ℕ
-  inner_prefix = prefix ++ (n.name ++ codes ".")
 
   line_name : NoSpace (prefix ++ n.name)
   line_name = no_space_both prefix n.name at.words (at.facts.words n among)
@@ -186,7 +183,7 @@ module _ (p : Program) (c : IsCore p) (t : LinesAreTyped p) (a : Accepted p) (k 
     instance_stands opened goes further =
         let z = line.resource.0 in
         let kind : z.kind ≡ Resource = line.resource.2 in
-        let f = facts_at p c t a j z line.resource.1 in
+        let f = facts_at p c t words a j z line.resource.1 in
         let is_module : z.kind ≡ Main → ⊥ = λ e. (let same : Resource ≡ Main = sym kind ∙ e in cc) in
         let name = prefix ++ n.name in
         let passes : visit p k (names_at p j) (prefix ++ (n.name ++ codes ".")) (names_at p j) hand ≡ inner =
@@ -235,7 +232,7 @@ module _ (p : Program) (c : IsCore p) (t : LinesAreTyped p) (a : Accepted p) (k 
     import_stands of_atoms is goes further =
         let z = import_line.0.plain.0 in
         let kind : z.kind ≡ Plain = import_line.0.plain.2 in
-        let f = facts_at p c t a j z import_line.0.plain.1 in
+        let f = facts_at p c t words a j z import_line.0.plain.1 in
         let plain : is_plain z.kind ≡ true = ap is_plain kind in
         let name = prefix ++ n.name in
         let hand = import_hand in
@@ -280,7 +277,7 @@ module _ (p : Program) (c : IsCore p) (t : LinesAreTyped p) (a : Accepted p) (k 
         Stands p None top (done ++ n ∷ []) (used p (visit p k) v (codes "pure " ++ n.name) j there)
     used_stands (Some y) e goes further =
         let z = kind.0 in
-        let f = facts_at p c t a j z kind.1 in
+        let f = facts_at p c t words a j z kind.1 in
         let found = number_found 0 (codes "pure " ++ n.name) v.started y e in
         let i = found.1 in
         let number : found.0 ≡ y = omega (arith, found.2) in
@@ -296,7 +293,7 @@ module _ (p : Program) (c : IsCore p) (t : LinesAreTyped p) (a : Accepted p) (k 
         (subst (λ x. IsOpened p (opened_count p done) (sealed_of x) n.typ) f.there opened) further (ap (opens p n) o)
     used_stands None e goes further =
         let z = kind.0 in
-        let f = facts_at p c t a j z kind.1 in
+        let f = facts_at p c t words a j z kind.1 in
         let hand : Visited = record { started = v.started; actuals = []; sets = [] } in
         let pure = pure_names p j z f kind.2 in
         let passes : visit p k (names_at p j) [] (uses_among (names_at p j)) hand ≡

@@ -17,7 +17,7 @@ use Rattle.wy_types.specs.Ground.{Visited, settled, type_of, abstract_names, mem
 use Rattle.wy_rules.specs.GroundTypes.{Named, Own, type_at, run_instances}
 use Rattle.wy_rules.specs.GroundTyping.{BoundFits}
 use Rattle.wy_sound.specs.Arguments.{actual_type, program_names}
-use Rattle.wy_sound.specs.Linking.{opens, opened_count, IsOpened, IsBounded}
+use Rattle.wy_rules.specs.OwnNames.{opens, opened_count, IsOpened, IsBounded}
 use Rattle.wy_sound.proofs.LinkingLists.{GoesOn, read_on, read_next, read_first, read_within, length_goes_on}
 use Rattle.wy_sound.proofs.LinkingSets.{AreSets-wider, replace_first, singles, length_singles, opened_fits, count_members}
 use Rattle.wy_sound.proofs.LinkingStates.{read_type, AllFit, Stands, actuals_length, stands_more}

@@ -9,12 +9,10 @@ use Rattle.wy_types.specs.declared.resolved.ScopeKind.TheVariants.{Program as Ma
 use Rattle.wy_types.specs.Program.{Scope}
 use Rattle.wy_types.specs.Core.{ProgramIsLast, module_names}
 use Rattle.wy_types.specs.Ground.{number_from}
-
-some_same : {X : Type 0} (a b : X) → ◌≡◌ {A = Option X} (Some a) (Some b) → a ≡ b
-some_same a b e = cc
+use Rattle.wy_sound.proofs.Lists.{some_same}
 
 pub one_scope : (o : Option Scope) (s z : Scope) → o ≡ Some s → o ≡ Some z → s ≡ z
-one_scope o s z e f = some_same s z (sym e ∙ f)
+one_scope o s z e f = some_same (sym e ∙ f)
 
 ------------------------------------------------------------
 -- The program's own scope
@@ -31,7 +29,7 @@ pub main_is_last : (ss : List Scope) → ProgramIsLast ss → (k : ℕ) (s : Sco
 main_is_last [] h k s e main = absurd h
 main_is_last (t ∷ []) h zero s e main = omega arith
 main_is_last (t ∷ []) h (suc k) s e main = absurd (cc)
-main_is_last (t ∷ u ∷ rest) h zero s e main = absurd (h.0 (ap (λ (v : Scope). v.kind) (some_same t s e) ∙ main))
+main_is_last (t ∷ u ∷ rest) h zero s e main = absurd (h.0 (ap (λ (v : Scope). v.kind) (some_same e) ∙ main))
 main_is_last (t ∷ u ∷ rest) h (suc k) s e main = let r = main_is_last (u ∷ rest) h.1 k s e main in omega (arith, r)
 
 ------------------------------------------------------------
@@ -40,16 +38,16 @@ main_is_last (t ∷ u ∷ rest) h (suc k) s e main = let r = main_is_last (u ∷
 module_name : (ss : List Scope) → ProgramIsLast ss → (k : ℕ) (s : Scope) → slice_get ss k ≡ Some s → (s.kind ≡ Main → ⊥) →
     slice_get (module_names ss) k ≡ Some s.name
 module_name [] h k s e is_module = absurd h
-module_name (t ∷ []) h zero s e is_module = absurd (is_module (ap (λ (v : Scope). v.kind) (sym (some_same t s e)) ∙ h))
+module_name (t ∷ []) h zero s e is_module = absurd (is_module (ap (λ (v : Scope). v.kind) (sym (some_same e)) ∙ h))
 module_name (t ∷ []) h (suc k) s e is_module = absurd (cc)
-module_name (t ∷ u ∷ rest) h zero s e is_module = ap (λ (v : Scope). Some v.name) (some_same t s e)
+module_name (t ∷ u ∷ rest) h zero s e is_module = ap (λ (v : Scope). Some v.name) (some_same e)
 module_name (t ∷ u ∷ rest) h (suc k) s e is_module = module_name (u ∷ rest) h.1 k s e is_module
 
 once : {X : Type 0} (xs : List X) (j k : ℕ) (x : X) → Apart xs → slice_get xs j ≡ Some x → slice_get xs k ≡ Some x → j ≡ k
 once [] j k x d e f = absurd (cc)
 once (y ∷ xs) zero zero x d e f = refl
-once {X} (y ∷ xs) zero (suc k) x d e f = absurd (d.0 (let P : X → Type 0 = λ v. In v xs in subst P (sym (some_same y x e)) (In-slice_get xs k x f)))
-once {X} (y ∷ xs) (suc j) zero x d e f = absurd (d.0 (let P : X → Type 0 = λ v. In v xs in subst P (sym (some_same y x f)) (In-slice_get xs j x e)))
+once {X} (y ∷ xs) zero (suc k) x d e f = absurd (d.0 (let P : X → Type 0 = λ v. In v xs in subst P (sym (some_same e)) (In-slice_get xs k x f)))
+once {X} (y ∷ xs) (suc j) zero x d e f = absurd (d.0 (let P : X → Type 0 = λ v. In v xs in subst P (sym (some_same f)) (In-slice_get xs j x e)))
 once (y ∷ xs) (suc j) (suc k) x d e f = ap suc (once xs j k x d.1 e f)
 
 pub one_module : (ss : List Scope) → ProgramIsLast ss → Apart (module_names ss) → (j k : ℕ) (s z : Scope) → slice_get ss j ≡ Some s →
@@ -68,7 +66,7 @@ number_found k name [] y e = absurd (cc)
 number_found k name (i ∷ xs) y e =
     elim (bytes_eq i.name name) as (λ b. bytes_eq i.name name ≡ b → (if b then Some k else number_from (k + 1) name xs) ≡ Some y →
     (j : ℕ) × (i' : Instance) × (y ≡ k + j) × (slice_get (i ∷ xs) j ≡ Some i') × (i'.name ≡ name)) [
-      | true ↦ λ t f. (0, i, (let same = some_same k y f in omega (arith, same)), refl, (bytes_eq-Decides i.name name).0 t)
+      | true ↦ λ t f. (0, i, (let same = some_same f in omega (arith, same)), refl, (bytes_eq-Decides i.name name).0 t)
       | false ↦ λ t f. (let r = number_found (k + 1) name xs y f in (suc r.0, r.1, omega (arith, r.2), r.3, r.4))
     ] refl e
 

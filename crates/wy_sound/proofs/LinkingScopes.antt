@@ -16,13 +16,13 @@ use Rattle.wy_types.specs.Program.{Program, Scope}
 use Rattle.wy_types.specs.Types.{is_plain}
 use Rattle.wy_types.specs.Fitting.{FitsType, member_count}
 use Rattle.wy_types.specs.Core.{IsWritten, OriginFits, IsAscribed, origin_modules, LeadsTo, ScopeFits, IsCore}
-use Rattle.wy_types.specs.Ground.{Visited, names_of, is_use, uses_among, arguments_sets, handed, visit}
+use Rattle.wy_types.specs.Ground.{Visited, names_of, is_use, uses_among, arguments_sets, handed, visit, program_number}
 use Rattle.wy_rules.specs.Acceptance.{IsLine, PureHolds, LineHolds, ScopeAccepted, Accepted, parameters_among, Handed, handed_to}
-use Rattle.wy_sound.specs.Linking.{opens, opened_count, after_parameters, HasItsType, HaveTheirTypes, MayHave, LinesAreTyped}
+use Rattle.wy_rules.specs.OwnNames.{opens, opened_count, after_parameters, HasItsType, HaveTheirTypes, MayHave, LinesAreTyped, HavePlainNames}
 use Rattle.wy_sound.proofs.LinkingSets.{arguments_count}
 use Rattle.wy_sound.proofs.LinkingStates.{read_type, IsActual, AreActuals, AllFit, Stands}
 use Rattle.wy_sound.proofs.LinkingVisits.{first_and_after, all_uses}
-use Rattle.wy_sound.proofs.LinkingPrograms.{NoSpace}
+use Rattle.wy_sound.proofs.LinkingPrograms.{NoSpace, last_scope}
 use Rattle.wy_sound.proofs.LinkingWays.{names_lead}
 
 -- the own names of the scope of a number
@@ -41,8 +41,8 @@ pub record Facts (p : Program) (m : ℕ) (s : Scope) : Type 0 where
   pub others : HaveTheirTypes p (opened_count p (parameters_among (names_at p m))) (after_parameters (names_at p m))
   pub words : (n : OwnName) → In n (names_at p m) → NoSpace n.name
 
-pub facts_at : (p : Program) → IsCore p → LinesAreTyped p → Accepted p → (m : ℕ) (s : Scope) → slice_get p.scopes m ≡ Some s → Facts p m s
-facts_at p c t a m s e =
+pub facts_at : (p : Program) → IsCore p → LinesAreTyped p → HavePlainNames p → Accepted p → (m : ℕ) (s : Scope) → slice_get p.scopes m ≡ Some s → Facts p m s
+facts_at p c t words a m s e =
     let fits = c.scopes s (In-slice_get p.scopes m s e) in
     let typed = t s (In-slice_get p.scopes m s e) in
     let accepted = a.scopes m s e in
@@ -57,7 +57,7 @@ facts_at p c t a m s e =
       may_have = rw names typed.may_have;
       parameters = rw names typed.parameters;
       others = rw names typed.others;
-      words = rw names typed.words;
+      words = λ n i. (words s (In-slice_get p.scopes m s e) n (subst (λ l. In n l) names i)).0;
     }
 
 module _ (p : Program) (m : ℕ) (s : Scope) (f : Facts p m s) where
@@ -158,3 +158,15 @@ module _ (p : Program) (z : ℕ) (outer : List OwnName) (v : Visited) (o : Optio
 pub visits_nothing : (p : Program) (k : ℕ) (outer : List OwnName) (prefix : List ℕ) (v : Visited) → visit p k outer prefix [] v ≡ v
 visits_nothing p zero outer prefix v = refl
 visits_nothing p (suc k) outer prefix v = refl
+
+-- the program has no parameters, so all of its own names have their types
+pub program_typed : (p : Program) → IsCore p → LinesAreTyped p → HaveTheirTypes p 0 (names_at p (program_number p))
+program_typed p c t =
+    let main = last_scope p.scopes c.program in
+    let names = main.0.names in
+    let fits = t main.0 (In-slice_get p.scopes (program_number p) main.0 main.1) in
+    let none : parameters_among names ≡ [] = subst (λ k. MayHave k (parameters_among names)) main.2 fits.may_have in
+    let all : after_parameters names ≡ names = sym (first_and_after names ∙ ap (λ l. l ++ after_parameters names) none) in
+    let others : HaveTheirTypes p 0 (after_parameters names) =
+    subst (λ l. HaveTheirTypes p (opened_count p l) (after_parameters names)) none fits.others in
+    subst (λ o. HaveTheirTypes p 0 (names_of o)) (sym main.1) (subst (HaveTheirTypes p 0) all others)

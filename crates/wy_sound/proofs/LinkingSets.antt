@@ -16,7 +16,7 @@ use Rattle.wy_types.specs.Types.{substituted}
 use Rattle.wy_types.specs.Fitting.{FitsType, member_count}
 use Rattle.wy_types.specs.Ground.{abstract_names, members_of, single_sets, argument_sets, arguments_sets}
 use Rattle.wy_rules.specs.Acceptance.{is_parameter, parameters_until, parameters_among}
-use Rattle.wy_sound.specs.Linking.{opens, opened_count, IsOpened}
+use Rattle.wy_rules.specs.OwnNames.{opens, opened_count, IsOpened}
 use Rattle.wy_sound.proofs.LinkingLists.{GoesOn, or_first}
 
 ------------------------------------------------------------
@@ -73,7 +73,7 @@ union-nothing n s h =
     sets_equal 0 n (union s []) s (IsSetFrom-union 0 n s [] h tt) h
     (λ a i. elim (union-cases a s [] i) [ inl j ↦ j | inr j ↦ absurd j ]) (λ a i. In-union-left a s [] i)
 
-or_there : {X : Type 0} (xs ys : List X) (x d : X) → slice_index_or (xs ++ x ∷ ys) (length xs) d ≡ x
+pub or_there : {X : Type 0} (xs ys : List X) (x d : X) → slice_index_or (xs ++ x ∷ ys) (length xs) d ≡ x
 or_there [] ys x d = refl
 or_there (y ∷ xs) ys x d = or_there xs ys x d
 

@@ -17,7 +17,7 @@ use Rattle.wy_types.specs.Ground.{Visited, settled, type_of}
 use Rattle.wy_rules.specs.GroundTypes.{GroundType, type_at, read_by}
 use Rattle.wy_rules.specs.GroundTyping.{BoundFits}
 use Rattle.wy_sound.specs.Arguments.{ground_below, actual_type, IsThere}
-use Rattle.wy_sound.specs.Linking.{opens, opened_count}
+use Rattle.wy_rules.specs.OwnNames.{opens, opened_count}
 use Rattle.wy_sound.proofs.LinkingLists.{read_first, read_last}
 use Rattle.wy_sound.proofs.LinkingSets.{AreSets-both, Fits-wider}
 

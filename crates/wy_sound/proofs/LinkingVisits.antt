@@ -8,7 +8,7 @@ use Rattle.wy_types.specs.declared.resolved.OwnName.{OwnName}
 use Rattle.wy_types.specs.Program.{Program}
 use Rattle.wy_types.specs.Ground.{Visited, Visit, names_of, is_use, uses_among, handed, number_from, used, visit_name, visit_names, visit}
 use Rattle.wy_rules.specs.Acceptance.{is_parameter, parameters_until, parameters_among}
-use Rattle.wy_sound.specs.Linking.{after_parameters}
+use Rattle.wy_rules.specs.OwnNames.{after_parameters}
 use Rattle.wy_sound.proofs.LinkingLists.{GoesOn, goes_on_same, goes_on_more, goes_on_further}
 
 -- instances and sets are added behind

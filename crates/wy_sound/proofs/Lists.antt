@@ -1,5 +1,5 @@
--- Reading lists by number: of lists in which an element is set or that grow by one.
-use Rattle.std.proofs.Common.{◌≡◌, ◌≢◌, ℕ, zero, suc, ◌<◌, Bool, true, false, List, [], ◌∷◌, ◌++◌, length, map, ◌⊎◌, inl, inr, refl, ap, ◌∙◌, Some, arith}
+-- Reading lists by number: lists in which an element is set, and mapped ones.
+use Rattle.std.proofs.Common.{Option, None, ◌≡◌, ◌≢◌, ℕ, zero, suc, ◌<◌, Bool, true, false, List, [], ◌∷◌, ◌++◌, length, map, refl, ap, ◌∙◌, Some, arith}
 use Rattle.std.specs.Prelude.{slice_get, slice_set, if◌then◌else◌}
 use Rattle.std.specs.Option.{option_map}
 
@@ -13,16 +13,6 @@ pub some_same : {X : Type 0} {x y : X} → Some x ≡ Some y → x ≡ y
 some_same e = cc
 
 module _ {X : Type 0} where
-  pub get_within : (xs : List X) (i : ℕ) (x : X) → slice_get xs i ≡ Some x → i < length xs
-  get_within [] i x e = absurd cc
-  get_within (z ∷ xs) zero x e = omega arith
-  get_within (z ∷ xs) (suc i) x e = let h = get_within xs i x e in omega arith
-
-  pub get_below : (xs : List X) (i : ℕ) → i < length xs → (x : X) × (slice_get xs i ≡ Some x)
-  get_below [] i lt = absurd (omega arith)
-  get_below (x ∷ xs) zero lt = (x, refl)
-  get_below (x ∷ xs) (suc i) lt = get_below xs i (omega arith)
-
   pub get_set_same : (xs : List X) (i : ℕ) (v : X) → i < length xs → slice_get (slice_set xs i v) i ≡ Some v
   get_set_same [] i v h = absurd (omega arith)
   get_set_same (x ∷ xs) zero v h = refl
@@ -40,23 +30,6 @@ module _ {X : Type 0} where
   length_set (x ∷ xs) zero v = refl
   length_set (x ∷ xs) (suc i) v = ap suc (length_set xs i v)
 
-  pub get_left : (xs ys : List X) (i : ℕ) (x : X) → slice_get xs i ≡ Some x → slice_get (xs ++ ys) i ≡ Some x
-  get_left [] ys i x e = absurd cc
-  get_left (z ∷ xs) ys zero x e = e
-  get_left (z ∷ xs) ys (suc i) x e = get_left xs ys i x e
-
-  pub get_last : (xs : List X) (y : X) → slice_get (xs ++ y ∷ []) (length xs) ≡ Some y
-  get_last [] y = refl
-  get_last (z ∷ xs) y = get_last xs y
-
-  -- what stands in a list with one more is of the list, or the last one at its place
-  pub get_either : (xs : List X) (y : X) (i : ℕ) (x : X) → slice_get (xs ++ y ∷ []) i ≡ Some x →
-      (slice_get xs i ≡ Some x) ⊎ ((y ≡ x) × (i ≡ length xs))
-  get_either [] y zero x e = inr (some_same e, refl)
-  get_either [] y (suc i) x e = absurd cc
-  get_either (z ∷ xs) y zero x e = inl e
-  get_either (z ∷ xs) y (suc i) x e = elim (get_either xs y i x e) [ inl h ↦ inl h | inr h ↦ inr (h.0, ap suc h.1) ]
-
 pub get_map : {X Y : Type 0} (f : X → Y) (xs : List X) (i : ℕ) → slice_get (map f xs) i ≡ option_map f (slice_get xs i)
 get_map f [] i = refl
 get_map f (x ∷ xs) zero = refl
@@ -72,3 +45,12 @@ map_append f (x ∷ xs) ys = ap (λ l. f x ∷ l) (map_append f xs ys)
 pub map_length : {X Y : Type 0} (f : X → Y) (xs : List X) → length (map f xs) ≡ length xs
 map_length f [] = refl
 map_length f (x ∷ xs) = ap suc (map_length f xs)
+
+pub length_more : {X : Type 0} (xs : List X) (y : X) → length (xs ++ y ∷ []) ≡ suc (length xs)
+length_more [] y = refl
+length_more (x ∷ xs) y = ap suc (length_more xs y)
+
+-- what is read of a value that is there
+pub some_mapped : {X Y : Type 0} (f : X → Y) (o : Option X) (y : Y) → option_map f o ≡ Some y → (x : X) × (o ≡ Some x) × (f x ≡ y)
+some_mapped f None y e = absurd cc
+some_mapped f (Some x) y e = (x, refl, some_same e)

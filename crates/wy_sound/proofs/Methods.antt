@@ -1,7 +1,6 @@
 -- A method that a type of a run has is that of a body of the instance's scope, which a call finds.
-use Rattle.std.proofs.Common.{◌≡◌, ℕ, zero, suc, ◌+◌, Bool, true, false, ◌&&◌, List, [], ◌∷◌, map, refl, sym, ap, ◌∙◌, subst, Option, Some, None, arith, nat_eq}
+use Rattle.std.proofs.Common.{◌≡◌, ℕ, zero, suc, ◌+◌, Bool, true, false, ◌&&◌, List, [], ◌∷◌, map, refl, sym, ap, ◌∙◌, subst, Some, arith, nat_eq}
 use Rattle.std.specs.Prelude.{slice_get, bytes_eq, if◌then◌else◌}
-use Rattle.std.specs.Option.{option_map}
 use Rattle.std.proofs.lemmas.Bool.Decides.{nat_tests}
 use Rattle.std.proofs.lemmas.Slice.Eq.{bytes_eq-Decides}
 use Rattle.wy_types.specs.declared.types.TypeRef.{TypeRef}
@@ -14,8 +13,8 @@ use Rattle.wy_rules.specs.Typing.{DerivesBody, DerivesBodies}
 use Rattle.wy_rules.specs.Derivations.{BodyDerivation}
 use Rattle.wy_rules.specs.Readings.{Reading}
 use Rattle.wy_meaning.specs.Eval.{Method, find_body}
-use Rattle.wy_sound.proofs.Lists.{some_same}
-use Rattle.wy_sound.proofs.Heaps.{Placed, kind_at}
+use Rattle.wy_sound.proofs.Lists.{some_mapped, some_same}
+use Rattle.wy_sound.specs.TypedHeaps.{Placed, kind_at}
 
 -- the body of a name that a call finds from body k on
 pub record FindsBody (k l : ℕ) (name : List ℕ) (bs : List Body) (g : Signature TypeRef) : Type 0 where
@@ -80,10 +79,6 @@ pub record HasBodyFor (p : Program) (x : ℕ) (pl : Placed p x) (l : ℕ) (name 
   pub owner : method.body.owner ≡ l
   pub called : method.body.signature.name ≡ name
   pub signed : signature_at p x pl method.body ≡ m
-
-some_mapped : {X Y : Type 0} (f : X → Y) (o : Option X) (y : Y) → option_map f o ≡ Some y → (x : X) × (o ≡ Some x) × (f x ≡ y)
-some_mapped f None y e = absurd cc
-some_mapped f (Some x) y e = (x, refl, some_same e)
 
 pub own_body : (p : Program) (x : ℕ) (pl : Placed p x) (l : ℕ) (name : List ℕ) (m : Signature GroundType) →
     find_method name (ground_methods p (Own x l)) ≡ Some m → HasBodyFor p x pl l name m

@@ -25,9 +25,11 @@ use Rattle.wy_meaning.specs.Starts.{actual_in, actual_of}
 use Rattle.wy_meaning.specs.Eval.{Sight, actual_value, value_of_name, assigned, with_named, captured_from, parameters}
 use Rattle.wy_sound.specs.Arguments.{IsThere, actual_type, ground_below}
 use Rattle.wy_sound.specs.Programs.{program_starts}
-use Rattle.wy_sound.specs.Laws.{IsLinked}
-use Rattle.wy_sound.proofs.Lists.{some_same, pick_true, pick_false, get_within, get_below, get_map, get_mapped}
-use Rattle.wy_sound.proofs.Heaps.{Placed, kind_at, variable_at, fields_at, many, ValueHas, AllHave, VariableHas, NamesHave, WellHeap, ThingHas, all_get, all_set, SightHas, ThisHas, heap_set}
+use Rattle.wy_sound.proofs.Linked.{IsLinked}
+use Rattle.wy_sound.proofs.LinkingLists.{read_within, read_there}
+use Rattle.wy_sound.proofs.Lists.{some_mapped, some_same, pick_true, pick_false, get_map, get_mapped}
+use Rattle.wy_sound.specs.TypedHeaps.{Placed, kind_at, variable_at, fields_at, instance_count, ValueHas, AllHave, VariableHas, NamesHave, WellHeap, ThingHas, SightHas, ThisHas}
+use Rattle.wy_sound.proofs.Heaps.{all_get, all_set, heap_set}
 use Rattle.wy_sound.proofs.Results.{Answers}
 use Rattle.wy_sound.proofs.Placing.{started_at, fields_same}
 
@@ -149,7 +151,7 @@ module _ (p : Program) (now : ℕ) (h : List Thing) (x : ℕ) (pl : Placed p x) 
   own_parameter v i =
       let r = In-unmap (λ i. Parameter k i) v (range_with_len 0 (length b.signature.params)) i in
       let lt = in_range 0 (length b.signature.params) r.0 r.1 in
-      let t = get_below b.signature.params r.0 (omega (arith, lt)) in
+      let t = read_there b.signature.params r.0 (omega (arith, lt)) in
       subst (λ v. VariableHas p now h x pl (parameters k 0 vs ++ captured) v) r.2
       (parameter_has r.0 (kind_at p x pl t.0) (parameter_typed r.0 ∙ ap (option_map (kind_at p x pl)) t.1))
 
@@ -193,7 +195,7 @@ module _ (p : Program) (now : ℕ) (w : World) (sight : Sight) (pl : Placed p si
       let t : Thing = this.1 in
       let r = all_get p now w.objects t.fields (fields_at p sight.instance pl l) i (kind_at p sight.instance pl f.typ) fields_typed
       (field_kind i f e) in
-      let lt : i < length t.fields = get_within t.fields i r.0 r.1 in
+      let lt : i < length t.fields = read_within t.fields i r.0 r.1 in
       let fields : List Value = slice_set t.fields i v in
       let set = all_set p now w.objects t.fields (fields_at p sight.instance pl l) i (kind_at p sight.instance pl f.typ) v fields_typed
       (field_kind i f e) q in
@@ -214,16 +216,12 @@ module _ (p : Program) (now : ℕ) (w : World) (sight : Sight) (pl : Placed p si
 abbrev pub owner_binding : (p : Program) (x : ℕ) → Placed p x → Option ℕ → Binding → Option GroundType
 owner_binding p x pl owner name = binding_type (ground_reading p x pl.instance) pl.scope pl.holds.derivation.locals owner name
 
-some_mapped : {X Y : Type 0} (f : X → Y) (o : Option X) (y : Y) → option_map f o ≡ Some y → (x : X) × (o ≡ Some x) × (f x ≡ y)
-some_mapped f None y e = absurd cc
-some_mapped f (Some x) y e = (x, refl, some_same e)
-
 variable_same : (p : Program) (x : ℕ) (pl : Placed p x) (owner : Option ℕ) (v : Variable) →
     owner_binding p x pl owner (to.Variable v) ≡ variable_at p x pl v
 variable_same p x pl owner (Parameter b i) = refl
 variable_same p x pl owner (Local n) = refl
 
-module _ (p : Program) (linked : IsLinked p) (now : ℕ) (early : now ≤ many p) where
+module _ (p : Program) (linked : IsLinked p) (now : ℕ) (early : now ≤ instance_count p) where
   -- what an instance is handed
   own_value : (x : ℕ) (pl : Placed p x) (h : List Thing) (k : ℕ) (n : OwnName) → x ≤ now → WellHeap p now h → slice_get pl.scope.names k ≡ Some n →
       (v : Value) × (actual_value (actual_of (program_starts p) x k) ≡ Some v) × ValueHas p now h v (kind_at p x pl n.typ)

@@ -21,7 +21,7 @@ use Rattle.wy_rules.specs.Operators.{Row, two, unary_rows, binary_rows, text_row
 use Rattle.wy_meaning.specs.Values.{Value, Int as Number, Truth, Text, Thing, World, replied, stopped, text_built}
 use Rattle.wy_meaning.specs.Operating.{unary_operator, binary_operator, text_operator, operand, computed, operated}
 use Rattle.wy_sound.proofs.Below.{Below}
-use Rattle.wy_sound.proofs.Heaps.{Placed, kind_at, AllHave, WellHeap}
+use Rattle.wy_sound.specs.TypedHeaps.{Placed, kind_at, AllHave, WellHeap}
 use Rattle.wy_sound.proofs.BaseTypes.{number_kind, truth_kind, text_kind, number_at, truth_at, text_at}
 use Rattle.wy_sound.proofs.Results.{Answers, Valued, same_answers, trap_answers}
 

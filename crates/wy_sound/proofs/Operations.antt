@@ -24,7 +24,7 @@ use Rattle.wy_device.specs.declared.operation.OpName.{OpName}
 use Rattle.wy_device.specs.declared.operation.OpName.TheVariants as name
 use Rattle.wy_device.specs.Operation.{name_of, method_text, member_named}
 use Rattle.wy_device.specs.Requests.{operations_of, operation_called, operation_on}
-use Rattle.wy_sound.specs.Programs.{GrantsFit, sets_of}
+use Rattle.wy_sound.proofs.Linked.{GrantsFit, sets_of}
 use Rattle.wy_sound.proofs.Lists.{some_same}
 use Rattle.wy_sound.proofs.BaseTypes.{IsGrant, sets_put, grant_kind}
 use Rattle.wy_sound.proofs.Effects.{atom_named}

@@ -26,7 +26,8 @@ use Rattle.wy_meaning.specs.Results.{stop, told, settle}
 use Rattle.wy_meaning.specs.Performing.{texts_of, with_text, text_of, deed, answered, requested, requested_of, perform}
 use Rattle.wy_sound.specs.Arguments.{actual_type, IsThere}
 use Rattle.wy_sound.proofs.Effects.{HasDeed, kept_deed, kept_held}
-use Rattle.wy_sound.proofs.Heaps.{AllHave, WellHeap, extends_refl}
+use Rattle.wy_sound.specs.TypedHeaps.{AllHave, WellHeap}
+use Rattle.wy_sound.proofs.Heaps.{extends_refl}
 use Rattle.wy_sound.proofs.BaseTypes.{IsGrant, is_grant, grant_kind, sets_put, text_value}
 use Rattle.wy_sound.proofs.Operations.{arity_of, answer_kind, kind_of_number, operation_method, primitive_methods, operation_found, operation_there, operation_atom}
 use Rattle.wy_sound.proofs.Results.{Sound, Valued, stop_sound}

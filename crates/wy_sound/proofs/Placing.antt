@@ -1,5 +1,5 @@
 -- The instances of a run with their scopes: found among the start list, as `main` after it, and with derivations over the types of the run.
-use Rattle.std.proofs.Common.{◌≡◌, codes, ℕ, suc, ◌-◌, ◌≤◌, List, [], ◌∷◌, ◌++◌, length, map, refl, sym, ap, ◌∙◌, subst, Some, None, arith}
+use Rattle.std.proofs.Common.{◌≡◌, codes, ℕ, ◌-◌, ◌≤◌, [], ◌∷◌, ◌++◌, length, map, sym, ap, ◌∙◌, subst, Some, None, arith}
 use Rattle.std.specs.Prelude.{slice_get}
 use Rattle.wy_effects.proofs.Lists.{In-slice_get}
 use Rattle.wy_types.specs.declared.linked.Instance.{Instance}
@@ -13,14 +13,11 @@ use Rattle.wy_rules.proofs.Grounding.{ground_typing}
 use Rattle.wy_meaning.specs.Starts.{Started, all_started, started_of, scope_started, scope_of_instance}
 use Rattle.wy_meaning.specs.Eval.{instance_name, started_name}
 use Rattle.wy_sound.specs.Programs.{program_starts}
-use Rattle.wy_sound.specs.Laws.{IsLinked}
-use Rattle.wy_sound.proofs.Lists.{some_same, get_below, get_mapped, map_append}
+use Rattle.wy_sound.proofs.Linked.{IsLinked}
+use Rattle.wy_sound.proofs.LinkingLists.{read_there}
+use Rattle.wy_sound.proofs.Lists.{length_more, some_same, get_mapped, map_append}
 use Rattle.wy_sound.proofs.Performing.{last_number}
-use Rattle.wy_sound.proofs.Heaps.{Placed, fields_at, many}
-
-length_more : {X : Type 0} (xs : List X) (y : X) → length (xs ++ y ∷ []) ≡ suc (length xs)
-length_more [] y = refl
-length_more (x ∷ xs) y = ap suc (length_more xs y)
+use Rattle.wy_sound.specs.TypedHeaps.{Placed, fields_at, instance_count}
 
 -- two instances of one number are the same, with the same scope
 pub instance_same : (p : Program) (x : ℕ) (a b : Placed p x) → a.instance ≡ b.instance
@@ -74,18 +71,18 @@ module _ (p : Program) (linked : IsLinked p) where
       }
 
   -- each instance, and `main`, has its place
-  pub place : (x : ℕ) → x ≤ many p → Placed p x
+  pub place : (x : ℕ) → x ≤ instance_count p → Placed p x
   place x le =
-      let r = get_below (run_instances p) x (omega (arith, le, length_more (start_list p) main_instance)) in
+      let r = read_there (run_instances p) x (omega (arith, le, length_more (start_list p) main_instance)) in
       place_of x r.0 r.1
 
-  pub kind_main : (x : ℕ) (pl : Placed p x) → pl.scope.kind ≡ kind.Program → x ≡ many p
+  pub kind_main : (x : ℕ) (pl : Placed p x) → pl.scope.kind ≡ kind.Program → x ≡ instance_count p
   kind_main x pl e =
       let f = linked.instances.each x pl.instance pl.is.there in
       let same : pl.scope ≡ f.scope = some_same (sym pl.is.scope ∙ f.is.scope) in
       f.kind.0 (sym (ap (λ (s : Scope). s.kind) same) ∙ e)
 
-  pub main_kind : (x : ℕ) (pl : Placed p x) → x ≡ many p → pl.scope.kind ≡ kind.Program
+  pub main_kind : (x : ℕ) (pl : Placed p x) → x ≡ instance_count p → pl.scope.kind ≡ kind.Program
   main_kind x pl e =
       let f = linked.instances.each x pl.instance pl.is.there in
       let same : pl.scope ≡ f.scope = some_same (sym pl.is.scope ∙ f.is.scope) in

@@ -1,4 +1,5 @@
--- Results that are sound: no wrong end, a heap and a value that have their types, and events within an effect. One lemma for each way of putting results together.
+-- Results that are sound: no wrong end, a heap and a value that have their types, and events within an effect. One lemma for each way of
+-- putting results together.
 use Rattle.std.proofs.Common.{◌≡◌, ◌≢◌, ℕ, List, [], ◌++◌, refl, sym, subst, Option, Some}
 use Rattle.wy_effects.specs.Members.{Within}
 use Rattle.wy_text.specs.declared.fault.Place.{Place}
@@ -11,7 +12,8 @@ use Rattle.wy_meaning.specs.Values.{Value, World, Outcome, Gives, Stops, Reply, 
 use Rattle.wy_meaning.specs.Results.{Result, give, stop, node, tick, told, settle, added, carried, bind, whole}
 use Rattle.wy_rules.specs.GroundTypes.{GroundType}
 use Rattle.wy_sound.proofs.Effects.{call_of, May, Kept, Held, kept_none, held_none, held_more, kept_more, kept_wider, held_wider, kept_call, held_call}
-use Rattle.wy_sound.proofs.Heaps.{ValueHas, WellHeap, Extends, extends_refl, extends_trans}
+use Rattle.wy_sound.specs.TypedHeaps.{ValueHas, WellHeap}
+use Rattle.wy_sound.proofs.Heaps.{Extends, extends_refl, extends_trans}
 
 module _ (p : Program) (now : ℕ) where
   abbrev pub SoundTo : {X : Type 0} → List ℕ → World → (X → World → Type 0) → Outcome X → World → List Event → Type 0

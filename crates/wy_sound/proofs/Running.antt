@@ -4,7 +4,8 @@ use Rattle.std.specs.Prelude.{slice_get}
 use Rattle.wy_types.specs.declared.linked.Instance.{Instance}
 use Rattle.wy_types.specs.Program.{Program}
 use Rattle.wy_types.specs.Ground.{start_list}
-use Rattle.wy_rules.specs.GroundTypes.{run_instances}
+use Rattle.wy_rules.specs.Acceptance.{Accepted}
+use Rattle.wy_rules.specs.GroundTypes.{GroundType, run_instances}
 use Rattle.wy_device.specs.declared.deed.Event.{Event}
 use Rattle.wy_device.specs.declared.deed.Event.TheVariants.{Enter}
 use Rattle.wy_device.specs.RunEnds.{Wrong}
@@ -15,13 +16,21 @@ use Rattle.wy_meaning.specs.Results.{Result, whole}
 use Rattle.wy_meaning.specs.Eval.{open_calls}
 use Rattle.wy_meaning.specs.Start.{begin, objects_at_first, end_of, world_at_first, meaning}
 use Rattle.wy_meaning.specs.Bounds.{Bounded}
-use Rattle.wy_sound.specs.Programs.{program_starts, allowed, GrantsFit}
-use Rattle.wy_sound.specs.Laws.{IsLinked, NeverWrong, EventsAreBounded}
-use Rattle.wy_sound.proofs.Lists.{some_same, get_within, get_left, get_either, get_below, get_mapped, map_length}
+use Rattle.wy_sound.specs.Programs.{IsResolved, program_starts, allowed}
+use Rattle.wy_sound.specs.Laws.{course, NeverWrong, EventsAreBounded, Keeps, Preservation}
+use Rattle.wy_sound.proofs.LinkingLaws.{accepted_instances_fit, accepted_arguments_fit}
+use Rattle.wy_sound.proofs.LinkingMain.{main_fits}
+use Rattle.wy_sound.proofs.LinkingGrants.{grants_fit}
+use Rattle.wy_sound.proofs.Linked.{IsLinked, GrantsFit}
+use Rattle.wy_sound.proofs.LinkingLists.{read_within, read_first, read_last, read_there}
+use Rattle.wy_sound.proofs.Lists.{some_same, get_mapped, map_length}
 use Rattle.wy_sound.proofs.Effects.{call_of, May}
 use Rattle.wy_sound.proofs.Allowing.{init_first, run_first, may_first}
-use Rattle.wy_sound.proofs.Heaps.{Placed, fields_at, many, WellHeap}
+use Rattle.wy_sound.specs.TypedHeaps.{Placed, fields_at, instance_count, WellHeap}
 use Rattle.wy_sound.proofs.Placing.{place}
+use Rattle.wy_sound.proofs.Results.{SoundTo, Valued}
+use Rattle.wy_sound.proofs.Evaluating.{value_sound}
+use Rattle.wy_sound.proofs.Calling.{calls_sound}
 use Rattle.wy_sound.proofs.Starting.{Fine, TopTo, Top, bind_top, whole_top, thing_of, Rest, Filling, declared, done_now, init_fine, main_fine}
 
 module _ (p : Program) (linked : IsLinked p) where
@@ -34,13 +43,13 @@ module _ (p : Program) (linked : IsLinked p) where
       (a : Instance) × (slice_get (start_list p) z ≡ Some a) × (s ≡ started_of a)
 
   -- the last instance is the program
-  main_named : (x : ℕ) (i : Instance) → slice_get (run_instances p) x ≡ Some i → x ≡ many p → i.name ≡ codes "main"
-  main_named x i e last = elim (get_either (start_list p) _ x i e) [
-    | inl f ↦ absurd (let lt = get_within (start_list p) x i f in lt_irrefl x (omega (arith, lt, last)))
-    | inr f ↦ sym (ap (λ (i : Instance). i.name) f.0)
+  main_named : (x : ℕ) (i : Instance) → slice_get (run_instances p) x ≡ Some i → x ≡ instance_count p → i.name ≡ codes "main"
+  main_named x i e last = elim (read_last (start_list p) _ x i e) [
+    | inl f ↦ absurd (let lt = read_within (start_list p) x i f in lt_irrefl x (omega (arith, lt, last)))
+    | inr f ↦ sym (ap (λ (i : Instance). i.name) f.1)
   ]
 
-  main_top : (n x : ℕ) (w : World) → x ≡ many p → WellHeap p x w.objects →
+  main_top : (n x : ℕ) (w : World) → x ≡ instance_count p → WellHeap p x w.objects →
       Top p Anything (begin p (program_starts p) (open_calls p (program_starts p) n) x [] w)
   unfolding begin
   main_top n x w last wh =
@@ -50,7 +59,7 @@ module _ (p : Program) (linked : IsLinked p) where
       (may_first p x pl.instance (codes "run") pl.scope (run_first p x pl.instance pl.is.there last) pl.is.scope) in
       whole_top p (declared p linked n x pl) (codes "main") (codes "run") Anything _ may (main_fine p linked n x pl last w wh)
 
-  init_top : (n x : ℕ) (pl : Placed p x) (s : Started) (w : World) → x < many p → slice_get (start_list p) x ≡ Some pl.instance →
+  init_top : (n x : ℕ) (pl : Placed p x) (s : Started) (w : World) → x < instance_count p → slice_get (start_list p) x ≡ Some pl.instance →
       s ≡ started_of pl.instance → Filling p linked x pl [] w.objects → (r : Result Value) →
       Fine p (declared p linked n x pl) (λ u w. Filling p linked x pl (fields_at p x pl 0) w.objects) r →
       Top p (λ u w. Filling p linked x pl (fields_at p x pl 0) w.objects) (whole (Enter s.name (codes "init")) r)
@@ -59,15 +68,15 @@ module _ (p : Program) (linked : IsLinked p) where
       (subst (λ m. May p (call_of m (codes "init")) (declared p linked n x pl)) (sym (ap (λ (s : Started). s.name) is))
       (may_first p x pl.instance (codes "init") pl.scope (init_first p x pl.instance there) pl.is.scope)) fine
 
-  begin_top : (n x : ℕ) (is : List Started) (w : World) → AreFrom x is → x + length is ≡ many p → WellHeap p x w.objects → Rest p x w.objects →
+  begin_top : (n x : ℕ) (is : List Started) (w : World) → AreFrom x is → x + length is ≡ instance_count p → WellHeap p x w.objects → Rest p x w.objects →
       Top p Anything (begin p (program_starts p) (open_calls p (program_starts p) n) x is w)
   unfolding begin AreFrom
   begin_top n x [] w at count wh rest = main_top n x w (omega (arith, count)) wh
   begin_top n x (s ∷ is) w at count wh rest =
-      let lt : x < many p = omega (arith, count) in
+      let lt : x < instance_count p = omega (arith, count) in
       let a = at 0 x s (omega arith) refl in
       let pl : Placed p x = place p linked x (omega (arith, lt)) in
-      let same : a.0 ≡ pl.instance = some_same (sym (get_left (start_list p) _ x a.0 a.1) ∙ pl.is.there) in
+      let same : a.0 ≡ pl.instance = some_same (sym (read_first (start_list p) _ x a.0 a.1) ∙ pl.is.there) in
       let first : Filling p linked x pl [] w.objects = record {
         heap = wh;
         values = [];
@@ -96,7 +105,7 @@ module _ (p : Program) (linked : IsLinked p) where
   abbrev at_first : List Thing
   at_first = objects_at_first 0 (map started_of (start_list p))
 
-  first_many : length at_first ≡ many p
+  first_many : length at_first ≡ instance_count p
   first_many = first_length 0 (map started_of (start_list p)) ∙ map_length started_of (start_list p)
 
   first_rest : Rest p 0 at_first
@@ -108,7 +117,7 @@ module _ (p : Program) (linked : IsLinked p) where
   first_heap : WellHeap p 0 at_first
   first_heap = record {
     by = λ a t e r. absurd (let lt =
-        get_within at_first a t e in elim r [ inl l ↦ lt_irrefl a (omega (arith, l)) | inr ge ↦ lt_irrefl a (omega (arith, lt, ge, first_many)) ]);
+        read_within at_first a t e in elim r [ inl l ↦ lt_irrefl a (omega (arith, l)) | inr ge ↦ lt_irrefl a (omega (arith, lt, ge, first_many)) ]);
     long = omega (arith, first_many);
     first = λ z below. (thing_of p z, first_rest.by z (omega arith) below, refl, refl);
   }
@@ -116,8 +125,8 @@ module _ (p : Program) (linked : IsLinked p) where
   all_from : AreFrom 0 (map started_of (start_list p))
   unfolding AreFrom
   all_from i z s e g =
-      let lt : i < many p = let h = get_within (map started_of (start_list p)) i s g in omega (arith, h, map_length started_of (start_list p)) in
-      let a = get_below (start_list p) i lt in
+      let lt : i < instance_count p = let h = read_within (map started_of (start_list p)) i s g in omega (arith, h, map_length started_of (start_list p)) in
+      let a = read_there (start_list p) i lt in
       let f : i ≡ z = omega (arith, e) in
       (a.0, ap (slice_get (start_list p)) (sym f) ∙ a.1, some_same (sym g ∙ get_mapped started_of (start_list p) i a.0 a.1))
 
@@ -136,10 +145,39 @@ top_bounded : (p : Program) (ok : Value → World → Type 0) (o : Outcome Value
 top_bounded p ok (Stops e) w es g h = h.1 g
 top_bounded p ok (Gives v) w es g h = h.0 g
 
-pub never_wrong : NeverWrong
+-- an accepted program that resolving makes is linked
+linked : (p : Program) → IsResolved p → Accepted p → IsLinked p
+linked p r a = record {
+  core = r.core;
+  accepted = a;
+  instances = accepted_instances_fit p r.core r.lines r.names a;
+  arguments = accepted_arguments_fit p r.core r.lines r.names a;
+  main = main_fits p r.core r.lines r.names;
+  captures = r.captures;
+}
+
+pub linked_never_wrong : (p : Program) → IsLinked p → (n : ℕ) (tapes : Tapes) → (course p n tapes).end ≢ Wrong
 unfolding meaning
-never_wrong p linked n tapes = top_never p _ _ _ _ (run_top p linked n tapes).by
+linked_never_wrong p l n tapes = top_never p _ _ _ _ (run_top p l n tapes).by
+
+pub linked_bounded : (p : Program) → IsLinked p → GrantsFit p → (n : ℕ) (tapes : Tapes) → Bounded (allowed p) (course p n tapes).events
+unfolding meaning
+linked_bounded p l g n tapes = top_bounded p _ _ _ _ g (run_top p l n tapes).by
+
+pub never_wrong : NeverWrong
+never_wrong p r a = linked_never_wrong p (linked p r a)
 
 pub events_are_bounded : EventsAreBounded
-unfolding meaning
-events_are_bounded p linked g n tapes = top_bounded p _ _ _ _ g (run_top p linked n tapes).by
+events_are_bounded p r a = linked_bounded p (linked p r a) (grants_fit p r.core r.lines r.grants)
+
+-- what is sound keeps the heap typed
+sound_keeps : (p : Program) (now : ℕ) (f : List ℕ) (w0 : World) (t : GroundType) (o : Outcome Value) (w : World) (es : List Event) →
+    SoundTo p now f w0 (Valued p now t) o w es → Keeps p now t o w
+sound_keeps p now f w0 t (Stops e) w es h = h.0
+sound_keeps p now f w0 t (Gives v) w es h = (h.1, h.3)
+
+pub preservation : Preservation
+preservation p r a now le sight place owner seen d x t e h fits n w sh wh =
+    let l = linked p r a in
+    sound_keeps p now e w t _ _ _
+    (value_sound p l now le (open_calls p (program_starts p) n) (calls_sound p l now le n) e owner d x t e seen sight place w h (λ b i. i) fits sh wh).by

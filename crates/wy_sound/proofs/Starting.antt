@@ -24,11 +24,14 @@ use Rattle.wy_meaning.specs.Eval.{Calls, eval_block, open_calls}
 use Rattle.wy_meaning.specs.Start.{fill_all, start_of_scope, outside, run_start}
 use Rattle.wy_meaning.specs.Bounds.{Call, Bounded, BoundedFrom}
 use Rattle.wy_meaning.specs.OpenCalls.{open_after}
-use Rattle.wy_sound.specs.Programs.{program_starts, allowed, GrantsFit}
-use Rattle.wy_sound.specs.Laws.{IsLinked}
-use Rattle.wy_sound.proofs.Lists.{some_same, get_within, get_set_same, get_set_other, length_set}
+use Rattle.wy_sound.specs.Programs.{program_starts, allowed}
+use Rattle.wy_sound.proofs.Linked.{GrantsFit}
+use Rattle.wy_sound.proofs.Linked.{IsLinked}
+use Rattle.wy_sound.proofs.LinkingLists.{read_within}
+use Rattle.wy_sound.proofs.Lists.{some_same, get_set_same, get_set_other, length_set}
 use Rattle.wy_sound.proofs.Effects.{call_of, May, Kept, Held, kept_none, held_more, kept_more, kept_call, held_call, after_append, bounded_append}
-use Rattle.wy_sound.proofs.Heaps.{Placed, kind_at, fields_at, many, Ready, ValueHas, AllHave, ThingHas, WellHeap, Grows, Extends, value_grows, all_grow, all_append, thing_grows, set_grows, SightHas}
+use Rattle.wy_sound.specs.TypedHeaps.{Placed, kind_at, fields_at, instance_count, Ready, ValueHas, AllHave, ThingHas, WellHeap, SightHas}
+use Rattle.wy_sound.proofs.Heaps.{Grows, Extends, value_grows, all_grow, all_append, thing_grows, set_grows}
 use Rattle.wy_sound.proofs.Results.{SoundTo, Sound, Valued}
 use Rattle.wy_sound.proofs.Placing.{place, scope_there, scope_fits, kind_main, main_kind}
 use Rattle.wy_sound.proofs.Applying.{CallsSound}
@@ -157,7 +160,7 @@ module _ (p : Program) where
   thing_of z = record { instance = z; literal = 0; captured = []; fields = [] }
 
   pub record Rest (x : ℕ) (h : List Thing) : Type 0 where
-    pub by : (z : ℕ) → x ≤ z → z < many p → slice_get h z ≡ Some (thing_of z)
+    pub by : (z : ℕ) → x ≤ z → z < instance_count p → slice_get h z ≡ Some (thing_of z)
 
 module _ (p : Program) (linked : IsLinked p) where
   -- instance x with some of its fields set
@@ -168,8 +171,8 @@ module _ (p : Program) (linked : IsLinked p) where
     pub typed : AllHave p x h values done
     pub rest : Rest p (suc x) h
 
-  module _ (x : ℕ) (pl : Placed p x) (lt : x < many p) where
-    not_ready : (z : ℕ) → x ≤ z → z < many p → Ready p x z → ⊥
+  module _ (x : ℕ) (pl : Placed p x) (lt : x < instance_count p) where
+    not_ready : (z : ℕ) → x ≤ z → z < instance_count p → Ready p x z → ⊥
     not_ready z le below (inl l) = lt_irrefl x (omega (arith, le, l))
     not_ready z le below (inr ge) = lt_irrefl z (omega (arith, below, ge))
 
@@ -200,7 +203,7 @@ module _ (p : Program) (linked : IsLinked p) where
             first = λ z below. let r = q.heap.first z below in let g = grows z r.0 r.1 in (g.0, g.1, g.2 ∙ r.2, g.3 ∙ r.3);
           };
           values = q.values ++ v ∷ [];
-          here = get_set_same h x u (get_within h x t q.here);
+          here = get_set_same h x u (read_within h x t q.here);
           typed = all_append p x h' q.values (v ∷ []) done (k ∷ []) (all_grow p x h h' q.values done grows q.typed)
               (value_grows p x h h' v k grows has, tt);
           rest = record { by = λ z le below. get_set_other h x z u (λ same. lt_irrefl x (omega (arith, le, same))) ∙ q.rest.by z le below };
@@ -215,7 +218,7 @@ module _ (p : Program) (linked : IsLinked p) where
         (record { by = (kept_none p f, filled_more done w.objects v k q has) })
 
     module _ (calls : Calls) (ok : CallsSound p x calls) (f : List ℕ) where
-      early : x ≤ many p
+      early : x ≤ instance_count p
       early = omega (arith, lt)
 
       outside_has : (h : List Thing) → SightHas p x h (outside x) pl None []
@@ -285,7 +288,7 @@ module _ (p : Program) (linked : IsLinked p) where
     abbrev pub declared : List ℕ
     declared = effect_by pl.instance.bound pl.instance.ground pl.scope.start_effect
 
-    started_fine : x < many p → (d : BodyDerivation GroundType) (values : Values) (w : World) →
+    started_fine : x < instance_count p → (d : BodyDerivation GroundType) (values : Values) (w : World) →
         DerivesStart (ground_reading p x pl.instance) pl.scope pl.holds.derivation.locals d (Init values) → ValuesFit p pl.scope None [] values →
         Filling x pl [] w.objects → Fine p declared (λ u w. Filling x pl (fields_at p x pl 0) w.objects)
         (fill_all p (program_starts p) (open_calls p (program_starts p) n) (outside x) x values w)
@@ -294,7 +297,7 @@ module _ (p : Program) (linked : IsLinked p) where
         (fields_at p x pl 0) [] (fields_at p x pl 0) w h.1 h.2 fits refl q
     started_fine lt (T-Body place d f) values w h fits q = absurd h
 
-    run_fine : x ≤ many p → (d : BodyDerivation GroundType) (block : Block) (w : World) →
+    run_fine : x ≤ instance_count p → (d : BodyDerivation GroundType) (block : Block) (w : World) →
         DerivesStart (ground_reading p x pl.instance) pl.scope pl.holds.derivation.locals d (Run block) → BlockFits p pl.scope None [] block →
         WellHeap p x w.objects → Fine p declared (λ u w. Unit {0})
         (eval_block p (program_starts p) (open_calls p (program_starts p) n) (outside x) block w)
@@ -313,7 +316,7 @@ module _ (p : Program) (linked : IsLinked p) where
         forget {f} {ok} {r} h = record { by = forget_to f ok r.out r.world r.events h.by }
     run_fine le (T-Body-Init place ds) block w h fits wh = absurd h
 
-    pub init_fine : x < many p → (w : World) → Filling x pl [] w.objects →
+    pub init_fine : x < instance_count p → (w : World) → Filling x pl [] w.objects →
         Fine p declared (λ u w. Filling x pl (fields_at p x pl 0) w.objects)
         (run_start p (program_starts p) (open_calls p (program_starts p) n) x w (start_of_scope (scope_of_instance p (program_starts p) x)))
     init_fine lt w q =
@@ -325,9 +328,10 @@ module _ (p : Program) (linked : IsLinked p) where
         (sym (scope_there p linked x pl))
         (subst (λ s. Fine p declared Ok (run_start p (program_starts p) (open_calls p (program_starts p) n) x w (Some s))) (sym i.1)
         (started_fine lt pl.holds.derivation.start i.0 w
-        (subst (λ s. DerivesStart (ground_reading p x pl.instance) pl.scope pl.holds.derivation.locals pl.holds.derivation.start s) i.1 pl.holds.derives.0) values_fit.1 q))
+        (subst (λ s. DerivesStart (ground_reading p x pl.instance) pl.scope pl.holds.derivation.locals pl.holds.derivation.start s) i.1
+        pl.holds.derives.0) values_fit.1 q))
 
-    pub main_fine : x ≡ many p → (w : World) → WellHeap p x w.objects →
+    pub main_fine : x ≡ instance_count p → (w : World) → WellHeap p x w.objects →
         Fine p declared (λ u w. Unit {0})
         (run_start p (program_starts p) (open_calls p (program_starts p) n) x w (start_of_scope (scope_of_instance p (program_starts p) x)))
     main_fine e w wh =
@@ -339,4 +343,5 @@ module _ (p : Program) (linked : IsLinked p) where
         (sym (scope_there p linked x pl))
         (subst (λ s. Fine p declared Ok (run_start p (program_starts p) (open_calls p (program_starts p) n) x w (Some s))) (sym r.1)
         (run_fine (omega (arith, e)) pl.holds.derivation.start r.0 w
-        (subst (λ s. DerivesStart (ground_reading p x pl.instance) pl.scope pl.holds.derivation.locals pl.holds.derivation.start s) r.1 pl.holds.derives.0) block_fits wh))
+        (subst (λ s. DerivesStart (ground_reading p x pl.instance) pl.scope pl.holds.derivation.locals pl.holds.derivation.start s) r.1
+        pl.holds.derives.0) block_fits wh))

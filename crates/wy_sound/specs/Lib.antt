@@ -2,3 +2,5 @@ pub mod Arguments
 pub mod Laws
 pub mod Linking
 pub mod Programs
+pub mod Telling
+pub mod TypedHeaps

@@ -1,101 +1,15 @@
--- What the own names of scopes are: parameters stand first, a name opens an atom for each abstract member of its type, and its type is
--- the one that it is declared with or its module is sealed at, of those atoms (docs/LANGUAGE.md, "Modules and lines"). The laws of linking:
--- in an accepted program each instance is one of its scope, and what it is handed has the types that are asked for.
-use Rattle.std.specs.Prelude.{◌≡◌, ℕ, ◌+◌, List, [], ◌∷◌, Option, Some, None, true, false, length, slice_get, if◌then◌else◌}
-use Rattle.wy_effects.specs.Members.{In}
-use Rattle.wy_effects.specs.EffSet.{IsSet}
-use Rattle.wy_types.specs.declared.types.TypeRef.{TypeRef}
-use Rattle.wy_types.specs.declared.types.TypeRef.TheVariants.{Named, At}
-use Rattle.wy_types.specs.declared.resolved.Origin.{Origin}
-use Rattle.wy_types.specs.declared.resolved.Origin.TheVariants.{Parameter, Grant, Use, Instance, Import}
-use Rattle.wy_types.specs.declared.resolved.OwnName.{OwnName}
-use Rattle.wy_types.specs.declared.resolved.ScopeKind.{ScopeKind}
-use Rattle.wy_types.specs.declared.resolved.ScopeKind.TheVariants.{Pure, Resource, Plain, Program as Main}
-use Rattle.wy_types.specs.Program.{Program, Scope}
-use Rattle.wy_types.specs.Fitting.{FitsType}
-use Rattle.wy_types.specs.Ground.{members_of, abstract_names, single_sets}
+-- The laws of linking: in an accepted program each instance is one of its scope, and what it is handed has the types that are asked for.
+-- (docs/LANGUAGE.md, "Start order and ground sets", "Types of a run")
+use Rattle.wy_types.specs.Program.{Program}
 use Rattle.wy_types.specs.Core.{IsCore}
-use Rattle.wy_rules.specs.Acceptance.{Accepted, is_parameter, parameters_among}
+use Rattle.wy_rules.specs.Acceptance.{Accepted}
+use Rattle.wy_rules.specs.OwnNames.{LinesAreTyped, HavePlainNames}
 use Rattle.wy_sound.specs.Arguments.{ArgumentsFit, InstancesFit}
-
-------------------------------------------------------------
--- Own names
-
--- the members for which an own name opens atoms: those of its type, but for an import and for a parameter that is not bare
-abbrev pub opens : Program → OwnName → Origin → List (List ℕ)
-opens p n (Parameter true) = members_of p n.typ
-opens p n (Parameter false) = []
-opens p n Grant = members_of p n.typ
-opens p n (Use m) = members_of p n.typ
-opens p n (Instance m arguments) = members_of p n.typ
-opens p n (Import m arguments bound) = []
-
--- how many atoms own names open
-abbrev pub opened_count : Program → List OwnName → ℕ
-opened_count p [] = 0
-opened_count p (n ∷ ns) = length (opens p n n.origin) + opened_count p ns
-
--- the own names from the first that is no parameter on
-abbrev pub after_parameters : List OwnName → List OwnName
-after_parameters [] = []
-after_parameters (n ∷ ns) = if is_parameter n.origin then after_parameters ns else n ∷ ns
-
-abbrev pub sealed_of : Option Scope → Option ℕ
-sealed_of None = None
-sealed_of (Some s) = s.ascribed
-
-abbrev pub name_of : Option Scope → List ℕ
-name_of None = []
-name_of (Some s) = s.name
-
--- the declared type with the atoms from a number on for its abstract members
-abbrev pub IsOpened : Program → ℕ → Option ℕ → TypeRef → Type 0
-IsOpened p k None t = ⊥
-IsOpened p k (Some d) t = t ≡ Named d (single_sets k (abstract_names (slice_get p.declarations d)))
-
--- the declared type at the bound
-abbrev pub IsBounded : List ℕ → Option ℕ → TypeRef → Type 0
-IsBounded bound None t = ⊥
-IsBounded bound (Some d) t = t ≡ At d bound
-
--- an own name before which so many atoms are opened, and which is no parameter: a grant, a use by its module's name, an instance of a module,
--- each with the atoms that it opens; an import at its bound, which sees the atoms before it
-abbrev pub HasItsType : Program → ℕ → OwnName → Origin → Type 0
-HasItsType p k n (Parameter bare) = ⊥
-HasItsType p k n Grant = (d : ℕ) × IsOpened p k (Some d) n.typ
-HasItsType p k n (Use m) = (n.name ≡ name_of (slice_get p.scopes m)) × IsOpened p k (sealed_of (slice_get p.scopes m)) n.typ
-HasItsType p k n (Instance m arguments) = IsOpened p k (sealed_of (slice_get p.scopes m)) n.typ
-HasItsType p k n (Import m arguments bound) = IsSet k bound × IsBounded bound (sealed_of (slice_get p.scopes m)) n.typ
-
--- .. of own names one after the other
-abbrev pub HaveTheirTypes : Program → ℕ → List OwnName → Type 0
-HaveTheirTypes p k [] = Unit {0}
-HaveTheirTypes p k (n ∷ ns) = HasItsType p k n n.origin × HaveTheirTypes p (k + length (opens p n n.origin)) ns
-
--- neither a pure module nor the program has parameters
-abbrev pub MayHave : ScopeKind → List OwnName → Type 0
-MayHave Pure parameters = parameters ≡ []
-MayHave Resource parameters = Unit {0}
-MayHave Plain parameters = Unit {0}
-MayHave Main parameters = parameters ≡ []
-
--- the scope's own names: its parameters, whose types are of the parameters' atoms, and then the others; no name has a space
-pub record OwnNamesFit (p : Program) (s : Scope) : Type 0 where
-  pub may_have : MayHave s.kind (parameters_among s.names)
-  pub parameters : (n : OwnName) → In n (parameters_among s.names) → FitsType p (opened_count p (parameters_among s.names)) 0 n.typ
-  pub others : HaveTheirTypes p (opened_count p (parameters_among s.names)) (after_parameters s.names)
-  pub words : (n : OwnName) → In n s.names → In 32 n.name → ⊥
-
-abbrev pub LinesAreTyped : Program → Type 0
-LinesAreTyped p = (s : Scope) → In s p.scopes → OwnNamesFit p s
-
-------------------------------------------------------------
--- Laws
 
 -- each instance of an accepted program is one of its scope
 abbrev pub AcceptedInstancesFit : Type 0
-AcceptedInstancesFit = (p : Program) → IsCore p → LinesAreTyped p → Accepted p → InstancesFit p
+AcceptedInstancesFit = (p : Program) → IsCore p → LinesAreTyped p → HavePlainNames p → Accepted p → InstancesFit p
 
 -- what it is handed for the scope's own names has their types, as it reads them
 abbrev pub AcceptedArgumentsFit : Type 0
-AcceptedArgumentsFit = (p : Program) → IsCore p → LinesAreTyped p → Accepted p → ArgumentsFit p
+AcceptedArgumentsFit = (p : Program) → IsCore p → LinesAreTyped p → HavePlainNames p → Accepted p → ArgumentsFit p

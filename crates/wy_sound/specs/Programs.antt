@@ -1,23 +1,18 @@
--- A program's run with its start list, what each call in it may do, and what resolving gives of a program beside what every core keeps.
+-- A program's run with its start list, what each call in it may do, and what resolving gives of a program.
 -- (docs/LANGUAGE.md, "Starting a program" and "Authority and report")
-use Rattle.std.specs.Prelude.{◌≡◌, ℕ, List, [], ◌∷◌, ◌++◌, Some, map, bytes_eq, slice_get, if◌then◌else◌}
+use Rattle.std.specs.Prelude.{List, [], ◌∷◌, ◌++◌, ℕ, map, bytes_eq, if◌then◌else◌}
 use Rattle.wy_text.specs.declared.fault.AtomName.{AtomName}
-use Rattle.wy_effects.specs.Members.{In}
-use Rattle.wy_effects.specs.AtomTable.{atom_name}
-use Rattle.wy_types.specs.declared.linked.Actual.TheVariants.{Grant}
-use Rattle.wy_types.specs.declared.resolved.Origin.TheVariants as origin
-use Rattle.wy_types.specs.declared.resolved.OwnName.{OwnName}
-use Rattle.wy_types.specs.Program.{Program, Scope}
-use Rattle.wy_types.specs.Core.{literal_captures}
-use Rattle.wy_types.specs.Ground.{members_of, program_visited, start_list}
-use Rattle.wy_rules.specs.GroundTypes.{GroundType, Int, Bool, Text, Nothing, Named, At, Own}
+use Rattle.wy_types.specs.Program.{Program}
+use Rattle.wy_types.specs.Core.{IsCore}
+use Rattle.wy_types.specs.Ground.{start_list}
+use Rattle.wy_rules.specs.OwnNames.{LinesAreTyped, HavePlainNames, GrantsStandFirst, ModulesCaptureNothing}
 use Rattle.wy_authority.specs.declared.rows.BodyRow.{BodyRow}
 use Rattle.wy_authority.specs.declared.rows.InstanceRow.{InstanceRow}
 use Rattle.wy_authority.specs.Authority.{authority_of}
 use Rattle.wy_authority.specs.Report.{named_atoms}
 use Rattle.wy_meaning.specs.Starts.{Starts, starts_of, started_of}
 use Rattle.wy_meaning.specs.Bounds.{Call}
-use Rattle.wy_sound.specs.Arguments.{program_names, actual_type}
+use Rattle.wy_sound.specs.Arguments.{program_names}
 
 -- the instances of the start list, and `main` after them
 abbrev pub program_starts : Program → Starts
@@ -44,25 +39,10 @@ allowed p call = call_atoms (authority_of p).atoms call (authority_of p).rows
 ------------------------------------------------------------
 -- What resolving gives
 
--- `main` is handed by name what the visits of its lines settle
-abbrev pub MainFits : Program → Type 0
-MainFits p = (program_starts p).main.actuals ≡ (program_visited p).actuals
-
--- methods of a module see no variable but their parameters
-abbrev pub ModulesCaptureNothing : Program → Type 0
-ModulesCaptureNothing p = (s : Scope) → In s p.scopes → literal_captures (slice_get s.literals 0) ≡ []
-
-abbrev pub sets_of : GroundType → List (List ℕ)
-sets_of Int = []
-sets_of Bool = []
-sets_of Text = []
-sets_of Nothing = []
-sets_of (Named d sets) = sets
-sets_of (At d bound) = []
-sets_of (Own x l) = []
-
--- a grant's own type has for each member the atom of the grant and the member
-abbrev pub GrantsFit : Program → Type 0
-GrantsFit p =
-    (g : ℕ) (n : OwnName) → slice_get (program_names p) g ≡ Some n → n.origin ≡ origin.Grant →
-    map (named_atoms (authority_of p).atoms) (sets_of (actual_type p (Grant g))) ≡ map (λ member. atom_name n.name member ∷ []) (members_of p n.typ)
+-- a program as resolving makes it: a core, whose own names have their types and names that no hidden instance has, the program's grants first
+pub record IsResolved (p : Program) : Type 0 where
+  pub core : IsCore p
+  pub lines : LinesAreTyped p
+  pub names : HavePlainNames p
+  pub grants : GrantsStandFirst (program_names p)
+  pub captures : ModulesCaptureNothing p
