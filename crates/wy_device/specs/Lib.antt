@@ -1,8 +1,11 @@
+pub mod Deeds
 pub mod Device
 pub mod Devices
 pub mod Ends
 pub mod Events
+pub mod MemClock
 pub mod MemConsole
+pub mod MemRandom
 pub mod Operation
 pub mod Operators
 pub mod Requests

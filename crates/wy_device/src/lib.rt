@@ -6,7 +6,9 @@ pub mod device;
 pub mod devices;
 pub mod handed;
 pub mod handing_in;
+pub mod mem_clock;
 pub mod mem_console;
+pub mod mem_random;
 pub mod operation;
 pub mod shut;
 #[cfg(test)]
