@@ -3,8 +3,10 @@ pub mod Device
 pub mod Devices
 pub mod Ends
 pub mod Events
+pub mod FolderFiles
 pub mod MemClock
 pub mod MemConsole
+pub mod MemFolder
 pub mod MemRandom
 pub mod Operation
 pub mod Operators
