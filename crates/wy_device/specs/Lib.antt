@@ -1,8 +1,13 @@
+pub mod Deeds
 pub mod Device
 pub mod Devices
 pub mod Ends
 pub mod Events
+pub mod FolderFiles
+pub mod MemClock
 pub mod MemConsole
+pub mod MemFolder
+pub mod MemRandom
 pub mod Operation
 pub mod Operators
 pub mod Requests

@@ -4,9 +4,13 @@
 pub mod deed;
 pub mod device;
 pub mod devices;
+pub mod folder_files;
 pub mod handed;
 pub mod handing_in;
+pub mod mem_clock;
 pub mod mem_console;
+pub mod mem_folder;
+pub mod mem_random;
 pub mod operation;
 pub mod shut;
 #[cfg(test)]

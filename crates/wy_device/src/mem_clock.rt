@@ -1,0 +1,110 @@
+ghost use Rattle.std.specs.Prelude.{◌≡◌, ◌≤◌, ◌++◌, [], Some, IfOk, OnOk, OnErr, Err, Contains};
+ghost use Rattle.wy_text.specs.Outside.{gained, next_count, Rose};
+ghost use Rattle.wy_device.specs.Deeds.{answered};
+ghost use Rattle.wy_device.specs.Device.{DeviceState, IsAnswerOf, deed_done, deed_failed};
+ghost use Rattle.wy_device.specs.MemClock.{time_after};
+ghost use Rattle.wy_device.specs.Operation.{kind_of};
+
+use crate::deed::{Deed, DeedList};
+use crate::device::{Device, DeviceError};
+use crate::operation::{Answer, Kind, Op};
+use std::alloc::Global;
+use std::marker::Model;
+use wy_text::list::{CallList, Items};
+use wy_text::text::{Memory, Text};
+
+/// A clock in memory: a second passes at each call that succeeds. It fails at the calls that it was told to fail.
+#[derive(Debug, Drop)]
+pub struct MemClock {
+    start: i64,
+    given: u64,
+    deeds: DeedList,
+    fails: CallList,
+    calls: u64,
+    faults: u64,
+}
+
+impl Model for MemClock {
+    ghost use Rattle.std.specs.Prelude.{◌≡◌, ◌-◌, ◌^◌, min};
+    ghost use Rattle.wy_device.specs.Deeds.{answered};
+    ghost use Rattle.wy_device.specs.MemClock.{MemClockState};
+
+    ghost Value = { MemClockState };
+
+    ghost view = { λ c. record { start = c.start; deeds = c.deeds; fails = c.fails; calls = c.calls; faults = c.faults } };
+
+    ghost invariant = { λ c. c.given ≡ min (answered c.deeds) (2 ^ 64 - 1) };
+}
+
+impl MemClock {
+    /// A clock with this start, in seconds, that was not asked yet and has no faults. Its calls are counted from 1.
+    pub fn new(alloc: Global, start: i64, fails: CallList) -> Result<MemClock, Memory>
+        ensures { IfOk result (λ c. c ≡ record { start = start; deeds = []; fails = fails; calls = 0; faults = 0 }) }
+    {
+        Ok(MemClock {
+            start,
+            given: 0,
+            deeds: Items::new(alloc),
+            fails,
+            calls: 0,
+            faults: 0,
+        })
+    }
+
+    /// Gives the time, lets a second pass, and notes the deed.
+    fn tell_time(&mut self, grant: &Text, op: &Op) -> Result<Answer, Memory>
+        ensures ok { IfOk result (λ a. (a ≡ Answer.Number (time_after (answered self.old.deeds) self.old.start)) × (self.new ≡ record self.old { deeds = self.old.deeds ++ deed_done grant.now op.now a })) }
+        ensures err { OnErr result (self.new ≡ self.old) }
+    {
+        let answer = Answer::Number(self.start.saturating_add_unsigned(self.given));
+        self.deeds.push(Deed::done(grant, op, &answer)?)?;
+        self.given = self.given.saturating_add(1);
+        Ok(answer)
+    }
+}
+
+impl Device for MemClock {
+    ghost use Rattle.wy_device.specs.declared.operation.Kind.{Kind};
+
+    ghost state = { λ c. record { kind = Kind.Clock; deeds = Some c.deeds; faults = c.faults } };
+
+    fn kind(&self) -> Kind {
+        Kind::Clock
+    }
+
+    fn deeds(&self) -> Option<&DeedList> {
+        Some(&self.deeds)
+    }
+
+    fn perform(&mut self, grant: &Text, op: &Op) -> Result<Answer, DeviceError>
+        requires { kind_of op.now ≡ Kind.Clock }
+        ensures same_kind { Kind.Clock ≡ Kind.Clock }
+        ensures answer { IfOk result (IsAnswerOf op.now) }
+        ensures done { IfOk result (λ a. Some self.new.deeds ≡ gained (Some self.old.deeds) (deed_done grant.now op.now a)) }
+        ensures bad { result ≡ Err DeviceError.Failed → Some self.new.deeds ≡ gained (Some self.old.deeds) (deed_failed grant.now op.now) }
+        ensures none { result ≡ Err DeviceError.Memory → Some self.new.deeds ≡ Some self.old.deeds }
+        ensures counted { self.old.faults ≤ self.new.faults }
+        ensures failed { result ≡ Err DeviceError.Failed → Rose self.old.faults self.new.faults }
+
+        // It fails exactly at the calls that it was told.
+        ensures call { self.new.calls ≡ next_count self.old.calls }
+        ensures listed { result ≡ Err DeviceError.Failed → Contains self.old.fails (next_count self.old.calls) }
+        ensures served { OnOk result (¬ Contains self.old.fails (next_count self.old.calls)) }
+        ensures same_list { self.new.fails ≡ self.old.fails }
+
+        // It gives its start and a second for each earlier call that succeeded.
+        ensures time { IfOk result (λ a. a ≡ Answer.Number (time_after (answered self.old.deeds) self.old.start)) }
+        ensures same_start { self.new.start ≡ self.old.start }
+    {
+        self.calls = self.calls.saturating_add(1);
+        if self.fails.contains(self.calls) {
+            self.deeds.push(Deed::failed(grant, op)?)?;
+            self.faults = self.faults.saturating_add(1);
+            return Err(DeviceError::Failed);
+        }
+        match op {
+            Op::ClockNow => Ok(self.tell_time(grant, op)?),
+            _ => unreachable!(),
+        }
+    }
+}

@@ -1,0 +1,188 @@
+ghost use Rattle.std.specs.Prelude.{◌≡◌, ◌≤◌, ◌<◌, ◌++◌, ◌⊎◌, [], length, is_some, Some, IfOk, OnOk, OnErr, Err, Contains};
+ghost use Rattle.wy_text.specs.Outside.{gained, next_count, Rose};
+ghost use Rattle.wy_device.specs.Device.{DeviceState, IsAnswerOf, deed_done, deed_failed};
+ghost use Rattle.wy_device.specs.FolderFiles.{text_in, text_or_empty, Puts};
+ghost use Rattle.wy_device.specs.MemFolder.{Answers, Leaves, AnswersTooMuch};
+ghost use Rattle.wy_device.specs.Operation.{kind_of};
+
+use crate::deed::{Deed, DeedList};
+use crate::device::{Device, DeviceError};
+use crate::folder_files::{FolderFile, FolderList, copied, listing, put, text_of};
+use crate::operation::{Answer, Kind, Op};
+use std::alloc::Global;
+use std::marker::Model;
+use wy_text::list::{CallList, Items};
+use wy_text::text::{Memory, Text, from_bytes};
+
+/// The greatest number of bytes that one `read` or `names` of a folder gives.
+pub const LONGEST_TEXT: usize = 1_048_576;
+
+/// A folder in memory. It fails at the calls that it was told to fail, and where a text is longer than an answer may be.
+/// Of two files of one grant and name the first counts.
+#[derive(Debug, Drop)]
+pub struct MemFolder {
+    alloc: Global,
+    files: Vec<FolderFile>,
+    deeds: DeedList,
+    fails: CallList,
+    calls: u64,
+    faults: u64,
+}
+
+impl Model for MemFolder {
+    ghost use Rattle.wy_device.specs.MemFolder.{MemFolderState};
+
+    ghost Value = { MemFolderState };
+
+    ghost view = { λ f. record { files = f.files.items; deeds = f.deeds; fails = f.fails; calls = f.calls; faults = f.faults } };
+}
+
+impl MemFolder {
+    /// A folder with these files that was not asked yet and has no faults. Its calls are counted from 1.
+    pub fn new(alloc: Global, files: FolderList, fails: CallList) -> Result<MemFolder, Memory>
+        ensures { IfOk result (λ f. f ≡ record { files = files; deeds = []; fails = fails; calls = 0; faults = 0 }) }
+    {
+        Ok(MemFolder {
+            alloc,
+            files: copied(alloc, files.as_slice())?,
+            deeds: Items::new(alloc),
+            fails,
+            calls: 0,
+            faults: 0,
+        })
+    }
+
+    fn text(&self, grant: &Text, name: &Text) -> Result<Text, Memory>
+        ensures { IfOk result (λ text. text ≡ text_or_empty self.now.files grant.now name.now) }
+    {
+        match text_of(self.files.as_slice(), grant, name) {
+            Some(text) => text.copy(),
+            None => from_bytes(self.alloc, b""),
+        }
+    }
+
+    fn has(&self, grant: &Text, name: &Text) -> bool
+        ensures { result ≡ is_some (text_in self.now.files grant.now name.now) }
+    {
+        text_of(self.files.as_slice(), grant, name).is_some()
+    }
+
+    /// Notes the deed of an operation that was answered.
+    fn note(&mut self, grant: &Text, op: &Op, answer: Answer) -> Result<Answer, Memory>
+        ensures ok { IfOk result (λ a. (a ≡ answer) × (self.new ≡ record self.old { deeds = self.old.deeds ++ deed_done grant.now op.now a })) }
+        ensures err { OnErr result (self.new ≡ self.old) }
+    {
+        self.deeds.push(Deed::done(grant, op, &answer)?)?;
+        Ok(answer)
+    }
+
+    /// Notes the deed of an operation that failed, and counts a fault.
+    fn note_failure(&mut self, grant: &Text, op: &Op) -> Result<(), Memory>
+        ensures ok { OnOk result (self.new ≡ record self.old { deeds = self.old.deeds ++ deed_failed grant.now op.now; faults = next_count self.old.faults }) }
+        ensures err { OnErr result (self.new ≡ self.old) }
+        ensures counted { self.old.faults ≤ self.new.faults }
+    {
+        self.deeds.push(Deed::failed(grant, op)?)?;
+        self.faults = self.faults.saturating_add(1);
+        Ok(())
+    }
+
+    /// Answers a text and notes the deed, or fails where it is longer than an answer may be.
+    fn answer_text(&mut self, grant: &Text, op: &Op, text: Text) -> Result<Answer, DeviceError>
+        ensures ok { IfOk result (λ a. (a ≡ Answer.Bytes text) × (length text ≤ 1048576) × (self.new ≡ record self.old { deeds = self.old.deeds ++ deed_done grant.now op.now a })) }
+        ensures failed { result ≡ Err DeviceError.Failed → (1048576 < length text) × (self.new ≡ record self.old { deeds = self.old.deeds ++ deed_failed grant.now op.now; faults = next_count self.old.faults }) }
+        ensures none { result ≡ Err DeviceError.Memory → self.new ≡ self.old }
+        ensures counted { self.old.faults ≤ self.new.faults }
+    {
+        if text.as_bytes().len() > LONGEST_TEXT {
+            self.note_failure(grant, op)?;
+            return Err(DeviceError::Failed);
+        }
+        Ok(self.note(grant, op, Answer::Bytes(text))?)
+    }
+
+    /// Makes or replaces the file of a name, and notes the deed.
+    fn write_text(
+        &mut self,
+        grant: &Text,
+        op: &Op,
+        name: &Text,
+        text: Text,
+    ) -> Result<Answer, Memory>
+        ensures ok { IfOk result (λ a. (a ≡ Answer.Unit) × Puts self.old.files grant.now name.now text self.new.files × (self.new ≡ record self.old { files = self.new.files; deeds = self.old.deeds ++ deed_done grant.now op.now a })) }
+        ensures err { OnErr result (self.new ≡ self.old) }
+    {
+        let file = FolderFile {
+            grant: grant.copy()?,
+            name: name.copy()?,
+            text,
+        };
+        let deed = Deed::done(grant, op, &Answer::Unit)?;
+        self.files.reserve(1)?;
+        self.deeds.push(deed)?;
+        put(&mut self.files, file);
+        Ok(Answer::Unit)
+    }
+}
+
+impl Device for MemFolder {
+    ghost use Rattle.wy_device.specs.declared.operation.Kind.{Kind};
+
+    ghost state = { λ f. record { kind = Kind.Folder; deeds = Some f.deeds; faults = f.faults } };
+
+    fn kind(&self) -> Kind {
+        Kind::Folder
+    }
+
+    fn deeds(&self) -> Option<&DeedList> {
+        Some(&self.deeds)
+    }
+
+    fn perform(&mut self, grant: &Text, op: &Op) -> Result<Answer, DeviceError>
+        requires { kind_of op.now ≡ Kind.Folder }
+        ensures same_kind { Kind.Folder ≡ Kind.Folder }
+        ensures answer { IfOk result (IsAnswerOf op.now) }
+        ensures done { IfOk result (λ a. Some self.new.deeds ≡ gained (Some self.old.deeds) (deed_done grant.now op.now a)) }
+        ensures bad { result ≡ Err DeviceError.Failed → Some self.new.deeds ≡ gained (Some self.old.deeds) (deed_failed grant.now op.now) }
+        ensures none { result ≡ Err DeviceError.Memory → Some self.new.deeds ≡ Some self.old.deeds }
+        ensures counted { self.old.faults ≤ self.new.faults }
+        ensures failed { result ≡ Err DeviceError.Failed → Rose self.old.faults self.new.faults }
+
+        // It fails exactly at the calls that it was told, and where the text is longer than an answer may be.
+        ensures call { self.new.calls ≡ next_count self.old.calls }
+        ensures listed { result ≡ Err DeviceError.Failed → Contains self.old.fails (next_count self.old.calls) ⊎ AnswersTooMuch self.old.files grant.now op.now }
+        ensures served { OnOk result (¬ Contains self.old.fails (next_count self.old.calls)) }
+        ensures same_list { self.new.fails ≡ self.old.fails }
+
+        // It answers what it holds, and changes what the operation says and nothing else.
+        ensures answers { IfOk result (Answers self.old.files grant.now op.now) }
+        ensures leaves { OnOk result (Leaves self.old.files grant.now op.now self.new.files) }
+        ensures kept { OnErr result (self.new.files ≡ self.old.files) }
+    {
+        self.calls = self.calls.saturating_add(1);
+        if self.fails.contains(self.calls) {
+            self.note_failure(grant, op)?;
+            return Err(DeviceError::Failed);
+        }
+        match op {
+            Op::FolderRead(name) => {
+                let text = self.text(grant, name)?;
+                self.answer_text(grant, op, text)
+            }
+            Op::FolderHas(name) => {
+                let answer = Answer::Truth(self.has(grant, name));
+                Ok(self.note(grant, op, answer)?)
+            }
+            Op::FolderWrite(name, text) => Ok(self.write_text(grant, op, name, text.copy()?)?),
+            Op::FolderAppend(name, text) => {
+                let whole = self.text(grant, name)?.joined(text)?;
+                Ok(self.write_text(grant, op, name, whole)?)
+            }
+            Op::FolderNames => {
+                let text = listing(self.alloc, self.files.as_slice(), grant)?;
+                self.answer_text(grant, op, text)
+            }
+            _ => unreachable!(),
+        }
+    }
+}

@@ -1,0 +1,133 @@
+ghost use Rattle.std.specs.Prelude.{◌≡◌, ◌≤◌, ◌<◌, ◌+◌, ◌%◌, ◌++◌, max, [], pos, slice_index_or, Some, IfOk, OnOk, OnErr, Err, Contains};
+ghost use Rattle.wy_text.specs.Outside.{gained, next_count, Rose};
+ghost use Rattle.wy_device.specs.Deeds.{answered};
+ghost use Rattle.wy_device.specs.Device.{DeviceState, IsAnswerOf, deed_done, deed_failed};
+ghost use Rattle.wy_device.specs.MemRandom.{word_after};
+ghost use Rattle.wy_device.specs.Operation.{kind_of};
+
+use crate::deed::{Deed, DeedList};
+use crate::device::{Device, DeviceError};
+use crate::operation::{Answer, Kind, Op};
+use std::alloc::Global;
+use std::marker::Model;
+use wy_text::list::{CallList, Items};
+use wy_text::text::{Memory, Text};
+
+/// The numbers that a random source in memory gives.
+pub type NumberList = Items<i64>;
+
+/// A random source in memory, which gives the numbers of its list round and round, and 0 where the list is empty.
+/// It fails at the calls that it was told to fail.
+#[derive(Debug, Drop)]
+pub struct MemRandom {
+    numbers: NumberList,
+    at: usize,
+    deeds: DeedList,
+    fails: CallList,
+    calls: u64,
+    faults: u64,
+}
+
+impl Model for MemRandom {
+    ghost use Rattle.std.specs.Prelude.{◌≡◌, ◌%◌, max, length};
+    ghost use Rattle.wy_device.specs.Deeds.{answered};
+    ghost use Rattle.wy_device.specs.MemRandom.{MemRandomState};
+
+    ghost Value = { MemRandomState };
+
+    ghost view = { λ r. record { numbers = r.numbers; deeds = r.deeds; fails = r.fails; calls = r.calls; faults = r.faults } };
+
+    ghost invariant = { λ r. r.at ≡ answered r.deeds % max (length r.numbers) 1 };
+}
+
+/// The number at a place, and 0 past the end.
+fn number_at(numbers: &NumberList, at: usize) -> i64
+    ensures { result ≡ slice_index_or numbers.now at (pos 0) }
+{
+    match numbers.get(at) {
+        Some(number) => *number,
+        None => 0,
+    }
+}
+
+/// The place after this one, in a list of so many items that is gone through round and round.
+fn next_place(at: usize, size: usize) -> usize
+    requires { at < max size 1 }
+    ensures { result ≡ (at + 1) % max size 1 }
+{
+    let next = at + 1;
+    if next < size { next } else { 0 }
+}
+
+impl MemRandom {
+    /// A source with these numbers that was not asked yet and has no faults. Its calls are counted from 1.
+    pub fn new(alloc: Global, numbers: NumberList, fails: CallList) -> Result<MemRandom, Memory>
+        ensures { IfOk result (λ r. r ≡ record { numbers = numbers; deeds = []; fails = fails; calls = 0; faults = 0 }) }
+    {
+        Ok(MemRandom {
+            numbers,
+            at: 0,
+            deeds: Items::new(alloc),
+            fails,
+            calls: 0,
+            faults: 0,
+        })
+    }
+
+    /// Gives the next number, and notes the deed.
+    fn draw(&mut self, grant: &Text, op: &Op) -> Result<Answer, Memory>
+        ensures ok { IfOk result (λ a. (a ≡ Answer.Number (word_after (answered self.old.deeds) self.old.numbers)) × (self.new ≡ record self.old { deeds = self.old.deeds ++ deed_done grant.now op.now a })) }
+        ensures err { OnErr result (self.new ≡ self.old) }
+    {
+        let answer = Answer::Number(number_at(&self.numbers, self.at));
+        self.deeds.push(Deed::done(grant, op, &answer)?)?;
+        self.at = next_place(self.at, self.numbers.len());
+        Ok(answer)
+    }
+}
+
+impl Device for MemRandom {
+    ghost use Rattle.wy_device.specs.declared.operation.Kind.{Kind};
+
+    ghost state = { λ r. record { kind = Kind.Random; deeds = Some r.deeds; faults = r.faults } };
+
+    fn kind(&self) -> Kind {
+        Kind::Random
+    }
+
+    fn deeds(&self) -> Option<&DeedList> {
+        Some(&self.deeds)
+    }
+
+    fn perform(&mut self, grant: &Text, op: &Op) -> Result<Answer, DeviceError>
+        requires { kind_of op.now ≡ Kind.Random }
+        ensures same_kind { Kind.Random ≡ Kind.Random }
+        ensures answer { IfOk result (IsAnswerOf op.now) }
+        ensures done { IfOk result (λ a. Some self.new.deeds ≡ gained (Some self.old.deeds) (deed_done grant.now op.now a)) }
+        ensures bad { result ≡ Err DeviceError.Failed → Some self.new.deeds ≡ gained (Some self.old.deeds) (deed_failed grant.now op.now) }
+        ensures none { result ≡ Err DeviceError.Memory → Some self.new.deeds ≡ Some self.old.deeds }
+        ensures counted { self.old.faults ≤ self.new.faults }
+        ensures failed { result ≡ Err DeviceError.Failed → Rose self.old.faults self.new.faults }
+
+        // It fails exactly at the calls that it was told.
+        ensures call { self.new.calls ≡ next_count self.old.calls }
+        ensures listed { result ≡ Err DeviceError.Failed → Contains self.old.fails (next_count self.old.calls) }
+        ensures served { OnOk result (¬ Contains self.old.fails (next_count self.old.calls)) }
+        ensures same_list { self.new.fails ≡ self.old.fails }
+
+        // It gives its numbers round and round, one for each call that succeeds.
+        ensures word { IfOk result (λ a. a ≡ Answer.Number (word_after (answered self.old.deeds) self.old.numbers)) }
+        ensures same_numbers { self.new.numbers ≡ self.old.numbers }
+    {
+        self.calls = self.calls.saturating_add(1);
+        if self.fails.contains(self.calls) {
+            self.deeds.push(Deed::failed(grant, op)?)?;
+            self.faults = self.faults.saturating_add(1);
+            return Err(DeviceError::Failed);
+        }
+        match op {
+            Op::RandomWord => Ok(self.draw(grant, op)?),
+            _ => unreachable!(),
+        }
+    }
+}
