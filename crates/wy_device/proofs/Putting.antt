@@ -1,6 +1,6 @@
 -- A file put among the files of a folder.
-use Rattle.std.proofs.Common.{◌≡◌, ℕ, Bool, true, false, List, [], ◌∷◌, ◌++◌, Some, None, get_or, set, refl, sym, ◌∙◌, ap}
-use Rattle.std.specs.Prelude.{position, bytes_eq}
+use Rattle.std.proofs.Common.{◌≡◌, ℕ, true, false, List, [], ◌∷◌, ◌++◌, Some, None, get_or, set, refl, sym, ◌∙◌, ap}
+use Rattle.std.specs.Prelude.{position}
 use Rattle.std.specs.Option.{option_map}
 use Rattle.std.specs.Cmp.{first_so, second_so}
 use Rattle.std.specs.Cmp.Derive.{both_true}
