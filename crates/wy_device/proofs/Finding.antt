@@ -1,5 +1,5 @@
 -- What is found first in a list, after an item was set or pushed.
-use Rattle.std.proofs.Common.{◌≡◌, ◌≤◌, ◌<◌, ◌+◌, ℕ, zero, suc, Bool, true, false, cond, List, [], ◌∷◌, ◌++◌, Option, Some, None, length, get_or, set, refl, sym, ◌∙◌, ap, arith}
+use Rattle.std.proofs.Common.{◌≡◌, ◌≤◌, ◌<◌, ◌+◌, ℕ, zero, suc, Bool, true, false, cond, List, [], ◌∷◌, ◌++◌, Some, None, length, get_or, set, refl, ap, arith}
 use Rattle.std.specs.Prelude.{find, position, not}
 use Rattle.std.specs.List.{position_or_len}
 use Rattle.std.proofs.lemmas.Bool.Decides.{nat_tests}
@@ -10,7 +10,8 @@ module _ {X : Type 0} (test : X → Bool) where
   find-set_other (x ∷ xs) zero y d new old = rw (new, old) refl
   find-set_other (x ∷ xs) (suc i) y d new old = ap (cond (test x) (Some x)) (find-set_other xs i y d new old)
 
-  pub find-set_first : (xs : List X) (i : ℕ) (y d : X) → i < length xs → test y ≡ true → ((k : ℕ) → k < i → test (get_or xs k d) ≡ false) → find test (set xs i y) ≡ Some y
+  pub find-set_first : (xs : List X) (i : ℕ) (y d : X) → i < length xs → test y ≡ true → ((k : ℕ) → k < i → test (get_or xs k d) ≡ false)
+      → find test (set xs i y) ≡ Some y
   find-set_first [] i y d within new before = absurd (omega arith)
   find-set_first (x ∷ xs) zero y d within new before = rw new refl
   find-set_first (x ∷ xs) (suc i) y d within new before =

@@ -3,7 +3,6 @@ use Rattle.std.proofs.Common.{◌≡◌, ◌<◌, ℕ, zero, suc, ◌+◌, Bool,
 use Rattle.std.specs.Prelude.{Contains, bytes_eq, is_some, cond, Some, find}
 use Rattle.std.specs.Borrow.{Bor}
 use Rattle.std.specs.Cmp.Lexicographic.{slice_cmp}
-use Rattle.std.specs.declared.cmp.Ordering.{Ordering}
 use Rattle.std.specs.declared.cmp.Ordering.TheVariants.{Less}
 use Rattle.std.specs.List.{list_any, AllByRecursion}
 use Rattle.std.specs.List.Sorted.{IsStrictlySortedBy}
@@ -24,7 +23,8 @@ has_name name names = list_any (λ k. is_eq (slice_cmp nat_cmp name k.now)) name
 is_some-text_in : (files : List FolderFile) (grant name : List ℕ) → is_some (text_in files grant name) ≡ list_any (is_file grant name) files
 is_some-text_in [] grant name = refl
 is_some-text_in (f ∷ files) grant name =
-    elim (is_file grant name f) as (λ b. is_some (option_map (λ f. f.text) (cond b (Some f) (find (is_file grant name) files))) ≡ (b || list_any (is_file grant name) files)) [
+    elim (is_file grant name f) as (λ b. is_some (option_map (λ f. f.text) (cond b (Some f) (find (is_file grant name) files)))
+    ≡ (b || list_any (is_file grant name) files)) [
       | true ↦ refl
       | false ↦ is_some-text_in files grant name
     ]
@@ -46,11 +46,13 @@ has_name-map : (name : List ℕ) (names : List (Bor (List ℕ))) → has_name na
 has_name-map name [] = refl
 has_name-map name (k ∷ names) = rw (is_eq-slice_cmp name k.now) (ap (λ b. bytes_eq name k.now || b) (has_name-map name names))
 
-below-map : (x : List ℕ) (names : List (Bor (List ℕ))) → AllByRecursion (λ y. slice_cmp nat_cmp x y.now ≡ Less) names → AllByRecursion (λ y. slice_cmp nat_cmp x y ≡ Less) (map (λ k. k.now) names)
+below-map : (x : List ℕ) (names : List (Bor (List ℕ))) → AllByRecursion (λ y. slice_cmp nat_cmp x y.now ≡ Less) names
+    → AllByRecursion (λ y. slice_cmp nat_cmp x y ≡ Less) (map (λ k. k.now) names)
 below-map x [] h = tt
 below-map x (k ∷ names) h = (h.0, below-map x names h.1)
 
-ascending-map : (names : List (Bor (List ℕ))) → IsStrictlySortedBy (λ x y. slice_cmp nat_cmp x.now y.now) names → IsStrictlySortedBy (slice_cmp nat_cmp) (map (λ k. k.now) names)
+ascending-map : (names : List (Bor (List ℕ))) → IsStrictlySortedBy (λ x y. slice_cmp nat_cmp x.now y.now) names
+    → IsStrictlySortedBy (slice_cmp nat_cmp) (map (λ k. k.now) names)
 unfolding IsStrictlySortedBy
 ascending-map [] h = tt
 ascending-map (k ∷ names) h = (below-map k.now names h.0, ascending-map names h.1)
@@ -68,9 +70,10 @@ pub named-more : (files : List FolderFile) (grant : List ℕ) (i : ℕ) (file : 
 named-more files grant i file lent old new within at of_grant of_name gains same name =
     let sought = is_eq (slice_cmp nat_cmp lent name) in
     let passes : sought ≡ is_file grant name (get_or files i file) =
-    is_eq-slice_cmp lent name ∙ ap (λ n. bytes_eq n name) of_name ∙ ap (λ b. b && bytes_eq file.name name) (sym of_grant) ∙ ap (is_file grant name) at in
-    gains name ∙ added sought (has_name name old) ∙ ap (λ b. b || sought) (same name) ∙ ap (λ b. list_any (is_file grant name) (take i files) || b) passes
-    ∙ sym (list_any_more (is_file grant name) files i file within)
+    is_eq-slice_cmp lent name ∙ ap (λ n. bytes_eq n name) of_name
+    ∙ ap (λ b. b && bytes_eq file.name name) (sym of_grant) ∙ ap (is_file grant name) at in
+    gains name ∙ added sought (has_name name old) ∙ ap (λ b. b || sought) (same name)
+    ∙ ap (λ b. list_any (is_file grant name) (take i files) || b) passes ∙ sym (list_any_more (is_file grant name) files i file within)
 
 -- one more file, which is another grant's
 pub named-other : (files : List FolderFile) (grant : List ℕ) (i : ℕ) (file : FolderFile) (names : List (Bor (List ℕ)))
@@ -80,9 +83,11 @@ pub named-other : (files : List FolderFile) (grant : List ℕ) (i : ℕ) (file :
 named-other files grant i file names within at of_other same name =
     let fails : false ≡ is_file grant name (get_or files i file) =
     ap (λ b. b && bytes_eq file.name name) (sym of_other) ∙ ap (is_file grant name) at in
-    same name ∙ sym (or-false _) ∙ ap (λ b. list_any (is_file grant name) (take i files) || b) fails ∙ sym (list_any_more (is_file grant name) files i file within)
+    same name ∙ sym (or-false _) ∙ ap (λ b. list_any (is_file grant name) (take i files) || b) fails
+    ∙ sym (list_any_more (is_file grant name) files i file within)
 
-pub names-are : (files : List FolderFile) (grant : List ℕ) (names : List (Bor (List ℕ))) → IsStrictlySortedBy (λ x y. slice_cmp nat_cmp x.now y.now) names
+pub names-are : (files : List FolderFile) (grant : List ℕ) (names : List (Bor (List ℕ)))
+    → IsStrictlySortedBy (λ x y. slice_cmp nat_cmp x.now y.now) names
     → ((name : List ℕ) → has_name name names ≡ list_any (is_file grant name) files) → AreNames files grant (map (λ k. k.now) names)
 names-are files grant names up same = record {
   ascending = ascending-map names up;

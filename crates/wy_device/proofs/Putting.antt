@@ -1,6 +1,6 @@
 -- A file put among the files of a folder.
-use Rattle.std.proofs.Common.{◌≡◌, ℕ, Bool, true, false, List, [], ◌∷◌, ◌++◌, Some, None, get_or, set, refl, sym, ◌∙◌, ap}
-use Rattle.std.specs.Prelude.{position, bytes_eq}
+use Rattle.std.proofs.Common.{◌≡◌, ℕ, true, false, List, [], ◌∷◌, ◌++◌, Some, None, get_or, set, refl, sym, ◌∙◌, ap}
+use Rattle.std.specs.Prelude.{position}
 use Rattle.std.specs.Option.{option_map}
 use Rattle.std.specs.Cmp.{first_so, second_so}
 use Rattle.std.specs.Cmp.Derive.{both_true}
@@ -14,7 +14,8 @@ same_file : (grant name : List ℕ) (file : FolderFile) → is_file grant name f
 same_file grant name file e =
     ((bytes_eq-Decides file.grant grant).0 (first_so _ _ e), (bytes_eq-Decides file.name name).0 (second_so _ _ e))
 
-other_file : (g n grant name : List ℕ) (file : FolderFile) → file.grant ≡ grant → file.name ≡ name → ((g ≡ grant) × (n ≡ name) → ⊥) → is_file g n file ≡ false
+other_file : (g n grant name : List ℕ) (file : FolderFile) → file.grant ≡ grant → file.name ≡ name → ((g ≡ grant) × (n ≡ name) → ⊥)
+    → is_file g n file ≡ false
 other_file g n grant name file of_grant of_name apart =
     elim (is_file g n file) as (λ b. is_file g n file ≡ b → b ≡ false) [
       | true ↦ λ e. let same = same_file g n file e in absurd (apart (sym same.0 ∙ of_grant, sym same.1 ∙ of_name))
@@ -40,5 +41,6 @@ pub puts-push : (files : List FolderFile) (file : FolderFile) → position (is_f
     → Puts files file.grant file.name file.text (files ++ file ∷ [])
 puts-push files file e = record {
   there = ap (option_map (λ f. f.text)) (find-push_first (is_file file.grant file.name) files file (none_passes _ files e) (itself file));
-  others = λ g n apart. ap (option_map (λ f. f.text)) (find-push_other (is_file g n) files file (other_file g n file.grant file.name file refl refl apart));
+  others = λ g n apart. ap (option_map (λ f. f.text)) (find-push_other (is_file g n) files file
+      (other_file g n file.grant file.name file refl refl apart));
 }

@@ -1,5 +1,5 @@
 -- The answers of the devices in a run.
-use Rattle.std.specs.Prelude.{◌≡◌, List, [], ◌++◌, Option, Some, None, length, drop, map}
+use Rattle.std.specs.Prelude.{List, [], ◌++◌, Option, Some, None, length, drop, map}
 use Rattle.wy_device.specs.Devices.{DevicesState, device_of}
 use Rattle.wy_device.specs.declared.operation.Kind.{Kind}
 use Rattle.wy_device.specs.declared.operation.Kind.TheVariants.{Console, Folder, Clock, Random}

@@ -53,7 +53,8 @@ impl MemClock {
 
     /// Gives the time, lets a second pass, and notes the deed.
     fn tell_time(&mut self, grant: &Text, op: &Op) -> Result<Answer, Memory>
-        ensures ok { IfOk result (λ a. (a ≡ Answer.Number (time_after (answered self.old.deeds) self.old.start)) × (self.new ≡ record self.old { deeds = self.old.deeds ++ deed_done grant.now op.now a })) }
+        ensures time { IfOk result (λ a. a ≡ Answer.Number (time_after (answered self.old.deeds) self.old.start)) }
+        ensures noted { IfOk result (λ a. self.new ≡ record self.old { deeds = self.old.deeds ++ deed_done grant.now op.now a }) }
         ensures err { OnErr result (self.new ≡ self.old) }
     {
         let answer = Answer::Number(self.start.saturating_add_unsigned(self.given));

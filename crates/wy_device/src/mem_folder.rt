@@ -78,7 +78,10 @@ impl MemFolder {
 
     /// Notes the deed of an operation that failed, and counts a fault.
     fn note_failure(&mut self, grant: &Text, op: &Op) -> Result<(), Memory>
-        ensures ok { OnOk result (self.new ≡ record self.old { deeds = self.old.deeds ++ deed_failed grant.now op.now; faults = next_count self.old.faults }) }
+        ensures ok { OnOk result (self.new ≡ record self.old {
+          deeds = self.old.deeds ++ deed_failed grant.now op.now;
+          faults = next_count self.old.faults;
+        }) }
         ensures err { OnErr result (self.new ≡ self.old) }
         ensures counted { self.old.faults ≤ self.new.faults }
     {
@@ -89,8 +92,13 @@ impl MemFolder {
 
     /// Answers a text and notes the deed, or fails where it is longer than an answer may be.
     fn answer_text(&mut self, grant: &Text, op: &Op, text: Text) -> Result<Answer, DeviceError>
-        ensures ok { IfOk result (λ a. (a ≡ Answer.Bytes text) × (length text ≤ 1048576) × (self.new ≡ record self.old { deeds = self.old.deeds ++ deed_done grant.now op.now a })) }
-        ensures failed { result ≡ Err DeviceError.Failed → (1048576 < length text) × (self.new ≡ record self.old { deeds = self.old.deeds ++ deed_failed grant.now op.now; faults = next_count self.old.faults }) }
+        ensures answer { IfOk result (λ a. (a ≡ Answer.Bytes text) × (length text ≤ 1048576)) }
+        ensures noted { IfOk result (λ a. self.new ≡ record self.old { deeds = self.old.deeds ++ deed_done grant.now op.now a }) }
+        ensures too_long { result ≡ Err DeviceError.Failed → 1048576 < length text }
+        ensures failed { result ≡ Err DeviceError.Failed → self.new ≡ record self.old {
+          deeds = self.old.deeds ++ deed_failed grant.now op.now;
+          faults = next_count self.old.faults;
+        } }
         ensures none { result ≡ Err DeviceError.Memory → self.new ≡ self.old }
         ensures counted { self.old.faults ≤ self.new.faults }
     {
@@ -109,7 +117,12 @@ impl MemFolder {
         name: &Text,
         text: Text,
     ) -> Result<Answer, Memory>
-        ensures ok { IfOk result (λ a. (a ≡ Answer.Unit) × Puts self.old.files grant.now name.now text self.new.files × (self.new ≡ record self.old { files = self.new.files; deeds = self.old.deeds ++ deed_done grant.now op.now a })) }
+        ensures answer { IfOk result (λ a. a ≡ Answer.Unit) }
+        ensures puts { OnOk result (Puts self.old.files grant.now name.now text self.new.files) }
+        ensures noted { IfOk result (λ a. self.new ≡ record self.old {
+          files = self.new.files;
+          deeds = self.old.deeds ++ deed_done grant.now op.now a;
+        }) }
         ensures err { OnErr result (self.new ≡ self.old) }
     {
         let file = FolderFile {
@@ -150,7 +163,8 @@ impl Device for MemFolder {
 
         // It fails exactly at the calls that it was told, and where the text is longer than an answer may be.
         ensures call { self.new.calls ≡ next_count self.old.calls }
-        ensures listed { result ≡ Err DeviceError.Failed → Contains self.old.fails (next_count self.old.calls) ⊎ AnswersTooMuch self.old.files grant.now op.now }
+        ensures listed { result ≡ Err DeviceError.Failed
+            → Contains self.old.fails (next_count self.old.calls) ⊎ AnswersTooMuch self.old.files grant.now op.now }
         ensures served { OnOk result (¬ Contains self.old.fails (next_count self.old.calls)) }
         ensures same_list { self.new.fails ≡ self.old.fails }
 

@@ -76,7 +76,8 @@ impl MemRandom {
 
     /// Gives the next number, and notes the deed.
     fn draw(&mut self, grant: &Text, op: &Op) -> Result<Answer, Memory>
-        ensures ok { IfOk result (λ a. (a ≡ Answer.Number (word_after (answered self.old.deeds) self.old.numbers)) × (self.new ≡ record self.old { deeds = self.old.deeds ++ deed_done grant.now op.now a })) }
+        ensures word { IfOk result (λ a. a ≡ Answer.Number (word_after (answered self.old.deeds) self.old.numbers)) }
+        ensures noted { IfOk result (λ a. self.new ≡ record self.old { deeds = self.old.deeds ++ deed_done grant.now op.now a }) }
         ensures err { OnErr result (self.new ≡ self.old) }
     {
         let answer = Answer::Number(number_at(&self.numbers, self.at));

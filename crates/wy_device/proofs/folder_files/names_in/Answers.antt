@@ -12,7 +12,8 @@ loop-file-preserved c =
       | then-is_in+in_ok-insert w ↦ rw w.names-is (record {
         ascending = w.in_ok-insert.ensures.ordered;
         same = named-more c.args.files.now c.args.grant.now c.loop-file.file-index c.file-item.result _ c.loop-file.names.keys _
-            (omega arith) c.file-item.is (sym w.if-is_in.ensures) w.as_bytes.ensures (λ name. w.in_ok-insert.ensures.updates.0 (record { ref_ptr = (0, 0); now = name })) c.loop-file.invariant.same;
+            (omega arith) c.file-item.is (sym w.if-is_in.ensures) w.as_bytes.ensures
+            (λ name. w.in_ok-insert.ensures.updates.0 (record { ref_ptr = (0, 0); now = name })) c.loop-file.invariant.same;
       })
       | else-is_in w ↦ rw w.names-is (record {
         ascending = c.loop-file.invariant.ascending;
