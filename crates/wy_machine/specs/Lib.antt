@@ -1,2 +1,6 @@
+pub mod Runs
 pub mod Stacks
+pub mod States
+pub mod StoreStates
+pub mod TrapKinds
 pub mod Words
