@@ -22,7 +22,7 @@ take-set (suc n) (x ∷ xs) zero w = refl
 take-set (suc n) (x ∷ xs) (suc i) w = ap (λ l. x ∷ l) (take-set n xs i w)
 
 -- the last of a list is replaced
-set_last : (xs : List Word) (n : ℕ) (w : Word) → length xs ≡ n + 1 → set xs n w ≡ take n xs ++ w ∷ []
+pub set_last : {X : Type 0} (xs : List X) (n : ℕ) (w : X) → length xs ≡ n + 1 → set xs n w ≡ take n xs ++ w ∷ []
 set_last xs n w e =
     let lt : n < length xs = omega arith in
     let all : length xs ≤ suc n = omega arith in

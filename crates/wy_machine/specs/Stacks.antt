@@ -1,6 +1,7 @@
 -- The bodies that are open, each with its slots and operands.
-use Rattle.std.specs.Prelude.{ℕ, ◌+◌, ◌-◌, ◌++◌, replicate, Option, Some, None, ◌<◌, ◌≤◌, List, [], ◌∷◌, length, take, drop, reverse}
+use Rattle.std.specs.Prelude.{ℕ, ◌+◌, ◌-◌, ◌++◌, replicate, Option, Some, None, Bool, true, false, slice_set, ◌<◌, ◌≤◌, List, [], ◌∷◌, length, take, drop, reverse}
 use Rattle.wy_code.specs.Stores.{Word, Nothing}
+use Rattle.wy_code.specs.Machine.{first_of}
 use Rattle.wy_machine.specs.declared.stack.Frame.{Frame}
 
 -- a body that is open: its number and its instance's, the address of the instruction that comes next, its slots, and
@@ -67,3 +68,19 @@ left_to v (f ∷ fs) = Some (record { running = record f { operands = v ∷ f.op
 
 abbrev pub left : Word → StackState → Option StackState
 left v s = left_to v s.callers
+
+-- at another address
+abbrev pub at_address : ℕ → StackState → StackState
+at_address to s = record s { running = record (s.running) { at = to } }
+
+-- the topmost operand is written into a slot
+abbrev pub stored_in : ℕ → StackState → StackState
+stored_in slot s = record s {
+  running = record (s.running) { slots = slice_set s.running.slots slot (first_of s.running.operands); operands = drop 1 s.running.operands };
+}
+
+-- at another address where the truth value is false
+abbrev pub jumped_unless : Option Bool → ℕ → StackState → StackState
+jumped_unless None to s = s
+jumped_unless (Some true) to s = s
+jumped_unless (Some false) to s = at_address to s

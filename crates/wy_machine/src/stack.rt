@@ -1,6 +1,8 @@
-ghost use Rattle.std.specs.Prelude.{◌≡◌, ◌∷◌, [], ◌≤◌, ◌<◌, ◌+◌, ◌-◌, length, take, drop, reverse, OnOk, slice_set, slice_get, Some};
+ghost use Rattle.std.specs.Prelude.{◌≡◌, ◌∷◌, [], ◌≤◌, ◌<◌, ◌+◌, ◌-◌, length, take, drop, reverse, OnOk, slice_set, slice_get, Some, IsSome, unwrap_or};
 ghost use Rattle.wy_code.specs.Machine.{first_of};
-ghost use Rattle.wy_machine.specs.Stacks.{pushed, with_operands, begun, entered, left};
+ghost use Rattle.wy_code.specs.Stores as words;
+ghost use Rattle.wy_machine.specs.Stacks.{pushed, with_operands, stored_in, at_address, jumped_unless, begun, entered, left};
+ghost use Rattle.wy_machine.specs.Words.{truth_of};
 
 use crate::word::{Word, WordKind};
 use std::alloc::Global;
@@ -80,7 +82,7 @@ impl Stack {
 
     /// Goes to an address.
     pub fn jump(&mut self, to: usize)
-        ensures { self.new ≡ record self.old { running = record (self.old.running) { at = to } } }
+        ensures { self.new ≡ at_address to self.old }
     {
         self.running.at = to;
     }
@@ -174,12 +176,65 @@ impl Stack {
     /// Takes the topmost operand.
     pub fn pop(&mut self) -> Word
         requires { 0 < length self.old.running.operands }
-        ensures word { self.old.running.operands ≡ result ∷ self.new.running.operands }
-        ensures rest { self.new ≡ with_operands self.new.running.operands self.old }
+        ensures word { result ≡ first_of self.old.running.operands }
+        ensures rest { self.new ≡ with_operands (drop 1 self.old.running.operands) self.old }
     {
         let word = self.operand(0);
         self.drop_operands(1);
         word
+    }
+
+    /// Pushes a slot.
+    pub fn load(&mut self, slot: usize) -> Result<(), Memory>
+        requires { slot < length self.old.running.slots }
+        ensures { OnOk result (self.new ≡ pushed (unwrap_or (slice_get self.old.running.slots slot) words.Nothing) self.old) }
+    {
+        let word = self.slot(slot);
+        self.push(word)
+    }
+
+    /// Takes the topmost operand into a slot.
+    pub fn store(&mut self, slot: usize)
+        requires operand { 0 < length self.old.running.operands }
+        requires slot { slot < length self.old.running.slots }
+        ensures { self.new ≡ stored_in slot self.old }
+    {
+        let word = self.pop();
+        self.set_slot(slot, word);
+    }
+
+    /// Takes the topmost operand, and goes to an address where it is false.
+    pub fn jump_false(&mut self, to: usize)
+        requires operand { 0 < length self.old.running.operands }
+        requires truth { IsSome (truth_of (first_of self.old.running.operands)) }
+        ensures { self.new ≡ jumped_unless (truth_of (first_of self.old.running.operands)) to (with_operands (drop 1 self.old.running.operands) self.old) }
+    {
+        match self.pop().truth() {
+            Some(true) => {}
+            Some(false) => self.jump(to),
+            None => unreachable!(),
+        }
+    }
+
+    /// The number of the running body's instance.
+    pub fn instance(&self) -> u32
+        ensures { result ≡ self.now.running.instance }
+    {
+        self.running.instance
+    }
+
+    /// The number of the running body.
+    pub fn body(&self) -> u32
+        ensures { result ≡ self.now.running.body }
+    {
+        self.running.body
+    }
+
+    /// The address of the instruction that comes next.
+    pub fn at(&self) -> usize
+        ensures { result ≡ self.now.running.at }
+    {
+        self.running.at
     }
 
     /// Begins a body, whose first slots are the topmost operands: the current object and the arguments.

@@ -1,5 +1,5 @@
 ghost use Rattle.std.specs.Prelude.{◌≡◌};
-ghost use Rattle.wy_machine.specs.Words.{word_of};
+ghost use Rattle.wy_machine.specs.Words.{word_of, int_of, truth_of, text_of, object_of};
 
 use std::marker::Model;
 
@@ -48,5 +48,61 @@ impl Word {
         ensures { self ≡ word_of result }
     {
         self.kind
+    }
+
+    /// The number that it is, if it is one.
+    pub fn int(self) -> Option<i64>
+        ensures { result ≡ int_of self }
+    {
+        match self.kind() {
+            WordKind::Int(number) => Some(number),
+            WordKind::Truth(_) => None,
+            WordKind::Unit => None,
+            WordKind::Text(_) => None,
+            WordKind::Object(_) => None,
+            WordKind::Grant(_) => None,
+        }
+    }
+
+    /// The truth value that it is, if it is one.
+    pub fn truth(self) -> Option<bool>
+        ensures { result ≡ truth_of self }
+    {
+        match self.kind() {
+            WordKind::Int(_) => None,
+            WordKind::Truth(truth) => Some(truth),
+            WordKind::Unit => None,
+            WordKind::Text(_) => None,
+            WordKind::Object(_) => None,
+            WordKind::Grant(_) => None,
+        }
+    }
+
+    /// The number of the text that it is, if it is one.
+    pub fn text(self) -> Option<u32>
+        ensures { result ≡ text_of self }
+    {
+        match self.kind() {
+            WordKind::Int(_) => None,
+            WordKind::Truth(_) => None,
+            WordKind::Unit => None,
+            WordKind::Text(text) => Some(text),
+            WordKind::Object(_) => None,
+            WordKind::Grant(_) => None,
+        }
+    }
+
+    /// The number of the object that it is, if it is one.
+    pub fn object(self) -> Option<u32>
+        ensures { result ≡ object_of self }
+    {
+        match self.kind() {
+            WordKind::Int(_) => None,
+            WordKind::Truth(_) => None,
+            WordKind::Unit => None,
+            WordKind::Text(_) => None,
+            WordKind::Object(object) => Some(object),
+            WordKind::Grant(_) => None,
+        }
     }
 }
