@@ -18,20 +18,21 @@ use Rattle.wy_code.specs.Machine as machine
 use Rattle.wy_code.specs.Machine.{State, Next, Go, Halt, stuck, act, first_of, word_of, has_room, popped, store_slot, stored, on_truth, return_to, take_operands, taken, short, on_taken, Taken, push_reply}
 use Rattle.wy_machine.specs.Stacks.{OpenBody, StackState, pushed, with_operands, left_to, stored_in, at_address, jumped_unless}
 use Rattle.wy_machine.specs.States.{frame_of, store_of, state_of}
-use Rattle.wy_machine.specs.Steps.{IsNotStuck, IsStep}
+use Rattle.wy_machine.specs.Steps.{AreQuiet, IsNotStuck, IsStep}
+use Rattle.wy_machine.specs.Steps as steps
 use Rattle.wy_machine.specs.StoreStates.{StoreState, value_of, object_set, value_written}
 use Rattle.wy_machine.specs.Words.{truth_of, object_of}
-use Rattle.wy_machine.proofs.Quiet.{no_events, goes_quietly, unstuck, AreQuiet}
+use Rattle.wy_machine.proofs.Quiet.{no_events, goes_quietly, unstuck}
 
-no_tapes : Tapes
+pub no_tapes : Tapes
 no_tapes = record { console = []; folder = []; clock = []; random = [] }
 
 -- a test that leads on, or is stuck
-either : (b : Bool) (x : Next) → (if b then x else stuck) ≢ stuck → (if b then x else stuck) ≡ x
+pub either : (b : Bool) (x : Next) → (if b then x else stuck) ≢ stuck → (if b then x else stuck) ≡ x
 either true x h = refl
 either false x h = absurd (h refl)
 
-passed : (b : Bool) (x : Next) → (if b then x else stuck) ≢ stuck → b ≡ true
+pub passed : (b : Bool) (x : Next) → (if b then x else stuck) ≢ stuck → b ≡ true
 passed true x h = refl
 passed false x h = absurd (h refl)
 
@@ -45,6 +46,15 @@ module _ (code : Code) where
   pushes s w v next e h d =
       goes_quietly code (pushed v s) w next d [] no_events
       (λ t. e t ∙ either (has_room (frame_of code s.running)) (Go [] (state_of code (pushed v s) w t)) (λ wrong. h.holds t (e t ∙ wrong)))
+
+  -- a value of an object is found by the object's number
+  pub value_at_is : (w : StoreState) (v : Word) (i : ℕ) (t : Tapes) → value_at (store_of code w t) v i ≡ value_of w v i
+  value_at_is w (Int n) i t = refl
+  value_at_is w (Truth b) i t = refl
+  value_at_is w Nothing i t = refl
+  value_at_is w (Text n) i t = refl
+  value_at_is w (Object a) i t = refl
+  value_at_is w (Grant g) i t = refl
 
   ------------------------------------------------------------
   -- Operands
@@ -93,7 +103,7 @@ module _ (code : Code) where
 
   module _ (depth : ℕ) (place : Place) (s : StackState) (w : StoreState) where
     abbrev pub acting : Instruction → Tapes → Next
-    acting i t = act code depth place i (state_of code s w t)
+    acting i = steps.acting code depth place s w i
 
     abbrev rest : StackState
     rest = with_operands (drop 1 s.running.operands) s
@@ -136,14 +146,6 @@ module _ (code : Code) where
     ------------------------------------------------------------
     -- Values of the current object
 
-    value_at_is : (v : Word) (i : ℕ) (t : Tapes) → value_at (store_of code w t) v i ≡ value_of w v i
-    value_at_is (Int n) i t = refl
-    value_at_is (Truth b) i t = refl
-    value_at_is Nothing i t = refl
-    value_at_is (Text n) i t = refl
-    value_at_is (Object a) i t = refl
-    value_at_is (Grant g) i t = refl
-
     abbrev this : Word
     this = first_of s.running.slots
 
@@ -152,7 +154,7 @@ module _ (code : Code) where
     some_found (Some v) h = refl
 
     getting : (i : ℕ) (t : Tapes) → acting (Get i) t ≡ push_reply (found (value_of w this i) (store_of code w t)) (state_of code s w t)
-    getting i t = ap (λ o. push_reply (found o (store_of code w t)) (state_of code s w t)) (value_at_is this i t)
+    getting i t = ap (λ o. push_reply (found o (store_of code w t)) (state_of code s w t)) (value_at_is w this i t)
 
     pub value_there : (i : ℕ) → IsNotStuck (acting (Get i)) → IsSome (value_of w this i)
     value_there i h = some_found (value_of w this i) (unstuck (acting (Get i)) _ (getting i) h)
@@ -235,3 +237,7 @@ module _ (code : Code) where
 
     pub set_operand : (i : ℕ) → IsNotStuck (acting (Set i)) → 0 < length s.running.operands
     set_operand i = operand_there s w (λ t v s. stored (value_set (machine.this_of s.frame) i v s.store) s)
+
+    value_known : (o : Option Store) → IsNotStuck (λ t. stored o (state_of code rest w t)) → IsSome o
+    value_known None h = absurd (h.holds no_tapes refl)
+    value_known (Some v) h = refl

@@ -1,6 +1,10 @@
 pub mod Acts
+pub mod CallSteps
 pub mod Computing
 pub mod Cuts
 pub mod Lookups
+pub mod ObjectSteps
 pub mod Operating
+pub mod OperatorSteps
 pub mod Quiet
+pub mod StartSteps

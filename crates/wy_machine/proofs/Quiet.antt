@@ -1,5 +1,6 @@
 -- Steps that ask no device.
-use Rattle.std.proofs.Common.{◌≡◌, ◌≢◌, ◌≤◌, ℕ, List, [], ◌∷◌, ◌++◌, Ok, Err, refl, sym, ap, ◌∙◌, arith}
+use Rattle.std.proofs.Common.{◌≡◌, ◌≢◌, ◌≤◌, ℕ, List, [], ◌∷◌, ◌++◌, Result, Ok, Err, refl, sym, ap, ◌∙◌, subst, arith}
+use Rattle.std.specs.Prelude.{IsErrAnd}
 use Rattle.wy_text.specs.declared.fault.Place.{Place}
 use Rattle.wy_text.proofs.Gains.{gained-nil}
 use Rattle.wy_text.specs.Outside.{gained}
@@ -14,18 +15,14 @@ use Rattle.wy_device.specs.Tapes.{Tapes, spliced, answers}
 use Rattle.wy_code.specs.declared.code.Code.{Code}
 use Rattle.wy_code.specs.Machine.{Next, Go, Halt, stuck}
 use Rattle.wy_machine.specs.declared.run_end.RunEnd.{RunEnd}
-use Rattle.wy_machine.specs.declared.run_end.RunEnd.TheVariants.{Ended, Trap, TooDeep, Memory}
+use Rattle.wy_machine.specs.declared.run_end.RunEnd.TheVariants.{Ended, Trap, TooDeep, Spent, DeviceFailed, SinkFailed, Memory}
 use Rattle.wy_machine.specs.declared.run_end.TrapKind.{TrapKind}
 use Rattle.wy_machine.specs.Runs.{tapes_of, IsSameDevice, AreSameDevices}
 use Rattle.wy_machine.specs.Stacks.{StackState}
 use Rattle.wy_machine.specs.States.{state_of}
-use Rattle.wy_machine.specs.Steps.{IsNotStuck, GoesOn, Halts, IsStep}
+use Rattle.wy_machine.specs.Steps.{AreQuiet, IsNotStuck, GoesOn, Halts, Comes, IsStep}
 use Rattle.wy_machine.specs.StoreStates.{StoreState}
 use Rattle.wy_machine.specs.TrapKinds.{trap_meant}
-
--- no deed is among the events
-pub record AreQuiet (events : List Event) : Type 0 where
-  pub none : (kind : Kind) → deeds_of kind events ≡ []
 
 pub no_events : AreQuiet []
 no_events = record { none = λ kind. refl }
@@ -54,6 +51,33 @@ quiet_tapes es q more =
 pub unstuck : (f g : Tapes → Next) → ((t : Tapes) → f t ≡ g t) → IsNotStuck f → IsNotStuck g
 unstuck f g e h = record { holds = λ t wrong. h.holds t (e t ∙ wrong) }
 
+-- a step that comes to a stack and a store that are equal
+pub step_to : (code : Code) (s s' : StackState) (w w' : StoreState) (next : Tapes → Next) (d d' : DevicesState) (r : Result (Unit {0}) RunEnd) → s' ≡ s → w' ≡ w → IsStep code s w next d d' r → IsStep code s' w' next d d' r
+step_to code s s' w w' next d d' r e f h = subst (λ s. IsStep code s w' next d d' r) (sym e) (subst (λ w. IsStep code s w next d d' r) (sym f) h)
+
+-- a step of what is the same for all answers
+pub same_step : (code : Code) (s : StackState) (w : StoreState) (f g : Tapes → Next) (d d' : DevicesState) (r : Result (Unit {0}) RunEnd) → ((t : Tapes) → g t ≡ f t) → IsStep code s w f d d' r → IsStep code s w g d d' r
+same_step code s w f g d d' r e h = record {
+  events = h.events;
+  did = h.did;
+  comes = same_coming h.events r e h.comes;
+  same = h.same;
+  failed = h.failed;
+}
+  where
+    halting : (es : List Event) (end : ends.RunEnd) → ((t : Tapes) → g t ≡ f t) → Halts es f end → Halts es g end
+    halting es end e h = record { halts = λ more. e _ ∙ h.halts more }
+
+    same_coming : (es : List Event) (r : Result (Unit {0}) RunEnd) → ((t : Tapes) → g t ≡ f t) → Comes code s w es f r → Comes code s w es g r
+    same_coming es (Ok u) e c = record { goes = λ more. e _ ∙ c.goes more }
+    same_coming es (Err Ended) e c = halting es _ e c
+    same_coming es (Err (Trap kind place)) e c = halting es _ e c
+    same_coming es (Err TooDeep) e c = halting es _ e c
+    same_coming es (Err Spent) e c = c
+    same_coming es (Err (DeviceFailed grant op)) e c = halting es _ e c
+    same_coming es (Err SinkFailed) e c = c
+    same_coming es (Err Memory) e c = c
+
 -- a step that goes on, traps, ends the run, is too deep, or wants memory
 module _ (code : Code) (s : StackState) (w : StoreState) (next : Tapes → Next) (d : DevicesState) where
   pub goes_quietly : (es : List Event) → AreQuiet es → ((t : Tapes) → next t ≡ Go es (state_of code s w t)) → IsStep code s w next d d (Ok tt)
@@ -79,3 +103,7 @@ module _ (code : Code) (s : StackState) (w : StoreState) (next : Tapes → Next)
 
   pub wants_memory : IsStep code s w next d d (Err Memory)
   wants_memory = record { events = []; did = did_quietly d [] no_events; comes = refl; same = same_devices d; failed = tt }
+
+  pub wants_when : (r : Result (Unit {0}) RunEnd) → IsErrAnd r (λ e. e ≡ Memory) → IsStep code s w next d d r
+  wants_when (Ok u) h = absurd h
+  wants_when (Err e) h = subst (λ e. IsStep code s w next d d (Err e)) (sym h) wants_memory

@@ -1,4 +1,7 @@
+pub mod Calls
+pub mod Captures
 pub mod Computing
+pub mod Requesting
 pub mod Runs
 pub mod Stacks
 pub mod States

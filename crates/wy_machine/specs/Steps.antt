@@ -1,19 +1,34 @@
 -- What a step of the machine does. (docs/LANGUAGE.md, "Code", "Causes in one step")
-use Rattle.std.specs.Prelude.{◌≡◌, ◌≢◌, List, [], Result, Ok, Err, ⊤}
+use Rattle.std.specs.Prelude.{◌≡◌, ◌≢◌, ℕ, List, [], Result, Ok, Err, ⊤}
 use Rattle.wy_device.specs.declared.deed.Event.{Event}
 use Rattle.wy_device.specs.Devices.{DevicesState}
-use Rattle.wy_device.specs.Events.{DidExactly}
+use Rattle.wy_device.specs.Events.{DidExactly, deeds_of}
+use Rattle.wy_device.specs.declared.operation.Kind.{Kind}
 use Rattle.wy_device.specs.RunEnds as ends
 use Rattle.wy_device.specs.Tapes.{Tapes, spliced}
 use Rattle.wy_code.specs.declared.code.Code.{Code}
-use Rattle.wy_code.specs.Machine.{Next, Go, Halt, stuck}
+use Rattle.wy_text.specs.declared.fault.Place.{Place}
+use Rattle.wy_code.specs.declared.instruction.Instruction.{Instruction}
+use Rattle.wy_code.specs.Machine.{Next, Go, Halt, stuck, act, begin_next}
 use Rattle.wy_machine.specs.declared.run_end.RunEnd.{RunEnd}
 use Rattle.wy_machine.specs.declared.run_end.RunEnd.TheVariants.{Ended, Trap, TooDeep, Spent, DeviceFailed, SinkFailed, Memory}
 use Rattle.wy_machine.specs.Runs.{tapes_of, AreSameDevices, FailsByFault}
 use Rattle.wy_machine.specs.Stacks.{StackState}
-use Rattle.wy_machine.specs.States.{state_of}
+use Rattle.wy_machine.specs.States.{store_of, state_of}
 use Rattle.wy_machine.specs.StoreStates.{StoreState}
 use Rattle.wy_machine.specs.TrapKinds.{trap_meant}
+
+-- what an instruction does, by the answers to come
+abbrev pub acting : Code → ℕ → Place → StackState → StoreState → Instruction → Tapes → Next
+acting code depth place s w instruction tapes = act code depth place instruction (state_of code s w tapes)
+
+-- what starts next, after these events
+abbrev pub beginning : Code → List Event → StoreState → Tapes → Next
+beginning code events w tapes = begin_next code events (store_of code w tapes)
+
+-- no deed is among the events
+pub record AreQuiet (events : List Event) : Type 0 where
+  pub none : (kind : Kind) → deeds_of kind events ≡ []
 
 -- whatever the answers to come are, the step is no stuck one
 pub record IsNotStuck (next : Tapes → Next) : Type 0 where

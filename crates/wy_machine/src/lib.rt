@@ -2,13 +2,19 @@
 #![tactic(auto)]
 
 mod arithmetic;
+mod asking;
+mod building;
+mod calls;
 mod computed;
 mod lookup;
 mod machine;
+mod making;
 pub mod object;
 mod operators;
+mod requests;
 pub mod run_end;
 pub mod stack;
+mod starting;
 pub mod store;
 mod texts;
 pub mod word;

@@ -18,7 +18,7 @@ pub struct Machine {
 }
 
 /// A value of the object that a word names; `None` exactly where there is none.
-fn value(store: &Store, this: Word, at: usize) -> Option<Word>
+pub fn value(store: &Store, this: Word, at: usize) -> Option<Word>
     ensures { result ≡ value_of store.now this at }
 {
     match this.object() {

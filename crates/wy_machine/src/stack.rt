@@ -184,6 +184,16 @@ impl Stack {
         word
     }
 
+    /// Takes the topmost operands, and pushes a word.
+    pub fn give(&mut self, count: usize, word: Word)
+        requires some { 0 < count }
+        requires there { count ≤ length self.old.running.operands }
+        ensures { self.new ≡ pushed word (with_operands (drop count self.old.running.operands) self.old) }
+    {
+        self.drop_operands(count - 1);
+        self.set_operand(word);
+    }
+
     /// Pushes a slot.
     pub fn load(&mut self, slot: usize) -> Result<(), Memory>
         requires { slot < length self.old.running.slots }

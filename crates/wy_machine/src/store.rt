@@ -49,6 +49,11 @@ impl Store {
         self.next = 0;
     }
 
+    /// The allocator of its texts.
+    pub fn alloc(&self) -> Global {
+        *self.texts.allocator()
+    }
+
     /// The object of a number; `None` exactly where there is none.
     pub fn object(&self, at: usize) -> Option<&Object>
         ensures { option_copied result ≡ slice_get self.now.objects at }
