@@ -1,5 +1,5 @@
 -- What instructions need, and what they do.
-use Rattle.std.proofs.Common.{◌≡◌, ◌≢◌, ℕ, zero, suc, ◌+◌, ◌<◌, ◌≤◌, Bool, true, false, List, [], ◌∷◌, ◌++◌, length, take, drop, reverse, map, Option, Some, None, Ok, refl, sym, ap, ◌∙◌, arith, subst, nat_lt, unwrap_or, ⊎_elim, append_assoc, append-nil}
+use Rattle.std.proofs.Common.{◌≡◌, ◌≢◌, ℕ, zero, suc, ◌+◌, ◌<◌, ◌≤◌, Bool, true, false, List, [], ◌∷◌, ◌++◌, length, take, drop, reverse, map, Option, Some, None, Result, Ok, refl, sym, ap, ◌∙◌, arith, subst, nat_lt, unwrap_or, ⊎_elim, append_assoc, append-nil}
 use Rattle.std.specs.Prelude.{slice_get, slice_set, if◌then◌else◌, IsSome}
 use Rattle.std.proofs.lemmas.Bool.{cases_lt}
 use Rattle.std.proofs.lemmas.List.{reverse-append}
@@ -16,6 +16,7 @@ use Rattle.wy_code.specs.declared.instruction.Instruction.TheVariants.{Push, Loa
 use Rattle.wy_code.specs.Stores.{Word, Int, Truth, Nothing, Text, Object, Grant, Thing, Store, found, value_at, value_in, value_set, with_value}
 use Rattle.wy_code.specs.Machine as machine
 use Rattle.wy_code.specs.Machine.{State, Next, Go, Halt, stuck, act, first_of, word_of, has_room, popped, store_slot, stored, on_truth, return_to, take_operands, taken, short, on_taken, Taken, push_reply}
+use Rattle.wy_machine.specs.declared.run_end.RunEnd.{RunEnd}
 use Rattle.wy_machine.specs.Stacks.{OpenBody, StackState, pushed, with_operands, left_to, stored_in, at_address, jumped_unless}
 use Rattle.wy_machine.specs.States.{frame_of, store_of, state_of}
 use Rattle.wy_machine.specs.Steps.{AreQuiet, IsNotStuck, IsStep}
@@ -39,6 +40,24 @@ passed false x h = absurd (h refl)
 pub some_is : {A : Type 0} (o : Option A) (d : A) → IsSome o → o ≡ Some (unwrap_or o d)
 some_is None d h = cc
 some_is (Some x) d h = refl
+
+none_is_some : (o : Option Word) → o ≡ None → IsSome o → ⊥
+none_is_some None e h = cc
+none_is_some (Some v) e h = cc
+
+is_true : (m n : ℕ) → m < n → nat_lt m n ≡ true
+is_true m n h = grind arith
+
+is_false : (m n : ℕ) → n ≤ m → nat_lt m n ≡ false
+is_false m n h = grind arith
+
+index_within : (vs : List Word) (i : ℕ) → IsSome (slice_get vs i) → nat_lt i (length vs) ≡ true
+index_within vs i h = ⊎_elim (is_true i (length vs)) (λ le. absurd (none_is_some (slice_get vs i) (slice_get_past vs i le) h)) (cases_lt i (length vs))
+
+pub some_within : (vs : List Word) (i : ℕ) → i < length vs → IsSome (slice_get vs i)
+some_within [] i h = absurd (omega arith)
+some_within (v ∷ vs) zero h = refl
+some_within (v ∷ vs) (suc i) h = let lt : i < length vs = omega arith in some_within vs i lt
 
 module _ (code : Code) where
   -- a step that pushes a word
@@ -241,3 +260,43 @@ module _ (code : Code) where
     value_known : (o : Option Store) → IsNotStuck (λ t. stored o (state_of code rest w t)) → IsSome o
     value_known None h = absurd (h.holds no_tapes refl)
     value_known (Some v) h = refl
+
+    written : (o : Option Thing) (a i : ℕ) (v : Word) (w' : StoreState) → IsSome (value_in o i) → Some w' ≡ object_set a i v w o → (t : Tapes) → stored (with_value a i v (store_of code w t) o) (state_of code rest w t) ≡ Go [] (state_of code rest w' t)
+    written None a i v w' there e t = cc
+    written (Some thing) a i v w' there e t =
+        ap (λ b. stored (if b then Some (record (store_of code w t) { objects = slice_set w.objects a (record thing { values = slice_set thing.values i v }) }) else None) (state_of code rest w t)) (index_within thing.values i there)
+        ∙ ap (λ (w : StoreState). Go [] (state_of code rest w t)) (sym (same_Some w' _ e))
+
+    sets : (this v : Word) (i : ℕ) (w' : StoreState) → IsSome (value_of w this i) → Some w' ≡ value_written (object_of this) i v w → (t : Tapes) → stored (value_set this i v (store_of code w t)) (state_of code rest w t) ≡ Go [] (state_of code rest w' t)
+    sets (Object a) v i w' there e t = written (slice_get w.objects a) a i v w' there e t
+    sets (Int n) v i w' there e t = cc
+    sets (Truth b) v i w' there e t = cc
+    sets Nothing v i w' there e t = cc
+    sets (Text n) v i w' there e t = cc
+    sets (Grant g) v i w' there e t = cc
+
+    known_in : (this v : Word) (i : ℕ) → IsNotStuck (λ t. stored (value_set this i v (store_of code w t)) (state_of code rest w t)) → IsSome (value_of w this i)
+    known_in (Object a) v i h = of_thing (slice_get w.objects a) h
+      where
+        of_thing : (o : Option Thing) → IsNotStuck (λ t. stored (with_value a i v (store_of code w t) o) (state_of code rest w t)) → IsSome (value_in o i)
+        of_thing None k = absurd (k.holds no_tapes refl)
+        of_thing (Some thing) k = ⊎_elim
+            (some_within thing.values i)
+            (λ le. absurd (k.holds no_tapes (ap (λ b. stored (if b then Some (record (store_of code w no_tapes) { objects = slice_set w.objects a (record thing { values = slice_set thing.values i v }) }) else None) (state_of code rest w no_tapes)) (is_false i (length thing.values) le))))
+            (cases_lt i (length thing.values))
+    known_in (Int n) v i h = absurd (h.holds no_tapes refl)
+    known_in (Truth b) v i h = absurd (h.holds no_tapes refl)
+    known_in Nothing v i h = absurd (h.holds no_tapes refl)
+    known_in (Text n) v i h = absurd (h.holds no_tapes refl)
+    known_in (Grant g) v i h = absurd (h.holds no_tapes refl)
+
+    pub set_value_there : (i : ℕ) → IsNotStuck (acting (Set i)) → IsSome (value_of w this i)
+    set_value_there i h = known_in this top i (unstuck (acting (Set i)) _ (λ t. setting i t (set_operand i h)) h)
+
+    pub set_step : (i : ℕ) (w' : StoreState) → Some w' ≡ value_written (object_of this) i top w → IsNotStuck (acting (Set i)) → (d : DevicesState) → IsStep code rest w' (acting (Set i)) d d (Ok tt)
+    set_step i w' e h d = goes_quietly code rest w' (acting (Set i)) d [] no_events (λ t. setting i t (set_operand i h) ∙ sets this top i w' (set_value_there i h) e t)
+
+-- a step of an instruction that is known
+pub step_of : (code : Code) (depth : ℕ) (place : Place) (s s' : StackState) (w w' : StoreState) (i j : Instruction) (old new : DevicesState) (r : Result (Unit {0}) RunEnd) → i ≡ j →
+    IsStep code s' w' (steps.acting code depth place s w j) old new r → IsStep code s' w' (steps.acting code depth place s w i) old new r
+step_of code depth place s s' w w' i j old new r e h = subst (λ i. IsStep code s' w' (steps.acting code depth place s w i) old new r) (sym e) h

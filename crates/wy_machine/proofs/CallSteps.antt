@@ -13,7 +13,7 @@ use Rattle.wy_code.specs.declared.code.Body.{Body}
 use Rattle.wy_code.specs.declared.code.Code.{Code}
 use Rattle.wy_code.specs.declared.code.Literal.{Literal}
 use Rattle.wy_code.specs.declared.instruction.Instruction.TheVariants.{Call}
-use Rattle.wy_code.specs.Stores.{Word, Nothing, Object, Thing}
+use Rattle.wy_code.specs.Stores.{Word, Int, Truth, Nothing, Text, Object, Grant, Thing}
 use Rattle.wy_code.specs.Machine as machine
 use Rattle.wy_code.specs.Machine.{State, Next, Go, Halt, stuck, popped, call_on, enter_body, enter_method, method_of_literal, body_numbered, literal_of, name_in, all_instances, first_of}
 use Rattle.wy_machine.specs.declared.run_end.RunEnd.TheVariants.{TooDeep}
@@ -72,6 +72,26 @@ module _ (code : Code) (depth : ℕ) (place : Place) (s : StackState) (w : Store
 
   waiting : length (map (frame_of code) s.callers) ≡ length s.callers
   waiting = length-map s.callers (frame_of code)
+
+  -- neither an object nor a grant
+  abbrev pub IsUncalled : Word → Type 0
+  IsUncalled (Int n) = Unit {0}
+  IsUncalled (Truth b) = Unit {0}
+  IsUncalled Nothing = Unit {0}
+  IsUncalled (Text n) = Unit {0}
+  IsUncalled (Object a) = ⊥
+  IsUncalled (Grant g) = ⊥
+
+  uncalled : (v : Word) → IsUncalled v → (vs : List Word) (st : State) → call_on code depth place m vs v st ≡ stuck
+  uncalled (Int n) u vs st = refl
+  uncalled (Truth b) u vs st = refl
+  uncalled Nothing u vs st = refl
+  uncalled (Text n) u vs st = refl
+  uncalled (Object a) u vs st = absurd u
+  uncalled (Grant g) u vs st = absurd u
+
+  pub not_called : (v : Word) → IsUncalled v → slice_get ops k ≡ Some v → IsNotStuck calling → ⊥
+  not_called v u e h = h.holds no_tapes (calls v e no_tapes ∙ uncalled v u _ _)
 
   module _ (a : ℕ) (receiver : slice_get ops k ≡ Some (Object a)) where
     pub too_deep_step : depth ≤ length s.callers → (s' : StackState) (w' : StoreState) (d : DevicesState) → IsStep code s' w' calling d d (Err TooDeep)

@@ -2,6 +2,8 @@ pub mod Acts
 pub mod CallSteps
 pub mod Computing
 pub mod Cuts
+pub mod DeedSteps
+pub mod Fetching
 pub mod Lookups
 pub mod ObjectSteps
 pub mod Operating

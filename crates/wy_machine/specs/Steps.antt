@@ -9,7 +9,7 @@ use Rattle.wy_device.specs.Tapes.{Tapes, spliced}
 use Rattle.wy_code.specs.declared.code.Code.{Code}
 use Rattle.wy_text.specs.declared.fault.Place.{Place}
 use Rattle.wy_code.specs.declared.instruction.Instruction.{Instruction}
-use Rattle.wy_code.specs.Machine.{Next, Go, Halt, stuck, act, begin_next}
+use Rattle.wy_code.specs.Machine.{Next, Go, Halt, stuck, act, step, begin_next}
 use Rattle.wy_machine.specs.declared.run_end.RunEnd.{RunEnd}
 use Rattle.wy_machine.specs.declared.run_end.RunEnd.TheVariants.{Ended, Trap, TooDeep, Spent, DeviceFailed, SinkFailed, Memory}
 use Rattle.wy_machine.specs.Runs.{tapes_of, AreSameDevices, FailsByFault}
@@ -21,6 +21,10 @@ use Rattle.wy_machine.specs.TrapKinds.{trap_meant}
 -- what an instruction does, by the answers to come
 abbrev pub acting : Code → ℕ → Place → StackState → StoreState → Instruction → Tapes → Next
 acting code depth place s w instruction tapes = act code depth place instruction (state_of code s w tapes)
+
+-- the step that comes next
+abbrev pub stepping : Code → ℕ → StackState → StoreState → Tapes → Next
+stepping code depth s w tapes = step code depth (state_of code s w tapes)
 
 -- what starts next, after these events
 abbrev pub beginning : Code → List Event → StoreState → Tapes → Next
