@@ -4,6 +4,8 @@ pub mod Computing
 pub mod Cuts
 pub mod DeedSteps
 pub mod Fetching
+pub mod FirstSteps
+pub mod Leading
 pub mod Lookups
 pub mod ObjectSteps
 pub mod Operating

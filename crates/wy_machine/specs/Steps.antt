@@ -10,6 +10,7 @@ use Rattle.wy_code.specs.declared.code.Code.{Code}
 use Rattle.wy_text.specs.declared.fault.Place.{Place}
 use Rattle.wy_code.specs.declared.instruction.Instruction.{Instruction}
 use Rattle.wy_code.specs.Machine.{Next, Go, Halt, stuck, act, step, begin_next}
+use Rattle.wy_code.specs.Running.{store_at_first}
 use Rattle.wy_machine.specs.declared.run_end.RunEnd.{RunEnd}
 use Rattle.wy_machine.specs.declared.run_end.RunEnd.TheVariants.{Ended, Trap, TooDeep, Spent, DeviceFailed, SinkFailed, Memory}
 use Rattle.wy_machine.specs.Runs.{tapes_of, AreSameDevices, FailsByFault}
@@ -29,6 +30,10 @@ stepping code depth s w tapes = step code depth (state_of code s w tapes)
 -- what starts next, after these events
 abbrev pub beginning : Code → List Event → StoreState → Tapes → Next
 beginning code events w tapes = begin_next code events (store_of code w tapes)
+
+-- what starts first
+abbrev pub starting : Code → Tapes → Next
+starting code tapes = begin_next code [] (store_at_first code tapes)
 
 -- no deed is among the events
 pub record AreQuiet (events : List Event) : Type 0 where
