@@ -1,0 +1,251 @@
+-- What an operation on a grant does.
+use Rattle.std.proofs.Common.{◌≡◌, ◌≢◌, ℕ, ◌≤◌, ◌<◌, Bool, true, false, not, ◌&&◌, List, [], ◌∷◌, ◌++◌, length, reverse, take, Option, Some, None, Ok, Err, refl, sym, ap, ◌∙◌, subst, ◌-◌, nat_le, nat_lt, arith}
+use Rattle.std.proofs.lemmas.List.{length_push, take_at}
+use Rattle.std.proofs.lemmas.Option.{same_Some}
+use Rattle.std.specs.Prelude.{slice_get, if◌then◌else◌}
+use Rattle.wy_text.specs.declared.fault.Place.{Place}
+use Rattle.wy_text.specs.Outside.{Rose}
+use Rattle.wy_device.specs.declared.deed.Event.{Event}
+use Rattle.wy_device.specs.declared.operation.Answer.{Answer}
+use Rattle.wy_device.specs.declared.operation.Answer.TheVariants as answer
+use Rattle.wy_device.specs.declared.operation.Op.{Op}
+use Rattle.wy_device.specs.declared.operation.Op.TheVariants.{ConsoleRead, ConsoleWrite, FolderRead, FolderHas, FolderWrite, FolderAppend, FolderNames, ClockNow, RandomWord}
+use Rattle.wy_device.specs.declared.operation.OpName.{OpName}
+use Rattle.wy_device.specs.declared.operation.OpName.TheVariants as name
+use Rattle.wy_device.specs.Device.{IsAnswerNamed, IsAnswerOf, IsBytesUpTo, IsTruth, IsNumber}
+use Rattle.wy_device.specs.Devices.{DevicesState, device_of}
+use Rattle.wy_device.specs.Events.{DidExactly}
+use Rattle.wy_device.specs.Operation.{name_of, kind_of}
+use Rattle.wy_device.specs.Requests.{has_good_name, answers_text, fits_operation, is_text_up_to, is_truth, is_number, is_done, Told, Answers, Fails, Waits, asked}
+use Rattle.wy_device.specs.RunEnds as ends
+use Rattle.wy_device.specs.Tapes.{Tapes, spliced}
+use Rattle.wy_device.specs.Traps.{most_texts, BadName as TrapBadName, Crowded as TrapCrowded}
+use Rattle.wy_code.specs.declared.code.Code.{Code}
+use Rattle.wy_code.specs.declared.code.Grant.{Grant as CodeGrant}
+use Rattle.wy_code.specs.Operations.{deed_event, word_answered, answered, requested, requested_of, texts_named, performed}
+use Rattle.wy_code.specs.Stores.{Word, Text, Grant, Store, Reply, Replies, Ends, ended, with_text}
+use Rattle.wy_code.specs.Machine.{Next, Go, Halt, has_room, push, push_reply}
+use Rattle.wy_machine.specs.declared.run_end.RunEnd.TheVariants.{Trap, DeviceFailed, Memory}
+use Rattle.wy_machine.specs.declared.run_end.TrapKind.TheVariants.{BadName, Crowded}
+use Rattle.wy_machine.specs.Requesting.{asked_for, text_answer, word_answer}
+use Rattle.wy_machine.specs.Runs.{tapes_of, AreSameDevices}
+use Rattle.wy_machine.specs.Stacks.{StackState, pushed}
+use Rattle.wy_machine.specs.States.{frame_of, store_of, state_of}
+use Rattle.wy_machine.specs.Steps.{IsNotStuck, IsStep}
+use Rattle.wy_machine.specs.StoreStates.{StoreState}
+use Rattle.wy_machine.proofs.Acts.{no_tapes, either}
+use Rattle.wy_machine.proofs.CallSteps.{calling, called_from, calls}
+use Rattle.wy_machine.proofs.OperatorSteps.{below, not_below, with_built, text_added}
+use Rattle.wy_machine.proofs.Quiet.{traps}
+
+------------------------------------------------------------
+-- Answers
+
+up_to : (most : ℕ) (a : Answer) → IsBytesUpTo most a → is_text_up_to most a ≡ true
+up_to most (answer.Bytes text) h = within (length text) most h
+  where
+    within : (m n : ℕ) → m ≤ n → nat_le m n ≡ true
+    within m n h = grind arith
+up_to most (answer.Truth b) h = absurd h
+up_to most (answer.Number n) h = absurd h
+up_to most answer.Unit h = absurd h
+
+truth_fits : (a : Answer) → IsTruth a → is_truth a ≡ true
+truth_fits (answer.Bytes text) h = absurd h
+truth_fits (answer.Truth b) h = refl
+truth_fits (answer.Number n) h = absurd h
+truth_fits answer.Unit h = absurd h
+
+number_fits : (a : Answer) → IsNumber a → is_number a ≡ true
+number_fits (answer.Bytes text) h = absurd h
+number_fits (answer.Truth b) h = absurd h
+number_fits (answer.Number n) h = refl
+number_fits answer.Unit h = absurd h
+
+answer_fits : (o : OpName) (a : Answer) → IsAnswerNamed o a → fits_operation o a ≡ true
+answer_fits name.ConsoleRead a h = up_to 65536 a h
+answer_fits name.ConsoleWrite a h = ap is_done h
+answer_fits name.FolderRead a h = up_to 1048576 a h
+answer_fits name.FolderHas a h = truth_fits a h
+answer_fits name.FolderWrite a h = ap is_done h
+answer_fits name.FolderAppend a h = ap is_done h
+answer_fits name.FolderNames a h = up_to 1048576 a h
+answer_fits name.ClockNow a h = number_fits a h
+answer_fits name.RandomWord a h = number_fits a h
+
+-- the tape tells what the deed was answered
+asked_is : (op : Op) (grant : List ℕ) (a : Answer) → IsAnswerOf op a → (more : Tapes) → asked op (spliced (tapes_of (deed_event grant op (Some a))) more) ≡ Answers a more
+asked_is op grant a h more = of_op op (answer_fits (name_of op) a h)
+  where
+    of_op : (op : Op) → fits_operation (name_of op) a ≡ true → asked op (spliced (tapes_of (deed_event grant op (Some a))) more) ≡ Answers a more
+    of_op ConsoleRead e = ap (λ b. if b then Answers a more else Waits) e
+    of_op (ConsoleWrite text) e = ap (λ b. if b then Answers a more else Waits) e
+    of_op (FolderRead file) e = ap (λ b. if b then Answers a more else Waits) e
+    of_op (FolderHas file) e = ap (λ b. if b then Answers a more else Waits) e
+    of_op (FolderWrite file text) e = ap (λ b. if b then Answers a more else Waits) e
+    of_op (FolderAppend file text) e = ap (λ b. if b then Answers a more else Waits) e
+    of_op FolderNames e = ap (λ b. if b then Answers a more else Waits) e
+    of_op ClockNow e = ap (λ b. if b then Answers a more else Waits) e
+    of_op RandomWord e = ap (λ b. if b then Answers a more else Waits) e
+
+asked_fails : (op : Op) (grant : List ℕ) (more : Tapes) → asked op (spliced (tapes_of (deed_event grant op None)) more) ≡ Fails more
+asked_fails ConsoleRead grant more = refl
+asked_fails (ConsoleWrite text) grant more = refl
+asked_fails (FolderRead file) grant more = refl
+asked_fails (FolderHas file) grant more = refl
+asked_fails (FolderWrite file text) grant more = refl
+asked_fails (FolderAppend file text) grant more = refl
+asked_fails FolderNames grant more = refl
+asked_fails ClockNow grant more = refl
+asked_fails RandomWord grant more = refl
+
+------------------------------------------------------------
+-- Requests
+
+requests : (place : Place) (g : CodeGrant) (w : Store) (method : List ℕ) (o : Option (List (List ℕ))) → requested_of place g w (Some method) o ≡ requested place g.name w (asked_for g.kind method o)
+requests place g w method None = refl
+requests place g w method (Some texts) = refl
+
+module _ (code : Code) (depth : ℕ) (place : Place) (s : StackState) (w : StoreState) (m k g : ℕ) (receiver : slice_get s.running.operands k ≡ Some (Grant g)) where
+  abbrev next : Tapes → Next
+  next = calling code depth place s w m k
+
+  abbrev pub from : StackState
+  from = called_from code depth place s w m k
+
+  abbrev pub args : List Word
+  args = reverse (take k s.running.operands)
+
+  performs : (t : Tapes) → next t ≡ push_reply (performed place (slice_get code.grants g) (slice_get code.methods m) args (store_of code w t)) (state_of code from w t)
+  performs t = calls code depth place s w m k (Grant g) receiver t
+
+  pub grant_there : IsNotStuck next → slice_get code.grants g ≢ None
+  grant_there h e = h.holds no_tapes (performs no_tapes ∙ ap (λ o. push_reply (performed place o (slice_get code.methods m) args (store_of code w no_tapes)) (state_of code from w no_tapes)) e)
+
+  module _ (grant : CodeGrant) (granted : slice_get code.grants g ≡ Some grant) where
+    grants : (t : Tapes) → next t ≡ push_reply (requested_of place grant (store_of code w t) (slice_get code.methods m) (texts_named (store_of code w t) args)) (state_of code from w t)
+    grants t = performs t ∙ ap (λ o. push_reply (performed place o (slice_get code.methods m) args (store_of code w t)) (state_of code from w t)) granted
+
+    pub method_named : IsNotStuck next → slice_get code.methods m ≢ None
+    method_named h e = h.holds no_tapes (grants no_tapes ∙ ap (λ o. push_reply (requested_of place grant (store_of code w no_tapes) o (texts_named (store_of code w no_tapes) args)) (state_of code from w no_tapes)) e)
+
+    module _ (method : List ℕ) (named : slice_get code.methods m ≡ Some method) where
+      abbrev pub IsAskedFor : Option Op → Type 0
+      IsAskedFor op = (t : Tapes) → op ≡ asked_for grant.kind method (texts_named (store_of code w t) args)
+
+      replies : (op : Option Op) → IsAskedFor op → (t : Tapes) → next t ≡ push_reply (requested place grant.name (store_of code w t) op) (state_of code from w t)
+      replies op e t =
+          grants t
+          ∙ ap (λ o. push_reply (requested_of place grant (store_of code w t) o (texts_named (store_of code w t) args)) (state_of code from w t)) named
+          ∙ ap (λ r. push_reply r (state_of code from w t)) (requests place grant (store_of code w t) method (texts_named (store_of code w t) args) ∙ ap (requested place grant.name (store_of code w t)) (sym (e t)))
+
+      pub operation_there : IsNotStuck next → IsAskedFor None → ⊥
+      operation_there h e = h.holds no_tapes (replies None e no_tapes)
+
+      module _ (op : Op) (e : IsAskedFor (Some op)) where
+        abbrev tested : Tapes → Bool → Bool → Reply
+        tested t good full =
+            if not good then ended (ends.Trap TrapBadName place)
+            else if full then ended (ends.Trap TrapCrowded place)
+            else answered grant.name op (store_of code w t) (asked op t)
+
+        tests : (t : Tapes) → next t ≡ push_reply (tested t (has_good_name op) (answers_text op && not (nat_lt (length w.texts) most_texts))) (state_of code from w t)
+        tests t = replies (Some op) e t
+
+        pub bad_name_step : has_good_name op ≡ false → (s' : StackState) (w' : StoreState) (d : DevicesState) → IsStep code s' w' next d d (Err (Trap BadName place))
+        bad_name_step bad s' w' d =
+            traps code s' w' next d BadName place
+            (λ t. tests t ∙ ap (λ b. push_reply (tested t b (answers_text op && not (nat_lt (length w.texts) most_texts))) (state_of code from w t)) bad)
+
+        module _ (good : has_good_name op ≡ true) where
+          pub full_step : answers_text op ≡ true → most_texts ≤ length w.texts → (s' : StackState) (w' : StoreState) (d : DevicesState) → IsStep code s' w' next d d (Err (Trap Crowded place))
+          full_step text many s' w' d =
+              traps code s' w' next d Crowded place
+              (λ t. tests t
+              ∙ ap (λ b. push_reply (tested t b (answers_text op && not (nat_lt (length w.texts) most_texts))) (state_of code from w t)) good
+              ∙ ap (λ b. push_reply (tested t true (b && not (nat_lt (length w.texts) most_texts))) (state_of code from w t)) text
+              ∙ ap (λ b. push_reply (tested t true (true && not b)) (state_of code from w t)) (not_below (length w.texts) most_texts many))
+
+          pub room_for_text : length w.texts < most_texts → (answers_text op && not (nat_lt (length w.texts) most_texts)) ≡ false
+          room_for_text few = ap (λ b. answers_text op && not b) (below (length w.texts) most_texts few) ∙ no_more (answers_text op)
+            where
+              no_more : (b : Bool) → (b && false) ≡ false
+              no_more true = refl
+              no_more false = refl
+
+          pub no_text : answers_text op ≡ false → (answers_text op && not (nat_lt (length w.texts) most_texts)) ≡ false
+          no_text none = ap (λ b. b && not (nat_lt (length w.texts) most_texts)) none
+
+          module _ (room : (answers_text op && not (nat_lt (length w.texts) most_texts)) ≡ false) (old new : DevicesState) (same : AreSameDevices old new) where
+            asks : (t : Tapes) → next t ≡ push_reply (answered grant.name op (store_of code w t) (asked op t)) (state_of code from w t)
+            asks t =
+                tests t
+                ∙ ap (λ b. push_reply (tested t b (answers_text op && not (nat_lt (length w.texts) most_texts))) (state_of code from w t)) good
+                ∙ ap (λ b. push_reply (tested t true b) (state_of code from w t)) room
+
+            pub failed_step : DidExactly old new (deed_event grant.name op None) → Rose (device_of old (kind_of op)).faults (device_of new (kind_of op)).faults →
+                (s' : StackState) (w' : StoreState) → IsStep code s' w' next old new (Err (DeviceFailed grant.name (name_of op)))
+            failed_step did rose s' w' = record {
+              events = deed_event grant.name op None;
+              did = did;
+              comes = record {
+                halts = λ more.
+                    let t = spliced (tapes_of (deed_event grant.name op None)) more in
+                    asks t ∙ ap (λ told. push_reply (answered grant.name op (store_of code w t) told) (state_of code from w t)) (asked_fails op grant.name more);
+              };
+              same = same;
+              failed = rose;
+            }
+
+            pub reply_step : IsNotStuck next → (a : Answer) → IsAnswerOf op a → DidExactly old new (deed_event grant.name op (Some a)) → (v : Word) (w' : StoreState) →
+                ((more : Tapes) → word_answered a (store_of code w more) (deed_event grant.name op (Some a)) ≡ Replies v (store_of code w' more) (deed_event grant.name op (Some a))) →
+                IsStep code (pushed v from) w' next old new (Ok tt)
+            reply_step h a fits did v w' words = record {
+              events = deed_event grant.name op (Some a);
+              did = did;
+              comes = record {
+                goes = λ more.
+                    let es = deed_event grant.name op (Some a) in
+                    let t = spliced (tapes_of es) more in
+                    let at = asks t
+                    ∙ ap (λ told. push_reply (answered grant.name op (store_of code w t) told) (state_of code from w t)) (asked_is op grant.name a fits more)
+                    ∙ ap (λ r. push_reply r (state_of code from w t)) (words more)
+                    in
+                    at ∙ either (has_room (frame_of code from.running)) (Go es (state_of code (pushed v from) w' more)) (λ wrong. h.holds t (at ∙ wrong));
+              };
+              same = same;
+              failed = tt;
+            }
+
+            pub nothing_step : DidExactly old new [] → (s' : StackState) (w' : StoreState) → IsStep code s' w' next old new (Err Memory)
+            nothing_step did s' w' = record { events = []; did = did; comes = refl; same = same; failed = tt }
+
+------------------------------------------------------------
+-- The word of an answer
+
+pub text_answered : (code : Code) (bytes : List ℕ) (w : StoreState) (es : List Event) (more : Tapes) →
+    word_answered (answer.Bytes bytes) (store_of code w more) es ≡ Replies (Text (length (code.texts ++ w.texts))) (store_of code (with_built bytes w) more) es
+text_answered code bytes w es more = ap (λ v. Replies (Text (length (code.texts ++ w.texts))) v es) (text_added code bytes w more)
+
+pub word_answered_is : (a : Answer) (v : Word) → Some v ≡ word_answer a → (u : Store) (es : List Event) → word_answered a u es ≡ Replies v u es
+word_answered_is (answer.Bytes text) v e u es = cc
+word_answered_is (answer.Truth b) v e u es = ap (λ v. Replies v u es) (sym (same_Some v _ e))
+word_answered_is (answer.Number n) v e u es = ap (λ v. Replies v u es) (sym (same_Some v _ e))
+word_answered_is answer.Unit v e u es = ap (λ v. Replies v u es) (sym (same_Some v _ e))
+
+pub text_answer_is : (a : Answer) (bytes : List ℕ) → Some bytes ≡ text_answer a → a ≡ answer.Bytes bytes
+text_answer_is (answer.Bytes text) bytes e = ap answer.Bytes (sym (same_Some bytes text e))
+text_answer_is (answer.Truth b) bytes e = cc
+text_answer_is (answer.Number n) bytes e = cc
+text_answer_is answer.Unit bytes e = cc
+
+-- the text stands where room was made for it
+pub room_filled : (w w1 w2 : StoreState) (bytes : List ℕ) → w1 ≡ with_built [] w → w2 ≡ record w1 { texts = take (length w1.texts - 1) w1.texts ++ bytes ∷ [] } → w2 ≡ with_built bytes w
+room_filled w w1 w2 bytes e f =
+    let filled = λ (u : StoreState). let v : StoreState = record u { texts = take (length u.texts - 1) u.texts ++ bytes ∷ [] } in v in
+    let size : length w.texts ≡ length (w.texts ++ [] ∷ []) - 1 = omega (arith, length_push w.texts []) in
+    f ∙ ap filled e ∙ ap (λ texts. let v : StoreState = record w { texts = texts ++ bytes ∷ [] } in v) (take_at w.texts ([] ∷ []) (length (w.texts ++ [] ∷ []) - 1) size)
+
+-- a failure under the names of the grant and the operation
+pub named_failure : (code : Code) (s : StackState) (w : StoreState) (next : Tapes → Next) (old new : DevicesState) (n n' : List ℕ) (o o' : OpName) → n ≡ n' → o ≡ o' → IsStep code s w next old new (Err (DeviceFailed n' o')) → IsStep code s w next old new (Err (DeviceFailed n o))
+named_failure code s w next old new n n' o o' e f h = subst (λ n. IsStep code s w next old new (Err (DeviceFailed n o))) (sym e) (subst (λ o. IsStep code s w next old new (Err (DeviceFailed n' o))) (sym f) h)

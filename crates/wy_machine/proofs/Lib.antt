@@ -1,0 +1,14 @@
+pub mod Acts
+pub mod CallSteps
+pub mod Computing
+pub mod Cuts
+pub mod DeedSteps
+pub mod Fetching
+pub mod FirstSteps
+pub mod Leading
+pub mod Lookups
+pub mod ObjectSteps
+pub mod Operating
+pub mod OperatorSteps
+pub mod Quiet
+pub mod StartSteps

@@ -1,0 +1,25 @@
+use Rattle.std.proofs.Common.{◌≡◌, ℕ, ◌+◌, ◌≤◌, ◌++◌, length, Err, Some, refl, sym, ap, ◌∙◌, subst, arith}
+use Rattle.std.proofs.lemmas.Option.{slice_get_within}
+use Rattle.wy_code.specs.Operations.{deed_event, word_answered}
+use Rattle.wy_code.specs.Stores.{Grant, Text}
+use Rattle.wy_device.specs.Devices.{states}
+use Rattle.wy_device.specs.declared.device.DeviceError.TheVariants as device_error
+use Rattle.wy_machine.specs.Stacks.{pushed}
+use Rattle.wy_machine.specs.States.{store_of}
+use Rattle.wy_machine.proofs.CallSteps.{called_from}
+use Rattle.wy_machine.proofs.DeedSteps.{grant_there, method_named, operation_there, bad_name_step, full_step, room_for_text, no_text, failed_step, reply_step, text_answered, word_answered_is, text_answer_is, room_filled, named_failure}
+use Rattle.wy_machine.proofs.Quiet.{step_to, wants_when}
+use Rattle.wy_machine.proofs.performing.request.Goals as goal
+
+pub returns-then-not-has_good_name : goal.returns-then-not-has_good_name
+returns-then-not-has_good_name g c =
+    let m = c.args.machine.now in
+    let r = c.requires.request in
+    bad_name_step c.args.code.now c.args.depth c.args.place m.stack m.store c.args.method c.args.count r.number r.receiver c.args.grant.now r.granted r.method r.named c.args.op.now r.asked (sym c.if-not-has_good_name.ensures) _ _ (states g.D.Device.state c.args.devices.now)
+
+pub returns-else-built-lt-MOST_TEXTS : goal.returns-else-built-lt-MOST_TEXTS
+returns-else-built-lt-MOST_TEXTS g c =
+    let m = c.args.machine.now in
+    let r = c.requires.request in
+    let many = subst (λ n. 4194304 ≤ n) c.built.ensures c.if-built-lt-MOST_TEXTS.false in
+    full_step c.args.code.now c.args.depth c.args.place m.stack m.store c.args.method c.args.count r.number r.receiver c.args.grant.now r.granted r.method r.named c.args.op.now r.asked (sym c.if-not-has_good_name.ensures) (sym c.if-not-answers_text.ensures) many _ _ (states g.D.Device.state c.args.devices.now)

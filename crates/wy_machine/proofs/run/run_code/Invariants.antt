@@ -1,0 +1,6 @@
+use Rattle.wy_device.specs.Devices.{states}
+use Rattle.wy_machine.proofs.Leading.{Leads}
+use Rattle.wy_machine.proofs.run.run_code.Given as goal
+
+abbrev pub invariant-loop-done : goal.invariant-loop-done
+invariant-loop-done g l = Leads l.code l.depth l.done l.machine.stack l.machine.store (states g.D.Device.state l.fn.devices) (states g.D.Device.state l.devices)

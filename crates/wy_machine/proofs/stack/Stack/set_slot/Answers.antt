@@ -1,0 +1,15 @@
+use Rattle.std.proofs.Common.{◌≡◌, ℕ, ◌+◌, ◌-◌, ◌<◌, ◌≤◌, List, [], ◌∷◌, ◌++◌, length, take, drop, set, reverse, replicate, Some, sym, ap, ap₂, ◌∙◌, subst, arith}
+use Rattle.std.proofs.lemmas.List.{length-take, length-reverse, reverse-append, take_all, take_rest}
+use Rattle.wy_code.specs.Stores.{Word, Nothing}
+use Rattle.wy_machine.specs.Stacks.{StackState, IsStacked, open_bodies, with_operands, left_to, entered}
+use Rattle.wy_machine.specs.declared.stack.Frame.{Frame}
+use Rattle.wy_machine.proofs.Cuts.{slot_set}
+use Rattle.wy_machine.proofs.stack.Stack.set_slot.Goals as goal
+
+pub returns : goal.returns
+returns c =
+    let s = c.self.inside in
+    let le : s.running.base ≤ s.running.top = omega (arith, c.self.invariant.0) in
+    let within = subst (λ (s : StackState). c.args.slot < length s.running.slots) (sym c.self.view_is) c.requires in
+    slot_set s.running (reverse s.callers.items) s.words.items c.args.slot c.args.word le c.self.invariant.1 within
+    ∙ ap (λ (s : StackState). let t : StackState = record s { running = record (s.running) { slots = set s.running.slots c.args.slot c.args.word } } in t) c.self.view_is

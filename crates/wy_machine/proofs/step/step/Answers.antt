@@ -1,0 +1,24 @@
+use Rattle.std.proofs.Common.{◌≡◌, sym, ap, ◌∙◌, subst}
+use Rattle.wy_device.specs.Tapes.{Tapes}
+use Rattle.wy_machine.specs.Stacks.{StackState}
+use Rattle.wy_machine.specs.Steps.{acting, stepping, IsNotStuck}
+use Rattle.wy_machine.proofs.Fetching.{next_there, fetched}
+use Rattle.wy_machine.proofs.Quiet.{same_step, unstuck}
+use Rattle.wy_machine.proofs.step.step.Goals as goal
+
+pub fetch-placed-requires : goal.fetch-placed-requires
+fetch-placed-requires g c = next_there c.args.code.now c.args.depth c.args.machine.now.stack c.args.machine.now.store c.requires.sound
+
+pub act-requires-clause-sound : goal.act-requires-clause-sound
+act-requires-clause-sound g c =
+    let m = c.args.machine.now in
+    subst (λ (s : StackState). IsNotStuck (acting c.args.code.now c.args.depth c.fetch-placed.result.place s m.store c.fetch-placed.result.instruction)) (sym c.fetch-placed.ensures.after)
+    (unstuck (stepping c.args.code.now c.args.depth m.stack m.store) _ (fetched c.args.code.now c.args.depth m.stack m.store c.fetch-placed.result c.fetch-placed.ensures.next) c.requires.sound)
+
+pub returns : goal.returns
+returns g c =
+    let m = c.args.machine.now in
+    same_step c.args.code.now _ _ _ (stepping c.args.code.now c.args.depth m.stack m.store) _ _ _
+    (λ t. fetched c.args.code.now c.args.depth m.stack m.store c.fetch-placed.result c.fetch-placed.ensures.next t
+    ∙ ap (λ (s : StackState). acting c.args.code.now c.args.depth c.fetch-placed.result.place s m.store c.fetch-placed.result.instruction t) (sym c.fetch-placed.ensures.after))
+    c.act.ensures

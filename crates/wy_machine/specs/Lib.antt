@@ -1,0 +1,11 @@
+pub mod Calls
+pub mod Captures
+pub mod Computing
+pub mod Requesting
+pub mod Runs
+pub mod Stacks
+pub mod States
+pub mod Steps
+pub mod StoreStates
+pub mod TrapKinds
+pub mod Words

@@ -1,0 +1,86 @@
+-- The bodies that are open, each with its slots and operands.
+use Rattle.std.specs.Prelude.{ℕ, ◌+◌, ◌-◌, ◌++◌, replicate, Option, Some, None, Bool, true, false, slice_set, ◌<◌, ◌≤◌, List, [], ◌∷◌, length, take, drop, reverse}
+use Rattle.wy_code.specs.Stores.{Word, Nothing}
+use Rattle.wy_code.specs.Machine.{first_of}
+use Rattle.wy_machine.specs.declared.stack.Frame.{Frame}
+
+-- a body that is open: its number and its instance's, the address of the instruction that comes next, its slots, and
+-- its operands, the topmost first
+pub record OpenBody : Type 0 where
+  pub instance : ℕ
+  pub body : ℕ
+  pub at : ℕ
+  pub slots : List Word
+  pub operands : List Word
+
+-- the body that runs, and those that wait for it, the latest first
+pub record StackState : Type 0 where
+  pub running : OpenBody
+  pub callers : List OpenBody
+
+-- a body among the words of all that are open
+abbrev pub open_body : Frame → List Word → OpenBody
+open_body f words = record {
+  instance = f.instance;
+  body = f.body;
+  at = f.at;
+  slots = take (f.top - f.base) (drop f.base words);
+  operands = reverse (drop f.top words);
+}
+
+-- bodies, the latest first, among their words
+abbrev pub open_bodies : List Frame → List Word → List OpenBody
+open_bodies [] words = []
+open_bodies (f ∷ fs) words = open_body f words ∷ open_bodies fs (take f.base words)
+
+-- each body has a slot, and stands above those that wait for it
+abbrev pub IsStacked : List Frame → ℕ → Type 0
+IsStacked [] size = Unit {0}
+IsStacked (f ∷ fs) size = (f.base < f.top) × (f.top ≤ size) × IsStacked fs f.base
+
+-- with one more operand
+abbrev pub pushed : Word → StackState → StackState
+pushed v s = record s { running = record (s.running) { operands = v ∷ s.running.operands } }
+
+-- with other operands
+abbrev pub with_operands : List Word → StackState → StackState
+with_operands vs s = record s { running = record (s.running) { operands = vs } }
+
+-- a body at its first instruction, with these slots, and the others for its `val` statements
+abbrev pub body_at_first : ℕ → ℕ → List Word → ℕ → OpenBody
+body_at_first instance body first vals = record { instance = instance; body = body; at = 0; slots = first ++ replicate vals Nothing; operands = [] }
+
+-- one body is open
+abbrev pub begun : ℕ → ℕ → Word → ℕ → StackState
+begun instance body this vals = record { running = body_at_first instance body (this ∷ []) vals; callers = [] }
+
+-- a body is entered, and its first slots are the topmost operands of the one that called it
+abbrev pub entered : ℕ → ℕ → ℕ → ℕ → StackState → StackState
+entered instance body arguments vals s = record {
+  running = body_at_first instance body (reverse (take (arguments + 1) s.running.operands)) vals;
+  callers = record (s.running) { operands = drop (arguments + 1) s.running.operands } ∷ s.callers;
+}
+
+-- the body that runs is left, and the one that called it gets a word
+abbrev pub left_to : Word → List OpenBody → Option StackState
+left_to v [] = None
+left_to v (f ∷ fs) = Some (record { running = record f { operands = v ∷ f.operands }; callers = fs })
+
+abbrev pub left : Word → StackState → Option StackState
+left v s = left_to v s.callers
+
+-- at another address
+abbrev pub at_address : ℕ → StackState → StackState
+at_address to s = record s { running = record (s.running) { at = to } }
+
+-- the topmost operand is written into a slot
+abbrev pub stored_in : ℕ → StackState → StackState
+stored_in slot s = record s {
+  running = record (s.running) { slots = slice_set s.running.slots slot (first_of s.running.operands); operands = drop 1 s.running.operands };
+}
+
+-- at another address where the truth value is false
+abbrev pub jumped_unless : Option Bool → ℕ → StackState → StackState
+jumped_unless None to s = s
+jumped_unless (Some true) to s = s
+jumped_unless (Some false) to s = at_address to s

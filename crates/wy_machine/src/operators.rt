@@ -1,0 +1,96 @@
+ghost use Rattle.std.specs.Prelude.{◌≡◌, ◌≤◌, ◌∷◌, [], length, map, reverse, take, IfOk};
+ghost use Rattle.wy_code.specs.Operations.{operator_meant, operand_count};
+ghost use Rattle.wy_code.specs.Stores.{operand};
+ghost use Rattle.wy_device.specs.Operators.{operate};
+ghost use Rattle.wy_device.specs.Operators as meant;
+ghost use Rattle.wy_device.specs.Tapes.{Tapes};
+ghost use Rattle.wy_machine.specs.Computing.{computed_meant, not_if};
+ghost use Rattle.wy_machine.specs.States.{store_of};
+
+use crate::arithmetic::{
+    byte, difference, greater, greater_or_equal, less, less_or_equal, negated, negation, product,
+    quotient, remainder, shown, sum,
+};
+use crate::computed::Computed;
+use crate::stack::Stack;
+use crate::store::Store;
+use crate::texts::{byte_in, joined, part, same, size};
+use crate::word::Word;
+use std::alloc::Global;
+use wy_code::code::Code;
+use wy_code::instruction::Operator;
+use wy_text::text::Memory;
+
+/// How many operands an operator takes.
+pub fn operand_count(operator: Operator) -> usize
+    ensures { result ≡ operand_count operator }
+{
+    match operator {
+        Operator::Negate | Operator::Not | Operator::Size | Operator::Byte | Operator::Show => 1,
+        Operator::Part => 3,
+        Operator::Add
+        | Operator::Subtract
+        | Operator::Multiply
+        | Operator::Divide
+        | Operator::Remainder
+        | Operator::Join
+        | Operator::Less
+        | Operator::LessOrEqual
+        | Operator::Greater
+        | Operator::GreaterOrEqual
+        | Operator::Equal
+        | Operator::NotEqual
+        | Operator::Code => 2,
+    }
+}
+
+/// Whether two words are as asked: the same, or different.
+fn compared(code: &Code, store: &Store, x: Word, y: Word, different: bool) -> Computed
+    ensures { (tapes : Tapes) → computed_meant result ≡ meant.compared (not_if different) (operand (store_of code.now store.now tapes) x) (operand (store_of code.now store.now tapes) y) }
+{
+    match same(code, store, x, y) {
+        Some(same) => Computed::Truth(same != different),
+        None => Computed::Misfit,
+    }
+}
+
+/// What an operator gives for the topmost operands.
+pub fn computed(
+    alloc: Global,
+    code: &Code,
+    store: &Store,
+    stack: &Stack,
+    operator: Operator,
+) -> Result<Computed, Memory>
+    requires { operand_count operator ≤ length stack.now.running.operands }
+    ensures { IfOk result (λ c. (tapes : Tapes) → computed_meant c ≡ operate (operator_meant operator) (map (operand (store_of code.now store.now tapes)) (reverse (take (operand_count operator) stack.now.running.operands)))) }
+{
+    match operator {
+        Operator::Negate => Ok(negated(stack.operand(0))),
+        Operator::Not => Ok(negation(stack.operand(0))),
+        Operator::Add => Ok(sum(stack.operand(1), stack.operand(0))),
+        Operator::Subtract => Ok(difference(stack.operand(1), stack.operand(0))),
+        Operator::Multiply => Ok(product(stack.operand(1), stack.operand(0))),
+        Operator::Divide => Ok(quotient(stack.operand(1), stack.operand(0))),
+        Operator::Remainder => Ok(remainder(stack.operand(1), stack.operand(0))),
+        Operator::Join => joined(code, store, stack.operand(1), stack.operand(0)),
+        Operator::Less => Ok(less(stack.operand(1), stack.operand(0))),
+        Operator::LessOrEqual => Ok(less_or_equal(stack.operand(1), stack.operand(0))),
+        Operator::Greater => Ok(greater(stack.operand(1), stack.operand(0))),
+        Operator::GreaterOrEqual => Ok(greater_or_equal(stack.operand(1), stack.operand(0))),
+        Operator::Equal => Ok(compared(code, store, stack.operand(1), stack.operand(0), false)),
+        Operator::NotEqual => Ok(compared(code, store, stack.operand(1), stack.operand(0), true)),
+        Operator::Size => Ok(size(code, store, stack.operand(0))),
+        Operator::Part => part(
+            alloc,
+            code,
+            store,
+            stack.operand(2),
+            stack.operand(1),
+            stack.operand(0),
+        ),
+        Operator::Code => Ok(byte_in(code, store, stack.operand(1), stack.operand(0))),
+        Operator::Byte => byte(alloc, stack.operand(0)),
+        Operator::Show => shown(alloc, stack.operand(0)),
+    }
+}

@@ -1,0 +1,194 @@
+ghost use Rattle.std.specs.Prelude.{◌≡◌, ◌≢◌, ◌∷◌, [], length, IfOk, MatchOption, Some, None};
+ghost use Rattle.wy_code.specs.Operations.{texts_named};
+ghost use Rattle.wy_device.specs.Requests as requests;
+ghost use Rattle.wy_device.specs.Tapes.{Tapes};
+ghost use Rattle.wy_machine.specs.States.{store_of};
+
+use crate::store::Store;
+use crate::texts::text_named;
+use crate::word::Word;
+use wy_code::code::Code;
+use wy_device::operation::{Kind, Op, OpName};
+use wy_text::text::{Memory, Text};
+
+/// How many bytes a file's name has at most.
+const LONGEST_NAME: usize = 64;
+
+fn is_name_byte(byte: u8) -> bool
+    ensures { result ≡ requests.is_name_byte byte }
+{
+    matches!(byte, b'a'..=b'z' | b'0'..=b'9' | b'.' | b'_' | b'-')
+}
+
+fn are_name_bytes(bytes: &[u8]) -> bool
+    ensures { result ≡ requests.are_name_bytes bytes.now }
+{
+    for byte in bytes {
+        if !is_name_byte(*byte) {
+            return false;
+        }
+    }
+    true
+}
+
+/// Whether bytes are a file's name.
+fn is_file_name(name: &[u8]) -> bool
+    ensures { result ≡ requests.is_file_name name.now }
+{
+    match name {
+        [] => false,
+        [first, ..] => *first != b'.' && are_name_bytes(name) && name.len() <= LONGEST_NAME,
+    }
+}
+
+/// Whether each name that an operation has is a file's.
+pub fn has_good_name(op: &Op) -> bool
+    ensures { result ≡ requests.has_good_name op.now }
+{
+    match op {
+        Op::FolderRead(name) => is_file_name(name.as_bytes()),
+        Op::FolderHas(name) => is_file_name(name.as_bytes()),
+        Op::FolderWrite(name, _) => is_file_name(name.as_bytes()),
+        Op::FolderAppend(name, _) => is_file_name(name.as_bytes()),
+        Op::ConsoleRead => true,
+        Op::ConsoleWrite(_) => true,
+        Op::FolderNames => true,
+        Op::ClockNow => true,
+        Op::RandomWord => true,
+    }
+}
+
+/// Whether an operation is answered by a text.
+pub fn answers_text(op: &Op) -> bool
+    ensures { result ≡ requests.answers_text op.now }
+{
+    match op {
+        Op::ConsoleRead => true,
+        Op::FolderRead(_) => true,
+        Op::FolderNames => true,
+        Op::ConsoleWrite(_) => false,
+        Op::FolderHas(_) => false,
+        Op::FolderWrite(_, _) => false,
+        Op::FolderAppend(_, _) => false,
+        Op::ClockNow => false,
+        Op::RandomWord => false,
+    }
+}
+
+/// The first operation that a method asks for; `None` exactly where there is none.
+fn first_called(method: &[u8], names: &[OpName]) -> Option<OpName>
+    ensures { result ≡ requests.operation_called method.now names.now }
+{
+    for name in names {
+        if name.method().as_bytes() == method {
+            return Some(*name);
+        }
+    }
+    None
+}
+
+/// The operation that a method of a kind of device asks for; `None` exactly where there is none.
+pub fn operation_called(kind: Kind, method: &[u8]) -> Option<OpName>
+    ensures { result ≡ requests.operation_called method.now (requests.operations_of kind) }
+{
+    match kind {
+        Kind::Console => first_called(method, &[OpName::ConsoleRead, OpName::ConsoleWrite]),
+        Kind::Folder => first_called(
+            method,
+            &[
+                OpName::FolderRead,
+                OpName::FolderHas,
+                OpName::FolderWrite,
+                OpName::FolderAppend,
+                OpName::FolderNames,
+            ],
+        ),
+        Kind::Clock => first_called(method, &[OpName::ClockNow]),
+        Kind::Random => first_called(method, &[OpName::RandomWord]),
+    }
+}
+
+/// The texts that words name; `None` exactly where one names none.
+pub fn texts_of(code: &Code, store: &Store, words: &[Word]) -> Result<Option<Vec<Text>>, Memory>
+    ensures { IfOk result (λ texts. (tapes : Tapes) → MatchOption texts (texts_named (store_of code.now store.now tapes) words.now ≡ None) (λ found. texts_named (store_of code.now store.now tapes) words.now ≡ Some found.items)) }
+{
+    let mut texts = Vec::new(store.alloc());
+    for word in words {
+        match text_named(code, store, *word) {
+            Some(text) => texts.push(text.copy()?)?,
+            None => return Ok(None),
+        }
+    }
+    Ok(Some(texts))
+}
+
+fn one(texts: Vec<Text>) -> Option<Text>
+    ensures { MatchOption result (length texts.items ≢ 1) (λ text. texts.items ≡ text ∷ []) }
+{
+    let mut texts = texts;
+    if texts.len() == 1 { texts.pop() } else { None }
+}
+
+fn two(texts: Vec<Text>) -> Option<(Text, Text)>
+    ensures { MatchOption result (length texts.items ≢ 2) (λ pair. texts.items ≡ pair.0 ∷ pair.1 ∷ []) }
+{
+    let mut texts = texts;
+    if texts.len() != 2 {
+        return None;
+    }
+    match texts.pop() {
+        Some(second) => match texts.pop() {
+            Some(first) => Some((first, second)),
+            None => None,
+        },
+        None => None,
+    }
+}
+
+/// The operation with these texts as its arguments, where it takes as many.
+pub fn operation_on(name: OpName, texts: Vec<Text>) -> Option<Op>
+    ensures { result ≡ requests.operation_on name texts.items }
+{
+    match name {
+        OpName::ConsoleRead => if texts.is_empty() {
+            Some(Op::ConsoleRead)
+        } else {
+            None
+        },
+        OpName::FolderNames => if texts.is_empty() {
+            Some(Op::FolderNames)
+        } else {
+            None
+        },
+        OpName::ClockNow => if texts.is_empty() {
+            Some(Op::ClockNow)
+        } else {
+            None
+        },
+        OpName::RandomWord => if texts.is_empty() {
+            Some(Op::RandomWord)
+        } else {
+            None
+        },
+        OpName::ConsoleWrite => match one(texts) {
+            Some(text) => Some(Op::ConsoleWrite(text)),
+            None => None,
+        },
+        OpName::FolderRead => match one(texts) {
+            Some(file) => Some(Op::FolderRead(file)),
+            None => None,
+        },
+        OpName::FolderHas => match one(texts) {
+            Some(file) => Some(Op::FolderHas(file)),
+            None => None,
+        },
+        OpName::FolderWrite => match two(texts) {
+            Some((file, text)) => Some(Op::FolderWrite(file, text)),
+            None => None,
+        },
+        OpName::FolderAppend => match two(texts) {
+            Some((file, text)) => Some(Op::FolderAppend(file, text)),
+            None => None,
+        },
+    }
+}

@@ -1,0 +1,170 @@
+ghost use Rattle.std.specs.Prelude.{◌≡◌, ◌+◌, ◌<◌, length, slice_get, Some};
+ghost use Rattle.wy_code.specs.Machine as machine;
+ghost use Rattle.wy_code.specs.declared.instruction.Instruction.TheVariants.{Call};
+ghost use Rattle.wy_device.specs.Devices.{IsInOrder, states};
+ghost use Rattle.wy_machine.specs.Stacks.{at_address};
+ghost use Rattle.wy_machine.specs.States.{body_at};
+ghost use Rattle.wy_machine.specs.Steps.{acting, stepping, IsNotStuck, IsStep};
+
+use crate::building::operate;
+use crate::calls::enter;
+use crate::machine::Machine;
+use crate::making::make;
+use crate::performing::perform;
+use crate::run_end::RunEnd;
+use crate::stack::Stack;
+use crate::starting::finish;
+use crate::word::{Word, WordKind};
+use wy_code::code::Code;
+use wy_code::instruction::{Constant, Instruction, Placed};
+use wy_device::device::Device;
+use wy_device::devices::Devices;
+use wy_text::fault::Place;
+
+/// The instruction that comes next; the body goes on after it.
+fn fetch(code: &Code, stack: &mut Stack) -> Placed
+    requires { stack.old.running.at < length (body_at code.now stack.old.running.body).instructions }
+    ensures next { slice_get (body_at code.now stack.old.running.body).instructions stack.old.running.at ≡ Some result }
+    ensures after { stack.new ≡ at_address (stack.old.running.at + 1) stack.old }
+{
+    let at = stack.at();
+    match code.bodies.get(stack.body() as usize) {
+        Some(body) => match body.instructions.as_slice().get(at) {
+            Some(placed) => {
+                let placed = *placed;
+                stack.jump(at + 1);
+                placed
+            }
+            None => unreachable!(),
+        },
+        None => unreachable!(),
+    }
+}
+
+/// The word of a constant.
+fn constant_word(constant: Constant) -> Word
+    ensures { result ≡ machine.word_of constant }
+{
+    match constant {
+        Constant::Int(number) => Word::new(WordKind::Int(number)),
+        Constant::Truth(truth) => Word::new(WordKind::Truth(truth)),
+        Constant::Unit => Word::new(WordKind::Unit),
+        Constant::Text(text) => Word::new(WordKind::Text(text)),
+        Constant::Grant(grant) => Word::new(WordKind::Grant(grant)),
+        Constant::Instance(instance) => Word::new(WordKind::Object(u32::from(instance))),
+    }
+}
+
+/// Calls a method of the word below the arguments, an object or a grant.
+fn call<D: Device>(
+    code: &Code,
+    depth: u32,
+    machine: &mut Machine,
+    devices: &mut Devices<D>,
+    place: Place,
+    method: u32,
+    count: u32,
+) -> Result<(), RunEnd>
+    requires order { IsInOrder (states D.state devices.old) }
+    requires sound { IsNotStuck (acting code.now depth place machine.old.stack machine.old.store (Call method count)) }
+    ensures { IsStep code.now machine.new.stack machine.new.store (acting code.now depth place machine.old.stack machine.old.store (Call method count)) (states D.state devices.old) (states D.state devices.new) result }
+{
+    match machine.stack.operand(count as usize).kind() {
+        WordKind::Object(object) => {
+            if machine.stack.waiting() < depth as usize {
+                enter(code, depth, machine, place, object, method, count)
+            } else {
+                Err(RunEnd::TooDeep)
+            }
+        }
+        WordKind::Grant(grant) => perform(
+            code, depth, machine, devices, place, method, count, grant,
+        ),
+        WordKind::Int(_) => unreachable!(),
+        WordKind::Truth(_) => unreachable!(),
+        WordKind::Unit => unreachable!(),
+        WordKind::Text(_) => unreachable!(),
+    }
+}
+
+/// Does an instruction.
+fn act<D: Device>(
+    code: &Code,
+    depth: u32,
+    machine: &mut Machine,
+    devices: &mut Devices<D>,
+    place: Place,
+    instruction: Instruction,
+) -> Result<(), RunEnd>
+    requires order { IsInOrder (states D.state devices.old) }
+    requires sound { IsNotStuck (acting code.now depth place machine.old.stack machine.old.store instruction) }
+    ensures { IsStep code.now machine.new.stack machine.new.store (acting code.now depth place machine.old.stack machine.old.store instruction) (states D.state devices.old) (states D.state devices.new) result }
+{
+    match instruction {
+        Instruction::Push(constant) => {
+            machine.stack.push(constant_word(constant))?;
+            Ok(())
+        }
+        Instruction::Load(slot) => {
+            machine.stack.load(slot as usize)?;
+            Ok(())
+        }
+        Instruction::Store(slot) => {
+            machine.stack.store(slot as usize);
+            Ok(())
+        }
+        Instruction::Get(at) => {
+            machine.get(at as usize)?;
+            Ok(())
+        }
+        Instruction::Set(at) => {
+            machine.set(at as usize);
+            Ok(())
+        }
+        Instruction::Drop => {
+            machine.stack.drop_operands(1);
+            Ok(())
+        }
+        Instruction::Op(operator) => operate(code, machine, place, operator),
+        Instruction::Jump(to) => {
+            machine.stack.jump(to as usize);
+            Ok(())
+        }
+        Instruction::JumpFalse(to) => {
+            machine.stack.jump_false(to as usize);
+            Ok(())
+        }
+        Instruction::New(literal) => make(code, machine, place, literal),
+        Instruction::Call(method, count) => call(
+            code, depth, machine, devices, place, method, count,
+        ),
+        Instruction::Return => {
+            let word = machine.stack.pop();
+            machine.stack.leave(word);
+            Ok(())
+        }
+        Instruction::Finish => finish(code, machine, place),
+    }
+}
+
+/// One step of a run.
+pub fn step<D: Device>(
+    code: &Code,
+    depth: u32,
+    machine: &mut Machine,
+    devices: &mut Devices<D>,
+) -> Result<(), RunEnd>
+    requires order { IsInOrder (states D.state devices.old) }
+    requires sound { IsNotStuck (stepping code.now depth machine.old.stack machine.old.store) }
+    ensures { IsStep code.now machine.new.stack machine.new.store (stepping code.now depth machine.old.stack machine.old.store) (states D.state devices.old) (states D.state devices.new) result }
+{
+    let placed = fetch(code, &mut machine.stack);
+    act(
+        code,
+        depth,
+        machine,
+        devices,
+        placed.place,
+        placed.instruction,
+    )
+}
