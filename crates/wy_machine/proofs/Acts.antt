@@ -1,5 +1,5 @@
 -- What instructions need, and what they do.
-use Rattle.std.proofs.Common.{◌≡◌, ◌≢◌, ℕ, zero, suc, ◌+◌, ◌<◌, ◌≤◌, Bool, true, false, List, [], ◌∷◌, ◌++◌, length, take, drop, reverse, map, Option, Some, None, Result, Ok, refl, sym, ap, ◌∙◌, arith, subst, nat_lt, unwrap_or, ⊎_elim, append_assoc, append-nil}
+use Rattle.std.proofs.Common.{◌≡◌, ◌≢◌, ℕ, zero, suc, ◌<◌, ◌≤◌, Bool, true, false, List, [], ◌∷◌, ◌++◌, length, take, drop, reverse, map, Option, Some, None, Result, Ok, refl, sym, ap, ◌∙◌, arith, subst, nat_lt, unwrap_or, ⊎_elim, append_assoc, append-nil}
 use Rattle.std.specs.Prelude.{slice_get, slice_set, if◌then◌else◌, IsSome}
 use Rattle.std.proofs.lemmas.Bool.{cases_lt}
 use Rattle.std.proofs.lemmas.List.{reverse-append}
@@ -7,7 +7,6 @@ use Rattle.std.proofs.lemmas.Option.{slice_get_past, same_Some}
 use Rattle.wy_text.specs.declared.fault.Place.{Place}
 use Rattle.wy_device.specs.declared.deed.Event.TheVariants.{Leave}
 use Rattle.wy_device.specs.Devices.{DevicesState}
-use Rattle.wy_device.specs.RunEnds.{Wrong}
 use Rattle.wy_device.specs.Tapes.{Tapes}
 use Rattle.wy_code.specs.declared.code.Code.{Code}
 use Rattle.wy_code.specs.declared.instruction.Constant.{Constant}

@@ -1,5 +1,5 @@
 -- What a call does.
-use Rattle.std.proofs.Common.{◌≡◌, ◌≢◌, ℕ, ◌+◌, ◌<◌, ◌≤◌, Bool, true, false, List, [], ◌∷◌, ◌++◌, length, take, drop, reverse, replicate, map, Option, Some, None, Ok, Err, refl, sym, ap, ap₂, ◌∙◌, nat_eq, arith}
+use Rattle.std.proofs.Common.{◌≡◌, ◌≢◌, ℕ, ◌+◌, ◌<◌, ◌≤◌, List, [], ◌∷◌, ◌++◌, length, take, drop, reverse, replicate, map, Option, Some, None, Ok, Err, refl, sym, ap, ap₂, ◌∙◌, nat_eq, arith}
 use Rattle.std.specs.Prelude.{slice_get, if◌then◌else◌}
 use Rattle.std.proofs.lemmas.List.{drop_more, take_more, reverse-append, length-drop, length-map}
 use Rattle.std.proofs.lemmas.Option.{slice_get_within, get_or_from_slice_get}
@@ -18,11 +18,11 @@ use Rattle.wy_code.specs.Machine as machine
 use Rattle.wy_code.specs.Machine.{State, Next, Go, Halt, stuck, popped, call_on, enter_body, enter_method, method_of_literal, body_numbered, literal_of, name_in, all_instances, first_of}
 use Rattle.wy_machine.specs.declared.run_end.RunEnd.TheVariants.{TooDeep}
 use Rattle.wy_machine.specs.Calls.{number_called}
-use Rattle.wy_machine.specs.Stacks.{OpenBody, StackState, with_operands, entered}
-use Rattle.wy_machine.specs.States.{body_at, body_or_none, frame_of, store_of, state_of}
+use Rattle.wy_machine.specs.Stacks.{StackState, with_operands, entered}
+use Rattle.wy_machine.specs.States.{body_or_none, frame_of, store_of, state_of}
 use Rattle.wy_machine.specs.Steps.{acting, AreQuiet, IsNotStuck, IsStep}
 use Rattle.wy_machine.specs.StoreStates.{StoreState}
-use Rattle.wy_machine.proofs.Acts.{no_tapes, either, operands_there, operands_taken, operand_there, operand_popped}
+use Rattle.wy_machine.proofs.Acts.{no_tapes, either, operands_there, operands_taken, operand_there}
 use Rattle.wy_machine.proofs.OperatorSteps.{below, not_below}
 use Rattle.wy_machine.proofs.Quiet.{goes_quietly, is_too_deep, unstuck}
 

@@ -1,9 +1,9 @@
 -- Slots and operands among the words of all open bodies.
-use Rattle.std.proofs.Common.{◌≡◌, ℕ, zero, suc, ◌+◌, ◌-◌, ◌<◌, ◌≤◌, List, [], ◌∷◌, ◌++◌, length, take, drop, set, reverse, replicate, Some, refl, sym, ap, ap₂, ◌∙◌, arith, subst}
-use Rattle.std.proofs.lemmas.List.{length-append, length-take, length-drop, length-reverse, length-replicate, length-set, reverse-append, reverse-reverse, take-append-drop, take-take, take_at, take_all, take-append-le, take-set-le, take_rest, drop_at, drop_all, drop-drop, drop-take, drop-append-le, drop-set-lt, drop-set-add, set_split}
+use Rattle.std.proofs.Common.{◌≡◌, ℕ, zero, suc, ◌+◌, ◌-◌, ◌<◌, ◌≤◌, List, [], ◌∷◌, ◌++◌, length, take, drop, set, reverse, replicate, Some, refl, sym, ap, ap₂, ◌∙◌, arith}
+use Rattle.std.proofs.lemmas.List.{length-append, length-take, length-drop, length-reverse, length-replicate, reverse-append, reverse-reverse, take-append-drop, take-take, take_all, take-append-le, take-set-le, drop_at, drop_all, drop-drop, drop-take, drop-append-le, drop-set-lt, drop-set-add, set_split}
 use Rattle.std.proofs.lemmas.Slice.{between_is}
 use Rattle.wy_code.specs.Stores.{Word, Nothing}
-use Rattle.wy_machine.specs.Stacks.{OpenBody, StackState, open_body, open_bodies, IsStacked, with_operands, body_at_first, entered, left_to}
+use Rattle.wy_machine.specs.Stacks.{StackState, open_body, open_bodies, with_operands, entered, left_to}
 use Rattle.wy_machine.specs.declared.stack.Frame.{Frame}
 
 ------------------------------------------------------------

@@ -16,15 +16,15 @@ use Rattle.wy_device.specs.Device.{IsAnswerNamed, IsAnswerOf, IsBytesUpTo, IsTru
 use Rattle.wy_device.specs.Devices.{DevicesState, device_of}
 use Rattle.wy_device.specs.Events.{DidExactly}
 use Rattle.wy_device.specs.Operation.{name_of, kind_of}
-use Rattle.wy_device.specs.Requests.{has_good_name, answers_text, fits_operation, is_text_up_to, is_truth, is_number, is_done, Told, Answers, Fails, Waits, asked}
+use Rattle.wy_device.specs.Requests.{has_good_name, answers_text, fits_operation, is_text_up_to, is_truth, is_number, is_done, Answers, Fails, Waits, asked}
 use Rattle.wy_device.specs.RunEnds as ends
 use Rattle.wy_device.specs.Tapes.{Tapes, spliced}
 use Rattle.wy_device.specs.Traps.{most_texts, BadName as TrapBadName, Crowded as TrapCrowded}
 use Rattle.wy_code.specs.declared.code.Code.{Code}
 use Rattle.wy_code.specs.declared.code.Grant.{Grant as CodeGrant}
 use Rattle.wy_code.specs.Operations.{deed_event, word_answered, answered, requested, requested_of, texts_named, performed}
-use Rattle.wy_code.specs.Stores.{Word, Text, Grant, Store, Reply, Replies, Ends, ended, with_text}
-use Rattle.wy_code.specs.Machine.{Next, Go, Halt, has_room, push, push_reply}
+use Rattle.wy_code.specs.Stores.{Word, Text, Grant, Store, Reply, Replies, ended}
+use Rattle.wy_code.specs.Machine.{Next, Go, has_room, push_reply}
 use Rattle.wy_machine.specs.declared.run_end.RunEnd.TheVariants.{Trap, DeviceFailed, Memory}
 use Rattle.wy_machine.specs.declared.run_end.TrapKind.TheVariants.{BadName, Crowded}
 use Rattle.wy_machine.specs.Requesting.{asked_for, text_answer, word_answer}

@@ -1,5 +1,5 @@
 -- How a run starts.
-use Rattle.std.proofs.Common.{◌≡◌, ◌≢◌, ◌≤◌, ℕ, suc, ◌+◌, List, [], ◌∷◌, ◌++◌, Option, Some, None, Result, Ok, Err, refl, sym, ap, ◌∙◌, subst, arith, append-nil}
+use Rattle.std.proofs.Common.{◌≡◌, ◌≤◌, ℕ, ◌+◌, List, [], ◌∷◌, ◌++◌, Option, Some, None, Ok, Err, refl, sym, ap, ◌∙◌, arith, append-nil}
 use Rattle.std.specs.Prelude.{slice_get}
 use Rattle.wy_device.specs.declared.deed.Event.{Event}
 use Rattle.wy_device.specs.declared.deed.Event.TheVariants.{Enter}
@@ -10,17 +10,17 @@ use Rattle.wy_code.specs.declared.code.Body.{Body}
 use Rattle.wy_code.specs.declared.code.Code.{Code}
 use Rattle.wy_code.specs.declared.code.Instance.{Instance}
 use Rattle.wy_code.specs.Stores.{Store}
-use Rattle.wy_code.specs.Machine.{State, Next, Go, Halt, stuck, all_instances, begin_next, begin_instance, begin_body, start_in}
+use Rattle.wy_code.specs.Machine.{State, Go, all_instances, begin_next, begin_instance, begin_body, start_in}
 use Rattle.wy_code.specs.Running.{Ran, steps, enter_first, store_at_first, objects_at_first, machine, NeverStuck}
 use Rattle.wy_machine.specs.declared.run_end.RunEnd.{RunEnd}
 use Rattle.wy_machine.specs.declared.run_end.RunEnd.TheVariants.{Ended, Trap, TooDeep, Spent, DeviceFailed, SinkFailed, Memory}
-use Rattle.wy_machine.specs.Runs.{tapes_of, RunsTo, EndsIn, Runs}
+use Rattle.wy_machine.specs.Runs.{tapes_of, RunsTo, Runs}
 use Rattle.wy_machine.specs.Stacks.{StackState}
 use Rattle.wy_machine.specs.States.{store_of, state_of}
-use Rattle.wy_machine.specs.Steps.{beginning, starting, AreQuiet, IsNotStuck, Halts, StopsIn, IsStep}
+use Rattle.wy_machine.specs.Steps.{beginning, starting, AreQuiet, IsNotStuck, Halts, IsStep}
 use Rattle.wy_machine.specs.StoreStates.{StoreState, no_store}
 use Rattle.wy_machine.proofs.Acts.{no_tapes}
-use Rattle.wy_machine.proofs.Leading.{Leads, later}
+use Rattle.wy_machine.proofs.Leading.{Leads}
 use Rattle.wy_machine.proofs.Quiet.{did_quietly, same_devices}
 
 -- the store with the instances' objects

@@ -1,9 +1,9 @@
 -- Many steps.
-use Rattle.std.proofs.Common.{◌≡◌, ◌≢◌, ◌≤◌, ◌<◌, ℕ, zero, suc, ◌+◌, ◌-◌, Bool, true, false, List, [], ◌∷◌, ◌++◌, map, Option, Result, Ok, Err, refl, sym, ap, ap₂, ◌∙◌, subst, arith, append_assoc, append-nil}
+use Rattle.std.proofs.Common.{◌≡◌, ◌≤◌, ◌<◌, ℕ, suc, ◌+◌, ◌-◌, Bool, true, false, List, [], ◌∷◌, ◌++◌, Option, Ok, Err, refl, sym, ap, ap₂, ◌∙◌, subst, arith, append_assoc, append-nil}
 use Rattle.std.proofs.lemmas.List.{map-append}
 use Rattle.std.specs.Prelude.{if◌then◌else◌}
 use Rattle.wy_text.proofs.Gains.{gained-gained, rose_later}
-use Rattle.wy_text.specs.Outside.{gained, Rose}
+use Rattle.wy_text.specs.Outside.{gained}
 use Rattle.wy_device.specs.declared.deed.Deed.{Deed as DeedRecord}
 use Rattle.wy_device.specs.declared.deed.Event.{Event}
 use Rattle.wy_device.specs.declared.deed.Event.TheVariants.{Enter, Deed, Leave}
@@ -17,14 +17,13 @@ use Rattle.wy_device.specs.Operation.{kind_of, kind_named}
 use Rattle.wy_device.specs.RunEnds as ends
 use Rattle.wy_device.specs.Tapes.{Tapes, spliced, answers}
 use Rattle.wy_code.specs.declared.code.Code.{Code}
-use Rattle.wy_code.specs.Machine.{State, Next, Go, Halt, stuck, step}
 use Rattle.wy_code.specs.Running.{Ran, and_then, steps, machine, NeverStuck}
 use Rattle.wy_machine.specs.declared.run_end.RunEnd.{RunEnd}
 use Rattle.wy_machine.specs.declared.run_end.RunEnd.TheVariants.{Ended, Trap, TooDeep, Spent, DeviceFailed, SinkFailed, Memory}
 use Rattle.wy_machine.specs.Runs.{tapes_of, RunsTo, EndsIn, IsSameDevice, AreSameDevices, FailsByFault, Runs}
 use Rattle.wy_machine.specs.Stacks.{StackState}
 use Rattle.wy_machine.specs.States.{state_of}
-use Rattle.wy_machine.specs.Steps.{stepping, IsNotStuck, GoesOn, Halts, StopsIn, IsStep}
+use Rattle.wy_machine.specs.Steps.{stepping, IsNotStuck, Halts, StopsIn, IsStep}
 use Rattle.wy_machine.specs.StoreStates.{StoreState}
 
 ------------------------------------------------------------

@@ -1,5 +1,5 @@
 -- What `New` does.
-use Rattle.std.proofs.Common.{◌≡◌, ◌≢◌, ℕ, ◌+◌, ◌<◌, ◌≤◌, Bool, true, false, List, [], ◌∷◌, ◌++◌, length, take, drop, reverse, Option, Some, None, Ok, Err, refl, sym, ap, ap₂, ◌∙◌, nat_lt, append_assoc}
+use Rattle.std.proofs.Common.{◌≡◌, ◌≢◌, ℕ, ◌+◌, ◌<◌, ◌≤◌, List, [], ◌∷◌, ◌++◌, length, take, drop, reverse, Option, Some, None, Ok, Err, refl, ap, ap₂, ◌∙◌, nat_lt, append_assoc}
 use Rattle.std.specs.Prelude.{slice_get, if◌then◌else◌, IsSome}
 use Rattle.wy_text.specs.declared.fault.Place.{Place}
 use Rattle.wy_device.specs.Devices.{DevicesState}
@@ -11,7 +11,7 @@ use Rattle.wy_code.specs.declared.code.Literal.{Literal}
 use Rattle.wy_code.specs.declared.code.Source.{Source}
 use Rattle.wy_code.specs.declared.code.Source.TheVariants.{Slot, Value}
 use Rattle.wy_code.specs.declared.instruction.Instruction.TheVariants.{New}
-use Rattle.wy_code.specs.Stores.{Word, Object, Thing, Store, object_made, replied, ended}
+use Rattle.wy_code.specs.Stores.{Word, Object, Thing, object_made, replied, ended}
 use Rattle.wy_code.specs.Machine as machine
 use Rattle.wy_code.specs.Machine.{State, Next, Go, stuck, push_reply, literal_of, words_from, with_word, make_with, first_of}
 use Rattle.wy_machine.specs.declared.run_end.RunEnd.TheVariants.{Trap}

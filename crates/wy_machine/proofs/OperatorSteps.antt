@@ -1,5 +1,5 @@
 -- What an operator does.
-use Rattle.std.proofs.Common.{◌≡◌, ℕ, ◌+◌, ◌<◌, ◌≤◌, ℤ, Bool, true, false, List, [], ◌∷◌, ◌++◌, length, take, drop, reverse, map, Ok, Err, refl, sym, ap, ap₂, ◌∙◌, nat_lt, append_assoc, arith}
+use Rattle.std.proofs.Common.{◌≡◌, ℕ, ◌<◌, ◌≤◌, ℤ, Bool, true, false, List, [], ◌∷◌, ◌++◌, length, take, drop, reverse, map, Ok, Err, refl, sym, ap, ap₂, ◌∙◌, nat_lt, append_assoc, arith}
 use Rattle.std.specs.Prelude.{if◌then◌else◌}
 use Rattle.std.proofs.lemmas.List.{length_push}
 use Rattle.wy_text.specs.declared.fault.Place.{Place}
@@ -13,8 +13,8 @@ use Rattle.wy_code.specs.declared.code.Code.{Code}
 use Rattle.wy_code.specs.declared.instruction.Operator.{Operator}
 use Rattle.wy_code.specs.declared.instruction.Instruction.TheVariants.{Op as Operate}
 use Rattle.wy_code.specs.Operations.{operator_meant, operand_count, operated, computed}
-use Rattle.wy_code.specs.Stores.{Word, Int, Truth, Text, Store, Reply, operand, ended, replied, with_text, text_built}
-use Rattle.wy_code.specs.Machine.{Next, Halt, push, push_reply}
+use Rattle.wy_code.specs.Stores.{Int, Truth, Text, Store, operand, ended, replied, with_text}
+use Rattle.wy_code.specs.Machine.{Next, push_reply}
 use Rattle.wy_machine.specs.declared.run_end.RunEnd.TheVariants.{Trap}
 use Rattle.wy_machine.specs.declared.run_end.TrapKind.{TrapKind}
 use Rattle.wy_machine.specs.declared.run_end.TrapKind.TheVariants.{Crowded}

@@ -1,11 +1,10 @@
 -- Steps that ask no device.
-use Rattle.std.proofs.Common.{◌≡◌, ◌≢◌, ◌≤◌, ℕ, List, [], ◌∷◌, ◌++◌, Result, Ok, Err, refl, sym, ap, ◌∙◌, subst, arith}
+use Rattle.std.proofs.Common.{◌≡◌, List, [], ◌++◌, Result, Ok, Err, refl, sym, ap, ◌∙◌, subst, arith}
 use Rattle.std.specs.Prelude.{IsErrAnd}
 use Rattle.wy_text.specs.declared.fault.Place.{Place}
 use Rattle.wy_text.proofs.Gains.{gained-nil}
 use Rattle.wy_text.specs.Outside.{gained}
 use Rattle.wy_device.specs.declared.deed.Event.{Event}
-use Rattle.wy_device.specs.declared.operation.Kind.{Kind}
 use Rattle.wy_device.specs.declared.operation.Kind.TheVariants.{Console, Folder, Clock, Random}
 use Rattle.wy_device.specs.Device.{DeviceState}
 use Rattle.wy_device.specs.Devices.{DevicesState}
@@ -13,14 +12,14 @@ use Rattle.wy_device.specs.Events.{DidExactly, deeds_of}
 use Rattle.wy_device.specs.RunEnds as ends
 use Rattle.wy_device.specs.Tapes.{Tapes, spliced, answers}
 use Rattle.wy_code.specs.declared.code.Code.{Code}
-use Rattle.wy_code.specs.Machine.{Next, Go, Halt, stuck}
+use Rattle.wy_code.specs.Machine.{Next, Go, Halt}
 use Rattle.wy_machine.specs.declared.run_end.RunEnd.{RunEnd}
 use Rattle.wy_machine.specs.declared.run_end.RunEnd.TheVariants.{Ended, Trap, TooDeep, Spent, DeviceFailed, SinkFailed, Memory}
 use Rattle.wy_machine.specs.declared.run_end.TrapKind.{TrapKind}
 use Rattle.wy_machine.specs.Runs.{tapes_of, IsSameDevice, AreSameDevices}
 use Rattle.wy_machine.specs.Stacks.{StackState}
 use Rattle.wy_machine.specs.States.{state_of}
-use Rattle.wy_machine.specs.Steps.{AreQuiet, IsNotStuck, GoesOn, Halts, Comes, IsStep}
+use Rattle.wy_machine.specs.Steps.{AreQuiet, IsNotStuck, Halts, Comes, IsStep}
 use Rattle.wy_machine.specs.StoreStates.{StoreState}
 use Rattle.wy_machine.specs.TrapKinds.{trap_meant}
 

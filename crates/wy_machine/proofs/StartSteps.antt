@@ -8,7 +8,6 @@ use Rattle.wy_device.specs.declared.operation.Kind.{Kind}
 use Rattle.wy_device.specs.Devices.{DevicesState}
 use Rattle.wy_device.specs.Events.{deeds_of, same_kind}
 use Rattle.wy_device.specs.Operation.{kind_of}
-use Rattle.wy_device.specs.RunEnds as ends
 use Rattle.wy_device.specs.Tapes.{Tapes}
 use Rattle.wy_code.specs.declared.code.Body.{Body}
 use Rattle.wy_code.specs.declared.code.Code.{Code}
@@ -20,11 +19,11 @@ use Rattle.wy_code.specs.Machine as machine
 use Rattle.wy_code.specs.Machine.{Next, Go, Halt, stuck, all_instances, begin_next, begin_instance, begin_body, start_in, this_at_start}
 use Rattle.wy_machine.specs.declared.run_end.RunEnd.TheVariants.{Ended}
 use Rattle.wy_machine.specs.Stacks.{OpenBody, StackState, begun}
-use Rattle.wy_machine.specs.States.{body_or_none, frame_of, store_of, state_of}
+use Rattle.wy_machine.specs.States.{body_or_none, frame_of, store_of}
 use Rattle.wy_machine.specs.Steps.{acting, beginning, AreQuiet, IsNotStuck, IsStep}
 use Rattle.wy_machine.specs.StoreStates.{StoreState}
 use Rattle.wy_machine.proofs.Acts.{no_tapes}
-use Rattle.wy_machine.proofs.Quiet.{goes_quietly, ends_run, unstuck}
+use Rattle.wy_machine.proofs.Quiet.{goes_quietly, ends_run}
 
 enter_later : (kind : Kind) (es : List Event) (instance body : List ℕ) → deeds_of kind es ≡ [] → deeds_of kind (es ++ Enter instance body ∷ []) ≡ []
 enter_later kind [] instance body e = refl

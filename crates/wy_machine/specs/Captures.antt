@@ -1,5 +1,5 @@
 -- What an object captures.
-use Rattle.std.specs.Prelude.{ℕ, List, [], ◌∷◌, ◌++◌, Option, Some, None, reverse, take, slice_get}
+use Rattle.std.specs.Prelude.{List, [], ◌∷◌, ◌++◌, Option, Some, None, reverse, take, slice_get}
 use Rattle.wy_code.specs.declared.code.Literal.{Literal}
 use Rattle.wy_code.specs.declared.code.Source.{Source}
 use Rattle.wy_code.specs.declared.code.Source.TheVariants.{Slot, Value}

@@ -1,5 +1,5 @@
 -- The bodies that are open, each with its slots and operands.
-use Rattle.std.specs.Prelude.{ℕ, ◌+◌, ◌-◌, ◌++◌, replicate, Option, Some, None, Bool, true, false, slice_set, ◌<◌, ◌≤◌, List, [], ◌∷◌, length, take, drop, reverse}
+use Rattle.std.specs.Prelude.{ℕ, ◌+◌, ◌-◌, ◌++◌, replicate, Option, Some, None, Bool, true, false, slice_set, ◌<◌, ◌≤◌, List, [], ◌∷◌, take, drop, reverse}
 use Rattle.wy_code.specs.Stores.{Word, Nothing}
 use Rattle.wy_code.specs.Machine.{first_of}
 use Rattle.wy_machine.specs.declared.stack.Frame.{Frame}

@@ -1,5 +1,5 @@
 -- What the machine's state is to the definition of a step.
-use Rattle.std.specs.Prelude.{ℕ, List, [], ◌++◌, length, drop, map, Option, Some, None, slice_get}
+use Rattle.std.specs.Prelude.{ℕ, [], ◌++◌, length, drop, map, Option, Some, None, slice_get}
 use Rattle.wy_device.specs.Tapes.{Tapes}
 use Rattle.wy_code.specs.declared.code.Body.{Body}
 use Rattle.wy_code.specs.declared.code.Code.{Code}

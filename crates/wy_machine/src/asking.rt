@@ -22,9 +22,11 @@ pub fn ask<D: Device>(
     ensures same { AreSameDevices (states D.state devices.old) (states D.state devices.new) }
     ensures answer { IfOk result (IsAnswerOf op.now) }
     ensures done { IfOk result (λ a. DidExactly (states D.state devices.old) (states D.state devices.new) (deed_event grant.now op.now (Some a))) }
-    ensures bad { result ≡ Err DeviceError.Failed → DidExactly (states D.state devices.old) (states D.state devices.new) (deed_event grant.now op.now None) }
+    ensures bad { result ≡ Err DeviceError.Failed →
+        DidExactly (states D.state devices.old) (states D.state devices.new) (deed_event grant.now op.now None) }
     ensures none { result ≡ Err DeviceError.Memory → DidExactly (states D.state devices.old) (states D.state devices.new) [] }
-    ensures failed { result ≡ Err DeviceError.Failed → Rose (device_of (states D.state devices.old) (kind_of op.now)).faults (device_of (states D.state devices.new) (kind_of op.now)).faults }
+    ensures failed { result ≡ Err DeviceError.Failed →
+        Rose (device_of (states D.state devices.old) (kind_of op.now)).faults (device_of (states D.state devices.new) (kind_of op.now)).faults }
 {
     match op {
         Op::ConsoleRead => devices.console.perform(grant, op),

@@ -49,7 +49,8 @@ pub fn operate(
     operator: Operator,
 ) -> Result<(), RunEnd>
     requires { IsNotStuck (acting code.now 0 place machine.old.stack machine.old.store (Operate operator)) }
-    ensures { (d : DevicesState) → IsStep code.now machine.new.stack machine.new.store (acting code.now 0 place machine.old.stack machine.old.store (Operate operator)) d d result }
+    ensures { (d : DevicesState) → IsStep code.now machine.new.stack machine.new.store
+        (acting code.now 0 place machine.old.stack machine.old.store (Operate operator)) d d result }
 {
     let count = operand_count(operator);
     let alloc = machine.store.alloc();

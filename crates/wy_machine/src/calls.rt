@@ -37,7 +37,8 @@ pub fn enter(
     requires receiver { slice_get machine.old.stack.running.operands count ≡ Some (ObjectWord object) }
     requires few { length machine.old.stack.callers < depth }
     requires sound { IsNotStuck (acting code.now depth place machine.old.stack machine.old.store (Call method count)) }
-    ensures { (d : DevicesState) → IsStep code.now machine.new.stack machine.new.store (acting code.now depth place machine.old.stack machine.old.store (Call method count)) d d result }
+    ensures { (d : DevicesState) → IsStep code.now machine.new.stack machine.new.store
+        (acting code.now depth place machine.old.stack machine.old.store (Call method count)) d d result }
 {
     match machine.store.object(object as usize) {
         Some(thing) => {

@@ -21,7 +21,8 @@ pub fn requested(
     count: usize,
 ) -> Result<Option<Op>, Memory>
     requires { count ≤ length machine.now.stack.running.operands }
-    ensures { IfOk result (λ op. (tapes : Tapes) → op ≡ asked_for kind method.now (texts_named (store_of code.now machine.now.store tapes) (reverse (take count machine.now.stack.running.operands)))) }
+    ensures { IfOk result (λ op. (tapes : Tapes) →
+        op ≡ asked_for kind method.now (texts_named (store_of code.now machine.now.store tapes) (reverse (take count machine.now.stack.running.operands)))) }
 {
     match texts_of(code, &machine.store, machine.stack.arguments(count))? {
         Some(texts) => match operation_called(kind, method.as_bytes()) {

@@ -34,7 +34,8 @@ impl Machine {
     /// Pushes a value of the current object.
     pub fn get(&mut self, at: usize) -> Result<(), Memory>
         requires { IsSome (value_of self.old.store (first_of self.old.stack.running.slots) at) }
-        ensures pushed { OnOk result (self.new.stack ≡ pushed (unwrap_or (value_of self.old.store (first_of self.old.stack.running.slots) at) Nothing) self.old.stack) }
+        ensures pushed { OnOk result (self.new.stack
+            ≡ pushed (unwrap_or (value_of self.old.store (first_of self.old.stack.running.slots) at) Nothing) self.old.stack) }
         ensures same { OnOk result (self.new.store ≡ self.old.store) }
     {
         match value(&self.store, self.stack.this(), at) {
@@ -48,7 +49,8 @@ impl Machine {
         requires operand { 0 < length self.old.stack.running.operands }
         requires value { IsSome (value_of self.old.store (first_of self.old.stack.running.slots) at) }
         ensures popped { self.new.stack ≡ with_operands (drop 1 self.old.stack.running.operands) self.old.stack }
-        ensures written { Some self.new.store ≡ value_written (object_of (first_of self.old.stack.running.slots)) at (first_of self.old.stack.running.operands) self.old.store }
+        ensures written { Some self.new.store
+            ≡ value_written (object_of (first_of self.old.stack.running.slots)) at (first_of self.old.stack.running.operands) self.old.store }
     {
         let word = self.stack.pop();
         match self.stack.this().object() {

@@ -74,7 +74,8 @@ fn make_object(
 ) -> Result<(), RunEnd>
     requires here { literal_of code.now machine.old.stack.running.instance literal ≡ Some kind.now }
     requires sound { IsNotStuck (acting code.now 0 place machine.old.stack machine.old.store (New literal)) }
-    ensures { (d : DevicesState) → IsStep code.now machine.new.stack machine.new.store (acting code.now 0 place machine.old.stack machine.old.store (New literal)) d d result }
+    ensures { (d : DevicesState) → IsStep code.now machine.new.stack machine.new.store
+        (acting code.now 0 place machine.old.stack machine.old.store (New literal)) d d result }
 {
     let count = kind.fields as usize;
     let values = values_of(machine, kind)?;
@@ -96,7 +97,8 @@ fn make_object(
 /// Makes an object of the literal of a number.
 pub fn make(code: &Code, machine: &mut Machine, place: Place, literal: u32) -> Result<(), RunEnd>
     requires { IsNotStuck (acting code.now 0 place machine.old.stack machine.old.store (New literal)) }
-    ensures { (d : DevicesState) → IsStep code.now machine.new.stack machine.new.store (acting code.now 0 place machine.old.stack machine.old.store (New literal)) d d result }
+    ensures { (d : DevicesState) → IsStep code.now machine.new.stack machine.new.store
+        (acting code.now 0 place machine.old.stack machine.old.store (New literal)) d d result }
 {
     match literal_at(code, machine.stack.instance() as usize, literal as usize) {
         Some(kind) => make_object(code, machine, place, literal, kind),

@@ -46,7 +46,8 @@ pub fn operand_count(operator: Operator) -> usize
 
 /// Whether two words are as asked: the same, or different.
 fn compared(code: &Code, store: &Store, x: Word, y: Word, different: bool) -> Computed
-    ensures { (tapes : Tapes) → computed_meant result ≡ meant.compared (not_if different) (operand (store_of code.now store.now tapes) x) (operand (store_of code.now store.now tapes) y) }
+    ensures { (tapes : Tapes) → computed_meant result
+        ≡ meant.compared (not_if different) (operand (store_of code.now store.now tapes) x) (operand (store_of code.now store.now tapes) y) }
 {
     match same(code, store, x, y) {
         Some(same) => Computed::Truth(same != different),
@@ -63,7 +64,8 @@ pub fn computed(
     operator: Operator,
 ) -> Result<Computed, Memory>
     requires { operand_count operator ≤ length stack.now.running.operands }
-    ensures { IfOk result (λ c. (tapes : Tapes) → computed_meant c ≡ operate (operator_meant operator) (map (operand (store_of code.now store.now tapes)) (reverse (take (operand_count operator) stack.now.running.operands)))) }
+    ensures { IfOk result (λ c. (tapes : Tapes) →
+        computed_meant c ≡ operate (operator_meant operator) (map (operand (store_of code.now store.now tapes)) (reverse (take (operand_count operator) stack.now.running.operands)))) }
 {
     match operator {
         Operator::Negate => Ok(negated(stack.operand(0))),

@@ -37,7 +37,8 @@ fn ask_for_text<D: Device>(
     requires text { requests.answers_text op.now ≡ true }
     requires room { length machine.old.store.texts < 4194304 }
     requires sound { IsNotStuck (acting code.now depth place machine.old.stack machine.old.store (Call method count)) }
-    ensures { IsStep code.now machine.new.stack machine.new.store (acting code.now depth place machine.old.stack machine.old.store (Call method count)) (states D.state devices.old) (states D.state devices.new) result }
+    ensures { IsStep code.now machine.new.stack machine.new.store
+        (acting code.now depth place machine.old.stack machine.old.store (Call method count)) (states D.state devices.old) (states D.state devices.new) result }
 {
     let number = next_text(code, &machine.store)?;
     let name = grant.name.copy()?;
@@ -78,7 +79,8 @@ fn ask_for_word<D: Device>(
     requires good { requests.has_good_name op.now ≡ true }
     requires no_text { requests.answers_text op.now ≡ false }
     requires sound { IsNotStuck (acting code.now depth place machine.old.stack machine.old.store (Call method count)) }
-    ensures { IsStep code.now machine.new.stack machine.new.store (acting code.now depth place machine.old.stack machine.old.store (Call method count)) (states D.state devices.old) (states D.state devices.new) result }
+    ensures { IsStep code.now machine.new.stack machine.new.store
+        (acting code.now depth place machine.old.stack machine.old.store (Call method count)) (states D.state devices.old) (states D.state devices.new) result }
 {
     let name = grant.name.copy()?;
     match ask(devices, &grant.name, op) {
@@ -112,7 +114,8 @@ fn request<D: Device>(
     requires order { IsInOrder (states D.state devices.old) }
     requires request { IsRequest code.now machine.old.stack machine.old.store method count grant.now op.now }
     requires sound { IsNotStuck (acting code.now depth place machine.old.stack machine.old.store (Call method count)) }
-    ensures { IsStep code.now machine.new.stack machine.new.store (acting code.now depth place machine.old.stack machine.old.store (Call method count)) (states D.state devices.old) (states D.state devices.new) result }
+    ensures { IsStep code.now machine.new.stack machine.new.store
+        (acting code.now depth place machine.old.stack machine.old.store (Call method count)) (states D.state devices.old) (states D.state devices.new) result }
 {
     if !has_good_name(op) {
         return Err(RunEnd::Trap {
@@ -151,7 +154,8 @@ pub fn perform<D: Device>(
     requires order { IsInOrder (states D.state devices.old) }
     requires receiver { slice_get machine.old.stack.running.operands count ≡ Some (GrantWord number) }
     requires sound { IsNotStuck (acting code.now depth place machine.old.stack machine.old.store (Call method count)) }
-    ensures { IsStep code.now machine.new.stack machine.new.store (acting code.now depth place machine.old.stack machine.old.store (Call method count)) (states D.state devices.old) (states D.state devices.new) result }
+    ensures { IsStep code.now machine.new.stack machine.new.store
+        (acting code.now depth place machine.old.stack machine.old.store (Call method count)) (states D.state devices.old) (states D.state devices.new) result }
 {
     match code.grants.get(number as usize) {
         Some(grant) => match code.methods.get(method as usize) {

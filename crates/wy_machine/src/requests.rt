@@ -110,7 +110,8 @@ pub fn operation_called(kind: Kind, method: &[u8]) -> Option<OpName>
 
 /// The texts that words name; `None` exactly where one names none.
 pub fn texts_of(code: &Code, store: &Store, words: &[Word]) -> Result<Option<Vec<Text>>, Memory>
-    ensures { IfOk result (λ texts. (tapes : Tapes) → MatchOption texts (texts_named (store_of code.now store.now tapes) words.now ≡ None) (λ found. texts_named (store_of code.now store.now tapes) words.now ≡ Some found.items)) }
+    ensures { IfOk result (λ texts. (tapes : Tapes) →
+        MatchOption texts (texts_named (store_of code.now store.now tapes) words.now ≡ None) (λ found. texts_named (store_of code.now store.now tapes) words.now ≡ Some found.items)) }
 {
     let mut texts = Vec::new(store.alloc());
     for word in words {

@@ -26,7 +26,8 @@ fn this_at_start(code: &Code, instance: u32) -> Word
 /// Begins the instance that starts next, or the program, or ends the run where nothing is left to start.
 pub fn begin(code: &Code, machine: &mut Machine) -> Result<(), RunEnd>
     requires { IsNotStuck (beginning code.now [] machine.old.store) }
-    ensures { (events : List Event) → AreQuiet events → (d : DevicesState) → IsStep code.now machine.new.stack machine.new.store (beginning code.now events machine.old.store) d d result }
+    ensures { (events : List Event) → AreQuiet events → (d : DevicesState) → IsStep code.now machine.new.stack machine.new.store
+        (beginning code.now events machine.old.store) d d result }
 {
     let number = machine.store.next();
     match instance_at(code, number as usize) {
@@ -49,7 +50,8 @@ pub fn begin(code: &Code, machine: &mut Machine) -> Result<(), RunEnd>
 /// Ends the body that an instance starts with, and begins what starts next.
 pub fn finish(code: &Code, machine: &mut Machine, place: Place) -> Result<(), RunEnd>
     requires { IsNotStuck (acting code.now 0 place machine.old.stack machine.old.store Finish) }
-    ensures { (d : DevicesState) → IsStep code.now machine.new.stack machine.new.store (acting code.now 0 place machine.old.stack machine.old.store Finish) d d result }
+    ensures { (d : DevicesState) → IsStep code.now machine.new.stack machine.new.store
+        (acting code.now 0 place machine.old.stack machine.old.store Finish) d d result }
 {
     begin(code, machine)
 }

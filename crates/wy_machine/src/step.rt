@@ -67,7 +67,8 @@ fn call<D: Device>(
 ) -> Result<(), RunEnd>
     requires order { IsInOrder (states D.state devices.old) }
     requires sound { IsNotStuck (acting code.now depth place machine.old.stack machine.old.store (Call method count)) }
-    ensures { IsStep code.now machine.new.stack machine.new.store (acting code.now depth place machine.old.stack machine.old.store (Call method count)) (states D.state devices.old) (states D.state devices.new) result }
+    ensures { IsStep code.now machine.new.stack machine.new.store
+        (acting code.now depth place machine.old.stack machine.old.store (Call method count)) (states D.state devices.old) (states D.state devices.new) result }
 {
     match machine.stack.operand(count as usize).kind() {
         WordKind::Object(object) => {
@@ -98,7 +99,8 @@ fn act<D: Device>(
 ) -> Result<(), RunEnd>
     requires order { IsInOrder (states D.state devices.old) }
     requires sound { IsNotStuck (acting code.now depth place machine.old.stack machine.old.store instruction) }
-    ensures { IsStep code.now machine.new.stack machine.new.store (acting code.now depth place machine.old.stack machine.old.store instruction) (states D.state devices.old) (states D.state devices.new) result }
+    ensures { IsStep code.now machine.new.stack machine.new.store
+        (acting code.now depth place machine.old.stack machine.old.store instruction) (states D.state devices.old) (states D.state devices.new) result }
 {
     match instruction {
         Instruction::Push(constant) => {
@@ -156,7 +158,8 @@ pub fn step<D: Device>(
 ) -> Result<(), RunEnd>
     requires order { IsInOrder (states D.state devices.old) }
     requires sound { IsNotStuck (stepping code.now depth machine.old.stack machine.old.store) }
-    ensures { IsStep code.now machine.new.stack machine.new.store (stepping code.now depth machine.old.stack machine.old.store) (states D.state devices.old) (states D.state devices.new) result }
+    ensures { IsStep code.now machine.new.stack machine.new.store
+        (stepping code.now depth machine.old.stack machine.old.store) (states D.state devices.old) (states D.state devices.new) result }
 {
     let placed = fetch(code, &mut machine.stack);
     act(

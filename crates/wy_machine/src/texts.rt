@@ -50,7 +50,8 @@ fn text_size(text: &Text) -> Computed
 
 /// How many bytes a text has.
 pub fn size(code: &Code, store: &Store, x: Word) -> Computed
-    ensures { (tapes : Tapes) → computed_meant result ≡ on_text (λ s. GivesNumber (pos (length s))) (operand (store_of code.now store.now tapes) x ∷ []) }
+    ensures { (tapes : Tapes) → computed_meant result
+        ≡ on_text (λ s. GivesNumber (pos (length s))) (operand (store_of code.now store.now tapes) x ∷ []) }
 {
     match text_named(code, store, x) {
         Some(text) => text_size(text),
@@ -71,7 +72,8 @@ fn join_texts(s: &Text, t: &Text) -> Result<Computed, Memory>
 
 /// Two texts joined.
 pub fn joined(code: &Code, store: &Store, x: Word, y: Word) -> Result<Computed, Memory>
-    ensures { IfOk result (λ c. (tapes : Tapes) → computed_meant c ≡ on_texts meant.joined (operand (store_of code.now store.now tapes) x ∷ operand (store_of code.now store.now tapes) y ∷ [])) }
+    ensures { IfOk result (λ c. (tapes : Tapes) →
+        computed_meant c ≡ on_texts meant.joined (operand (store_of code.now store.now tapes) x ∷ operand (store_of code.now store.now tapes) y ∷ [])) }
 {
     match text_named(code, store, x) {
         Some(s) => match text_named(code, store, y) {
@@ -99,7 +101,8 @@ fn byte_of(text: &Text, at: i64) -> Computed
 
 /// A byte of a text.
 pub fn byte_in(code: &Code, store: &Store, x: Word, y: Word) -> Computed
-    ensures { (tapes : Tapes) → computed_meant result ≡ on_text_and_number byte_at (operand (store_of code.now store.now tapes) x ∷ operand (store_of code.now store.now tapes) y ∷ []) }
+    ensures { (tapes : Tapes) → computed_meant result
+        ≡ on_text_and_number byte_at (operand (store_of code.now store.now tapes) x ∷ operand (store_of code.now store.now tapes) y ∷ []) }
 {
     match text_named(code, store, x) {
         Some(text) => match y.int() {
@@ -139,7 +142,8 @@ pub fn part(
     y: Word,
     z: Word,
 ) -> Result<Computed, Memory>
-    ensures { IfOk result (λ c. (tapes : Tapes) → computed_meant c ≡ on_text_and_numbers part_of (operand (store_of code.now store.now tapes) x ∷ operand (store_of code.now store.now tapes) y ∷ operand (store_of code.now store.now tapes) z ∷ [])) }
+    ensures { IfOk result (λ c. (tapes : Tapes) →
+        computed_meant c ≡ on_text_and_numbers part_of (operand (store_of code.now store.now tapes) x ∷ operand (store_of code.now store.now tapes) y ∷ operand (store_of code.now store.now tapes) z ∷ [])) }
 {
     match text_named(code, store, x) {
         Some(text) => match numbers(y, z) {

@@ -1,11 +1,10 @@
 use mir.Val.{SFits}
-use Rattle.std.proofs.Common.{◌≡◌, ℤ, ◌+ℤ◌, ◌-ℤ◌, ◌*ℤ◌, neg_ℤ, not, Bool, refl, sym, ap, ap₂, ◌∙◌, rules}
+use Rattle.std.proofs.Common.{ℤ, refl, sym, ap, ap₂, ◌∙◌, rules}
 use Rattle.std.proofs.lemmas.Int.{to_z-of_z}
 use Rattle.std.specs.Int.{w64}
-use Rattle.std.specs.Prelude.{int_lt, int_le}
-use Rattle.std.specs.Fmt.{signed_decimal}
-use Rattle.wy_device.specs.Operators.{Computed, within_range, quotient_of, remainder_of, one_byte, GivesTruth, Builds}
-use Rattle.wy_machine.proofs.Computing.{given_one, given_two, fits, on_numbers_are, on_number_are, on_truth_are}
+use Rattle.std.specs.Prelude.{int_le}
+use Rattle.wy_device.specs.Operators.{Computed, GivesTruth}
+use Rattle.wy_machine.proofs.Computing.{given_two, on_numbers_are}
 use Rattle.wy_machine.proofs.arithmetic.greater_or_equal.Goals as goal
 
 meant : ℤ → ℤ → Computed

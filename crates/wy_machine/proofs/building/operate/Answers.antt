@@ -1,14 +1,12 @@
 use mir.Val.{SFits}
-use Rattle.std.proofs.Common.{◌≡◌, ℕ, ◌<◌, ◌≤◌, ◌++◌, length, drop, Ok, Err, refl, sym, ap, ap₂, ◌∙◌, subst, rules, arith}
+use Rattle.std.proofs.Common.{◌≡◌, ◌<◌, ◌≤◌, length, drop, Ok, sym, ap, ap₂, ◌∙◌, subst, rules}
 use Rattle.std.proofs.lemmas.Int.{to_z-of_z}
 use Rattle.std.specs.Int.{w64}
-use Rattle.wy_code.specs.Operations.{operand_count}
-use Rattle.wy_code.specs.Stores.{Word, Int, Text}
+use Rattle.wy_code.specs.Stores.{Int}
 use Rattle.wy_machine.specs.Computing.{computed_meant}
 use Rattle.wy_machine.specs.Stacks.{StackState, pushed, with_operands}
 use Rattle.wy_machine.specs.Steps.{IsStep}
-use Rattle.wy_machine.specs.StoreStates.{StoreState}
-use Rattle.wy_machine.proofs.OperatorSteps.{operating, after, with_built, given_there, number_step, truth_step, trap_step, text_step, crowded_step, no_misfit}
+use Rattle.wy_machine.proofs.OperatorSteps.{operating, given_there, number_step, truth_step, trap_step, text_step, crowded_step, no_misfit}
 use Rattle.wy_machine.proofs.Quiet.{step_to, wants_when}
 use Rattle.wy_machine.proofs.building.operate.Goals as goal
 

@@ -1,4 +1,4 @@
-use Rattle.std.proofs.Common.{◌≡◌, refl, sym, ap, ◌∙◌}
+use Rattle.std.proofs.Common.{refl, sym, ap, ◌∙◌}
 use Rattle.wy_machine.specs.Stacks.{entered}
 use Rattle.wy_machine.proofs.CallSteps.{thing_there, method_there, body_there, enter_step}
 use Rattle.wy_machine.proofs.Quiet.{step_to, wants_when}

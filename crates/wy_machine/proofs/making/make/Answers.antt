@@ -1,4 +1,4 @@
-use Rattle.std.proofs.Common.{◌≡◌, sym, ap, ◌∙◌}
+use Rattle.std.proofs.Common.{sym, ap, ◌∙◌}
 use Rattle.wy_code.specs.Machine.{literal_of}
 use Rattle.wy_machine.proofs.ObjectSteps.{literal_there}
 use Rattle.wy_machine.proofs.making.make.Goals as goal

@@ -1,4 +1,4 @@
-use Rattle.std.proofs.Common.{◌≡◌, ℕ, ◌+◌, ◌<◌, ◌≤◌, refl, sym, ap, ap₂, ◌∙◌, subst}
+use Rattle.std.proofs.Common.{ℕ, ◌+◌, ◌<◌, ◌≤◌, ap, ap₂, ◌∙◌, subst}
 use Rattle.wy_code.specs.Stores.{Object, Thing}
 use Rattle.wy_machine.specs.Stacks.{pushed}
 use Rattle.wy_machine.specs.StoreStates.{StoreState, with_object}

@@ -1,8 +1,6 @@
-use Rattle.std.proofs.Common.{◌≡◌, refl, ◌∙◌}
+use Rattle.std.proofs.Common.{refl, ◌∙◌}
 use Rattle.wy_device.specs.Operators.{operate}
-use Rattle.wy_device.specs.Tapes.{Tapes}
 use Rattle.wy_code.specs.declared.instruction.Operator.TheVariants as operator
-use Rattle.wy_code.specs.Stores.{Store}
 use Rattle.wy_machine.specs.States.{store_of}
 use Rattle.wy_machine.proofs.Operating.{if_ok, one_given, two_given, three_given}
 use Rattle.wy_machine.proofs.operators.computed.Goals as goal

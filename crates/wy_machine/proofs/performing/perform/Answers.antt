@@ -1,14 +1,7 @@
-use Rattle.std.proofs.Common.{◌≡◌, ℕ, ◌+◌, ◌≤◌, ◌++◌, length, Err, Some, refl, sym, ap, ◌∙◌, subst, arith}
-use Rattle.std.proofs.lemmas.Option.{slice_get_within}
-use Rattle.wy_code.specs.Operations.{deed_event, word_answered}
-use Rattle.wy_code.specs.Stores.{Grant, Text}
+use Rattle.std.proofs.Common.{sym, ◌∙◌}
 use Rattle.wy_device.specs.Devices.{states}
-use Rattle.wy_device.specs.declared.device.DeviceError.TheVariants as device_error
-use Rattle.wy_machine.specs.Stacks.{pushed}
-use Rattle.wy_machine.specs.States.{store_of}
-use Rattle.wy_machine.proofs.CallSteps.{called_from}
-use Rattle.wy_machine.proofs.DeedSteps.{grant_there, method_named, operation_there, bad_name_step, full_step, room_for_text, no_text, failed_step, reply_step, text_answered, word_answered_is, text_answer_is, room_filled, named_failure}
-use Rattle.wy_machine.proofs.Quiet.{step_to, wants_when}
+use Rattle.wy_machine.proofs.DeedSteps.{grant_there, method_named, operation_there}
+use Rattle.wy_machine.proofs.Quiet.{wants_when}
 use Rattle.wy_machine.proofs.performing.perform.Goals as goal
 
 pub returns-in_err-op-in-Some-get : goal.returns-in_err-op-in-Some-get

@@ -1,4 +1,4 @@
-use Rattle.std.proofs.Common.{◌≡◌, ℕ, subst, arith}
+use Rattle.std.proofs.Common.{◌≡◌, subst, arith}
 use Rattle.wy_device.specs.Devices.{states}
 use Rattle.wy_machine.proofs.FirstSteps.{first_sound, leads_first, start_stops}
 use Rattle.wy_machine.proofs.Leading.{Leads, leads_more, run_stops, run_spent, sound_after}

@@ -1,4 +1,4 @@
-use Rattle.std.proofs.Common.{◌≡◌, [], sym, ap, ◌∙◌, subst}
+use Rattle.std.proofs.Common.{[], sym, ap, ◌∙◌, subst}
 use Rattle.wy_machine.specs.Steps.{beginning, starting, IsNotStuck}
 use Rattle.wy_machine.specs.StoreStates.{StoreState}
 use Rattle.wy_machine.proofs.FirstSteps.{starts}

@@ -1,4 +1,4 @@
-use Rattle.std.proofs.Common.{◌≡◌, ℕ, List, length, pos, sym, ap, ◌∙◌}
+use Rattle.std.proofs.Common.{ℕ, List, length, pos, sym, ap, ◌∙◌}
 use Rattle.wy_device.specs.Operators.{Computed, GivesNumber}
 use Rattle.wy_code.specs.Stores.{operand}
 use Rattle.wy_machine.specs.States.{store_of}

@@ -1,4 +1,4 @@
-use Rattle.std.proofs.Common.{◌≡◌, sym, ap, ◌∙◌}
+use Rattle.std.proofs.Common.{sym, ap, ◌∙◌}
 use Rattle.wy_machine.specs.States.{store_of}
 use Rattle.wy_machine.proofs.Computing.{text_numbered, text_in_operand}
 use Rattle.wy_machine.proofs.texts.text_named.Goals as goal

@@ -1,7 +1,5 @@
-use Rattle.std.proofs.Common.{◌≡◌, ℕ, ◌+◌, ◌-◌, ◌<◌, ◌≤◌, List, [], ◌∷◌, ◌++◌, length, take, drop, reverse, replicate, Some, sym, ap, ◌∙◌, subst, arith}
-use Rattle.wy_code.specs.Stores.{Word, Nothing}
-use Rattle.wy_machine.specs.Stacks.{StackState, IsStacked, with_operands, left_to, entered}
-use Rattle.wy_machine.specs.declared.stack.Frame.{Frame}
+use Rattle.std.proofs.Common.{◌≡◌, ◌-◌, ◌≤◌, length, drop, reverse, sym, ap, ◌∙◌, subst, arith}
+use Rattle.wy_machine.specs.Stacks.{StackState, with_operands}
 use Rattle.wy_machine.proofs.Cuts.{stack_of, dropped}
 use Rattle.wy_machine.proofs.stack.Stack.drop_operands.Goals as goal
 

@@ -1,7 +1,7 @@
-use Rattle.std.proofs.Common.{◌≡◌, ℕ, ◌+◌, ◌-◌, ◌<◌, ◌≤◌, List, [], ◌∷◌, ◌++◌, length, take, drop, set, reverse, replicate, Some, sym, ap, ap₂, ◌∙◌, subst, arith}
-use Rattle.std.proofs.lemmas.List.{length-take, length-reverse, reverse-append, take_all, take_rest}
-use Rattle.wy_code.specs.Stores.{Word, Nothing}
-use Rattle.wy_machine.specs.Stacks.{StackState, IsStacked, open_bodies, with_operands, left_to, entered}
+use Rattle.std.proofs.Common.{◌≡◌, ◌+◌, ◌-◌, ◌<◌, ◌≤◌, [], ◌∷◌, ◌++◌, length, reverse, replicate, sym, ap, ap₂, ◌∙◌, subst, arith}
+use Rattle.std.proofs.lemmas.List.{reverse-append, take_all}
+use Rattle.wy_code.specs.Stores.{Nothing}
+use Rattle.wy_machine.specs.Stacks.{StackState, entered}
 use Rattle.wy_machine.specs.declared.stack.Frame.{Frame}
 use Rattle.wy_machine.proofs.Cuts.{stack_of, entered_is}
 use Rattle.wy_machine.proofs.stack.Stack.enter.Goals as goal

@@ -1,8 +1,6 @@
-use Rattle.std.proofs.Common.{◌≡◌, ℕ, ◌+◌, ◌-◌, ◌<◌, ◌≤◌, List, [], ◌∷◌, ◌++◌, length, take, drop, reverse, replicate, Some, sym, ap, ◌∙◌, subst, arith}
-use Rattle.wy_code.specs.Stores.{Word, Nothing}
-use Rattle.wy_machine.specs.Stacks.{StackState, IsStacked, with_operands, left_to, entered}
-use Rattle.wy_machine.specs.declared.stack.Frame.{Frame}
-use Rattle.wy_machine.proofs.Cuts.{stack_of, replaced}
+use Rattle.std.proofs.Common.{◌≡◌, ◌-◌, ◌<◌, ◌≤◌, ◌∷◌, length, drop, reverse, sym, ap, ◌∙◌, subst, arith}
+use Rattle.wy_machine.specs.Stacks.{StackState, with_operands}
+use Rattle.wy_machine.proofs.Cuts.{replaced}
 use Rattle.wy_machine.proofs.stack.Stack.set_operand.Goals as goal
 
 pub returns : goal.returns

@@ -1,8 +1,5 @@
-use Rattle.std.proofs.Common.{◌≡◌, ℕ, ◌+◌, ◌-◌, ◌<◌, ◌≤◌, List, [], ◌∷◌, ◌++◌, length, take, drop, set, reverse, replicate, Some, sym, ap, ap₂, ◌∙◌, subst, arith}
-use Rattle.std.proofs.lemmas.List.{length-take, length-reverse, reverse-append, take_all, take_rest}
-use Rattle.wy_code.specs.Stores.{Word, Nothing}
-use Rattle.wy_machine.specs.Stacks.{StackState, IsStacked, open_bodies, with_operands, left_to, entered}
-use Rattle.wy_machine.specs.declared.stack.Frame.{Frame}
+use Rattle.std.proofs.Common.{◌<◌, ◌≤◌, length, set, reverse, sym, ap, ◌∙◌, subst, arith}
+use Rattle.wy_machine.specs.Stacks.{StackState}
 use Rattle.wy_machine.proofs.Cuts.{slot_set}
 use Rattle.wy_machine.proofs.stack.Stack.set_slot.Goals as goal
 
