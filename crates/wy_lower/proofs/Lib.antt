@@ -1,4 +1,9 @@
 pub mod Counting
+pub mod EmitForms
+pub mod EmitLists
+pub mod EmitOperands
+pub mod EmitPlaces
+pub mod EmitSteps
 mod ExamplesCode
 mod ExamplesRuns
 pub mod Numbers

@@ -1,5 +1,7 @@
 pub mod Correct
 pub mod Counts
+pub mod EmitIndexes
+pub mod Emits
 pub mod Inside
 pub mod Laws
 pub mod Listing

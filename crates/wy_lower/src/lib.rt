@@ -2,4 +2,8 @@
 //! specs/, and the laws about them in proofs/.
 #![tactic(auto)]
 
+mod expressions;
+mod indexes;
 pub mod laws;
+mod names;
+mod operands;
