@@ -7,12 +7,15 @@ use Rattle.std.proofs.lemmas.Iterator.Adapters.{position_from-zero}
 use Rattle.std.proofs.lemmas.Slice.Eq.{bytes_eq-Decides}
 use Rattle.wy_types.specs.declared.code.Variable.{Variable}
 use Rattle.wy_types.specs.declared.code.Variable.TheVariants.{Parameter, Local}
+use Rattle.wy_types.specs.declared.linked.Instance.{Instance}
 use Rattle.wy_types.specs.declared.resolved.Body as b
 use Rattle.wy_types.specs.Program.{Body, body_of}
 use Rattle.wy_meaning.specs.Values.{same_variable}
+use Rattle.wy_meaning.specs.Starts.{numbered_from, started_of}
 use Rattle.wy_lower.specs.Parts.{is_among, each_once_after, number_from}
 use Rattle.wy_lower.specs.Inside.{place_from, is_val, capture_from}
 use Rattle.wy_lower.specs.EmitIndexes.{key_of, same_key}
+use Rattle.wy_lower.specs.EmitScopes.{or_first}
 
 or_else : Option ℕ → Option ℕ → Option ℕ
 or_else (Some a) b = Some a
@@ -46,6 +49,17 @@ place_append t k (y ∷ ys) x =
       | true ↦ refl
       | false ↦ place_append t (k + 1) ys x ∙ ap (λ j. or_else (position_from t (k + 1) ys) (one_of j (t x))) next
     ]
+
+-- the first place in a list with one more at its end
+pub place_last : {X : Type 0} (t : X → Bool) (xs : List X) (x : X) → position_from t 0 (xs ++ x ∷ []) ≡ (if t x then or_first (position_from t 0 xs) (length xs) else position_from t 0 xs)
+unfolding or_else one_of
+place_last t xs x = place_append t 0 xs x ∙ both (position_from t 0 xs) (t x)
+  where
+    both : (o : Option ℕ) (b : Bool) → or_else o (one_of (0 + length xs) b) ≡ (if b then or_first o (length xs) else o)
+    both (Some a) true = refl
+    both (Some a) false = refl
+    both None true = (let start : 0 + length xs ≡ length xs = omega arith in ap (λ (n : ℕ). Some n) start)
+    both None false = refl
 
 ------------------------------------------------------------
 -- The first place of each key
@@ -170,3 +184,13 @@ nat_exact a b e = search rules
 pub written_is : (bs : List b.Body) → map (λ (x : b.Body). x.signature.name) bs ≡ map (λ (x : Body). x.signature.name) (map body_of bs)
 written_is [] = refl
 written_is (b ∷ bs) = ap (λ l. b.signature.name ∷ l) (written_is bs)
+
+------------------------------------------------------------
+-- Instances
+
+pub bytes_exact : (a b : List ℕ) → bytes_eq a b ≡ true → a ≡ b
+bytes_exact a b e = (bytes_eq-Decides a b).0 e
+
+-- the number of the first instance of a name
+pub instance_place : (x : List ℕ) (ss : List Instance) → unwrap_or (position_from (λ (s : Instance). bytes_eq s.name x) 0 ss) (length ss) ≡ numbered_from 0 x (map started_of ss)
+instance_place x ss = place_or_end (λ (s : Instance). bytes_eq s.name x) (λ k zs. numbered_from k x (map started_of zs)) (λ k. refl) (λ k y ys. refl) ss

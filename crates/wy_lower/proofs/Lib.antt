@@ -1,7 +1,10 @@
 pub mod Counting
+pub mod EmitBodies
 pub mod EmitForms
 pub mod EmitLists
+pub mod EmitMakers
 pub mod EmitOperands
+pub mod EmitParts
 pub mod EmitPlaces
 pub mod EmitSteps
 mod ExamplesCode

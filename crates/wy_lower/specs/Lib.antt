@@ -1,6 +1,9 @@
 pub mod Correct
 pub mod Counts
+pub mod EmitBodies
+pub mod EmitGathers
 pub mod EmitIndexes
+pub mod EmitScopes
 pub mod Emits
 pub mod Inside
 pub mod Laws

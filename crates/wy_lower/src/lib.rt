@@ -2,8 +2,13 @@
 //! specs/, and the laws about them in proofs/.
 #![tactic(auto)]
 
+mod emitting;
 mod expressions;
+mod gathering;
 mod indexes;
 pub mod laws;
+mod limits;
 mod names;
 mod operands;
+mod scopes;
+mod starting;
