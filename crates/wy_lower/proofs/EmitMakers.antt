@@ -1,11 +1,15 @@
 -- The first method that makes a literal.
 use Rattle.std.specs.Prelude.{◌||◌}
-use Rattle.std.proofs.Common.{◌≡◌, ◌<◌, ℕ, ◌+◌, List, [], ◌∷◌, ◌++◌, length, map, take, get_or, Bool, true, false, Option, Some, None, refl, sym, ap, ap₂, ◌∙◌, arith, nat_eq, if◌then◌else◌}
+use Rattle.std.proofs.Common.{◌≡◌, ◌<◌, ℕ, ◌+◌, List, [], ◌∷◌, ◌++◌, length, map, take, get_or, Bool, true, false, Option, Some, None, refl, sym, ap, ap₂, ◌∙◌, arith, nat_eq, if◌then◌else◌, suc, cond}
 use Rattle.std.proofs.lemmas.List.{length-take}
 use Rattle.wy_types.specs.declared.resolved.Body as b
 use Rattle.wy_types.specs.Code.{Expr, Number, Quoted, Truth, Nothing, This, Name, Unary, Binary, TextCall, Call, New, Ascribe, Assign}
-use Rattle.wy_types.specs.Program.{Body, body_of}
+use Rattle.std.specs.Prelude.{slice_get}
+use Rattle.std.specs.List.{position_from}
+use Rattle.wy_types.specs.Program.{Program, Scope, Body, body_of}
+use Rattle.wy_meaning.specs.Starts.{Starts}
 use Rattle.wy_lower.specs.Parts.{block_parts, make_literal}
+use Rattle.wy_lower.specs.Lowering.{inside_start, inside_body, inside_maker}
 use Rattle.wy_lower.specs.EmitGathers.{makes_in}
 use Rattle.wy_lower.specs.EmitScopes.{or_first, maker_noted, maker_of}
 use Rattle.wy_lower.proofs.EmitLists.{taken_more, length_mapped}
@@ -53,3 +57,48 @@ maker_more l bs k x lt at =
     let long : length front ≡ k = length_mapped body_of (take k bs) ∙ grind (arith, length-take) in
     ap (λ (n : ℕ). if t (body_of x) then or_first (maker_of l front) n else maker_of l front) (sym long)
     ∙ sym (place_last t front (body_of x)) ∙ ap (maker_of l) (sym (taken_more body_of bs k x lt at))
+
+------------------------------------------------------------
+-- What the maker of a literal sees
+
+module _ (p : Program) (starts : Starts) (s : Scope) (l : ℕ) where
+  -- the method n among these, the first of which has number k, is the maker
+  pub record Makes (k : ℕ) (bs : List Body) (n : ℕ) : Type 0 where
+    pub place : ℕ
+    pub at : n ≡ k + place
+    pub body : Body
+    pub there : slice_get bs place ≡ Some body
+    pub sees : inside_maker p starts s l k bs ≡ inside_body p starts s n body
+
+  makes_first : (k : ℕ) (b : Body) (bs : List Body) (n : ℕ) → make_literal l (block_parts b.block) ≡ true → k ≡ n → Makes k (b ∷ bs) n
+  makes_first k b bs n e same = record {
+    place = 0;
+    at = omega arith;
+    body = b;
+    there = refl;
+    sees = ap (λ t. if t then inside_body p starts s k b else inside_maker p starts s l (k + 1) bs) e ∙ ap (λ m. inside_body p starts s m b) same;
+  }
+
+  makes_later : (k : ℕ) (b : Body) (bs : List Body) (n : ℕ) → make_literal l (block_parts b.block) ≡ false → Makes (k + 1) bs n → Makes k (b ∷ bs) n
+  makes_later k b bs n e m = record {
+    place = suc m.place;
+    at = (let h = m.at in omega arith);
+    body = m.body;
+    there = m.there;
+    sees = ap (λ t. if t then inside_body p starts s k b else inside_maker p starts s l (k + 1) bs) e ∙ m.sees;
+  }
+
+  pub makes_some : (k : ℕ) (bs : List Body) (n : ℕ) → position_from (λ (b : Body). make_literal l (block_parts b.block)) k bs ≡ Some n → Makes k bs n
+  makes_some k [] n e = cc
+  makes_some k (b ∷ bs) n e =
+      let P : Bool → Type 0 = λ t. make_literal l (block_parts b.block) ≡ t → cond t (Some k) (position_from (λ (b : Body). make_literal l (block_parts b.block)) (k + 1) bs) ≡ Some n → Makes k (b ∷ bs) n in
+      (elim (make_literal l (block_parts b.block)) as P [
+        | true ↦ λ t g. (let same : k ≡ n = cc in makes_first k b bs n t same)
+        | false ↦ λ t g. makes_later k b bs n t (makes_some (k + 1) bs n g)
+      ]) refl e
+
+  pub makes_none : (k : ℕ) (bs : List Body) → position_from (λ (b : Body). make_literal l (block_parts b.block)) k bs ≡ None → inside_maker p starts s l k bs ≡ inside_start p starts s
+  makes_none k [] e = refl
+  makes_none k (b ∷ bs) e =
+      let P : Bool → Type 0 = λ t. cond t (Some k) (position_from (λ (b : Body). make_literal l (block_parts b.block)) (k + 1) bs) ≡ None → (if t then inside_body p starts s k b else inside_maker p starts s l (k + 1) bs) ≡ inside_start p starts s in
+      (elim (make_literal l (block_parts b.block)) as P [ true ↦ λ g. cc | false ↦ λ g. makes_none (k + 1) bs g ]) e

@@ -1,6 +1,7 @@
 pub mod Counting
 pub mod EmitBodies
 pub mod EmitForms
+pub mod EmitKinds
 pub mod EmitLists
 pub mod EmitMakers
 pub mod EmitOperands

@@ -6,6 +6,7 @@ mod emitting;
 mod expressions;
 mod gathering;
 mod indexes;
+mod kinds;
 pub mod laws;
 mod limits;
 mod names;
