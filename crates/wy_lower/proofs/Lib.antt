@@ -7,6 +7,7 @@ pub mod EmitMakers
 pub mod EmitOperands
 pub mod EmitParts
 pub mod EmitPlaces
+pub mod EmitStarts
 pub mod EmitSteps
 mod ExamplesCode
 mod ExamplesRuns

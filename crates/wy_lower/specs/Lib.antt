@@ -3,6 +3,7 @@ pub mod Counts
 pub mod EmitBodies
 pub mod EmitGathers
 pub mod EmitIndexes
+pub mod EmitLowered
 pub mod EmitScopes
 pub mod Emits
 pub mod Inside

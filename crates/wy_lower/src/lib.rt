@@ -9,6 +9,7 @@ mod indexes;
 mod kinds;
 pub mod laws;
 mod limits;
+pub mod lowering;
 mod names;
 mod operands;
 mod scopes;
