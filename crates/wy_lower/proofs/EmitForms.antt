@@ -20,7 +20,7 @@ use Rattle.wy_code.specs.declared.instruction.Instruction.TheVariants.{Push, Loa
 use Rattle.wy_code.specs.declared.instruction.Placed.{Placed}
 use Rattle.wy_lower.specs.Inside.{Inside, name_code, assigned_value, field_value}
 use Rattle.wy_lower.specs.Parts.{number_in}
-use Rattle.wy_lower.specs.Listing.{one, unary_code, text_code, followed, sides, branches, binary_listing, value_mark, listing, value_listing, values_listing, block_listing, fields_listing}
+use Rattle.wy_lower.specs.Listing.{one, unary_code, text_code, followed, sides, binary_listing, value_mark, listing, value_listing, values_listing, block_listing, fields_listing}
 use Rattle.wy_lower.specs.Emits.{Emits, statement_listing, evaluation, right_listing}
 use Rattle.wy_lower.proofs.EmitLists.{split_at, drop_all}
 use Rattle.wy_lower.proofs.EmitSteps.{emits_then, emits_as, Leaves, leaves_less, leaves_last, leaves_none, leaves_as}

@@ -1,6 +1,6 @@
 -- The first method that makes a literal.
 use Rattle.std.specs.Prelude.{◌||◌}
-use Rattle.std.proofs.Common.{◌≡◌, ◌<◌, ℕ, ◌+◌, List, [], ◌∷◌, ◌++◌, length, map, take, get_or, Bool, true, false, Option, Some, None, refl, sym, ap, ap₂, ◌∙◌, arith, nat_eq, if◌then◌else◌, suc, cond}
+use Rattle.std.proofs.Common.{◌≡◌, ◌<◌, ℕ, ◌+◌, List, [], ◌∷◌, length, map, take, get_or, Bool, true, false, Option, Some, None, refl, sym, ap, ◌∙◌, arith, nat_eq, if◌then◌else◌, suc, cond}
 use Rattle.std.proofs.lemmas.List.{length-take}
 use Rattle.wy_types.specs.declared.resolved.Body as b
 use Rattle.wy_types.specs.Code.{Expr, Number, Quoted, Truth, Nothing, This, Name, Unary, Binary, TextCall, Call, New, Ascribe, Assign}

@@ -1,5 +1,5 @@
 -- The most operands so far, and those of what is left, are those of the whole.
-use Rattle.std.proofs.Common.{◌≡◌, ◌<◌, ◌≤◌, ℕ, suc, ◌+◌, max, List, ◌∷◌, length, drop, get_or, refl, ap, ◌∙◌, arith}
+use Rattle.std.proofs.Common.{◌≡◌, ◌<◌, ◌≤◌, ℕ, suc, ◌+◌, max, List, length, drop, get_or, refl, ap, ◌∙◌, arith}
 use Rattle.wy_types.specs.declared.code.Value as v
 use Rattle.wy_types.specs.declared.code.Stmt as s
 use Rattle.wy_types.specs.Code.{Value, Block, Last}

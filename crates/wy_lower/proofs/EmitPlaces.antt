@@ -1,5 +1,5 @@
 -- Tables of the first places of keys, and tables of texts.
-use Rattle.std.proofs.Common.{◌≡◌, ℕ, zero, suc, ◌+◌, ◌<◌, List, [], ◌∷◌, ◌++◌, length, take, get_or, Bool, true, false, cond, refl, sym, ap, ◌∙◌, map, Option, Some, None, is_some, arith, rules, if◌then◌else◌}
+use Rattle.std.proofs.Common.{◌≡◌, ℕ, suc, ◌+◌, ◌<◌, List, [], ◌∷◌, ◌++◌, length, take, get_or, Bool, true, false, cond, refl, sym, ap, ◌∙◌, map, Option, Some, None, is_some, arith, rules, if◌then◌else◌}
 use Rattle.std.specs.Prelude.{◌||◌, ◌&&◌, nat_eq, unwrap_or, bytes_eq}
 use Rattle.std.specs.List.{list_any, position, position_from}
 use Rattle.std.proofs.lemmas.List.{take_more, length-take}

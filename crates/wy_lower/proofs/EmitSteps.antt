@@ -3,7 +3,6 @@ use Rattle.std.proofs.Common.{◌≡◌, ℕ, suc, ◌+◌, List, [], ◌∷◌,
 use Rattle.std.specs.Prelude.{slice_set}
 use Rattle.std.proofs.Math.Seq.{set-append_seam}
 use Rattle.wy_text.specs.declared.fault.Place.{Place}
-use Rattle.wy_code.specs.declared.instruction.Instruction.{Instruction}
 use Rattle.wy_code.specs.declared.instruction.Instruction.TheVariants.{Jump, JumpFalse}
 use Rattle.wy_code.specs.declared.instruction.Placed.{Placed}
 use Rattle.wy_lower.specs.Listing.{placed, one, sides, followed}

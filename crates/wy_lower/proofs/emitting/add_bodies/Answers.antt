@@ -1,4 +1,4 @@
-use Rattle.std.proofs.Common.{◌≡◌, ◌<◌, ◌+◌, [], ◌∷◌, ◌++◌, length, map, drop, sym, ap, ◌∙◌, arith, append_assoc}
+use Rattle.std.proofs.Common.{◌<◌, ◌+◌, [], ◌∷◌, ◌++◌, length, drop, sym, ap, ◌∙◌, arith, append_assoc}
 use Rattle.wy_types.specs.Program.{body_of, scope_of}
 use Rattle.wy_lower.specs.Lowering.{body_code, bodies_code}
 use Rattle.wy_lower.specs.EmitBodies.{whole_program, whole_starts}

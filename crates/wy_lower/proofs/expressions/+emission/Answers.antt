@@ -1,13 +1,12 @@
-use Rattle.std.proofs.Common.{rules, ◌≡◌, ◌<◌, ◌≤◌, length, refl, sym, ap, ◌∙◌, subst, w64, SFits}
+use Rattle.std.proofs.Common.{rules, ◌<◌, ◌≤◌, length, refl, ap, ◌∙◌, subst, w64, SFits}
 use Rattle.std.proofs.lemmas.Int.{to_z-of_z}
 use Rattle.std.proofs.lemmas.Option.{slice_get_read}
-use Rattle.wy_types.specs.Code.{If}
-use Rattle.wy_types.specs.View.{expr_of, value_of, values_of, block_of}
+use Rattle.wy_types.specs.View.{expr_of, value_of}
 use Rattle.wy_types.proofs.Rows.{expr_text_call, expr_call, expr_new, value_if}
-use Rattle.wy_lower.specs.Listing.{listing, block_listing}
+use Rattle.wy_lower.specs.Listing.{listing}
 use Rattle.wy_lower.specs.Emits.{Emits, inside_of, right_listing}
 use Rattle.wy_lower.proofs.EmitLists.{read_item}
-use Rattle.wy_lower.proofs.EmitSteps.{emits_then, emits_sides}
+use Rattle.wy_lower.proofs.EmitSteps.{emits_sides}
 use Rattle.wy_lower.proofs.EmitForms.{count_is, emits_number, emits_quoted, emits_truth, emits_nothing, emits_this, emits_name, emits_unary, emits_binary, emits_text_call, emits_call, emits_new, emits_ascribe, emits_assign, emits_plain, emits_if, values_more, values_end, block_more, block_end}
 use Rattle.wy_lower.proofs.expressions.+emission.Goals as goal
 

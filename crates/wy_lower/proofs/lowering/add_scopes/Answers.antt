@@ -1,5 +1,5 @@
-use Rattle.std.proofs.Common.{◌≡◌, ◌<◌, ◌+◌, [], ◌∷◌, ◌++◌, ℕ, suc, length, map, drop, get_or, sym, ap, ap₂, ◌∙◌, arith, append_assoc, length-append}
-use Rattle.wy_types.specs.Program.{body_of, scope_of}
+use Rattle.std.proofs.Common.{◌≡◌, ◌<◌, ◌+◌, [], ◌∷◌, ◌++◌, suc, length, map, drop, get_or, sym, ap, ap₂, ◌∙◌, arith, append_assoc, length-append}
+use Rattle.wy_types.specs.Program.{scope_of}
 use Rattle.wy_lower.specs.Lowering.{start_code, bodies_code, scopes_bodies, scopes_code}
 use Rattle.wy_lower.specs.EmitLowered.{scope_code}
 use Rattle.wy_lower.specs.EmitBodies.{whole_program, whole_starts}

@@ -1,4 +1,4 @@
-use Rattle.std.proofs.Common.{length, map, arith}
+use Rattle.std.proofs.Common.{map, arith}
 use Rattle.wy_types.specs.Program.{scope_of}
 use Rattle.wy_lower.proofs.EmitLists.{length_mapped}
 use Rattle.wy_lower.proofs.EmitStarts.{last_is}

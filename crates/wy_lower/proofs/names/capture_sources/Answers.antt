@@ -1,4 +1,4 @@
-use Rattle.std.proofs.Common.{◌≡◌, ◌<◌, ◌+◌, ◌-◌, [], ◌∷◌, ◌++◌, sym, ap, ◌∙◌, arith, append_assoc}
+use Rattle.std.proofs.Common.{◌<◌, ◌+◌, ◌-◌, [], ◌∷◌, ◌++◌, sym, ap, ◌∙◌, arith, append_assoc}
 use Rattle.wy_code.specs.declared.code.Source.TheVariants.{Value}
 use Rattle.wy_lower.specs.Inside.{own_values, own_sources}
 use Rattle.wy_lower.specs.Emits.{inside_of}

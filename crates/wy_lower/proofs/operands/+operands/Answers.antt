@@ -1,8 +1,8 @@
 use Rattle.std.proofs.Common.{rules, ◌≡◌, ◌<◌, ◌≤◌, ◌+◌, ℕ, suc, max, length, refl, sym, ap, ap₂, ◌∙◌, arith}
 use Rattle.std.proofs.lemmas.Option.{slice_get_read}
-use Rattle.wy_types.specs.View.{expr_of, value_of, values_of, block_of}
+use Rattle.wy_types.specs.View.{expr_of, value_of, values_of}
 use Rattle.wy_types.proofs.Rows.{expr_text_call, expr_call, expr_new, value_if}
-use Rattle.wy_lower.specs.Operands.{two_operands, operands, value_operands, values_operands, block_operands}
+use Rattle.wy_lower.specs.Operands.{two_operands, operands, value_operands, values_operands}
 use Rattle.wy_lower.proofs.EmitLists.{read_item}
 use Rattle.wy_lower.proofs.EmitOperands.{values_more, values_end, block_more, block_end}
 use Rattle.wy_lower.proofs.operands.+operands.Goals as goal

@@ -1,9 +1,9 @@
-use Rattle.std.proofs.Common.{rules, ◌≡◌, ◌<◌, ◌+◌, ℕ, [], ◌∷◌, ◌++◌, length, map, take, drop, get_or, None, List, refl, sym, ap, ap₂, ◌∙◌, arith, if◌then◌else◌}
+use Rattle.std.proofs.Common.{rules, ◌≡◌, ◌<◌, ◌+◌, [], ◌∷◌, ◌++◌, length, map, take, drop, get_or, List, refl, sym, ap, ap₂, ◌∙◌, arith}
 use Rattle.wy_types.specs.Core.{block_vals}
 use Rattle.wy_types.specs.Program.{Body, body_of}
 use Rattle.wy_types.specs.View.{block_of}
-use Rattle.wy_lower.specs.Parts.{each_once_after, texts_in, block_parts, bodies_parts, make_literal}
-use Rattle.wy_lower.specs.EmitScopes.{or_first, maker_noted, maker_of, bodies_vals}
+use Rattle.wy_lower.specs.Parts.{each_once_after, texts_in, block_parts, bodies_parts}
+use Rattle.wy_lower.specs.EmitScopes.{maker_noted, maker_of, bodies_vals}
 use Rattle.wy_lower.specs.EmitGathers.{makes_in}
 use Rattle.wy_lower.proofs.EmitLists.{read_any, split_at, taken_more}
 use Rattle.wy_lower.proofs.EmitPlaces.{once_append}

@@ -1,5 +1,5 @@
 use Rattle.std.proofs.Common.{map, sym, ap, ◌∙◌}
-use Rattle.wy_types.specs.Program.{body_of, start_of, scope_of}
+use Rattle.wy_types.specs.Program.{body_of, start_of}
 use Rattle.wy_lower.specs.Parts.{each_once_after, texts_in, start_parts, bodies_parts}
 use Rattle.wy_lower.proofs.EmitPlaces.{once_append}
 use Rattle.wy_lower.proofs.EmitParts.{texts_append}
