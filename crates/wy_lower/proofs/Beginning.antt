@@ -41,12 +41,12 @@ use Rattle.wy_lower.proofs.Grants.{has_grants}
 use Rattle.wy_lower.proofs.Leads.{Ends, RunsTo, Runs, leads_ends, one_ends}
 use Rattle.wy_lower.proofs.Looking.{get_front, get_behind, get_within, get_drop}
 use Rattle.wy_lower.proofs.Making.{names_of}
-use Rattle.wy_lower.proofs.Names.{Belongs, length_map}
+use Rattle.wy_lower.proofs.NamesFound.{Belongs, length_map}
 use Rattle.wy_lower.proofs.Ready.{Ready, Fine}
 use Rattle.wy_lower.proofs.Relation.{SameWorld, later_itself}
 use Rattle.wy_lower.proofs.Setting.{set_next}
 use Rattle.wy_lower.proofs.Standing.{bodies_stand}
-use Rattle.wy_lower.proofs.Starting.{HasFields, Unstarted, Filling, Filled, fill_runs}
+use Rattle.wy_lower.proofs.StartingRuns.{HasFields, Unstarted, Filling, Filled, fill_runs}
 use Rattle.wy_lower.proofs.First.{instance_stands, first_world, first_unstarted}
 
 module _ (g : Code) (n : ℕ) where

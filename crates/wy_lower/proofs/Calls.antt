@@ -40,7 +40,7 @@ use Rattle.wy_lower.proofs.Grants.{has_grants}
 use Rattle.wy_lower.proofs.Leads.{give_runs, node_runs, told_runs, bind_runs, halt_runs, wrong_step_runs}
 use Rattle.wy_lower.proofs.Looking.{some_is, there}
 use Rattle.wy_lower.proofs.Making.{names_of}
-use Rattle.wy_lower.proofs.Names.{Belongs}
+use Rattle.wy_lower.proofs.NamesFound.{Belongs}
 use Rattle.wy_lower.proofs.Ready.{Ready, Fine, ready_after}
 use Rattle.wy_lower.proofs.Relation.{SameAll, all_count, later_itself}
 use Rattle.wy_lower.proofs.Steps.{Does, CallsRun}

@@ -20,10 +20,10 @@ use Rattle.wy_lower.specs.Lowerable.{Lowerable, IsModuleStarted}
 use Rattle.wy_lower.specs.Lowering.{is_program, text_table, argument_of, instance_code, lowered}
 use Rattle.wy_lower.proofs.Codes.{scope_coded, literal_is, in_list}
 use Rattle.wy_lower.proofs.Looking.{some_is, get_front, get_within, there}
-use Rattle.wy_lower.proofs.Names.{length_map}
+use Rattle.wy_lower.proofs.NamesFound.{length_map}
 use Rattle.wy_lower.proofs.Relation.{grows_refl, own_count, word_handed, SameThing, FoundThing, SameWorld}
 use Rattle.wy_lower.proofs.Slots.{not_picked}
-use Rattle.wy_lower.proofs.Starting.{Unstarted}
+use Rattle.wy_lower.proofs.StartingRuns.{Unstarted}
 
 abbrev pub instance_object : ℕ → Thing
 instance_object x = record { instance = x; literal = 0; captured = []; fields = [] }

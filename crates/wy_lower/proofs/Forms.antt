@@ -35,7 +35,7 @@ use Rattle.wy_lower.proofs.Addresses.{Stands, first_stands, rest_stands, end_sta
 use Rattle.wy_lower.proofs.Allowed.{Allowed, first_allowed, rest_allowed, val_allowed, behind_allowed, inner_allowed, some_operands, some_value_operands}
 use Rattle.wy_lower.proofs.Leads.{Runs, give_runs, node_runs, tick_runs, bind_runs, finer_runs}
 use Rattle.wy_lower.proofs.Making.{new_runs}
-use Rattle.wy_lower.proofs.Names.{Belongs, this_runs, name_runs}
+use Rattle.wy_lower.proofs.NamesFound.{Belongs, this_runs, name_runs}
 use Rattle.wy_lower.proofs.Ready.{Ready, Fine, FineAll, ready_now, ready_since}
 use Rattle.wy_lower.proofs.Relation.{Same, same_int, same_truth, same_nothing, same_text, none_same, more_same, same_stays}
 use Rattle.wy_lower.proofs.Setting.{set_next, set_runs, StillReady, assigned_sets}

@@ -6,6 +6,16 @@ pub mod Bodies
 pub mod Calls
 pub mod Codes
 pub mod Counting
+pub mod EmitBodies
+pub mod EmitForms
+pub mod EmitKinds
+pub mod EmitLists
+pub mod EmitMakers
+pub mod EmitOperands
+pub mod EmitParts
+pub mod EmitPlaces
+pub mod EmitStarts
+pub mod EmitSteps
 pub mod Entering
 mod ExamplesCode
 mod ExamplesLowerable
@@ -16,7 +26,7 @@ pub mod Grants
 pub mod Leads
 pub mod Looking
 pub mod Making
-pub mod Names
+pub mod NamesFound
 pub mod Numbers
 pub mod Ready
 pub mod Relation
@@ -25,7 +35,7 @@ pub mod Setting
 pub mod Sizes
 pub mod Slots
 pub mod Standing
-pub mod Starting
+pub mod StartingRuns
 pub mod Steps
 pub mod Tables
 pub mod Whole

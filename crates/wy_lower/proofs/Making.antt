@@ -31,7 +31,7 @@ use Rattle.wy_lower.specs.Lowering.{is_program}
 use Rattle.wy_lower.proofs.Addresses.{Stands, state, pushed, pile, takes, acts, replied_answers, stopped_answers, answer_runs}
 use Rattle.wy_lower.proofs.Leads.{Runs, wrong_reply_runs}
 use Rattle.wy_lower.proofs.Looking.{some_is, get_front, get_behind, there}
-use Rattle.wy_lower.proofs.Names.{Belongs, owned, mine, captured_found, own_slot_found, length_map}
+use Rattle.wy_lower.proofs.NamesFound.{Belongs, owned, mine, captured_found, own_slot_found, length_map}
 use Rattle.wy_lower.proofs.Ready.{Ready, Fine, ready_after}
 use Rattle.wy_lower.proofs.Relation.{Same, same_object, SameAll, none_same, more_same, all_count, all_found, Found, found_at, word_handed, own_count, SameThing}
 use Rattle.wy_lower.proofs.Replies.{Fits}

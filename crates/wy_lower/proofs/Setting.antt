@@ -21,7 +21,7 @@ use Rattle.wy_lower.specs.Lowerable.{Lowerable}
 use Rattle.wy_lower.proofs.Addresses.{One, state}
 use Rattle.wy_lower.proofs.Leads.{RunsTo, Runs, one_leads}
 use Rattle.wy_lower.proofs.Looking.{some_is, there, get_within, get_set_same, get_set_other, length_set}
-use Rattle.wy_lower.proofs.Names.{Belongs, Mine, mine, length_map}
+use Rattle.wy_lower.proofs.NamesFound.{Belongs, Mine, mine, length_map}
 use Rattle.wy_lower.proofs.Ready.{Ready, ready_after}
 use Rattle.wy_lower.proofs.Relation.{Same, own_count}
 use Rattle.wy_lower.proofs.Slots.{first_is, Self, Alone}

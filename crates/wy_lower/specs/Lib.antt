@@ -1,5 +1,11 @@
 pub mod Correct
 pub mod Counts
+pub mod EmitBodies
+pub mod EmitGathers
+pub mod EmitIndexes
+pub mod EmitLowered
+pub mod EmitScopes
+pub mod Emits
 pub mod Inside
 pub mod Laws
 pub mod Listing

@@ -2,4 +2,15 @@
 //! specs/, and the laws about them in proofs/.
 #![tactic(auto)]
 
+mod emitting;
+mod expressions;
+mod gathering;
+mod indexes;
+mod kinds;
 pub mod laws;
+mod limits;
+pub mod lowering;
+mod names;
+mod operands;
+mod scopes;
+mod starting;

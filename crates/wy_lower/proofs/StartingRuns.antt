@@ -32,7 +32,7 @@ use Rattle.wy_lower.proofs.Forms.{HasLiterals, value_runs}
 use Rattle.wy_lower.proofs.Leads.{Runs, give_runs, bind_runs}
 use Rattle.wy_lower.proofs.Looking.{some_is, get_within, get_joined, get_set_same, get_set_other}
 use Rattle.wy_lower.proofs.Making.{names_of}
-use Rattle.wy_lower.proofs.Names.{Belongs, mine}
+use Rattle.wy_lower.proofs.NamesFound.{Belongs, mine}
 use Rattle.wy_lower.proofs.Ready.{Ready, Fine}
 use Rattle.wy_lower.proofs.Relation.{Same, own_count, SameThing, SameWorld, Later, later_itself}
 use Rattle.wy_lower.proofs.Setting.{set_next, Sets, set_runs, value_is_set}

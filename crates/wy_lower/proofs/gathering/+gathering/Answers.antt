@@ -1,0 +1,47 @@
+use Rattle.std.proofs.Common.{rules, ◌<◌, ◌∙◌, length, refl, ap}
+use Rattle.std.proofs.lemmas.Option.{slice_get_read}
+use Rattle.wy_types.specs.View.{expr_of, value_of}
+use Rattle.wy_types.proofs.Rows.{expr_text_call, expr_call, expr_new, value_if}
+use Rattle.wy_lower.proofs.EmitLists.{read_item}
+use Rattle.wy_lower.proofs.EmitParts.{values_more, block_more, gathers_text_call, gathers_new, gathers_binary, gathers_call, gathers_if}
+use Rattle.wy_lower.proofs.gathering.+gathering.Goals as goal
+
+pub gather_expr-returns-in_ok-gather_expr-in-Binary-2 : goal.gather_expr-returns-in_ok-gather_expr-in-Binary-2
+gather_expr-returns-in_ok-gather_expr-in-Binary-2 t c =
+    gathers_binary _ _ _ _ _ _ _ _ _ _ _ _ _ (ap expr_of c.in-Binary.is) (ap expr_of c.deref-in-Binary.ensures) (ap expr_of c.deref-in-Binary-2.ensures) c.in_ok-gather_expr-in-Binary.ensures c.in_ok-gather_expr-in-Binary-2.ensures
+
+pub gather_expr-returns-in_ok-gather_values-in-TextCall : goal.gather_expr-returns-in_ok-gather_values-in-TextCall
+gather_expr-returns-in_ok-gather_values-in-TextCall t c =
+    let form = ap expr_of c.in-TextCall.is ∙ expr_text_call c.in-TextCall.field-0 c.in-TextCall.field-1 c.in-TextCall.values in
+    gathers_text_call _ _ _ _ _ _ _ _ form c.in_ok-gather_values-in-TextCall.ensures
+
+pub gather_expr-returns-in_ok-gather_values-in-Call : goal.gather_expr-returns-in_ok-gather_values-in-Call
+gather_expr-returns-in_ok-gather_values-in-Call t c =
+    let form = ap expr_of c.in-Call.is ∙ expr_call c.in-Call.field-0 c.in-Call.receiver c.in-Call.field-2 c.in-Call.values in
+    gathers_call _ _ _ _ _ _ _ _ _ _ _ _ form (ap expr_of c.deref-in-Call.ensures) c.in_ok-gather_expr-in-Call.ensures c.in_ok-gather_values-in-Call.ensures
+
+pub gather_expr-returns-in_ok-gather_values-in-New : goal.gather_expr-returns-in_ok-gather_values-in-New
+gather_expr-returns-in_ok-gather_values-in-New t c =
+    let form = ap expr_of c.in-New.is ∙ expr_new c.in-New.field-0 c.in-New.literal c.in-New.values in
+    gathers_new _ _ _ _ _ _ _ _ _ form c.in_ok-push-in-New.ensures.items refl c.in_ok-gather_values-in-New.ensures
+
+pub gather_value-returns-in_ok-gather_block-in-If-2 : goal.gather_value-returns-in_ok-gather_block-in-If-2
+gather_value-returns-in_ok-gather_block-in-If-2 t c =
+    let form = ap value_of c.in-If.is ∙ value_if c.in-If.field-0 c.in-If.test c.in-If.first c.in-If.second in
+    gathers_if _ _ _ _ _ _ _ _ _ _ _ _ _ _ form (ap expr_of c.deref.ensures) c.in_ok-gather_expr-in-If.ensures c.in_ok-gather_block-in-If.ensures c.in_ok-gather_block-in-If-2.ensures
+
+pub gather_values-loop-i-preserved : goal.gather_values-loop-i-preserved
+gather_values-loop-i-preserved t c =
+    let xs = c.args.values.now.items in
+    let i = c.loop-i.i in
+    let x = c.index.result.now in
+    let lt : i < length xs = search rules in
+    values_more _ _ _ _ _ _ xs i x _ _ lt (read_item xs i x (slice_get_read xs _ i x refl lt c.index.ensures)) c.loop-i.invariant c.in_ok-gather_value.ensures
+
+pub gather_block-loop-i-preserved : goal.gather_block-loop-i-preserved
+gather_block-loop-i-preserved t c =
+    let xs = c.args.block.now.statements.items in
+    let i = c.loop-i.i in
+    let x = c.index.result.now in
+    let lt : i < length xs = search rules in
+    block_more _ _ _ _ _ _ xs i x _ _ _ lt (read_item xs i x (slice_get_read xs _ i x refl lt c.index.ensures)) c.loop-i.invariant c.in_ok-gather_statement.ensures

@@ -1,0 +1,46 @@
+use Rattle.std.proofs.Common.{rules, ◌≡◌, ◌<◌, ◌+◌, [], ◌∷◌, ◌++◌, length, map, take, drop, get_or, List, refl, sym, ap, ap₂, ◌∙◌, arith}
+use Rattle.wy_types.specs.Core.{block_vals}
+use Rattle.wy_types.specs.Program.{Body, body_of}
+use Rattle.wy_types.specs.View.{block_of}
+use Rattle.wy_lower.specs.Parts.{each_once_after, texts_in, block_parts, bodies_parts}
+use Rattle.wy_lower.specs.EmitScopes.{maker_noted, maker_of, bodies_vals}
+use Rattle.wy_lower.specs.EmitGathers.{makes_in}
+use Rattle.wy_lower.proofs.EmitLists.{read_any, split_at, taken_more}
+use Rattle.wy_lower.proofs.EmitPlaces.{once_append}
+use Rattle.wy_lower.proofs.EmitParts.{texts_append}
+use Rattle.wy_lower.proofs.EmitMakers.{noted_is, maker_more}
+use Rattle.wy_lower.proofs.scopes.bodies_of.Goals as goal
+
+pub loop-k-preserved : goal.loop-k-preserved
+loop-k-preserved c =
+    let bs = c.args.bodies.now in
+    let k = c.loop-k.k in
+    let r = c.index-bodies-k.result in
+    let b = get_or bs k r in
+    let keys = c.loop-k.texts.keys in
+    let lt : k < length bs = search rules in
+    let at = read_any bs k r b lt in
+    let here = block_parts (block_of b.block) in
+    let rest = bodies_parts (map body_of (drop (k + 1) bs)) in
+    let found = c.in_ok-gather_block.ensures in
+    let vals = found.vals ∙ ap (λ l. l ++ block_vals (block_of b.block)) c.nothing_found-found.ensures.vals in
+    let makes = c.deref.ensures.value ∙ found.makes ∙ ap (λ l. l ++ makes_in here) c.nothing_found-found.ensures.makes in
+    record {
+      texts =
+          ap (λ z. each_once_after z (texts_in rest)) found.texts ∙ sym (once_append keys (texts_in here) (texts_in rest)) ∙ ap (each_once_after keys) (sym (texts_append here rest))
+          ∙ ap (λ l. each_once_after keys (texts_in (bodies_parts (map body_of l)))) (sym (split_at bs k b lt at)) ∙ c.loop-k.invariant.texts;
+      vals =
+          c.in_ok-push.ensures.items ∙ ap₂ (λ l v. l ++ v ∷ []) c.loop-k.invariant.vals (c.in_ok-new.ensures ∙ vals)
+          ∙ sym (ap bodies_vals (taken_more body_of bs k b lt at) ∙ vals_end (map body_of (take k bs)) (body_of b));
+      long = c.note_makers.ensures.long ∙ c.loop-k.invariant.long;
+      makers = λ m below none.
+          let less : m < length c.loop-k.makers.items = omega (arith, c.loop-k.invariant.long, below) in
+          c.note_makers.ensures.noted m less
+          ∙ ap₂ (λ l o. maker_noted k l m o) makes (c.loop-k.invariant.makers m below none)
+          ∙ noted_is k here m (maker_of m (map body_of (take k bs)))
+          ∙ maker_more m bs k b lt at;
+    }
+  where
+    vals_end : (xs : List Body) (x : Body) → bodies_vals (xs ++ x ∷ []) ≡ bodies_vals xs ++ block_vals x.block ∷ []
+    vals_end [] x = refl
+    vals_end (y ∷ ys) x = ap (λ l. block_vals y.block ∷ l) (vals_end ys x)

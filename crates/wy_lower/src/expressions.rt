@@ -1,0 +1,361 @@
+//! The instructions of expressions and blocks: the parts in evaluation order, and then the form's own (docs/LANGUAGE.md,
+//! "Code of programs"). Jumps over a side are written when the side stands.
+
+ghost use Rattle.std.specs.Prelude.{◌≡◌, ◌+◌, ◌<◌, ◌++◌, length, slice_set, OnOk, IfOk};
+ghost use Rattle.wy_types.specs.View.{expr_of, value_of, values_of, block_of};
+ghost use Rattle.wy_code.specs.declared.instruction.Instruction.TheVariants.{Jump, JumpFalse};
+ghost use Rattle.wy_lower.specs.Listing.{placed, one, unary_code, text_code, mark_of, value_mark, listing, value_listing, values_listing, block_listing, fields_listing};
+ghost use Rattle.wy_lower.specs.Emits.{inside_of, Emits, statement_listing, evaluation, right_listing};
+
+use crate::indexes::{number_in, word};
+use crate::names::{Inside, assigned_value, field_value, name_code, val_slot};
+use wy_code::instruction::{Constant, Instruction, Operator, Placed};
+use wy_text::fault::Place;
+use wy_text::text::Memory;
+use wy_types::code::{BinaryOperator, Block, Expr, Stmt, TextOperator, UnaryOperator, Value};
+
+/// Adds an instruction at a mark.
+pub(crate) fn put(
+    out: &mut Vec<Placed>,
+    place: Place,
+    instruction: Instruction,
+) -> Result<(), Memory>
+    ensures { OnOk result (Emits out.old.items out.new.items (λ _. one place instruction)) }
+{
+    out.push(Placed { instruction, place })?;
+    Ok(())
+}
+
+// ----------------------------------------------------------------------------
+// Operators
+
+fn unary_code(operator: UnaryOperator) -> Operator
+    ensures { result ≡ unary_code operator }
+{
+    match operator {
+        UnaryOperator::Negate => Operator::Negate,
+        UnaryOperator::Not => Operator::Not,
+    }
+}
+
+fn text_code(operator: TextOperator) -> Operator
+    ensures { result ≡ text_code operator }
+{
+    match operator {
+        TextOperator::Size => Operator::Size,
+        TextOperator::Part => Operator::Part,
+        TextOperator::Code => Operator::Code,
+        TextOperator::Byte => Operator::Byte,
+        TextOperator::Show => Operator::Show,
+    }
+}
+
+/// How the sides of a binary operator are evaluated.
+enum Sides {
+    /// Both, and then this operator.
+    Both(Operator),
+    /// The right one only where the left one is true.
+    And,
+    /// The right one only where the left one is false.
+    Or,
+}
+
+fn evaluation(operator: BinaryOperator) -> Sides
+    ensures { result ≡ evaluation operator }
+{
+    match operator {
+        BinaryOperator::And => Sides::And,
+        BinaryOperator::Or => Sides::Or,
+        BinaryOperator::Add => Sides::Both(Operator::Add),
+        BinaryOperator::Subtract => Sides::Both(Operator::Subtract),
+        BinaryOperator::Multiply => Sides::Both(Operator::Multiply),
+        BinaryOperator::Divide => Sides::Both(Operator::Divide),
+        BinaryOperator::Remainder => Sides::Both(Operator::Remainder),
+        BinaryOperator::Join => Sides::Both(Operator::Join),
+        BinaryOperator::Less => Sides::Both(Operator::Less),
+        BinaryOperator::LessOrEqual => Sides::Both(Operator::LessOrEqual),
+        BinaryOperator::Greater => Sides::Both(Operator::Greater),
+        BinaryOperator::GreaterOrEqual => Sides::Both(Operator::GreaterOrEqual),
+        BinaryOperator::Equal => Sides::Both(Operator::Equal),
+        BinaryOperator::NotEqual => Sides::Both(Operator::NotEqual),
+    }
+}
+
+// ----------------------------------------------------------------------------
+// Marks
+
+/// The mark of an expression.
+fn mark_of(expr: &Expr) -> Place
+    ensures { result ≡ mark_of (expr_of expr.now) }
+{
+    match expr {
+        Expr::Int(place, _) => *place,
+        Expr::Text(place, _) => *place,
+        Expr::Bool(place, _) => *place,
+        Expr::Unit(place) => *place,
+        Expr::This(place) => *place,
+        Expr::Name(place, _) => *place,
+        Expr::Unary(place, _, _) => *place,
+        Expr::Binary(place, _, _, _) => *place,
+        Expr::TextCall(place, _, _) => *place,
+        Expr::Call(place, _, _, _) => *place,
+        Expr::New(place, _, _) => *place,
+        Expr::Ascribe(place, _, _) => *place,
+        Expr::Assign(place, _, _) => *place,
+    }
+}
+
+/// The mark of a value.
+fn value_mark(value: &Value) -> Place
+    ensures { result ≡ value_mark (value_of value.now) }
+{
+    match value {
+        Value::Plain(expr) => mark_of(expr),
+        Value::If(place, _, _, _) => *place,
+    }
+}
+
+// ----------------------------------------------------------------------------
+// Sides
+
+/// Begins the first of two sides. The jump to the second is written when that begins.
+fn begin_first(out: &mut Vec<Placed>, place: Place) -> Result<usize, Memory>
+    ensures at { IfOk result (λ n. n ≡ length out.old.items) }
+    ensures added { OnOk result (out.new.items ≡ out.old.items ++ one place (JumpFalse 0)) }
+{
+    let at = out.len();
+    put(out, place, Instruction::JumpFalse(0))?;
+    Ok(at)
+}
+
+/// Ends the first side and begins the second, to which the jump at `test` leads.
+fn begin_second(out: &mut Vec<Placed>, place: Place, test: usize) -> Result<usize, Memory>
+    requires { test < length out.old.items }
+    ensures at { IfOk result (λ n. n ≡ length out.old.items) }
+    ensures added { OnOk result (out.new.items ≡ slice_set (out.old.items ++ one place (Jump 0)) test (placed place (JumpFalse (length out.old.items + 1)))) }
+{
+    let at = out.len();
+    put(out, place, Instruction::Jump(0))?;
+    let otherwise = word(out.len())?;
+    out[test] = Placed {
+        instruction: Instruction::JumpFalse(otherwise),
+        place,
+    };
+    Ok(at)
+}
+
+/// Ends the second side, over which the jump at `first` leads.
+fn end_sides(out: &mut Vec<Placed>, place: Place, first: usize) -> Result<(), Memory>
+    requires { first < length out.old.items }
+    ensures { OnOk result (out.new.items ≡ slice_set out.old.items first (placed place (Jump (length out.old.items)))) }
+{
+    let end = word(out.len())?;
+    out[first] = Placed {
+        instruction: Instruction::Jump(end),
+        place,
+    };
+    Ok(())
+}
+
+// ----------------------------------------------------------------------------
+// Forms
+
+/// The code of an expression.
+#[cycle(emission)]
+pub(crate) fn emit_expr(out: &mut Vec<Placed>, inside: &Inside, expr: &Expr) -> Result<(), Memory>
+    ensures { OnOk result (Emits out.old.items out.new.items (λ at. listing (inside_of inside.now) at (expr_of expr.now))) }
+{
+    match expr {
+        Expr::Int(place, number) => {
+            put(out, *place, Instruction::Push(Constant::Int(*number)))?;
+            Ok(())
+        }
+        Expr::Text(place, text) => {
+            let number = number_in(inside.texts, text)?;
+            put(out, *place, Instruction::Push(Constant::Text(number)))?;
+            Ok(())
+        }
+        Expr::Bool(place, truth) => {
+            put(out, *place, Instruction::Push(Constant::Truth(*truth)))?;
+            Ok(())
+        }
+        Expr::Unit(place) => {
+            put(out, *place, Instruction::Push(Constant::Unit))?;
+            Ok(())
+        }
+        Expr::This(place) => {
+            put(out, *place, Instruction::Load(0))?;
+            Ok(())
+        }
+        Expr::Name(place, binding) => {
+            let code = name_code(inside, *binding)?;
+            put(out, *place, code)?;
+            Ok(())
+        }
+        Expr::Unary(place, operator, x) => {
+            emit_expr(out, inside, x)?;
+            put(out, *place, Instruction::Op(unary_code(*operator)))?;
+            Ok(())
+        }
+        Expr::Binary(place, operator, x, y) => {
+            emit_expr(out, inside, x)?;
+            emit_right(out, inside, *place, *operator, y)?;
+            Ok(())
+        }
+        Expr::TextCall(place, operator, values) => {
+            emit_values(out, inside, values)?;
+            put(out, *place, Instruction::Op(text_code(*operator)))?;
+            Ok(())
+        }
+        Expr::Call(place, receiver, name, values) => {
+            emit_expr(out, inside, receiver)?;
+            emit_values(out, inside, values)?;
+            let method = number_in(inside.methods, name)?;
+            let arguments = word(values.len())?;
+            put(out, *place, Instruction::Call(method, arguments))?;
+            Ok(())
+        }
+        Expr::New(place, literal, values) => {
+            emit_values(out, inside, values)?;
+            put(out, *place, Instruction::New(*literal))?;
+            Ok(())
+        }
+        Expr::Ascribe(_, value, _) => {
+            emit_value(out, inside, value)?;
+            Ok(())
+        }
+        Expr::Assign(place, binding, value) => {
+            emit_value(out, inside, value)?;
+            let assigned = assigned_value(inside, *binding)?;
+            put(out, *place, Instruction::Set(assigned))?;
+            put(out, *place, Instruction::Push(Constant::Unit))?;
+            Ok(())
+        }
+    }
+}
+
+/// The code of a binary operator with its right side, after its left one.
+#[cycle(emission)]
+fn emit_right(
+    out: &mut Vec<Placed>,
+    inside: &Inside,
+    place: Place,
+    operator: BinaryOperator,
+    right: &Expr,
+) -> Result<(), Memory>
+    ensures { OnOk result (Emits out.old.items out.new.items (λ at. right_listing place (evaluation operator) at (λ at. listing (inside_of inside.now) at (expr_of right.now)))) }
+{
+    match evaluation(operator) {
+        Sides::Both(operation) => {
+            emit_expr(out, inside, right)?;
+            put(out, place, Instruction::Op(operation))?;
+            Ok(())
+        }
+        Sides::And => {
+            let test = begin_first(out, place)?;
+            emit_expr(out, inside, right)?;
+            let first = begin_second(out, place, test)?;
+            put(out, place, Instruction::Push(Constant::Truth(false)))?;
+            end_sides(out, place, first)?;
+            Ok(())
+        }
+        Sides::Or => {
+            let test = begin_first(out, place)?;
+            put(out, place, Instruction::Push(Constant::Truth(true)))?;
+            let first = begin_second(out, place, test)?;
+            emit_expr(out, inside, right)?;
+            end_sides(out, place, first)?;
+            Ok(())
+        }
+    }
+}
+
+/// The code of a value.
+#[cycle(emission)]
+pub(crate) fn emit_value(
+    out: &mut Vec<Placed>,
+    inside: &Inside,
+    value: &Value,
+) -> Result<(), Memory>
+    ensures { OnOk result (Emits out.old.items out.new.items (λ at. value_listing (inside_of inside.now) at (value_of value.now))) }
+{
+    match value {
+        Value::Plain(expr) => {
+            emit_expr(out, inside, expr)?;
+            Ok(())
+        }
+        Value::If(place, test, first, second) => {
+            emit_expr(out, inside, test)?;
+            let tested = begin_first(out, *place)?;
+            emit_block(out, inside, first)?;
+            let turned = begin_second(out, *place, tested)?;
+            emit_block(out, inside, second)?;
+            end_sides(out, *place, turned)?;
+            Ok(())
+        }
+    }
+}
+
+/// The code of several values, one after the other.
+#[cycle(emission)]
+fn emit_values(out: &mut Vec<Placed>, inside: &Inside, values: &Vec<Value>) -> Result<(), Memory>
+    ensures { OnOk result (Emits out.old.items out.new.items (λ at. values_listing (inside_of inside.now) at (values_of values.now.items))) }
+{
+    for i in 0..values.len() {
+        emit_value(out, inside, &values[i])?;
+    }
+    Ok(())
+}
+
+/// The code of a statement that stands before others.
+#[cycle(emission)]
+fn emit_statement(out: &mut Vec<Placed>, inside: &Inside, statement: &Stmt) -> Result<(), Memory>
+    ensures { OnOk result (Emits out.old.items out.new.items (λ at. statement_listing (inside_of inside.now) at statement.now)) }
+{
+    match statement {
+        Stmt::Val(place, number, _, value) => {
+            emit_value(out, inside, value)?;
+            let slot = val_slot(inside, *number)?;
+            put(out, *place, Instruction::Store(slot))?;
+            Ok(())
+        }
+        Stmt::Do(value) => {
+            emit_value(out, inside, value)?;
+            put(out, value_mark(value), Instruction::Drop)?;
+            Ok(())
+        }
+    }
+}
+
+/// The code of a block.
+#[cycle(emission)]
+pub(crate) fn emit_block(
+    out: &mut Vec<Placed>,
+    inside: &Inside,
+    block: &Block,
+) -> Result<(), Memory>
+    ensures { OnOk result (Emits out.old.items out.new.items (λ at. block_listing (inside_of inside.now) at (block_of block.now))) }
+{
+    for i in 0..block.statements.len() {
+        emit_statement(out, inside, &block.statements[i])?;
+    }
+    emit_value(out, inside, &block.last)?;
+    Ok(())
+}
+
+/// The code of the initialisers of fields, each of which is set as soon as its value is there.
+pub(crate) fn emit_fields(
+    out: &mut Vec<Placed>,
+    inside: &Inside,
+    values: &Vec<Value>,
+) -> Result<(), Memory>
+    ensures { OnOk result (Emits out.old.items out.new.items (λ at. fields_listing (inside_of inside.now) at 0 (values_of values.now.items))) }
+{
+    for i in 0..values.len() {
+        let value = &values[i];
+        emit_value(out, inside, value)?;
+        let field = field_value(inside, i)?;
+        put(out, value_mark(value), Instruction::Set(field))?;
+    }
+    Ok(())
+}
