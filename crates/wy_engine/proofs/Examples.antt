@@ -1,100 +1,71 @@
 -- The definitions of the top call, tried on examples.
-use Rattle.std.proofs.Common.{codes, ◌≡◌, ℕ, pos, List, [], ◌∷◌, Some, None, Bool, true, false, refl}
+use Rattle.std.proofs.Common.{codes, ◌≡◌, ℕ, List, [], ◌∷◌, Some, None, refl}
 use Rattle.std.specs.Fmt.{digits}
 use Rattle.wy_text.specs.declared.fault.Place.{Place}
 use Rattle.wy_text.specs.declared.fault.RuleName.TheVariants.{TOp}
 use Rattle.wy_text.specs.declared.limit.LimitName.TheVariants.{ReachedTypes}
 use Rattle.wy_device.specs.declared.operation.OpName.TheVariants.{ConsoleWrite}
-use Rattle.wy_syntax.specs.Trees.{ExprTree, call, name, more, none, number, text, value, StmtTree, run, no_stmts, more_stmts, long, ItemTree, program_item}
-use Rattle.wy_syntax.specs.declared.types.AtomUse.{AtomUse}
-use Rattle.wy_syntax.specs.declared.types.Name.{Name}
-use Rattle.wy_engine.specs.Judgement.{authority_of}
-use Rattle.wy_engine.specs.LastLine.{last_line}
-use Rattle.wy_engine.specs.LiteralForm.{program_of}
-use Rattle.wy_engine.specs.Report.{report_text, set_text}
-use Rattle.wy_engine.specs.Settings.{settings_of}
-use Rattle.wy_engine.specs.declared.literal_form.Program.{Program}
+use Rattle.wy_machine.specs.declared.run_end.TrapKind.TheVariants.{Overflow}
+use Rattle.wy_engine.specs.LastLine.{LineWords, last_line}
+use Rattle.wy_engine.specs.Settings.{Settings, most_depth, settings_of, usual_depth, usual_steps}
+use Rattle.wy_engine.specs.declared.settings.Command.{Command}
 use Rattle.wy_engine.specs.declared.settings.Command.TheVariants as command
 use Rattle.wy_engine.specs.declared.status.Status.TheVariants as status
-
--- ---- the form of program that runs
 
 abbrev at : ℕ → ℕ → Place
 at line column = record { file = 1; line = line; column = column }
 
-abbrev word : List ℕ → ℕ → ℕ → Name
-word letters line column = record { text = letters; place = at line column }
+-- ---- last lines
 
--- a statement that writes a line to `console`
-abbrev write : ExprTree → StmtTree
-write argument = run (value (call (name (word (codes "console") 4 5)) (word (codes "write") 4 13) (more argument none)))
+-- what the last line needs of these file words, where the bounds are the usual ones
+abbrev of_files : List (List ℕ) → LineWords
+of_files names = record { names = names; steps = usual_steps; depth = usual_depth }
 
--- the file that has the statement, with a declared effect
-abbrev hello_file : List AtomUse → StmtTree → List ItemTree
-hello_file effect statement = program_item (at 1 1) (record { name = word (codes "console") 2 9; kind = word (codes "Console") 2 18 } ∷ []) [] [] (at 3 3) effect (long (more_stmts statement no_stmts)) ∷ []
-
-abbrev out_effect : List AtomUse
-out_effect = record { owner = Some (word (codes "console") 3 9); member = word (codes "Out") 3 17 } ∷ []
-
--- a program that writes one line, and may do so or not
-abbrev hello : Bool → Program
-hello allowed = record { grant = codes "console"; allowed = allowed; texts = codes "hello\n" ∷ []; run = at 3 3 }
-
-hello_form : program_of (hello_file out_effect (write (text (codes "hello\n") (at 4 19)))) ≡ Some (hello true)
-hello_form = refl
-
-refused_form : program_of (hello_file [] (write (text (codes "hello\n") (at 4 19)))) ≡ Some (hello false)
-refused_form = refl
-
-number_form : program_of (hello_file out_effect (write (number (pos 1) (at 4 19)))) ≡ None
-number_form = refl
-
-tab_form : program_of (hello_file out_effect (write (text (codes "\t") (at 4 19)))) ≡ None
-tab_form = refl
-
-empty_form : program_of [] ≡ None
-empty_form = refl
-
--- ---- reports and last lines
-
-hello_report : report_text (authority_of (hello true)) ≡ codes "authority of main: console.Out\n  run: console.Out\n"
-hello_report = refl
-
-two_effects : set_text (record { owner = codes "a"; member = codes "In" } ∷ record { owner = codes "b"; member = codes "Out" } ∷ []) ≡ codes "a.In, b.Out"
-two_effects = refl
-
-no_effects : set_text [] ≡ codes "-"
-no_effects = refl
-
-failed_line : last_line [] (status.DeviceFailed (codes "console") ConsoleWrite) ≡ codes "console.write: failed\n"
+failed_line : last_line (of_files []) (status.DeviceFailed (codes "console") ConsoleWrite) ≡ codes "console.write: failed\n"
 failed_line = refl
 
-unread_line : last_line (codes "a.wy" ∷ codes "b.wy" ∷ []) (status.Unread 2) ≡ codes "b.wy: unread\n"
+unread_line : last_line (of_files (codes "a.wy" ∷ codes "b.wy" ∷ [])) (status.Unread 2) ≡ codes "b.wy: unread\n"
 unread_line = refl
 
-operator_line : last_line (codes "a.wy" ∷ []) (status.Refused (record { place = at 4 9; rule = TOp; premise = 2; atom = None })) ≡ codes "a.wy:4:9: refused: T-Op premise 2\n"
+operator_line : last_line (of_files (codes "a.wy" ∷ [])) (status.Refused (record { place = at 4 9; rule = TOp; premise = 2; atom = None })) ≡ codes "a.wy:4:9: refused: T-Op premise 2\n"
 unfolding digits
 operator_line = refl
 
-reached_line : last_line (codes "a.wy" ∷ []) (status.Limit ReachedTypes) ≡ codes "limit: reached types 1024\n"
+reached_line : last_line (of_files (codes "a.wy" ∷ [])) (status.Limit ReachedTypes) ≡ codes "limit: reached types 1024\n"
 unfolding digits
 reached_line = refl
 
+overflow_line : last_line (of_files (codes "o.wy" ∷ [])) (status.Trap Overflow (at 5 34)) ≡ codes "o.wy:5:34: trap: Overflow\n"
+unfolding digits
+overflow_line = refl
+
+deep_line : last_line (of_files []) status.TooDeep ≡ codes "too deep: 10000\n"
+unfolding digits
+deep_line = refl
+
+spent_line : last_line (record { names = []; steps = 9; depth = usual_depth }) status.Spent ≡ codes "spent: 9\n"
+unfolding digits
+spent_line = refl
+
 -- ---- the words of a call
 
-one_file : settings_of (codes "run" ∷ codes "b.wy" ∷ []) ≡ Some (record { command = command.Run; files = codes "b.wy" ∷ [] })
+-- settings with the usual bounds
+abbrev usual : Command → List (List ℕ) → Settings
+usual named files = record { command = named; steps = usual_steps; depth = usual_depth; files = files }
+
+one_file : settings_of (codes "run" ∷ codes "b.wy" ∷ []) ≡ Some (usual command.Run (codes "b.wy" ∷ []))
 one_file = refl
 
-two_files : settings_of (codes "run" ∷ codes "a.wy" ∷ codes "b.wy" ∷ []) ≡ Some (record { command = command.Run; files = codes "a.wy" ∷ codes "b.wy" ∷ [] })
+two_files : settings_of (codes "run" ∷ codes "a.wy" ∷ codes "b.wy" ∷ []) ≡ Some (usual command.Run (codes "a.wy" ∷ codes "b.wy" ∷ []))
 two_files = refl
 
-check_words : settings_of (codes "check" ∷ codes "a.wy" ∷ []) ≡ Some (record { command = command.Check; files = codes "a.wy" ∷ [] })
+check_words : settings_of (codes "check" ∷ codes "a.wy" ∷ []) ≡ Some (usual command.Check (codes "a.wy" ∷ []))
 check_words = refl
 
-two_checked : settings_of (codes "check" ∷ codes "a.wy" ∷ codes "b.wy" ∷ []) ≡ Some (record { command = command.Check; files = codes "a.wy" ∷ codes "b.wy" ∷ [] })
+two_checked : settings_of (codes "check" ∷ codes "a.wy" ∷ codes "b.wy" ∷ []) ≡ Some (usual command.Check (codes "a.wy" ∷ codes "b.wy" ∷ []))
 two_checked = refl
 
-authority_words : settings_of (codes "authority" ∷ codes "a.wy" ∷ codes "b.wy" ∷ []) ≡ Some (record { command = command.Authority; files = codes "a.wy" ∷ codes "b.wy" ∷ [] })
+authority_words : settings_of (codes "authority" ∷ codes "a.wy" ∷ codes "b.wy" ∷ []) ≡ Some (usual command.Authority (codes "a.wy" ∷ codes "b.wy" ∷ []))
 authority_words = refl
 
 none_reported : settings_of (codes "authority" ∷ []) ≡ None
@@ -103,7 +74,7 @@ none_reported = refl
 none_checked : settings_of (codes "check" ∷ []) ≡ None
 none_checked = refl
 
-format_words : settings_of (codes "format" ∷ codes "b.wy" ∷ []) ≡ Some (record { command = command.Format; files = codes "b.wy" ∷ [] })
+format_words : settings_of (codes "format" ∷ codes "b.wy" ∷ []) ≡ Some (usual command.Format (codes "b.wy" ∷ []))
 format_words = refl
 
 two_formats : settings_of (codes "format" ∷ codes "a.wy" ∷ codes "b.wy" ∷ []) ≡ None
@@ -117,3 +88,31 @@ dashed_words = refl
 
 other_words : settings_of (codes "walk" ∷ codes "b.wy" ∷ []) ≡ None
 other_words = refl
+
+few_steps : settings_of (codes "run" ∷ codes "--steps" ∷ codes "9" ∷ codes "a.wy" ∷ []) ≡ Some (record { command = command.Run; steps = 9; depth = usual_depth; files = codes "a.wy" ∷ [] })
+few_steps = refl
+
+both_bounds : settings_of (codes "run" ∷ codes "--steps" ∷ codes "0" ∷ codes "--depth" ∷ codes "0000000012345" ∷ codes "a.wy" ∷ [])
+    ≡ Some (record { command = command.Run; steps = 0; depth = 12345; files = codes "a.wy" ∷ [] })
+both_bounds = refl
+
+most_deep : settings_of (codes "check" ∷ codes "--depth" ∷ codes "100000" ∷ codes "a.wy" ∷ []) ≡ Some (record { command = command.Check; steps = usual_steps; depth = most_depth; files = codes "a.wy" ∷ [] })
+most_deep = refl
+
+too_deep : settings_of (codes "run" ∷ codes "--depth" ∷ codes "100001" ∷ codes "a.wy" ∷ []) ≡ None
+too_deep = refl
+
+fourteen_digits : settings_of (codes "run" ∷ codes "--steps" ∷ codes "00000000000001" ∷ codes "a.wy" ∷ []) ≡ None
+fourteen_digits = refl
+
+no_numeral : settings_of (codes "run" ∷ codes "--steps" ∷ codes "+1" ∷ codes "a.wy" ∷ []) ≡ None
+no_numeral = refl
+
+no_number : settings_of (codes "run" ∷ codes "--steps" ∷ []) ≡ None
+no_number = refl
+
+depth_first : settings_of (codes "run" ∷ codes "--depth" ∷ codes "1" ∷ codes "--steps" ∷ codes "1" ∷ codes "a.wy" ∷ []) ≡ None
+depth_first = refl
+
+number_alone : settings_of (codes "run" ∷ codes "--steps" ∷ codes "9" ∷ []) ≡ None
+number_alone = refl

@@ -12,7 +12,6 @@ use Rattle.wy_names.specs.Scopes.{resolved}
 use Rattle.wy_names.specs.declared.refusal.Cause.TheVariants as cause
 use Rattle.wy_names.specs.declared.refusal.NameRefusal.TheVariants as refusal
 use Rattle.wy_names.specs.declared.refusal.Refusal.{Refusal}
-use Rattle.wy_engine.specs.LiteralForm.{program_of}
 use Rattle.wy_engine.specs.NameFaults.{NamesResolve, names_status}
 use Rattle.wy_engine.specs.declared.status.Status.TheVariants as status
 
@@ -30,7 +29,7 @@ unknown_fault = refl
 grants_status : names_status (refusal.Limit limit.Grants) ≡ status.Limit limit.Grants
 grants_status = refl
 
--- ---- a program block that does nothing: its names resolve, and it is of no form that runs
+-- ---- a program block that does nothing: its names resolve
 
 abbrev block : ProgramTree
 block = record {
@@ -60,9 +59,6 @@ empty_resolves = record {
     sound = λ r refuses. elim refuses [ inl here ↦ absurd here | inr cycle ↦ no_cycles r cycle ];
   };
 }
-
-empty_form : program_of empty_file ≡ None
-empty_form = refl
 
 -- ---- no file at all, and so no program block
 

@@ -46,10 +46,10 @@ pub record IsRead (asked other : Command) (read texts : List (List ℕ)) : Type 
 pub given_read : (call : TopCall) (settings : Settings) (read : List (List ℕ)) (other : Command) (texts : List (List ℕ)) → IsSet call settings
     → ReadsWell settings.files (length settings.files) call.shelf call.shelf_after read → IsGiven call other texts → IsRead settings.command other read texts
 given_read call settings read other texts set so given =
-    let e : settings ≡ record { command = other; files = given.names } = same_settings call settings (record { command = other; files = given.names }) set given.set in
-    let names : settings.files ≡ given.names = ap (λ (s : Settings). s.files) e in
+    let e : settings ≡ given.settings = same_settings call settings given.settings set given.set in
+    let names : settings.files ≡ given.settings.files = ap (λ (s : Settings). s.files) e in
     record {
-      same = ap (λ (s : Settings). s.command) e;
+      same = ap (λ (s : Settings). s.command) e ∙ given.is;
       cuts = cut_texts call.shelf given.files settings.files read texts given.told (subst (λ x. GivesFiles call.shelf x read) (take-length settings.files) so.gives)
           (subst (λ x. texts_of given.files x ≡ Some texts) (sym names) given.found);
     }

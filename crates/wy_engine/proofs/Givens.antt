@@ -7,18 +7,17 @@ use Rattle.wy_text.specs.Shelf.{GivesFile, ShelfState, file_named}
 use Rattle.wy_text.specs.declared.shelf.NamedText.{NamedText}
 use Rattle.wy_layout.specs.Counts.{most_file_bytes}
 use Rattle.wy_syntax.specs.Trees.{ItemTree}
-use Rattle.wy_types.specs.Program as core
+use Rattle.wy_types.specs.Program.{Program}
 use Rattle.wy_canonical.specs.Printed.{HasTree}
 use Rattle.wy_engine.specs.FileTrees.{FirstNoTree, HasNoTree, HaveTrees}
-use Rattle.wy_engine.specs.Judgement.{IsAccepted, PassesCheck, ReadsAs, Stops}
+use Rattle.wy_engine.specs.Judgement.{Passes, Runnable, Stops}
 use Rattle.wy_engine.specs.NameFaults.{NamesStop, ResolveTo}
 use Rattle.wy_engine.specs.Reading.{GivesFiles}
 use Rattle.wy_engine.specs.TopCall.{texts_of}
-use Rattle.wy_engine.specs.declared.literal_form.Program.{Program}
 use Rattle.wy_engine.specs.declared.settings.Command.{Command}
 use Rattle.wy_engine.specs.declared.settings.Command.TheVariants as command
 use Rattle.wy_engine.specs.declared.status.Status.{Status}
-use Rattle.wy_engine.proofs.OneAnswer.{Late, StopsBy, late, not_accepted, refusal, stops_by, stops_of, treeless, unbuilt, unresolved}
+use Rattle.wy_engine.proofs.OneAnswer.{StopsBy, not_accepted, not_lowered, stops_by, stops_of, treeless, unresolved}
 use Rattle.wy_engine.proofs.OneTree.{IsWhy, Why, large, none_of, reason_of, unexpected, wrong}
 
 -- what is read of a text
@@ -100,38 +99,26 @@ first_of_cut file [] end first = first
 first_of_cut file (x ∷ xs) end (inl here) = inl (none_of_cut file x end here)
 first_of_cut file (x ∷ xs) end (inr later) = inr (later.0, tree_of_cut file x later.0 later.1, first_of_cut (suc file) xs end later.2)
 
-reads_of_cut : (texts : List (List ℕ)) (program : Program) → ReadsAs (map cut texts) program → ReadsAs texts program
-reads_of_cut texts program reads = record { tree = reads.tree; trees = trees_of_cut 1 texts (reads.tree ∷ []) reads.trees; names = reads.names; form = reads.form }
-
-reads_cut : (texts : List (List ℕ)) (program : Program) → ReadsAs texts program → ReadsAs (map cut texts) program
-reads_cut texts program reads = record { tree = reads.tree; trees = trees_cut 1 texts (reads.tree ∷ []) reads.trees; names = reads.names; form = reads.form }
-
 names_of_cut : (texts : List (List ℕ)) (end : Status) → NamesStop (map cut texts) end → NamesStop texts end
 names_of_cut texts end stop = record { trees = stop.trees; have = trees_of_cut 1 texts stop.trees stop.have; why = stop.why; refused = stop.refused; gives = stop.gives }
 
-core_of_cut : (texts : List (List ℕ)) (program : core.Program) → ResolveTo (map cut texts) program → ResolveTo texts program
+core_of_cut : (texts : List (List ℕ)) (program : Program) → ResolveTo (map cut texts) program → ResolveTo texts program
 core_of_cut texts program read = record { trees = read.trees; have = trees_of_cut 1 texts read.trees read.have; resolves = read.resolves }
 
-late_of_cut : (asked : Command) (texts : List (List ℕ)) (end : Status) → Late asked (map cut texts) end → Late asked texts end
-late_of_cut command.Check texts end (not_accepted why is named) = not_accepted why (record { program = is.program; read = core_of_cut texts is.program is.read; ends = is.ends }) named
-late_of_cut command.Authority texts end (not_accepted why is named) = not_accepted why (record { program = is.program; read = core_of_cut texts is.program is.read; ends = is.ends }) named
-late_of_cut command.Run texts end (refusal fault is named) = refusal fault (record { program = is.program; read = reads_of_cut texts is.program is.read; lacks = is.lacks; named = is.named }) named
-late_of_cut command.Run texts end (unbuilt is named) = unbuilt (record { trees = is.trees; have = trees_of_cut 1 texts is.trees is.have; names = is.names; formless = λ program reads. is.formless program (reads_cut texts program reads) }) named
-late_of_cut command.Format texts end stop = absurd stop
+pub passes_of_cut : (texts : List (List ℕ)) (program : Program) → Passes (map cut texts) program → Passes texts program
+passes_of_cut texts program is = record { read = core_of_cut texts program is.read; accepted = is.accepted }
+
+pub runnable_of_cut : (texts : List (List ℕ)) (program : Program) → Runnable (map cut texts) program → Runnable texts program
+runnable_of_cut texts program is = record { passes = passes_of_cut texts program is.passes; within = is.within }
 
 stop_of_cut : (asked : Command) (texts : List (List ℕ)) (end : Status) → StopsBy asked (map cut texts) end → StopsBy asked texts end
 stop_of_cut asked texts end (treeless first) = treeless (first_of_cut 1 texts end first)
 stop_of_cut asked texts end (unresolved judges stop full) = unresolved judges (names_of_cut texts end stop) full
-stop_of_cut asked texts end (late stop) = late (late_of_cut asked texts end stop)
+stop_of_cut asked texts end (not_accepted judges why is named) = not_accepted judges why (record { program = is.program; read = core_of_cut texts is.program is.read; ends = is.ends }) named
+stop_of_cut asked texts end (not_lowered run name is named) = not_lowered run name (record { program = is.program; passes = passes_of_cut texts is.program is.passes; passed = is.passed }) named
 
 pub stops_of_cut : (asked : Command) (texts : List (List ℕ)) (end : Status) → Stops asked (map cut texts) end → Stops asked texts end
 stops_of_cut asked texts end stops = stops_of asked texts end (stop_of_cut asked texts end (stops_by asked (map cut texts) end stops))
-
-pub passes_of_cut : (texts : List (List ℕ)) (program : core.Program) → PassesCheck (map cut texts) program → PassesCheck texts program
-passes_of_cut texts program is = record { read = core_of_cut texts program is.read; accepted = is.accepted }
-
-pub accepted_of_cut : (texts : List (List ℕ)) (program : Program) → IsAccepted (map cut texts) program → IsAccepted texts program
-accepted_of_cut texts program is = record { read = reads_of_cut texts program is.read; allowed = is.allowed }
 
 pub tree_of_cuts : (texts : List (List ℕ)) (tree : List ItemTree) → HaveTrees 1 (map cut texts) (tree ∷ []) → HaveTrees 1 texts (tree ∷ [])
 tree_of_cuts texts tree have = trees_of_cut 1 texts (tree ∷ []) have

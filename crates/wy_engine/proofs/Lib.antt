@@ -1,3 +1,4 @@
+mod CodeRuns
 mod DashedWords
 mod Deeds
 mod Doing
@@ -5,17 +6,18 @@ mod EndOnce
 mod Examples
 mod ExamplesNames
 mod FilesRead
-mod FormTexts
+mod FilesTaken
 mod Givens
+mod LiteralsMade
 mod NamesJudged
+mod Numerals
 mod OneAnswer
 mod OneBad
 mod OneItem
-mod OneText
 mod OneTree
 mod OutWritten
 mod Outcomes
-mod Performing
+mod ProgramsMeant
 mod ReadingOn
 mod RunsMade
 mod Settling

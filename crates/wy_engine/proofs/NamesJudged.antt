@@ -53,7 +53,7 @@ stops_refused command.Format texts fault judges stop = absurd judges
 stops_limit : (asked : Command) (texts : List (List ℕ)) (name : LimitName) → JudgesNames asked → NamesStop texts (status.Limit name) → Stops asked texts (status.Limit name)
 stops_limit command.Check texts name judges stop = inr (inl stop)
 stops_limit command.Authority texts name judges stop = inr (inl stop)
-stops_limit command.Run texts name judges stop = inr stop
+stops_limit command.Run texts name judges stop = inl (inr (inl stop))
 stops_limit command.Format texts name judges stop = absurd judges
 
 -- what a refusal of names gives stops a command that judges them, but for want of memory

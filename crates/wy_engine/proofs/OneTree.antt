@@ -85,7 +85,9 @@ reason_of file bytes (status.Refused why) none = absurd none
 reason_of file bytes (status.DeviceFailed grant op) none = absurd none
 reason_of file bytes status.Unwritten none = absurd none
 reason_of file bytes status.Memory none = absurd none
-reason_of file bytes status.Unbuilt none = absurd none
+reason_of file bytes (status.Trap kind mark) none = absurd none
+reason_of file bytes status.TooDeep none = absurd none
+reason_of file bytes status.Spent none = absurd none
 
 none_why : (file : ℕ) (bytes : List ℕ) (why : Why) → IsWhy file bytes why → HasNoTree file bytes (status_why why)
 none_why file bytes (wrong fault.NameBytes place) is = (place, is)

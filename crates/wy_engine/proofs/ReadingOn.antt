@@ -2,7 +2,7 @@
 use Rattle.std.proofs.Common.{◌≡◌, ◌≤◌, ◌<◌, ◌+◌, ◌++◌, ℕ, suc, min, List, [], ◌∷◌, true, false, refl, sym, ◌∙◌, ap, subst, arith, length, take, drop, map, get_or, add-one}
 use Rattle.std.proofs.lemmas.List.{length-map, length-take, map-append}
 use Rattle.std.proofs.Math.ListN.{get_or-map}
-use Rattle.std.proofs.Math.Seq.{take-suc, drop-cons}
+use Rattle.std.proofs.Math.Seq.{take-length, take-suc, drop-cons}
 use Rattle.wy_text.specs.Outside.{gained, Rose}
 use Rattle.wy_text.specs.Shelf.{GivesFile, ShelfState, read_badly, read_well}
 use Rattle.wy_text.proofs.Gains.{gained-gained, gained-nil, rose_later}
@@ -89,3 +89,7 @@ reads_many names count before after texts so =
     let same : length texts ≡ length (take count names) = gives_many before (take count names) texts so.gives in
     let most : length (take count names) ≡ min count (length names) = length-take count names in
     omega arith
+
+pub reads_exactly : (names : List (List ℕ)) (count : ℕ) (before after : ShelfState) (texts : List (List ℕ)) → count ≡ length names → ReadsWell names count before after texts → length texts ≡ length names
+reads_exactly names count before after texts all so =
+    gives_many before (take count names) texts so.gives ∙ ap (λ (n : ℕ). length (take n names)) all ∙ ap (λ (ns : List (List ℕ)). length ns) (take-length names)

@@ -5,24 +5,23 @@ use Rattle.wy_text.specs.Outside.{gained}
 use Rattle.wy_text.specs.declared.limit.LimitName.TheVariants as limit
 use Rattle.wy_syntax.specs.Canonical.{canonical_form}
 use Rattle.wy_syntax.specs.Trees.{ItemTree}
-use Rattle.wy_types.specs.Program as core
+use Rattle.wy_types.specs.Program.{Program}
 use Rattle.wy_well_formed.specs.WellFormed.{ResolvedIsCore}
 use Rattle.wy_engine.specs.Answering.{Answered}
 use Rattle.wy_engine.specs.Answering as answering
 use Rattle.wy_engine.specs.FileTrees.{HaveTrees}
 use Rattle.wy_engine.specs.Headline.{HasCommand, Runs, Settles, Writes}
-use Rattle.wy_engine.specs.Judgement.{IsAccepted, PassesCheck, accepted_text, authority_text, checked, formatted, nothing, ran, reported}
+use Rattle.wy_engine.specs.Judgement.{Passes, Runnable, accepted_text, authority_text, checked, formatted, nothing, ran, reported}
+use Rattle.wy_engine.specs.ProgramLaws.{AcceptedRunAsMeant}
 use Rattle.wy_engine.specs.Reading.{ReadsWell, StopsAfter, StopsAt}
 use Rattle.wy_engine.specs.Settings.{Settings}
 use Rattle.wy_engine.specs.Status.{IsOfOut, IsOfRun, IsOfTexts}
 use Rattle.wy_engine.specs.TopCall.{IsSet, TopCall, most_files, reads_of}
-use Rattle.wy_engine.specs.declared.literal_form.Program.{Program}
 use Rattle.wy_engine.specs.declared.settings.Command.{Command}
 use Rattle.wy_engine.specs.declared.settings.Command.TheVariants as command
 use Rattle.wy_engine.specs.declared.status.Status.TheVariants as status
 use Rattle.wy_engine.proofs.FilesRead.{reads_all, reads_by}
-use Rattle.wy_engine.proofs.FormTexts.{some_of_form}
-use Rattle.wy_engine.proofs.Givens.{accepted_of_cut, passes_of_cut, tree_of_cuts}
+use Rattle.wy_engine.proofs.Givens.{passes_of_cut, runnable_of_cut, tree_of_cuts}
 use Rattle.wy_engine.proofs.OutWritten.{writes_by}
 use Rattle.wy_engine.proofs.RunsMade.{ran_counted, runs_by}
 use Rattle.wy_engine.proofs.Statuses.{idle_declined, out_past, out_run, out_wrote, past_declined, run_past, run_ran}
@@ -81,12 +80,13 @@ settles_starved call settings set few stops out report devices is = record {
 
 -- the files were read, and their texts answered
 has_command : (call : TopCall) (settings : Settings) (named : Command) → IsSet call settings → settings.command ≡ named → HasCommand call named
-has_command call settings named set is = record { files = settings.files; set = set ∙ ap (λ (c : Command). Some (record { command = c; files = settings.files })) is }
+has_command call settings named set is = record { settings = settings; set = set; is = is }
 
-pub settles_answered : ResolvedIsCore → (call : TopCall) (settings : Settings) (read : List (List ℕ)) → IsSet call settings → length settings.files ≤ most_files
+pub settles_answered : ResolvedIsCore → AcceptedRunAsMeant → (call : TopCall) (settings : Settings) (read : List (List ℕ)) → IsSet call settings → length settings.files ≤ most_files
     → ReadsWell settings.files (length settings.files) call.shelf call.shelf_after read
-    → Answered settings.command read call.out call.out_after call.report call.report_after call.devices call.devices_after call.status → Settles call
-settles_answered law call settings read set few so (answering.declined why out report devices) = record {
+    → Answered settings read call.out call.out_after call.report call.report_after call.devices call.devices_after call.status → Settles call
+unfolding has_command
+settles_answered law runs call settings read set few so (answering.declined why out report devices) = record {
   reads = reads_all call settings read set few so (past_declined settings.command read call.status why);
   did = nothing;
   accepts = λ other texts given none. accepts_none law call settings read set so why other texts given;
@@ -98,13 +98,13 @@ settles_answered law call settings read set few so (answering.declined why out r
   formats = λ tree none. absurd (cc);
   counted = rw report (omega arith);
 }
-settles_answered law call settings read set few so (answering.checked program check passes wrote report devices) =
+settles_answered law runs call settings read set few so (answering.checked program check passes wrote report devices) =
     let reached : IsOfOut call.status = out_wrote accepted_text call.out call.out_after call.status wrote in
     record {
       reads = reads_all call settings read set few so (out_past call.status reached);
       did = checked;
       accepts = λ other texts given none. accepts_some law call settings read checked set so
-          (λ told cuts. asks_check settings.command told program check (passes_of_cut told program (subst (λ (ts : List (List ℕ)). PassesCheck ts program) cuts passes))) (out_run call.status reached) other texts given;
+          (λ told cuts. asks_check settings.command told program check (passes_of_cut told program (subst (λ (ts : List (List ℕ)). Passes ts program) cuts passes))) (out_run call.status reached) other texts given;
       quiet = λ none. absurd (cc);
       idle = λ none. absurd (cc);
       runs = λ program none. absurd (cc);
@@ -113,38 +113,39 @@ settles_answered law call settings read set few so (answering.checked program ch
       formats = λ tree none. absurd (cc);
       counted = rw report (omega arith);
     }
-settles_answered law call settings read set few so (answering.reported program asks passes wrote report devices) =
+settles_answered law runs call settings read set few so (answering.reported program asks passes wrote report devices) =
     let reached : IsOfOut call.status = out_wrote (authority_text program) call.out call.out_after call.status wrote in
     record {
       reads = reads_all call settings read set few so (out_past call.status reached);
       did = reported program;
       accepts = λ other texts given none. accepts_some law call settings read (reported program) set so
-          (λ told cuts. asks_report settings.command told program asks (passes_of_cut told program (subst (λ (ts : List (List ℕ)). PassesCheck ts program) cuts passes))) (out_run call.status reached) other texts given;
+          (λ told cuts. asks_report settings.command told program asks (passes_of_cut told program (subst (λ (ts : List (List ℕ)). Passes ts program) cuts passes))) (out_run call.status reached) other texts given;
       quiet = λ none. absurd (cc);
       idle = λ none. absurd (cc);
       runs = λ program none. absurd (cc);
       checks = λ none. absurd (cc);
-      reports = λ other same. let e : program ≡ other = cc in subst (λ (p : core.Program). Writes call command.Authority (authority_text p)) e
+      reports = λ other same. let e : program ≡ other = cc in subst (λ (p : Program). Writes call command.Authority (authority_text p)) e
           (writes_by call command.Authority (authority_text program) (has_command call settings command.Authority set asks) report devices wrote);
       formats = λ tree none. absurd (cc);
       counted = rw report (omega arith);
     }
-settles_answered law call settings read set few so (answering.ran program run is ended out) =
-    let reached : IsOfRun call.status = run_ran program call.report call.report_after call.devices call.devices_after call.status ended in
+settles_answered law runs call settings read set few so (answering.ran program run is ended out) =
+    let reached : IsOfRun call.status = run_ran program settings.depth settings.steps call.report call.report_after call.devices call.devices_after call.status ended in
     record {
       reads = reads_all call settings read set few so (run_past call.status reached);
       did = ran program;
       accepts = λ other texts given none. accepts_some law call settings read (ran program) set so
-          (λ told cuts. asks_run settings.command told program run (accepted_of_cut told program (subst (λ (ts : List (List ℕ)). IsAccepted ts program) cuts is))) reached other texts given;
+          (λ told cuts. asks_run settings.command told program run (runnable_of_cut told program (subst (λ (ts : List (List ℕ)). Runnable ts program) cuts is))) reached other texts given;
       quiet = λ none. absurd (cc);
       idle = λ none. absurd (cc);
-      runs = λ other same. let e : program ≡ other = cc in subst (λ (p : Program). Runs call p) e (runs_by call program (has_command call settings command.Run set run) out (some_of_form is.read.tree program is.read.form) ended);
+      runs = λ other same. let e : program ≡ other = cc in subst (λ (p : Program). Runs call p) e
+          (runs_by call program (runs read program is.passes) (has_command call settings command.Run set run) out ended);
       checks = λ none. absurd (cc);
       reports = λ program none. absurd (cc);
       formats = λ tree none. absurd (cc);
-      counted = ran_counted program call.report call.report_after call.devices call.devices_after call.status ended;
+      counted = ran_counted program settings.depth settings.steps call.report call.report_after call.devices call.devices_after call.status ended;
     }
-settles_answered law call settings read set few so (answering.formatted tree format have wrote report devices) =
+settles_answered law runs call settings read set few so (answering.formatted tree format have wrote report devices) =
     let reached : IsOfOut call.status = out_wrote (canonical_form tree) call.out call.out_after call.status wrote in
     record {
       reads = reads_all call settings read set few so (out_past call.status reached);

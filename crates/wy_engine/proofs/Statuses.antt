@@ -1,18 +1,23 @@
 -- Which statuses come when: once files were read, of texts that stop a call, of a run, and of what was written.
-use Rattle.std.proofs.Common.{◌≡◌, ◌≢◌, ◌⊎◌, inl, inr, ℕ, List, [], ◌∷◌, sym, subst}
+use Rattle.std.proofs.Common.{◌≡◌, ◌≢◌, ◌⊎◌, inl, inr, ℕ, List, [], ◌∷◌, Some, None, Bool, true, false, nat_lt, if◌then◌else◌, sym, subst}
+use Rattle.wy_text.specs.LimitName.{limit_number}
 use Rattle.wy_text.specs.Outside.{SinkState}
 use Rattle.wy_text.specs.declared.limit.LimitName.TheVariants as limit
 use Rattle.wy_device.specs.Devices.{DevicesState}
-use Rattle.wy_device.specs.Ends.{End, Ended, DeviceFailed, Waiting}
-use Rattle.wy_types.specs.Program as core
+use Rattle.wy_lower.specs.Counts.{body_count, lowering_limit, some_slots_above}
+use Rattle.wy_lower.specs.Lowering.{scopes_bodies}
+use Rattle.wy_machine.specs.declared.run_end.RunEnd.{RunEnd}
+use Rattle.wy_machine.specs.declared.run_end.RunEnd.TheVariants as end
+use Rattle.wy_meaning.specs.Starts.{Starts}
+use Rattle.wy_sound.specs.Programs.{program_starts}
+use Rattle.wy_types.specs.Program.{Program}
 use Rattle.wy_rules.specs.Ends.{FirstEnd, IsEnd, IsLimitEnd, limited}
 use Rattle.wy_rules.specs.Refusals.{Numbered}
 use Rattle.wy_engine.specs.Answering.{Wrote}
 use Rattle.wy_engine.specs.Answering as answering
-use Rattle.wy_engine.specs.Judgement.{Stops}
-use Rattle.wy_engine.specs.Running.{Ran, performed, stopped}
-use Rattle.wy_engine.specs.Status.{IsOfOut, IsOfRun, IsOfTexts, status_of}
-use Rattle.wy_engine.specs.declared.literal_form.Program.{Program}
+use Rattle.wy_engine.specs.Judgement.{Stops, StopsLimited}
+use Rattle.wy_engine.specs.Running.{Ran, performed, status_of, stopped}
+use Rattle.wy_engine.specs.Status.{IsOfOut, IsOfRun, IsOfTexts}
 use Rattle.wy_engine.specs.declared.settings.Command.{Command}
 use Rattle.wy_engine.specs.declared.settings.Command.TheVariants as command
 use Rattle.wy_engine.specs.declared.status.Status.{Status}
@@ -22,16 +27,16 @@ use Rattle.wy_engine.proofs.OneAnswer.{never}
 
 -- ---- the limit on files is not one of judging programs
 
-first_files : (program : core.Program) (ns : List Numbered) → FirstEnd program ns (limited limit.Files) → ⊥
+first_files : (program : Program) (ns : List Numbered) → FirstEnd program ns (limited limit.Files) → ⊥
 first_files program [] first = first
 first_files program (n ∷ ns) (inl here) = let e : limit.Files ≡ limit.ReachedTypes = here.0 in cc
 first_files program (n ∷ ns) (inr later) = first_files program ns later.1
 
-many_files : (program : core.Program) (ns : List Numbered) → IsLimitEnd program ns (limited limit.Files) → ⊥
+many_files : (program : Program) (ns : List Numbered) → IsLimitEnd program ns (limited limit.Files) → ⊥
 many_files program ns (inl types) = let e : limit.Files ≡ limit.ReachedTypes = types.0 in cc
 many_files program ns (inr instances) = let e : limit.Files ≡ limit.Instances = instances.1 in cc
 
-ends_uncrowded : (program : core.Program) → IsEnd program (limited limit.Files) → ⊥
+ends_uncrowded : (program : Program) → IsEnd program (limited limit.Files) → ⊥
 ends_uncrowded program (inl plain) = first_files program _ plain
 ends_uncrowded program (inr rest) =
     elim rest.1 [
@@ -50,15 +55,25 @@ pub record IsPastReading (end : Status) : Type 0 where
   pub unread : (file : ℕ) → end ≢ status.Unread file
   pub crowd : end ≢ status.Limit limit.Files
 
+limited_uncrowded : (texts : List (List ℕ)) → StopsLimited texts limit.Files → ⊥
+limited_uncrowded texts (inl none) = never (status.Limit limit.Files) (λ file bytes h. h) 1 texts none
+limited_uncrowded texts (inr (inl stop)) = uncrowded texts stop
+limited_uncrowded texts (inr (inr stop)) = ends_uncrowded stop.program stop.ends
+
+-- .. nor of lowering
+lowers_uncrowded : (p : Program) (starts : Starts) → lowering_limit p starts ≡ Some limit.Files → ⊥
+lowers_uncrowded p starts is = by (nat_lt (limit_number limit.Bodies) (body_count p.scopes)) (some_slots_above (limit_number limit.Slots) (scopes_bodies p starts p.scopes)) is
+  where
+    by : (bodies slots : Bool) → (if bodies then Some limit.Bodies else if slots then Some limit.Slots else None) ≡ Some limit.Files → ⊥
+    by true slots same = cc
+    by false true same = cc
+    by false false same = cc
+
 crowds_none : (asked : Command) (texts : List (List ℕ)) → Stops asked texts (status.Limit limit.Files) → ⊥
-crowds_none command.Check texts (inl none) = never (status.Limit limit.Files) (λ file bytes h. h) 1 texts none
-crowds_none command.Check texts (inr (inl stop)) = uncrowded texts stop
-crowds_none command.Check texts (inr (inr stop)) = ends_uncrowded stop.program stop.ends
-crowds_none command.Authority texts (inl none) = never (status.Limit limit.Files) (λ file bytes h. h) 1 texts none
-crowds_none command.Authority texts (inr (inl stop)) = uncrowded texts stop
-crowds_none command.Authority texts (inr (inr stop)) = ends_uncrowded stop.program stop.ends
-crowds_none command.Run texts (inl none) = never (status.Limit limit.Files) (λ file bytes h. h) 1 texts none
-crowds_none command.Run texts (inr stop) = uncrowded texts stop
+crowds_none command.Check texts stop = limited_uncrowded texts stop
+crowds_none command.Authority texts stop = limited_uncrowded texts stop
+crowds_none command.Run texts (inl stop) = limited_uncrowded texts stop
+crowds_none command.Run texts (inr stop) = lowers_uncrowded stop.program (program_starts stop.program) stop.passed
 crowds_none command.Format texts none = never (status.Limit limit.Files) (λ file bytes h. h) 1 texts none
 
 stops_past : (asked : Command) (texts : List (List ℕ)) (end : Status) → Stops asked texts end → IsPastReading end
@@ -81,10 +96,12 @@ stops_idle asked texts (status.Unread file) stops run = run
 stops_idle asked texts (status.Syntax place kind) stops run = run
 stops_idle asked texts (status.Refused fault) stops run = run
 stops_idle asked texts (status.Limit name) stops run = run
+stops_idle asked texts (status.Trap kind place) stops run = stops
+stops_idle asked texts status.TooDeep stops run = stops
+stops_idle asked texts status.Spent stops run = stops
 stops_idle asked texts (status.DeviceFailed grant op) stops run = stops
 stops_idle asked texts status.Unwritten stops run = stops
 stops_idle asked texts status.Memory stops run = stops
-stops_idle asked texts status.Unbuilt stops run = run
 
 pub run_or_texts : (end : Status) → IsOfRun end → ¬ IsOfTexts end
 run_or_texts status.Ended run texts = texts
@@ -93,10 +110,12 @@ run_or_texts (status.Unread file) run texts = run
 run_or_texts (status.Syntax place kind) run texts = run
 run_or_texts (status.Refused fault) run texts = run
 run_or_texts (status.Limit name) run texts = run
+run_or_texts (status.Trap kind place) run texts = texts
+run_or_texts status.TooDeep run texts = texts
+run_or_texts status.Spent run texts = texts
 run_or_texts (status.DeviceFailed grant op) run texts = texts
 run_or_texts status.Unwritten run texts = texts
 run_or_texts status.Memory run texts = texts
-run_or_texts status.Unbuilt run texts = run
 
 pub out_run : (end : Status) → IsOfOut end → IsOfRun end
 out_run status.Ended out = tt
@@ -105,25 +124,26 @@ out_run (status.Unread file) out = out
 out_run (status.Syntax place kind) out = out
 out_run (status.Refused fault) out = out
 out_run (status.Limit name) out = out
+out_run (status.Trap kind place) out = tt
+out_run status.TooDeep out = tt
+out_run status.Spent out = tt
 out_run (status.DeviceFailed grant op) out = tt
 out_run status.Unwritten out = tt
 out_run status.Memory out = tt
-out_run status.Unbuilt out = out
 
-run_of_end : (end : End) → IsOfRun (status_of end)
-run_of_end Ended = tt
-run_of_end (DeviceFailed grant op) = tt
-run_of_end Waiting = tt
+pub run_of_end : (e : RunEnd) → IsOfRun (status_of e)
+run_of_end end.Ended = tt
+run_of_end (end.Trap kind place) = tt
+run_of_end end.TooDeep = tt
+run_of_end end.Spent = tt
+run_of_end (end.DeviceFailed grant op) = tt
+run_of_end end.SinkFailed = tt
+run_of_end end.Memory = tt
 
--- a status that a run's end gives, or want of memory
-pub run_status : (end : Status) (of : End) → (end ≡ status.Memory) ⊎ (end ≡ status_of of) → IsOfRun end
-run_status end of (inl is) = subst IsOfRun (sym is) tt
-run_status end of (inr is) = subst IsOfRun (sym is) (run_of_end of)
-
-pub run_ran : (program : Program) (report report' : SinkState) (devices devices' : DevicesState) (end : Status) → Ran program report report' devices devices' end → IsOfRun end
-run_ran program report report' devices devices' end (stopped short same (inl is)) = subst IsOfRun (sym is) tt
-run_ran program report report' devices devices' end (stopped short same (inr is)) = subst IsOfRun (sym is.0) tt
-run_ran program report report' devices devices' end (performed written performs only) = run_status end _ performs.ends
+pub run_ran : (program : Program) (depth steps : ℕ) (report report' : SinkState) (devices devices' : DevicesState) (end : Status) → Ran program depth steps report report' devices devices' end → IsOfRun end
+run_ran program depth steps report report' devices devices' s (stopped short same (inl is)) = subst IsOfRun (sym is) tt
+run_ran program depth steps report report' devices devices' s (stopped short same (inr is)) = subst IsOfRun (sym is.0) tt
+run_ran program depth steps report report' devices devices' s (performed written so) = subst IsOfRun (sym so.says) (run_of_end so.ended)
 
 pub out_wrote : (text : List ℕ) (out out' : SinkState) (end : Status) → Wrote text out out' end → IsOfOut end
 out_wrote text out out' end (answering.whole written is) = subst IsOfOut (sym is) tt

@@ -1,16 +1,15 @@
 -- What a call promises of the texts that it was given: they stop it, or something is done with them.
 use Rattle.std.proofs.Common.{◌≡◌, ◌⊎◌, inl, inr, ℕ, List, [], ◌∷◌, refl, sym, subst, length, map}
 use Rattle.wy_syntax.specs.Trees.{ItemTree}
-use Rattle.wy_types.specs.Program as core
+use Rattle.wy_types.specs.Program.{Program}
 use Rattle.wy_well_formed.specs.WellFormed.{ResolvedIsCore}
 use Rattle.wy_engine.specs.FileTrees.{HaveTrees}
 use Rattle.wy_engine.specs.Headline.{Accepts}
-use Rattle.wy_engine.specs.Judgement.{Asks, Did, IsAccepted, PassesCheck, Stops, checked, formatted, nothing, ran, reported}
+use Rattle.wy_engine.specs.Judgement.{Asks, Did, Passes, Runnable, Stops, checked, formatted, nothing, ran, reported}
 use Rattle.wy_engine.specs.Reading.{ReadsWell}
 use Rattle.wy_engine.specs.Settings.{Settings}
 use Rattle.wy_engine.specs.Status.{IsOfRun, IsOfTexts}
 use Rattle.wy_engine.specs.TopCall.{IsGiven, IsSet, TopCall}
-use Rattle.wy_engine.specs.declared.literal_form.Program.{Program}
 use Rattle.wy_engine.specs.declared.settings.Command.{Command}
 use Rattle.wy_engine.specs.declared.settings.Command.TheVariants as command
 use Rattle.wy_engine.specs.declared.status.Status.TheVariants as status
@@ -43,13 +42,13 @@ accepts_done law call asked did texts asks run = record {
   does = λ other also full. one_ask asked texts did other asks also;
 }
 
-pub asks_check : (asked : Command) (texts : List (List ℕ)) (program : core.Program) → asked ≡ command.Check → PassesCheck texts program → Asks asked texts checked
+pub asks_check : (asked : Command) (texts : List (List ℕ)) (program : Program) → asked ≡ command.Check → Passes texts program → Asks asked texts checked
 asks_check asked texts program check is = subst (λ (c : Command). Asks c texts checked) (sym check) (program, is)
 
-pub asks_report : (asked : Command) (texts : List (List ℕ)) (program : core.Program) → asked ≡ command.Authority → PassesCheck texts program → Asks asked texts (reported program)
+pub asks_report : (asked : Command) (texts : List (List ℕ)) (program : Program) → asked ≡ command.Authority → Passes texts program → Asks asked texts (reported program)
 asks_report asked texts program report is = subst (λ (c : Command). Asks c texts (reported program)) (sym report) is
 
-pub asks_run : (asked : Command) (texts : List (List ℕ)) (program : Program) → asked ≡ command.Run → IsAccepted texts program → Asks asked texts (ran program)
+pub asks_run : (asked : Command) (texts : List (List ℕ)) (program : Program) → asked ≡ command.Run → Runnable texts program → Asks asked texts (ran program)
 asks_run asked texts program run is = subst (λ (c : Command). Asks c texts (ran program)) (sym run) is
 
 pub asks_format : (asked : Command) (texts : List (List ℕ)) (tree : List ItemTree) → asked ≡ command.Format → HaveTrees 1 texts (tree ∷ []) → Asks asked texts (formatted tree)

@@ -40,10 +40,12 @@ HasNoTree file bytes status.Ended = ⊥
 HasNoTree file bytes status.Usage = ⊥
 HasNoTree file bytes (status.Unread number) = ⊥
 HasNoTree file bytes (status.Refused why) = ⊥
+HasNoTree file bytes (status.Trap kind mark) = ⊥
+HasNoTree file bytes status.TooDeep = ⊥
+HasNoTree file bytes status.Spent = ⊥
 HasNoTree file bytes (status.DeviceFailed grant op) = ⊥
 HasNoTree file bytes status.Unwritten = ⊥
 HasNoTree file bytes status.Memory = ⊥
-HasNoTree file bytes status.Unbuilt = ⊥
 
 -- the files, the first of which has this number, have these trees
 abbrev pub HaveTrees : ℕ → List (List ℕ) → List (List ItemTree) → Type 0
@@ -51,6 +53,11 @@ HaveTrees file [] [] = ⊤
 HaveTrees file (bytes ∷ texts) (tree ∷ trees) = HasTree file bytes tree × HaveTrees (suc file) texts trees
 HaveTrees file [] (tree ∷ trees) = ⊥
 HaveTrees file (bytes ∷ texts) [] = ⊥
+
+-- these are the trees of files
+pub record AreOfFiles (trees : List (List ItemTree)) : Type 0 where
+  pub texts : List (List ℕ)
+  pub have : HaveTrees 1 texts trees
 
 -- the first of the files that has no tree is why a call ends with this status
 abbrev pub FirstNoTree : ℕ → List (List ℕ) → Status → Type 0

@@ -1,6 +1,6 @@
 -- What a call of the top function promises: which texts it accepts, what it prints and writes, which operations it
 -- does, that they are within the authority that it printed, and how it ends.
-use Rattle.std.specs.Prelude.{◌≡◌, ◌≢◌, ◌⊎◌, ◌<◌, ◌≤◌, ℕ, List, [], ◌++◌, length}
+use Rattle.std.specs.Prelude.{◌≡◌, ◌≢◌, ◌⊎◌, ◌<◌, ◌≤◌, ◌*◌, ℕ, List, [], ◌++◌, length}
 use Rattle.wy_text.specs.Outside.{gained, Rose, SinkState}
 use Rattle.wy_device.specs.Devices.{device_of}
 use Rattle.wy_device.specs.Events.{DidExactly, TellsDeeds, deeds_of}
@@ -10,16 +10,17 @@ use Rattle.wy_device.specs.declared.deed.Deed.{Deed}
 use Rattle.wy_device.specs.declared.operation.Kind.{Kind}
 use Rattle.wy_device.specs.declared.operation.OpName.{OpName}
 use Rattle.wy_meaning.specs.Bounds.{Bounded}
-use Rattle.wy_meaning.specs.Meaning.{Meaning}
+use Rattle.wy_meaning.specs.Start.{Course}
 use Rattle.wy_syntax.specs.Canonical.{canonical_form}
 use Rattle.wy_syntax.specs.Trees.{ItemTree}
-use Rattle.wy_types.specs.Program as core
-use Rattle.wy_engine.specs.Judgement.{Asks, Did, Stops, accepted_text, authority_of, authority_text, checked, formatted, meaning_of, nothing, ran, reported}
-use Rattle.wy_engine.specs.LastLine.{last_line}
-use Rattle.wy_engine.specs.Report.{allowed_by, report_text}
-use Rattle.wy_engine.specs.Status.{IsOfOut, IsOfRun, IsOfTexts, status_of}
-use Rattle.wy_engine.specs.TopCall.{IsGiven, IsQuiet, IsSet, ReadsFiles, TopCall, file_words}
-use Rattle.wy_engine.specs.declared.literal_form.Program.{Program}
+use Rattle.wy_types.specs.Program.{Program}
+use Rattle.wy_sound.specs.Laws.{course}
+use Rattle.wy_sound.specs.Programs.{allowed}
+use Rattle.wy_engine.specs.Judgement.{Asks, Did, Stops, accepted_text, authority_text, checked, formatted, nothing, ran, reported}
+use Rattle.wy_engine.specs.LastLine.{LineWords, last_line, line_words}
+use Rattle.wy_engine.specs.Settings.{Settings, settings_of}
+use Rattle.wy_engine.specs.Status.{IsOfEnd, IsOfOut, IsOfRun, IsOfTexts}
+use Rattle.wy_engine.specs.TopCall.{IsGiven, IsQuiet, IsSet, ReadsFiles, TopCall}
 use Rattle.wy_engine.specs.declared.settings.Command.{Command}
 use Rattle.wy_engine.specs.declared.settings.Command.TheVariants as command
 use Rattle.wy_engine.specs.declared.status.Status.{Status}
@@ -34,10 +35,11 @@ pub record Accepts (call : TopCall) (command : Command) (did : Did) (texts : Lis
   pub done : (did ≡ nothing) ⊎ Asks command texts did
   pub does : (other : Did) → Asks command texts other → call.status ≢ status.Memory → did ≡ other
 
--- the words of a call name the command
+-- the words of a call are settings of the command
 pub record HasCommand (call : TopCall) (command : Command) : Type 0 where
-  pub files : List (List ℕ)
-  pub set : IsSet call (record { command = command; files = files })
+  pub settings : Settings
+  pub set : IsSet call settings
+  pub is : settings.command ≡ command
 
 -- The report stands on its sink, whole, before anything is done. Where it could not be written whole, a part of it
 -- stands there and nothing was done.
@@ -51,26 +53,35 @@ pub record PrintsReport (call : TopCall) (text : List ℕ) : Type 0 where
   pub proper : call.status ≡ status.Unwritten → (0 < length rest) × (call.devices_after ≡ call.devices) × Rose call.report.faults call.report_after.faults
 
 -- what a program means over the answers that its devices gave in this call
-abbrev pub meaning_in : TopCall → Program → Meaning
-meaning_in call program = meaning_of program (tapes_between call.devices call.devices_after)
+abbrev pub course_in : TopCall → Settings → Program → Course
+course_in call settings program = course program settings.depth (tapes_between call.devices call.devices_after)
 
 -- the deeds that a device did are the first of these
 abbrev pub DidFirst : Kind → TopCall → List Deed → Type 0
 DidFirst kind call deeds = (later : List Deed) × (deeds ≡ new_deeds_of kind call.devices call.devices_after ++ later)
 
+-- A run that was cut short by nothing but its bound on steps. Where the steps that the program's meaning takes are within
+-- the bound, the meaning does not wait for more answers, and the status is that of its end. Where they are more, the run
+-- is spent, and the bound is less than four steps a node that the meaning evaluates.
+pub record EndsAs (end : Status) (bound : ℕ) (c : Course) : Type 0 where
+  pub whole : c.steps ≤ bound → IsOfEnd end c.end
+  pub spent : bound < c.steps → (end ≡ status.Spent) × (bound < 4 * c.nodes)
+
 -- A program was accepted, and its run was begun. Where the devices tell their deeds:
 --   they did exactly the deeds of the program's meaning over the answers that they gave;
 --   over any tapes that begin with these answers, the deeds that were done are the first of the meaning's;
---   and the status is the one that the meaning's end gives, unless memory was wanting or the report was not written.
+--   and the status is the one that the meaning's end gives, or Spent, unless memory was wanting or the report was not written.
+-- At every depth and over all answers each operation is in the authority of every call that is open at it.
 pub record Runs (call : TopCall) (program : Program) : Type 0 where
   pub asked : HasCommand call command.Run
   pub reached : IsOfRun call.status
   pub out : call.out_after ≡ call.out
-  pub printed : PrintsReport call (report_text (authority_of program))
-  pub operations : TellsDeeds call.devices → DidExactly call.devices call.devices_after (meaning_in call program).events
-  pub prefix : TellsDeeds call.devices → (kind : Kind) (more : Tapes) → DidFirst kind call (deeds_of kind (meaning_of program (spliced (tapes_between call.devices call.devices_after) more)).events)
-  pub authority : (tapes : Tapes) → Bounded (allowed_by (authority_of program)) (meaning_of program tapes).events
-  pub ends : TellsDeeds call.devices → call.status ≢ status.Memory → call.status ≢ status.Unwritten → call.status ≡ status_of (meaning_in call program).end
+  pub printed : PrintsReport call (authority_text program)
+  pub operations : TellsDeeds call.devices → DidExactly call.devices call.devices_after (course_in call asked.settings program).events
+  pub prefix : TellsDeeds call.devices → (kind : Kind) (more : Tapes) →
+      DidFirst kind call (deeds_of kind (course program asked.settings.depth (spliced (tapes_between call.devices call.devices_after) more)).events)
+  pub authority : (depth : ℕ) (tapes : Tapes) → Bounded (allowed program) (course program depth tapes).events
+  pub ends : TellsDeeds call.devices → call.status ≢ status.Memory → call.status ≢ status.Unwritten → EndsAs call.status asked.settings.steps (course_in call asked.settings program)
   pub failed : (grant : List ℕ) (op : OpName) → call.status ≡ status.DeviceFailed grant op → Rose (device_of call.devices (kind_named op)).faults (device_of call.devices_after (kind_named op)).faults
 
 -- A command's text was written to `out`, and nothing else was done. Where it could not be written whole, a part of it
@@ -96,16 +107,16 @@ pub record Settles (call : TopCall) : Type 0 where
   pub idle : did ≡ nothing → call.status ≢ status.Memory → ¬ IsOfRun call.status
   pub runs : (program : Program) → did ≡ ran program → Runs call program
   pub checks : did ≡ checked → Writes call command.Check accepted_text
-  pub reports : (program : core.Program) → did ≡ reported program → Writes call command.Authority (authority_text program)
+  pub reports : (program : Program) → did ≡ reported program → Writes call command.Authority (authority_text program)
   pub formats : (tree : List ItemTree) → did ≡ formatted tree → Writes call command.Format (canonical_form tree)
   pub counted : call.report.faults ≤ call.report_after.faults
 
 -- The last line of a settled status was written, whole unless the sink counted a fault; a fault changes no status.
 -- Where memory was wanting for it the status is Memory.
-pub record Closes (names : List (List ℕ)) (settled end : Status) (before after : SinkState) : Type 0 where
+pub record Closes (words : LineWords) (settled end : Status) (before after : SinkState) : Type 0 where
   pub line : List ℕ
   pub cut : List ℕ
-  pub split : last_line names settled ≡ line ++ cut
+  pub split : last_line words settled ≡ line ++ cut
   pub taken : after.taken ≡ gained before.taken line
   pub whole : end ≢ status.Memory → (cut ≡ []) ⊎ Rose before.faults after.faults
   pub kept : (end ≡ settled) ⊎ (end ≡ status.Memory)
@@ -119,4 +130,4 @@ pub record Headline (call : TopCall) : Type 0 where
   pub settled : Status
   pub report : SinkState
   pub settles : Settles (before_last_line call settled report)
-  pub closes : Closes (file_words call) settled call.status report call.report_after
+  pub closes : Closes (line_words (settings_of call.words)) settled call.status report call.report_after

@@ -4,12 +4,10 @@ pub mod FormatAgain
 pub mod Headline
 pub mod Judgement
 pub mod LastLine
-pub mod LiteralForm
 pub mod NameFaults
 pub mod Parsed
-pub mod ReadForm
+pub mod ProgramLaws
 pub mod Reading
-pub mod Report
 pub mod Running
 pub mod Settings
 pub mod Status

@@ -1,6 +1,8 @@
 -- The statuses: their numbers, and how they go with how a run ends.
-use Rattle.std.specs.Prelude.{ℕ, ⊤}
-use Rattle.wy_device.specs.Ends.{End, Ended, DeviceFailed, Waiting}
+use Rattle.std.specs.Prelude.{◌≡◌, ℕ, ⊤}
+use Rattle.wy_device.specs.RunEnds as ends
+use Rattle.wy_device.specs.RunEnds.{RunEnd}
+use Rattle.wy_machine.specs.TrapKinds.{trap_meant}
 use Rattle.wy_engine.specs.declared.status.Status.{Status}
 use Rattle.wy_engine.specs.declared.status.Status.TheVariants as status
 
@@ -12,16 +14,27 @@ number_of (status.Unread file) = 2
 number_of (status.Syntax place kind) = 3
 number_of (status.Refused fault) = 4
 number_of (status.Limit name) = 5
+number_of (status.Trap kind place) = 6
+number_of status.TooDeep = 7
+number_of status.Spent = 8
 number_of (status.DeviceFailed grant op) = 9
 number_of status.Unwritten = 10
 number_of status.Memory = 11
-number_of status.Unbuilt = 63
 
--- the status that the end of a run gives; a run that waits was cut short by want of memory
-abbrev pub status_of : End → Status
-status_of Ended = status.Ended
-status_of (DeviceFailed grant op) = status.DeviceFailed grant op
-status_of Waiting = status.Memory
+-- the status is that of a run which ended so
+abbrev pub IsOfEnd : Status → RunEnd → Type 0
+IsOfEnd status.Ended end = end ≡ ends.Ended
+IsOfEnd status.Usage end = ⊥
+IsOfEnd (status.Unread file) end = ⊥
+IsOfEnd (status.Syntax place kind) end = ⊥
+IsOfEnd (status.Refused fault) end = ⊥
+IsOfEnd (status.Limit name) end = ⊥
+IsOfEnd (status.Trap kind place) end = end ≡ ends.Trap (trap_meant kind) place
+IsOfEnd status.TooDeep end = end ≡ ends.TooDeep
+IsOfEnd status.Spent end = end ≡ ends.Spent
+IsOfEnd (status.DeviceFailed grant op) end = end ≡ ends.DeviceFailed grant op
+IsOfEnd status.Unwritten end = ⊥
+IsOfEnd status.Memory end = ⊥
 
 -- a status that a call may have which ran a program, or began to
 abbrev pub IsOfRun : Status → Type 0
@@ -31,10 +44,12 @@ IsOfRun (status.Unread file) = ⊥
 IsOfRun (status.Syntax place kind) = ⊥
 IsOfRun (status.Refused fault) = ⊥
 IsOfRun (status.Limit name) = ⊥
+IsOfRun (status.Trap kind place) = ⊤
+IsOfRun status.TooDeep = ⊤
+IsOfRun status.Spent = ⊤
 IsOfRun (status.DeviceFailed grant op) = ⊤
 IsOfRun status.Unwritten = ⊤
 IsOfRun status.Memory = ⊤
-IsOfRun status.Unbuilt = ⊥
 
 -- a status that a call may have which wrote to `out`, or began to
 abbrev pub IsOfOut : Status → Type 0
@@ -44,10 +59,12 @@ IsOfOut (status.Unread file) = ⊥
 IsOfOut (status.Syntax place kind) = ⊥
 IsOfOut (status.Refused fault) = ⊥
 IsOfOut (status.Limit name) = ⊥
+IsOfOut (status.Trap kind place) = ⊥
+IsOfOut status.TooDeep = ⊥
+IsOfOut status.Spent = ⊥
 IsOfOut (status.DeviceFailed grant op) = ⊥
 IsOfOut status.Unwritten = ⊤
 IsOfOut status.Memory = ⊤
-IsOfOut status.Unbuilt = ⊥
 
 -- a status that texts may have by themselves, before anything is run or written to `out`
 abbrev pub IsOfTexts : Status → Type 0
@@ -57,7 +74,9 @@ IsOfTexts (status.Unread file) = ⊥
 IsOfTexts (status.Syntax place kind) = ⊤
 IsOfTexts (status.Refused fault) = ⊤
 IsOfTexts (status.Limit name) = ⊤
+IsOfTexts (status.Trap kind place) = ⊥
+IsOfTexts status.TooDeep = ⊥
+IsOfTexts status.Spent = ⊥
 IsOfTexts (status.DeviceFailed grant op) = ⊥
 IsOfTexts status.Unwritten = ⊥
 IsOfTexts status.Memory = ⊥
-IsOfTexts status.Unbuilt = ⊤

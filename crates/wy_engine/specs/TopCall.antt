@@ -33,14 +33,6 @@ pub record TopCall : Type 0 where
 abbrev pub IsSet : TopCall → Settings → Type 0
 IsSet call settings = settings_of call.words ≡ Some settings
 
-abbrev pub files_of : Option Settings → List (List ℕ)
-files_of None = []
-files_of (Some settings) = settings.files
-
--- the file words, and none where the words give no settings
-abbrev pub file_words : TopCall → List (List ℕ)
-file_words call = files_of (settings_of call.words)
-
 -- the texts of files of these names
 abbrev pub texts_of : List NamedText → List (List ℕ) → Option (List (List ℕ))
 texts_of files [] = Some []
@@ -48,12 +40,13 @@ texts_of files (name ∷ names) = option_and_then (λ text. option_map (λ texts
 
 -- a call of the command, which has no more files than the limit; and these are the texts that the shelf tells for them
 pub record IsGiven (call : TopCall) (command : Command) (texts : List (List ℕ)) : Type 0 where
-  pub names : List (List ℕ)
-  pub set : IsSet call (record { command = command; files = names })
-  pub few : length names ≤ most_files
+  pub settings : Settings
+  pub set : IsSet call settings
+  pub is : settings.command ≡ command
+  pub few : length settings.files ≤ most_files
   pub files : List NamedText
   pub told : call.shelf.files ≡ Some files
-  pub found : texts_of files names ≡ Some texts
+  pub found : texts_of files settings.files ≡ Some texts
 
 -- reads of these names, all with this outcome
 abbrev pub reads_of : Bool → List (List ℕ) → List ReadDone

@@ -1,17 +1,16 @@
-ghost use Rattle.std.specs.Prelude.{◌≡◌, ◌≤◌, length};
-ghost use Rattle.wy_device.specs.Devices.{states};
+ghost use Rattle.std.specs.Prelude.{◌≡◌, ◌≤◌, length, map, string_bytes};
+ghost use Rattle.wy_device.specs.Devices.{IsInOrder, states};
 ghost use Rattle.wy_engine.specs.Answering.{Answered};
 
 use crate::checking::{check_trees, report_trees};
 use crate::formatting::write_form;
-use crate::judging::run_trees;
 use crate::parsing::parse_all;
-use crate::settings::Command;
+use crate::running::{Bounds, run_trees};
+use crate::settings::{Command, CommandLine};
 use crate::status::Status;
 use std::alloc::Global;
 use wy_device::device::Device;
 use wy_device::devices::Devices;
-use wy_device::operation::Kind;
 use wy_text::sink::Sink;
 use wy_text::text::Text;
 
@@ -19,25 +18,29 @@ use wy_text::text::Text;
 /// or writes the canonical form of the one text.
 pub fn answer<O: Sink, E: Sink, D: Device>(
     alloc: Global,
-    command: Command,
+    asked: CommandLine<'_>,
     texts: &[Text],
     out: &mut O,
     report: &mut E,
     devices: &mut Devices<D>,
 ) -> Status
     requires few { length texts.now ≤ 64 }
-    requires one { command ≡ Command.Format → length texts.now ≡ 1 }
-    requires in_order { (D.state devices.old.console).kind ≡ Kind.Console }
-    ensures { Answered command texts.now (O.state out.old) (O.state out.new) (E.state report.old) (E.state report.new) (states D.state devices.old) (states D.state devices.new) result }
+    requires one { asked.command ≡ Command.Format → length texts.now ≡ 1 }
+    requires in_order { IsInOrder (states D.state devices.old) }
+    ensures { Answered (record { command = asked.entry.command; steps = asked.entry.steps; depth = asked.entry.depth; files = map string_bytes asked.entry.files.now }) texts.now (O.state out.old) (O.state out.new) (E.state report.old) (E.state report.new) (states D.state devices.old) (states D.state devices.new) result }
 {
     let trees = match parse_all(alloc, texts) {
         Ok(trees) => trees,
         Err(end) => return end,
     };
-    match command {
+    let bounds = Bounds {
+        steps: asked.steps,
+        depth: asked.depth,
+    };
+    match asked.command {
         Command::Check => check_trees(alloc, trees.as_slice(), out),
         Command::Authority => report_trees(alloc, trees.as_slice(), out),
-        Command::Run => run_trees(alloc, trees.as_slice(), report, devices),
+        Command::Run => run_trees(alloc, trees.as_slice(), bounds, report, devices),
         Command::Format => write_form(alloc, &trees[0], out),
     }
 }

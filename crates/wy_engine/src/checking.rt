@@ -25,9 +25,9 @@ use wy_well_formed::resolved_is_core;
 
 /// A program that is accepted, with its links.
 #[derive(Drop)]
-struct Accepted {
-    core: Core,
-    links: Links,
+pub struct Accepted {
+    pub core: Core,
+    pub links: Links,
 }
 
 /// The status of a call whose program is not accepted. It takes no memory.
@@ -43,7 +43,7 @@ fn check_status(why: CheckRefusal) -> Status
 
 /// Judges the names in the trees of texts, and where they resolve their program: gives the program with its links where
 /// it is accepted, and else the status that ends the call (docs/LANGUAGE.md, "Names" and "What is checked").
-fn judge_trees(alloc: Global, trees: &[Tree]) -> Result<Accepted, Status>
+pub fn judge_trees(alloc: Global, trees: &[Tree]) -> Result<Accepted, Status>
     ensures resolved { IfOk result (λ a. Resolves (all_items (map file_tree trees.now)) (program_of a.core)) }
     ensures accepted { IfOk result (λ a. IsCheckedProgram (program_of a.core) a.links) }
     ensures fails { IfErr result (λ end. FailsCheck (map file_tree trees.now) end) }
@@ -70,7 +70,7 @@ pub fn check_trees<O: Sink>(alloc: Global, trees: &[Tree], out: &mut O) -> Statu
 }
 
 /// The report of the authority of a program that is accepted.
-fn report_of(alloc: Global, accepted: &Accepted) -> Result<Text, Memory>
+pub fn report_of(alloc: Global, accepted: &Accepted) -> Result<Text, Memory>
     requires { IsCheckedProgram (program_of accepted.now.core) accepted.now.links }
     ensures { IfOk result (λ t. t ≡ authority_text (program_of accepted.now.core)) }
 {

@@ -1,10 +1,13 @@
-ghost use Rattle.std.specs.Prelude.{◌≡◌, ◌++◌, map, string_bytes, IfOk, OnOk};
+ghost use Rattle.std.specs.Prelude.{◌≡◌, ◌++◌, codes, map, string_bytes, IfOk, OnOk};
 ghost use Rattle.std.specs.Fmt.{decimal};
+ghost use Rattle.wy_device.specs.Traps.{trap_text};
+ghost use Rattle.wy_machine.specs.TrapKinds.{trap_meant};
 ghost use Rattle.wy_engine.specs.LastLine.{fault_text, file_word, lacks_text, last_line, limit_line, place_text, syntax_text};
-ghost use Rattle.wy_engine.specs.Report.{atom_text};
 
+use crate::settings::LineWords;
 use crate::status::{Status, SyntaxKind};
 use std::alloc::Global;
+use wy_machine::run_end::TrapKind;
 use wy_text::fault::{AtomName, Fault, Place};
 use wy_text::limit::LimitName;
 use wy_text::text::Memory;
@@ -91,15 +94,41 @@ fn push_limit(alloc: Global, line: &mut Vec<u8>, name: LimitName) -> Result<(), 
     Ok(())
 }
 
+/// The word for why a run trapped.
+fn trap_word(kind: TrapKind) -> &'static str
+    ensures { result.now ≡ trap_text (trap_meant kind) }
+{
+    match kind {
+        TrapKind::Overflow => "Overflow",
+        TrapKind::ZeroDivisor => "ZeroDivisor",
+        TrapKind::BadPart => "BadPart",
+        TrapKind::LongText => "LongText",
+        TrapKind::BadName => "BadName",
+        TrapKind::Crowded => "Crowded",
+    }
+}
+
+/// Adds a bound of a run, behind what it is called.
+fn push_bound(alloc: Global, line: &mut Vec<u8>, called: &[u8], number: u64) -> Result<(), Memory>
+    ensures { OnOk result (line.new.items ≡ line.old.items ++ (called.now ++ (decimal number ++ codes "\n"))) }
+{
+    line.extend_from_slice(called)?;
+    let digits = format!(in alloc; "{number}")?;
+    line.extend_from_slice(digits.as_bytes())?;
+    line.extend_from_slice(b"\n")?;
+    Ok(())
+}
+
 /// Adds the last line of a status to a line.
 fn push_last_line(
     alloc: Global,
     line: &mut Vec<u8>,
-    names: &[String],
+    words: LineWords<'_>,
     status: &Status,
 ) -> Result<(), Memory>
-    ensures { OnOk result (line.new.items ≡ line.old.items ++ last_line (map string_bytes names.now) status.now) }
+    ensures { OnOk result (line.new.items ≡ line.old.items ++ last_line (record { names = map string_bytes words.entry.names.now; steps = words.entry.steps; depth = words.entry.depth }) status.now) }
 {
+    let names = words.names;
     match status {
         Status::Ended => {}
         Status::Usage => {
@@ -122,6 +151,14 @@ fn push_last_line(
             line.extend_from_slice(b"\n")?;
         }
         Status::Limit(name) => push_limit(alloc, line, *name)?,
+        Status::Trap { kind, place } => {
+            push_place(alloc, line, names, *place)?;
+            line.extend_from_slice(b": trap: ")?;
+            line.extend_from_slice(trap_word(*kind).as_bytes())?;
+            line.extend_from_slice(b"\n")?;
+        }
+        Status::TooDeep => push_bound(alloc, line, b"too deep: ", u64::from(words.depth))?,
+        Status::Spent => push_bound(alloc, line, b"spent: ", words.steps)?,
         Status::DeviceFailed { grant, op } => {
             line.extend_from_slice(grant.as_bytes())?;
             line.extend_from_slice(b".")?;
@@ -130,16 +167,16 @@ fn push_last_line(
         }
         Status::Unwritten => line.extend_from_slice(b"unwritten\n")?,
         Status::Memory => line.extend_from_slice(b"no memory\n")?,
-        Status::Unbuilt => line.extend_from_slice(b"unbuilt\n")?,
     }
     Ok(())
 }
 
-/// The line that ends the report of a call with this status (docs/LANGUAGE.md, "Statuses"); no byte where it ended.
-pub fn last_line_of(alloc: Global, names: &[String], status: &Status) -> Result<Vec<u8>, Memory>
-    ensures { IfOk result (λ line. line.items ≡ last_line (map string_bytes names.now) status.now) }
+/// The line that ends the report of a call with these words and this status (docs/LANGUAGE.md, "Statuses"); no byte where
+/// it ended.
+pub fn last_line_of(alloc: Global, words: LineWords<'_>, status: &Status) -> Result<Vec<u8>, Memory>
+    ensures { IfOk result (λ line. line.items ≡ last_line (record { names = map string_bytes words.entry.names.now; steps = words.entry.steps; depth = words.entry.depth }) status.now) }
 {
     let mut line = Vec::new(alloc);
-    push_last_line(alloc, &mut line, names, status)?;
+    push_last_line(alloc, &mut line, words, status)?;
     Ok(line)
 }

@@ -9,7 +9,6 @@ pub mod formatting;
 pub mod judging;
 pub mod last_line;
 pub mod laws;
-pub mod literal_form;
 pub mod parsing;
 pub mod reading;
 pub mod running;

@@ -1,4 +1,5 @@
 use wy_device::operation::OpName;
+use wy_machine::run_end::TrapKind;
 use wy_text::fault::{Fault, Place};
 use wy_text::limit::LimitName;
 use wy_text::text::Text;
@@ -32,14 +33,18 @@ pub enum Status {
     Refused(Fault),
     /// A limit is passed.
     Limit(LimitName),
+    /// The program that was run trapped at a place.
+    Trap { kind: TrapKind, place: Place },
+    /// A call on an object was one too many that are open at once.
+    TooDeep,
+    /// The run took all the steps that it may take.
+    Spent,
     /// An operation on a grant failed.
     DeviceFailed { grant: Text, op: OpName },
     /// The report, or what the command writes, was not written whole.
     Unwritten,
     /// Memory was wanting.
     Memory,
-    /// The names in the texts resolve, and the texts are of no form that runs yet.
-    Unbuilt,
 }
 
 impl Status {
@@ -57,10 +62,12 @@ impl Status {
             Status::Syntax { .. } => 3,
             Status::Refused(_) => 4,
             Status::Limit(_) => 5,
+            Status::Trap { .. } => 6,
+            Status::TooDeep => 7,
+            Status::Spent => 8,
             Status::DeviceFailed { .. } => 9,
             Status::Unwritten => 10,
             Status::Memory => 11,
-            Status::Unbuilt => 63,
         }
     }
 }

@@ -5,8 +5,9 @@ ghost use Rattle.wy_engine.specs.TopCall.{TopCall};
 
 use crate::answering::answer;
 use crate::last_line::last_line_of;
+use crate::laws::accepted_run_as_meant;
 use crate::reading::{Stop, read_all};
-use crate::settings::{command_line, files_or_none};
+use crate::settings::{LineWords, command_line, line_words};
 use crate::status::Status;
 use std::alloc::Global;
 use wy_device::device::Device;
@@ -44,6 +45,7 @@ fn settle<S: Shelf, O: Sink, E: Sink, D: Device>(
     }) }
 {
     resolved_is_core();
+    accepted_run_as_meant();
     let Some(line) = command_line(words) else {
         return Status::Usage;
     };
@@ -53,15 +55,15 @@ fn settle<S: Shelf, O: Sink, E: Sink, D: Device>(
     match read_all(alloc, shelf, line.files) {
         Err(Stop::Unread(file)) => Status::Unread(file),
         Err(Stop::Memory) => Status::Memory,
-        Ok(texts) => answer(alloc, line.command, texts.as_slice(), out, report, devices),
+        Ok(texts) => answer(alloc, line, texts.as_slice(), out, report, devices),
     }
 }
 
 /// Writes the last line of a status that is settled, and gives the status of the whole call.
-fn close<E: Sink>(alloc: Global, names: &[String], report: &mut E, settled: Status) -> Status
-    ensures { Closes (map string_bytes names.now) settled result (E.state report.old) (E.state report.new) }
+fn close<E: Sink>(alloc: Global, words: LineWords<'_>, report: &mut E, settled: Status) -> Status
+    ensures { Closes (record { names = map string_bytes words.entry.names.now; steps = words.entry.steps; depth = words.entry.depth }) settled result (E.state report.old) (E.state report.new) }
 {
-    let Ok(line) = last_line_of(alloc, names, &settled) else {
+    let Ok(line) = last_line_of(alloc, words, &settled) else {
         return Status::Memory;
     };
     match write_all(report, line.as_slice()) {
@@ -73,8 +75,8 @@ fn close<E: Sink>(alloc: Global, names: &[String], report: &mut E, settled: Stat
 
 /// Does what the words say: reads the files that they name, and parses them. `check` judges their names and their
 /// program by the rules, and says on `out` that it is accepted; `authority` judges as `check` does, and writes the
-/// report of what the program's bodies may do to `out`; `run` judges names and program, prints the authority of what is
-/// accepted on `report`, and runs it on the devices; `format` writes the canonical form of its one file to `out`. The
+/// report of what the program's bodies may do to `out`; `run` judges as `check` does, lowers what is accepted to code, prints the
+/// report on `report`, and runs the code on the devices; `format` writes the canonical form of its one file to `out`. The
 /// report ends with a line that says how the call ended, unless all was done (docs/LANGUAGE.md, "The command line",
 /// "Authority and report" and "Statuses").
 ///
@@ -102,5 +104,5 @@ pub fn wyvern<S: Shelf, O: Sink, E: Sink, D: Device>(
     }) }
 {
     let settled = settle(alloc, words, shelf, out, report, devices);
-    close(alloc, files_or_none(words), report, settled)
+    close(alloc, line_words(words), report, settled)
 }

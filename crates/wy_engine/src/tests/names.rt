@@ -78,7 +78,7 @@ const MAIN: &[u8] =
     b"program\n  grant disk: Folder\n  instance lg = logger(disk)\n  run: {lg.Log}\n    lg.log(\"a\")\n";
 
 /// Words, the number of the status, and the report.
-static ORDERS: [(&[&str], u8, &str); 9] = [
+static ORDERS: [(&[&str], u8, &str); 8] = [
     (
         &["run", "a.wy", "a.wy"],
         4,
@@ -99,8 +99,11 @@ static ORDERS: [(&[&str], u8, &str); 9] = [
         4,
         "main.wy:3:17: refused: N-Unknown premise 1\n",
     ),
-    (&["run", "log.wy", "main.wy"], 63, "unbuilt\n"),
-    (&["run", "main.wy", "log.wy"], 63, "unbuilt\n"),
+    (
+        &["authority", "log.wy"],
+        4,
+        "log.wy:1:1: refused: N-NoProgram premise 1\n",
+    ),
     (
         &["run", "late.wy", "early.wy"],
         4,
@@ -139,33 +142,6 @@ fn first_otherwise(alloc: Global, cases: &[(&[&str], u8, &str)]) -> Result<Optio
 #[test]
 fn names_of_several_files_are_judged_together(rt: HostRuntime) -> Result<(), Fail> {
     assert_eq!(rt; first_otherwise(rt.alloc(), &ORDERS)?, None);
-    Ok(())
-}
-
-/// Texts in which the names resolve, and which are of no form that runs.
-static UNBUILT: [&str; 6] = [
-    "program\n  run: {}\n    ()\n",
-    "type T\nprogram\n  grant c: Console\n  run: {c.Out}\n    c.write(\"a\")\n",
-    "program\n  grant c: Console\n  run: {c.Out} = c.write(\"a\")\n",
-    "program\n  grant c: Console\n  grant d: Console\n  run: {c.Out}\n    c.write(\"a\")\n",
-    "program\n  grant c: Console\n  run: {c.In}\n    c.write(\"a\")\n",
-    "program\n  grant c: Console\n  run: {c.Out}\n    c.read()\n    c.write(\"a\")\n",
-];
-
-/// The number of the first text that is not unbuilt.
-fn first_built(alloc: Global, texts: &[&str]) -> Result<Option<usize>, Fail> {
-    for (at, text) in texts.iter().enumerate() {
-        let files: [(&str, &[u8]); 1] = [("b.wy", text.as_bytes())];
-        if !ends_so(alloc, &["run", "b.wy"], &files, 63, "unbuilt\n")? {
-            return Ok(Some(at));
-        }
-    }
-    Ok(None)
-}
-
-#[test]
-fn texts_with_names_and_of_no_form_are_unbuilt(rt: HostRuntime) -> Result<(), Fail> {
-    assert_eq!(rt; first_built(rt.alloc(), &UNBUILT)?, None);
     Ok(())
 }
 

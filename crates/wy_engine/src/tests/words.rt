@@ -3,7 +3,7 @@ use std::alloc::Global;
 use std::test::Fail;
 
 /// Words that are no command line.
-static FAULTY: [&[&str]; 12] = [
+static FAULTY: [&[&str]; 21] = [
     &[],
     &["check"],
     &["check", "-b.wy"],
@@ -16,6 +16,15 @@ static FAULTY: [&[&str]; 12] = [
     &["run", "b.wy", "-c.wy"],
     &["run", "-b.wy"],
     &["--help", "b.wy"],
+    &["run", "--steps", "b.wy"],
+    &["run", "--steps", "9"],
+    &["run", "--steps", "", "b.wy"],
+    &["run", "--steps", "+9", "b.wy"],
+    &["run", "--steps", "1000000000001", "b.wy"],
+    &["run", "--steps", "00000000000009", "b.wy"],
+    &["run", "--depth", "100001", "b.wy"],
+    &["check", "--depth", "x", "b.wy"],
+    &["run", "b.wy", "--steps", "9"],
 ];
 
 /// Whether a call with these words, over a shelf with an empty `b.wy`, ends with the status of the number and the

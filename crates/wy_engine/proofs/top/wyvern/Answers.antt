@@ -5,5 +5,5 @@ returns g c = record {
   settled = c.settle-settled.result;
   report = g.E.Sink.state c.settle-settled.new.report;
   settles = c.settle-settled.ensures;
-  closes = rw c.files_or_none.ensures at c.close.ensures;
+  closes = rw (← c.line_words.ensures) at c.close.ensures;
 }

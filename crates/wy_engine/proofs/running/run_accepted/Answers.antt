@@ -1,0 +1,15 @@
+use Rattle.std.proofs.Common.{rules, ◌≡◌, List, Some, map, refl, subst}
+use Rattle.wy_lower.specs.Counts.{lowering_limit}
+use Rattle.wy_meaning.specs.Starts.{started_of, starts_of}
+use Rattle.wy_types.specs.Program.{Program, program_of}
+use Rattle.wy_types.specs.declared.linked.Instance.{Instance}
+use Rattle.wy_engine.specs.Answering.{limited}
+use Rattle.wy_engine.proofs.running.run_accepted.Goals as goal
+
+pub returns-in-Err-Limit : goal.returns-in-Err-Limit
+returns-in-Err-Limit g c =
+    let program : Program = program_of c.args.accepted.now.core in
+    let passed : lowering_limit program (starts_of program (map started_of c.args.accepted.now.links.instances)) ≡ Some c.in-Err-Limit.name = search rules in
+    limited c.in-Err-Limit.name
+    (subst (λ (instances : List Instance). lowering_limit program (starts_of program (map started_of instances)) ≡ Some c.in-Err-Limit.name) c.requires.checked.linked.instances
+    passed) (let is = c.in-Err-Limit.name-is in cc) refl refl

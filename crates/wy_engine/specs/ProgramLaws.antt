@@ -1,0 +1,24 @@
+-- What the layers below say together of an accepted program.
+use Rattle.std.specs.Prelude.{ℕ, List}
+use Rattle.wy_code.specs.Running.{NeverStuck, machine}
+use Rattle.wy_device.specs.Tapes.{Tapes}
+use Rattle.wy_lower.specs.Correct.{Follows}
+use Rattle.wy_lower.specs.Lowering.{lowered}
+use Rattle.wy_meaning.specs.Bounds.{Bounded}
+use Rattle.wy_meaning.specs.Laws.{IsCheap, TakesInOrder}
+use Rattle.wy_sound.specs.Laws.{course}
+use Rattle.wy_sound.specs.Programs.{allowed, program_starts}
+use Rattle.wy_types.specs.Program.{Program}
+use Rattle.wy_engine.specs.Judgement.{Passes}
+
+-- Its code does what it means, at every depth, bound and answers, and is never stuck; no run of it takes more than four
+-- steps a node, or answers out of their order; and each operation in one is in the authority of every call that is open.
+pub record RunsAsMeant (program : Program) : Type 0 where
+  pub follows : (depth bound : ℕ) (tapes : Tapes) → Follows (course program depth tapes) bound (machine (lowered program (program_starts program)) depth bound tapes)
+  pub stuck : NeverStuck (lowered program (program_starts program))
+  pub cheap : (depth : ℕ) (tapes : Tapes) → IsCheap (course program depth tapes)
+  pub ordered : (depth : ℕ) → TakesInOrder depth program (program_starts program)
+  pub bounded : (depth : ℕ) (tapes : Tapes) → Bounded (allowed program) (course program depth tapes).events
+
+abbrev pub AcceptedRunAsMeant : Type 0
+AcceptedRunAsMeant = (texts : List (List ℕ)) (program : Program) → Passes texts program → RunsAsMeant program
