@@ -3,7 +3,6 @@ use Rattle.std.specs.Prelude.{◌≡◌}
 use Rattle.wy_device.specs.Device.{DeviceState}
 use Rattle.wy_device.specs.declared.operation.Kind.{Kind}
 use Rattle.wy_device.specs.declared.operation.Kind.TheVariants.{Console, Folder, Clock, Random}
-use Rattle.wy_device.specs.declared.devices.Devices.{Devices}
 
 -- what the device of each kind means
 pub record DevicesState : Type 0 where
@@ -24,7 +23,3 @@ pub record IsInOrder (d : DevicesState) : Type 0 where
   pub folder : d.folder.kind ≡ Folder
   pub clock : d.clock.kind ≡ Clock
   pub random : d.random.kind ≡ Random
-
--- what four devices mean, where each means what the function says
-abbrev pub states : {D : Type 0} → (D → DeviceState) → Devices D → DevicesState
-states state d = record { console = state d.console; folder = state d.folder; clock = state d.clock; random = state d.random }

@@ -1,12 +1,10 @@
-//! Operations, answers, deeds and events; the devices of a run, handed in, shut or in memory.
+//! Operations, answers, deeds and events; devices, handed in, shut or in memory.
 #![tactic(auto)]
 
 pub mod deed;
 pub mod device;
-pub mod devices;
 pub mod folder_files;
 pub mod handed;
-pub mod handing_in;
 pub mod mem_clock;
 pub mod mem_console;
 pub mod mem_folder;

@@ -2,7 +2,6 @@
 
 mod consoles;
 mod folders;
-mod handing_in;
 mod numbers;
 mod operations;
 

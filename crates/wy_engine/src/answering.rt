@@ -1,5 +1,6 @@
 ghost use Rattle.std.specs.Prelude.{◌≡◌, ◌≤◌, length, map, string_bytes};
-ghost use Rattle.wy_device.specs.Devices.{IsInOrder, states};
+ghost use Rattle.wy_device.specs.Devices.{IsInOrder};
+ghost use Rattle.wy_machine.specs.Devices.{states};
 ghost use Rattle.wy_engine.specs.Answering.{Answered};
 
 use crate::checking::{check_trees, report_trees};
@@ -10,7 +11,7 @@ use crate::settings::{Command, CommandLine};
 use crate::status::Status;
 use std::alloc::Global;
 use wy_device::device::Device;
-use wy_device::devices::Devices;
+use wy_machine::devices::Devices;
 use wy_text::sink::Sink;
 use wy_text::text::Text;
 

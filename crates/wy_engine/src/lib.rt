@@ -19,4 +19,5 @@ mod tests;
 pub mod top;
 pub mod writing;
 
-pub use wy_device::{devices, handing_in};
+pub use wy_machine::devices;
+pub use wy_machine::devices::handing_in;

@@ -1,6 +1,7 @@
 ghost use Rattle.std.specs.Prelude.{◌≡◌, map};
 ghost use Rattle.wy_code.specs.Running.{NeverStuck};
-ghost use Rattle.wy_device.specs.Devices.{IsInOrder, states};
+ghost use Rattle.wy_device.specs.Devices.{IsInOrder};
+ghost use Rattle.wy_machine.specs.Devices.{states};
 ghost use Rattle.wy_link.specs.Checking.{IsCheckedProgram};
 ghost use Rattle.wy_lower.specs.Lowering.{lowered};
 ghost use Rattle.wy_sound.specs.Programs.{program_starts};
@@ -15,7 +16,7 @@ use crate::laws::accepted_run_as_meant;
 use crate::status::Status;
 use std::alloc::Global;
 use wy_device::device::Device;
-use wy_device::devices::Devices;
+use wy_machine::devices::Devices;
 use wy_lower::lowering::{LowerRefusal, lower};
 use wy_machine::run::{load, run};
 use wy_machine::run_end::RunEnd;

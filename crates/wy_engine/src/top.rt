@@ -1,5 +1,6 @@
 ghost use Rattle.std.specs.Prelude.{◌≡◌, ◌≤◌, map, string_bytes};
-ghost use Rattle.wy_device.specs.Devices.{IsInOrder, states};
+ghost use Rattle.wy_device.specs.Devices.{IsInOrder};
+ghost use Rattle.wy_machine.specs.Devices.{states};
 ghost use Rattle.wy_engine.specs.Headline.{Closes, Headline, Settles};
 ghost use Rattle.wy_engine.specs.TopCall.{TopCall};
 
@@ -11,7 +12,7 @@ use crate::settings::{LineWords, command_line, line_words};
 use crate::status::Status;
 use std::alloc::Global;
 use wy_device::device::Device;
-use wy_device::devices::Devices;
+use wy_machine::devices::Devices;
 use wy_text::limit::LimitName;
 use wy_text::shelf::Shelf;
 use wy_text::sink::{Sink, WriteError};

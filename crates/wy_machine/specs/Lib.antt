@@ -2,6 +2,7 @@ pub mod Calls
 pub mod Captures
 pub mod Computing
 pub mod Requesting
+pub mod Devices
 pub mod Runs
 pub mod Stacks
 pub mod States

@@ -2,11 +2,11 @@
 #![tactic(auto)]
 
 mod arithmetic;
-mod asking;
 mod building;
 mod calls;
 mod computed;
 mod deeds;
+pub mod devices;
 mod instances;
 mod lookup;
 mod machine;
@@ -21,5 +21,7 @@ mod stack;
 mod starting;
 mod step;
 mod store;
+#[cfg(test)]
+mod tests;
 mod texts;
 mod word;

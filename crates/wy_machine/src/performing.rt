@@ -1,12 +1,12 @@
 ghost use Rattle.std.specs.Prelude.{◌≡◌, ◌<◌, length, slice_get, true, false, Some};
 ghost use Rattle.wy_code.specs.Stores.{Grant as GrantWord};
 ghost use Rattle.wy_code.specs.declared.instruction.Instruction.TheVariants.{Call};
-ghost use Rattle.wy_device.specs.Devices.{DevicesState, IsInOrder, states};
+ghost use Rattle.wy_device.specs.Devices.{DevicesState, IsInOrder};
+ghost use Rattle.wy_machine.specs.Devices.{states};
 ghost use Rattle.wy_device.specs.Requests as requests;
 ghost use Rattle.wy_machine.specs.Requesting.{IsRequest};
 ghost use Rattle.wy_machine.specs.Steps.{acting, IsNotStuck, IsStep};
 
-use crate::asking::ask;
 use crate::building::{MOST_TEXTS, next_text};
 use crate::deeds::{requested, text_in, word_in};
 use crate::machine::Machine;
@@ -15,7 +15,7 @@ use crate::run_end::{RunEnd, TrapKind};
 use crate::word::{Word, WordKind};
 use wy_code::code::{Code, Grant};
 use wy_device::device::{Device, DeviceError};
-use wy_device::devices::Devices;
+use crate::devices::Devices;
 use wy_device::operation::Op;
 use wy_text::fault::Place;
 
@@ -43,7 +43,7 @@ fn ask_for_text<D: Device>(
     let number = next_text(code, &machine.store)?;
     let name = grant.name.copy()?;
     machine.store.make_room()?;
-    match ask(devices, &grant.name, op) {
+    match devices.ask(&grant.name, op) {
         Ok(answer) => match text_in(answer) {
             Some(text) => {
                 machine.store.fill_room(text);
@@ -83,7 +83,7 @@ fn ask_for_word<D: Device>(
         (acting code.now depth place machine.old.stack machine.old.store (Call method count)) (states D.state devices.old) (states D.state devices.new) result }
 {
     let name = grant.name.copy()?;
-    match ask(devices, &grant.name, op) {
+    match devices.ask(&grant.name, op) {
         Ok(answer) => match word_in(answer) {
             Some(word) => {
                 machine.stack.give(count as usize + 1, word);

@@ -1,6 +1,7 @@
 ghost use Rattle.std.specs.Prelude.{◌≡◌, IfOk};
 ghost use Rattle.wy_code.specs.Running.{NeverStuck};
-ghost use Rattle.wy_device.specs.Devices.{DevicesState, IsInOrder, states};
+ghost use Rattle.wy_device.specs.Devices.{DevicesState, IsInOrder};
+ghost use Rattle.wy_machine.specs.Devices.{states};
 ghost use Rattle.wy_machine.specs.Runs.{Runs};
 ghost use Rattle.wy_machine.specs.Steps.{starting, IsNotStuck, IsStep};
 
@@ -15,7 +16,7 @@ use std::alloc::Global;
 use std::marker::Model;
 use wy_code::code::Code;
 use wy_device::device::Device;
-use wy_device::devices::Devices;
+use crate::devices::Devices;
 use wy_text::text::Memory;
 
 /// Code that is to run, how many calls on objects may be open at once, and the state of its runs.

@@ -1,7 +1,8 @@
 ghost use Rattle.std.specs.Prelude.{◌≡◌, ◌+◌, ◌<◌, length, slice_get, Some};
 ghost use Rattle.wy_code.specs.Machine as machine;
 ghost use Rattle.wy_code.specs.declared.instruction.Instruction.TheVariants.{Call};
-ghost use Rattle.wy_device.specs.Devices.{IsInOrder, states};
+ghost use Rattle.wy_device.specs.Devices.{IsInOrder};
+ghost use Rattle.wy_machine.specs.Devices.{states};
 ghost use Rattle.wy_machine.specs.Stacks.{at_address};
 ghost use Rattle.wy_machine.specs.States.{body_at};
 ghost use Rattle.wy_machine.specs.Steps.{acting, stepping, IsNotStuck, IsStep};
@@ -18,7 +19,7 @@ use crate::word::{Word, WordKind};
 use wy_code::code::Code;
 use wy_code::instruction::{Constant, Instruction, Placed};
 use wy_device::device::Device;
-use wy_device::devices::Devices;
+use crate::devices::Devices;
 use wy_text::fault::Place;
 
 /// The instruction that comes next; the body goes on after it.

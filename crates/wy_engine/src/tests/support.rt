@@ -1,4 +1,5 @@
-ghost use Rattle.wy_device.specs.Devices.{IsInOrder, states};
+ghost use Rattle.wy_device.specs.Devices.{IsInOrder};
+ghost use Rattle.wy_machine.specs.Devices.{states};
 
 use crate::handing_in::devices;
 use crate::status::Status;
@@ -6,7 +7,7 @@ use crate::top::wyvern;
 use std::alloc::{AllocError, Global};
 use std::test::Fail;
 use wy_device::device::Device;
-use wy_device::devices::Devices;
+use wy_machine::devices::Devices;
 use wy_device::handed::Handed;
 use wy_device::mem_console::MemConsole;
 use wy_device::operation::Kind;

@@ -2,7 +2,7 @@ use Rattle.std.proofs.Common.{Err, Some, ap, ◌∙◌, arith}
 use Rattle.std.proofs.lemmas.Option.{slice_get_within}
 use Rattle.wy_code.specs.Operations.{deed_event, word_answered}
 use Rattle.wy_code.specs.Stores.{Grant, Text}
-use Rattle.wy_device.specs.Devices.{states}
+use Rattle.wy_machine.specs.Devices.{states}
 use Rattle.wy_machine.specs.Stacks.{pushed}
 use Rattle.wy_machine.specs.States.{store_of}
 use Rattle.wy_machine.proofs.CallSteps.{called_from}

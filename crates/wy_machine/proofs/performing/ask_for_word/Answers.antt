@@ -2,7 +2,7 @@ use Rattle.std.proofs.Common.{Err, Some, refl, ap, ◌∙◌, arith}
 use Rattle.std.proofs.lemmas.Option.{slice_get_within}
 use Rattle.wy_code.specs.Operations.{deed_event}
 use Rattle.wy_code.specs.Stores.{Grant}
-use Rattle.wy_device.specs.Devices.{states}
+use Rattle.wy_machine.specs.Devices.{states}
 use Rattle.wy_machine.specs.States.{store_of}
 use Rattle.wy_machine.proofs.DeedSteps.{no_text, failed_step, reply_step, word_answered_is, named_failure}
 use Rattle.wy_machine.proofs.Quiet.{step_to, wants_when}

@@ -1,5 +1,5 @@
 use Rattle.std.proofs.Common.{sym, ◌∙◌}
-use Rattle.wy_device.specs.Devices.{states}
+use Rattle.wy_machine.specs.Devices.{states}
 use Rattle.wy_machine.proofs.DeedSteps.{grant_there, method_named, operation_there}
 use Rattle.wy_machine.proofs.Quiet.{wants_when}
 use Rattle.wy_machine.proofs.performing.perform.Goals as goal

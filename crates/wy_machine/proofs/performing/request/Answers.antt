@@ -1,5 +1,5 @@
 use Rattle.std.proofs.Common.{◌≤◌, sym, subst}
-use Rattle.wy_device.specs.Devices.{states}
+use Rattle.wy_machine.specs.Devices.{states}
 use Rattle.wy_machine.proofs.DeedSteps.{bad_name_step, full_step}
 use Rattle.wy_machine.proofs.performing.request.Goals as goal
 

@@ -1,5 +1,5 @@
 use Rattle.std.proofs.Common.{◌≡◌, subst, arith}
-use Rattle.wy_device.specs.Devices.{states}
+use Rattle.wy_machine.specs.Devices.{states}
 use Rattle.wy_machine.proofs.FirstSteps.{first_sound, leads_first, start_stops}
 use Rattle.wy_machine.proofs.Leading.{Leads, leads_more, run_stops, run_spent, sound_after}
 use Rattle.wy_machine.proofs.run.run_code.Goals as goal

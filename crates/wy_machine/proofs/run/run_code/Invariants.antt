@@ -1,4 +1,4 @@
-use Rattle.wy_device.specs.Devices.{states}
+use Rattle.wy_machine.specs.Devices.{states}
 use Rattle.wy_machine.proofs.Leading.{Leads}
 use Rattle.wy_machine.proofs.run.run_code.Given as goal
 

@@ -1,6 +1,6 @@
 use Rattle.std.proofs.Common.{◌<◌, length, refl, sym, ap, ap₂, ◌∙◌, subst, unwrap_or, arith}
 use Rattle.std.specs.Prelude.{slice_get}
-use Rattle.wy_device.specs.Devices.{states}
+use Rattle.wy_machine.specs.Devices.{states}
 use Rattle.wy_code.specs.Stores.{Nothing}
 use Rattle.wy_code.specs.Machine.{first_of}
 use Rattle.wy_machine.specs.Stacks.{StackState, pushed, left_to}

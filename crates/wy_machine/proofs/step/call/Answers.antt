@@ -1,5 +1,5 @@
 use Rattle.std.proofs.Common.{◌≤◌, Some, sym, ap, ◌∙◌, subst}
-use Rattle.wy_device.specs.Devices.{states}
+use Rattle.wy_machine.specs.Devices.{states}
 use Rattle.wy_machine.proofs.CallSteps.{IsUncalled, receiver_there, not_called, too_deep_step}
 use Rattle.wy_machine.proofs.step.call.Goals as goal
 

@@ -1,13 +1,21 @@
-use super::bytes_of;
-use crate::device::{Device, DeviceError};
-use crate::handed::Handed;
-use crate::handing_in::devices;
-use crate::mem_console::MemConsole;
-use crate::operation::{Kind, Op};
-use crate::shut::Shut;
+//! What the machine does, with expected answers from docs/LANGUAGE.md.
+
+use crate::devices::handing_in::devices;
 use std::test::Fail;
+use wy_device::device::{Device, DeviceError};
+use wy_device::handed::Handed;
+use wy_device::mem_console::MemConsole;
+use wy_device::operation::{Answer, Kind, Op};
+use wy_device::shut::Shut;
 use wy_text::list::Items;
 use wy_text::text::from_bytes;
+
+fn bytes_of(answer: &Answer) -> &[u8] {
+    match answer {
+        Answer::Bytes(text) => text.as_bytes(),
+        _ => b"no bytes",
+    }
+}
 
 #[test]
 fn devices_are_handed_in_and_given_back(rt: HostRuntime) -> Result<(), Fail> {

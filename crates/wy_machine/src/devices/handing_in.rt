@@ -1,8 +1,8 @@
 ghost use Rattle.std.specs.Prelude.{◌≡◌};
 ghost use Rattle.wy_device.specs.Devices.{IsInOrder};
 
-use crate::device::Device;
 use crate::devices::Devices;
+use wy_device::device::Device;
 
 /// Hands in the devices of a run: a console, a folder, a clock and a random source, in this order.
 /// It takes no memory and asks no device.
