@@ -15,6 +15,7 @@ use Rattle.wy_device.specs.Tapes.{Tapes, answers, spliced}
 use Rattle.wy_lower.specs.Correct.{Follows, IsPrefix}
 use Rattle.wy_lower.specs.Lowering.{lowered}
 use Rattle.wy_machine.specs.Runs.{EndsIn, RunsTo, tapes_of}
+use Rattle.wy_machine.specs.Traces.{HappenedIn}
 use Rattle.wy_machine.specs.declared.run_end.RunEnd.{RunEnd}
 use Rattle.wy_machine.specs.declared.run_end.RunEnd.TheVariants as end
 use Rattle.wy_machine.specs.TrapKinds.{trap_meant}
@@ -60,6 +61,9 @@ begins_with program laws depth k events (end.DeviceFailed grant op) to = begins_
 begins_with program laws depth k events end.SinkFailed to = absurd to
 begins_with program laws depth k events end.Memory to = begins_to program laws depth to.0 events ends.Spent to.2
 
+pub begins_happened : (program : Program) → RunsAsMeant program → (depth k : ℕ) (events : List Event) → HappenedIn (lowered program (program_starts program)) depth k events → BeginsWith program depth events
+begins_happened program laws depth k events so = begins_to program laws depth so.steps events so.end so.runs
+
 -- ---- all deeds of a meaning
 
 -- over what was answered in its first events a meaning has no deeds but theirs
@@ -96,3 +100,50 @@ ends_as program laws depth k events end.Spent to full = ends_to program laws dep
 ends_as program laws depth k events (end.DeviceFailed grant op) to full = ends_to program laws depth k events (ends.DeviceFailed grant op) (status.DeviceFailed grant op) to refl (λ is. absurd (cc))
 ends_as program laws depth k events end.SinkFailed to full = absurd to
 ends_as program laws depth k events end.Memory to full = absurd (full refl)
+
+-- ---- the events of a run that nothing cut short
+
+-- over what was answered in its events the code has these events
+run_events : (program : Program) (depth k : ℕ) (events : List Event) (e : ends.RunEnd) → RunsTo (lowered program (program_starts program)) depth k events e
+    → (machine (lowered program (program_starts program)) depth k (tapes_of events)).events ≡ events
+run_events program depth k events e to =
+    ap (λ (t : Tapes). (machine (lowered program (program_starts program)) depth k t).events) (sym (spliced-none (tapes_of events))) ∙ to.tells no_tapes
+
+run_end : (program : Program) (depth k : ℕ) (events : List Event) (e : ends.RunEnd) → RunsTo (lowered program (program_starts program)) depth k events e
+    → (machine (lowered program (program_starts program)) depth k (tapes_of events)).end ≡ e
+run_end program depth k events e to =
+    ap (λ (t : Tapes). (machine (lowered program (program_starts program)) depth k t).end) (sym (spliced-none (tapes_of events))) ∙ to.ends no_tapes
+
+-- a run that is not spent has all events of the course that it follows
+all_of : (c : Course) (k : ℕ) (r : RanCode) (events : List Event) (e : ends.RunEnd) → Follows c k r → r.events ≡ events → r.end ≡ e → e ≢ ends.Spent → events ≡ c.events
+all_of c k r events e follows tells is unspent = by (cases_lt k c.steps)
+  where
+    by : (k < c.steps) ⊎ (c.steps ≤ k) → events ≡ c.events
+    by (inl cut) = absurd (unspent (sym is ∙ (follows.cut cut).0))
+    by (inr whole) = sym tells ∙ ap (λ (s : RanCode). s.events) (follows.whole whole)
+
+all_to : (program : Program) → RunsAsMeant program → (depth k : ℕ) (events : List Event) (e : ends.RunEnd) → RunsTo (lowered program (program_starts program)) depth k events e → e ≢ ends.Spent
+    → events ≡ (course program depth (tapes_of events)).events
+all_to program laws depth k events e to unspent =
+    all_of (course program depth (tapes_of events)) k _ events e (laws.follows depth k (tapes_of events)) (run_events program depth k events e to) (run_end program depth k events e to) unspent
+
+pub all_events : (program : Program) → RunsAsMeant program → (depth k : ℕ) (events : List Event) (e : RunEnd) → EndsIn (lowered program (program_starts program)) depth k events e
+    → status_of e ≢ status.Memory → status_of e ≢ status.Spent → events ≡ (course program depth (tapes_of events)).events
+all_events program laws depth k events end.Ended to full unspent = all_to program laws depth k events ends.Ended to (λ is. cc)
+all_events program laws depth k events (end.Trap kind place) to full unspent = all_to program laws depth k events (ends.Trap (trap_meant kind) place) to (λ is. cc)
+all_events program laws depth k events end.TooDeep to full unspent = all_to program laws depth k events ends.TooDeep to (λ is. cc)
+all_events program laws depth k events end.Spent to full unspent = absurd (unspent refl)
+all_events program laws depth k events (end.DeviceFailed grant op) to full unspent = all_to program laws depth k events (ends.DeviceFailed grant op) to (λ is. cc)
+all_events program laws depth k events end.SinkFailed to full unspent = absurd to
+all_events program laws depth k events end.Memory to full unspent = absurd (full refl)
+
+-- .. and one that is spent those that its code has
+pub spent_events : (program : Program) (depth k : ℕ) (events : List Event) (e : RunEnd) → EndsIn (lowered program (program_starts program)) depth k events e → status_of e ≡ status.Spent
+    → events ≡ (machine (lowered program (program_starts program)) depth k (tapes_of events)).events
+spent_events program depth k events end.Ended to is = absurd (cc)
+spent_events program depth k events (end.Trap kind place) to is = absurd (cc)
+spent_events program depth k events end.TooDeep to is = absurd (cc)
+spent_events program depth k events end.Spent to is = sym (run_events program depth k events ends.Spent to)
+spent_events program depth k events (end.DeviceFailed grant op) to is = absurd (cc)
+spent_events program depth k events end.SinkFailed to is = absurd to
+spent_events program depth k events end.Memory to is = absurd (cc)

@@ -2,6 +2,7 @@
 use Rattle.std.proofs.Common.{◌≡◌, List, [], ◌∷◌, ◌++◌, Option, Some, None, Bool, true, false, if◌then◌else◌, refl, sym, ◌∙◌, ap, arith, length, ℕ, ◌+◌, IsSome}
 use Rattle.std.proofs.Math.Seq.{drop-append_seam}
 use Rattle.std.proofs.lemmas.List.{append-nil, length-append, length-map, nil_from_length}
+use Rattle.wy_text.proofs.Gains.{gained-nil}
 use Rattle.wy_text.specs.Outside.{gained}
 use Rattle.wy_device.specs.Devices.{DevicesState}
 use Rattle.wy_device.specs.Events.{DidExactly, TellsDeeds, deeds_of, same_kind}
@@ -59,6 +60,10 @@ did_same before after events other same did = record {
   clock = did.clock ∙ ap (λ x. gained before.clock.deeds x) (sym (same Clock));
   random = did.random ∙ ap (λ x. gained before.random.deeds x) (sym (same Random));
 }
+
+-- devices that did not change did none
+pub did_none : (before after : DevicesState) → after ≡ before → DidExactly before after []
+did_none before after same = rw same (record { console = sym (gained-nil before.console.deeds); folder = sym (gained-nil before.folder.deeds); clock = sym (gained-nil before.clock.deeds); random = sym (gained-nil before.random.deeds) })
 
 -- ---- tapes
 

@@ -1,5 +1,5 @@
 -- What was done with texts, by what was done with their trees.
-use Rattle.std.proofs.Common.{◌≡◌, ◌≢◌, ◌⊎◌, inl, inr, ℕ, suc, List, [], ◌∷◌, Some, None, refl, sym, ap, subst, length}
+use Rattle.std.proofs.Common.{◌≡◌, ◌≢◌, ◌⊎◌, inl, inr, ℕ, suc, List, [], ◌∷◌, Some, None, Bool, true, false, refl, sym, ap, subst, length}
 use Rattle.wy_text.specs.Outside.{SinkState}
 use Rattle.wy_text.specs.declared.limit.LimitName.{LimitName}
 use Rattle.wy_device.specs.Devices.{DevicesState}
@@ -14,7 +14,7 @@ use Rattle.wy_judge.specs.declared.checking.CheckRefusal.{CheckRefusal}
 use Rattle.wy_judge.specs.declared.checking.CheckRefusal.TheVariants as refusal
 use Rattle.wy_engine.specs.Answering.{Answered, ChecksTrees, FailsCheck, RunsAccepted, RunsTrees, Wrote, accepted, accepted_trees, check_status, checked, declined, fails, fails_check, formatted, limited, nameless, not_accepted, ran, ran_program, reported, wanting}
 use Rattle.wy_engine.specs.FileTrees.{FirstNoTree, HaveTrees}
-use Rattle.wy_engine.specs.Judgement.{Passes, Stops, accepted_text, authority_text}
+use Rattle.wy_engine.specs.Judgement.{Passes, Stops, accepted_text, authority_text, running}
 use Rattle.wy_engine.specs.NameFaults.{ResolveTo}
 use Rattle.wy_engine.specs.Settings.{Settings}
 use Rattle.wy_engine.specs.declared.settings.Command.{Command}
@@ -22,7 +22,7 @@ use Rattle.wy_engine.specs.declared.settings.Command.TheVariants as command
 use Rattle.wy_engine.specs.declared.status.Status.{Status}
 use Rattle.wy_engine.specs.declared.status.Status.TheVariants as status
 use Rattle.wy_engine.proofs.NamesJudged.{JudgesNames, names_stop}
-use Rattle.wy_engine.proofs.OneAnswer.{stops_ended, stops_lowered, stops_treeless}
+use Rattle.wy_engine.proofs.OneAnswer.{runs_programs, stops_ended, stops_lowered, stops_treeless}
 
 stops_unless : (asked : Command) (texts : List (List ℕ)) (end : Status) → (end ≢ status.Memory → FirstNoTree 1 texts end) → (end ≡ status.Memory) ⊎ Stops asked texts end
 stops_unless asked texts status.Memory none = inl refl
@@ -66,18 +66,26 @@ pub passes_check : (texts : List (List ℕ)) (trees : List (List ItemTree)) (pro
     → Passes texts program
 passes_check texts trees program have resolves passes = record { read = resolve_to texts trees program have resolves; accepted = passes }
 
-did_accepted : (asked : Settings) (texts : List (List ℕ)) (program : Program) (out report report' : SinkState) (devices devices' : DevicesState) (end : Status)
-    → asked.command ≡ command.Run → Passes texts program → RunsAccepted program asked.depth asked.steps report report' devices devices' end → Answered asked texts out out report report' devices devices' end
-did_accepted asked texts program out report report' devices devices' end run passes (limited name passed is r d) =
-    declined (inr (subst (λ (s : Status). Stops asked.command texts s) (sym is) (stops_lowered asked.command texts name run (record { program = program; passes = passes; passed = passed })))) refl r d
-did_accepted asked texts program out report report' devices devices' end run passes (wanting is r d) = declined (inl is) refl r d
-did_accepted asked texts program out report report' devices devices' end run passes (ran_program within so) = ran program run (record { passes = passes; within = within }) so refl
+did_accepted : (asked : Settings) (texts : List (List ℕ)) (traced : Bool) (program : Program) (out out' report report' : SinkState) (devices devices' : DevicesState) (end : Status)
+    → asked.command ≡ running traced → Passes texts program → RunsAccepted traced program asked.depth asked.steps out out' report report' devices devices' end
+    → Answered asked texts out out' report report' devices devices' end
+did_accepted asked texts traced program out out' report report' devices devices' end run passes (limited name passed is o r d) =
+    declined (inr (subst (λ (s : Status). Stops asked.command texts s) (sym is)
+    (stops_lowered asked.command texts name (runs_programs asked.command traced run) (record { program = program; passes = passes; passed = passed })))) o r d
+did_accepted asked texts traced program out out' report report' devices devices' end run passes (wanting is o r d) = declined (inl is) o r d
+did_accepted asked texts traced program out out' report report' devices devices' end run passes (ran_program within so) = ran program traced run (record { passes = passes; within = within }) so
 
-pub did_run : (asked : Settings) (texts : List (List ℕ)) (trees : List (List ItemTree)) (out report report' : SinkState) (devices devices' : DevicesState) (end : Status)
-    → asked.command ≡ command.Run → HaveTrees 1 texts trees → RunsTrees trees asked.depth asked.steps report report' devices devices' end → Answered asked texts out out report report' devices devices' end
-did_run asked texts trees out report report' devices devices' end run have (fails_check why r d) = declined (failed_check asked.command texts trees end (judges_as asked.command command.Run run tt) have why) refl r d
-did_run asked texts trees out report report' devices devices' end run have (accepted_trees program resolves passes so) =
-    did_accepted asked texts program out report report' devices devices' end run (passes_check texts trees program have resolves passes) so
+judges_run : (traced : Bool) → JudgesNames (running traced)
+judges_run false = tt
+judges_run true = tt
+
+pub did_run : (asked : Settings) (texts : List (List ℕ)) (traced : Bool) (trees : List (List ItemTree)) (out out' report report' : SinkState) (devices devices' : DevicesState) (end : Status)
+    → asked.command ≡ running traced → HaveTrees 1 texts trees → RunsTrees traced trees asked.depth asked.steps out out' report report' devices devices' end
+    → Answered asked texts out out' report report' devices devices' end
+did_run asked texts traced trees out out' report report' devices devices' end run have (fails_check why o r d) =
+    declined (failed_check asked.command texts trees end (judges_as asked.command (running traced) run (judges_run traced)) have why) o r d
+did_run asked texts traced trees out out' report report' devices devices' end run have (accepted_trees program resolves passes so) =
+    did_accepted asked texts traced program out out' report report' devices devices' end run (passes_check texts trees program have resolves passes) so
 
 pub did_check : (asked : Settings) (texts : List (List ℕ)) (trees : List (List ItemTree)) (out out' report : SinkState) (devices : DevicesState) (end : Status)
     → asked.command ≡ command.Check → HaveTrees 1 texts trees → ChecksTrees (λ (program : Program). accepted_text) trees out out' end → Answered asked texts out out' report report devices devices end

@@ -42,6 +42,7 @@ one_of_format : (named : Command) (count : ℕ) → takes named count ≡ true �
 one_of_format command.Check count is format = absurd (cc)
 one_of_format command.Authority count is format = absurd (cc)
 one_of_format command.Run count is format = absurd (cc)
+one_of_format command.Trace count is format = absurd (cc)
 one_of_format command.Format count is format = grind (arith, nat_tests)
 
 -- `format` has one file

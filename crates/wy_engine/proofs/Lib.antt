@@ -23,3 +23,4 @@ mod RunsMade
 mod Settling
 mod Statuses
 mod TextsAnswered
+mod TracesMade

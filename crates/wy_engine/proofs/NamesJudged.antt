@@ -42,18 +42,21 @@ abbrev pub JudgesNames : Command → Type 0
 JudgesNames command.Check = Unit {0}
 JudgesNames command.Authority = Unit {0}
 JudgesNames command.Run = Unit {0}
+JudgesNames command.Trace = Unit {0}
 JudgesNames command.Format = ⊥
 
 stops_refused : (asked : Command) (texts : List (List ℕ)) (fault : Fault) → JudgesNames asked → NamesStop texts (status.Refused fault) → Stops asked texts (status.Refused fault)
 stops_refused command.Check texts fault judges stop = inl stop
 stops_refused command.Authority texts fault judges stop = inl stop
 stops_refused command.Run texts fault judges stop = inl stop
+stops_refused command.Trace texts fault judges stop = inl stop
 stops_refused command.Format texts fault judges stop = absurd judges
 
 stops_limit : (asked : Command) (texts : List (List ℕ)) (name : LimitName) → JudgesNames asked → NamesStop texts (status.Limit name) → Stops asked texts (status.Limit name)
 stops_limit command.Check texts name judges stop = inr (inl stop)
 stops_limit command.Authority texts name judges stop = inr (inl stop)
 stops_limit command.Run texts name judges stop = inl (inr (inl stop))
+stops_limit command.Trace texts name judges stop = inl (inr (inl stop))
 stops_limit command.Format texts name judges stop = absurd judges
 
 -- what a refusal of names gives stops a command that judges them, but for want of memory

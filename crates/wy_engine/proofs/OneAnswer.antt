@@ -1,5 +1,5 @@
 -- Texts have one answer: a status that ends the call, or one thing that is done with them.
-use Rattle.std.proofs.Common.{◌≡◌, ◌≢◌, inl, inr, ℕ, List, [], ◌∷◌, Option, Some, None, refl, sym, ◌∙◌, ap, subst}
+use Rattle.std.proofs.Common.{◌≡◌, ◌≢◌, inl, inr, ℕ, List, [], ◌∷◌, Option, Some, None, Bool, true, false, refl, sym, ◌∙◌, ap, subst}
 use Rattle.wy_text.specs.declared.limit.LimitName.{LimitName}
 use Rattle.wy_syntax.specs.Trees.{ItemTree}
 use Rattle.wy_types.specs.Core.{IsCore}
@@ -13,7 +13,7 @@ use Rattle.wy_rules.proofs.OneEnd.{accepted_has_no_end, one_end}
 use Rattle.wy_lower.specs.Counts.{lowering_limit}
 use Rattle.wy_sound.specs.Programs.{program_starts}
 use Rattle.wy_engine.specs.FileTrees.{FirstNoTree, HasNoTree, HaveTrees}
-use Rattle.wy_engine.specs.Judgement.{Asks, Did, EndsJudging, EndsLowering, Passes, Runnable, Stops, StopsLimited, checked, formatted, ran, reported}
+use Rattle.wy_engine.specs.Judgement.{Asks, Did, EndsJudging, EndsLowering, Passes, Runnable, RunsPrograms, Stops, StopsLimited, checked, formatted, ran, reported, running}
 use Rattle.wy_engine.specs.NameFaults.{NamesStop, ResolveTo}
 use Rattle.wy_engine.specs.declared.settings.Command.{Command}
 use Rattle.wy_engine.specs.declared.settings.Command.TheVariants as command
@@ -38,7 +38,7 @@ pub data StopsBy (asked : Command) (texts : List (List ℕ)) (end : Status) : Ty
   treeless : FirstNoTree 1 texts end → StopsBy asked texts end
   unresolved : JudgesNames asked → NamesStop texts end → end ≢ status.Memory → StopsBy asked texts end
   not_accepted : JudgesNames asked → (why : End) → EndsJudging texts why → end ≡ end_status why → StopsBy asked texts end
-  not_lowered : asked ≡ command.Run → (name : LimitName) → EndsLowering texts name → end ≡ status.Limit name → StopsBy asked texts end
+  not_lowered : RunsPrograms asked → (name : LimitName) → EndsLowering texts name → end ≡ status.Limit name → StopsBy asked texts end
 
 by_limit : (asked : Command) (texts : List (List ℕ)) (name : LimitName) → JudgesNames asked → StopsLimited texts name → StopsBy asked texts (status.Limit name)
 by_limit asked texts name judges (inl stop) = treeless stop
@@ -50,7 +50,9 @@ stops_by asked texts (status.Syntax place kind) stop = treeless stop
 stops_by command.Check texts (status.Limit name) stop = by_limit command.Check texts name tt stop
 stops_by command.Authority texts (status.Limit name) stop = by_limit command.Authority texts name tt stop
 stops_by command.Run texts (status.Limit name) (inl stop) = by_limit command.Run texts name tt stop
-stops_by command.Run texts (status.Limit name) (inr stop) = not_lowered refl name stop refl
+stops_by command.Run texts (status.Limit name) (inr stop) = not_lowered tt name stop refl
+stops_by command.Trace texts (status.Limit name) (inl stop) = by_limit command.Trace texts name tt stop
+stops_by command.Trace texts (status.Limit name) (inr stop) = not_lowered tt name stop refl
 stops_by command.Format texts (status.Limit name) stop = treeless stop
 stops_by command.Check texts (status.Refused fault) (inl stop) = unresolved tt stop (λ e. cc)
 stops_by command.Check texts (status.Refused fault) (inr stop) = not_accepted tt (refused fault) stop refl
@@ -58,6 +60,8 @@ stops_by command.Authority texts (status.Refused fault) (inl stop) = unresolved 
 stops_by command.Authority texts (status.Refused fault) (inr stop) = not_accepted tt (refused fault) stop refl
 stops_by command.Run texts (status.Refused fault) (inl stop) = unresolved tt stop (λ e. cc)
 stops_by command.Run texts (status.Refused fault) (inr stop) = not_accepted tt (refused fault) stop refl
+stops_by command.Trace texts (status.Refused fault) (inl stop) = unresolved tt stop (λ e. cc)
+stops_by command.Trace texts (status.Refused fault) (inr stop) = not_accepted tt (refused fault) stop refl
 stops_by command.Format texts (status.Refused fault) stop = absurd stop
 stops_by asked texts status.Ended stop = absurd stop
 stops_by asked texts status.Usage stop = absurd stop
@@ -80,6 +84,7 @@ stops_treeless asked texts (status.Syntax place kind) first = first
 stops_treeless command.Check texts (status.Limit name) first = inl first
 stops_treeless command.Authority texts (status.Limit name) first = inl first
 stops_treeless command.Run texts (status.Limit name) first = inl (inl first)
+stops_treeless command.Trace texts (status.Limit name) first = inl (inl first)
 stops_treeless command.Format texts (status.Limit name) first = first
 stops_treeless asked texts (status.Refused fault) first = absurd (never (status.Refused fault) (λ file bytes h. h) 1 texts first)
 stops_treeless asked texts status.Ended first = absurd (never status.Ended (λ file bytes h. h) 1 texts first)
@@ -99,10 +104,21 @@ stops_ended command.Authority texts (limited name) judges is = inr (inr is)
 stops_ended command.Authority texts (refused fault) judges is = inr is
 stops_ended command.Run texts (limited name) judges is = inl (inr (inr is))
 stops_ended command.Run texts (refused fault) judges is = inr is
+stops_ended command.Trace texts (limited name) judges is = inl (inr (inr is))
+stops_ended command.Trace texts (refused fault) judges is = inr is
 stops_ended command.Format texts why judges is = absurd judges
 
-pub stops_lowered : (asked : Command) (texts : List (List ℕ)) (name : LimitName) → asked ≡ command.Run → EndsLowering texts name → Stops asked texts (status.Limit name)
-stops_lowered asked texts name run is = subst (λ (c : Command). Stops c texts (status.Limit name)) (sym run) (inr is)
+-- the two commands that run programs
+pub runs_programs : (asked : Command) (traced : Bool) → asked ≡ running traced → RunsPrograms asked
+runs_programs asked false is = subst (λ (c : Command). RunsPrograms c) (sym is) tt
+runs_programs asked true is = subst (λ (c : Command). RunsPrograms c) (sym is) tt
+
+pub stops_lowered : (asked : Command) (texts : List (List ℕ)) (name : LimitName) → RunsPrograms asked → EndsLowering texts name → Stops asked texts (status.Limit name)
+stops_lowered command.Check texts name run is = absurd run
+stops_lowered command.Authority texts name run is = absurd run
+stops_lowered command.Run texts name run is = inr is
+stops_lowered command.Trace texts name run is = inr is
+stops_lowered command.Format texts name run is = absurd run
 
 pub stops_of : (asked : Command) (texts : List (List ℕ)) (end : Status) → StopsBy asked texts end → Stops asked texts end
 stops_of asked texts end (treeless first) = stops_treeless asked texts end first
@@ -172,17 +188,19 @@ abbrev AsksBy : Command → List (List ℕ) → Did → Type 0
 AsksBy command.Check texts did = (program : Program) × Passes texts program × (did ≡ checked)
 AsksBy command.Authority texts did = (program : Program) × Passes texts program × (did ≡ reported program)
 AsksBy command.Run texts did = (program : Program) × Runnable texts program × (did ≡ ran program)
+AsksBy command.Trace texts did = (program : Program) × Runnable texts program × (did ≡ ran program)
 AsksBy command.Format texts did = (tree : List ItemTree) × HaveTrees 1 texts (tree ∷ []) × (did ≡ formatted tree)
 
 asks_by : (asked : Command) (texts : List (List ℕ)) (did : Did) → Asks asked texts did → AsksBy asked texts did
 asks_by command.Check texts checked asks = (asks.0, asks.1, refl)
 asks_by command.Authority texts (reported program) asks = (program, asks, refl)
 asks_by command.Run texts (ran program) asks = (program, asks, refl)
+asks_by command.Trace texts (ran program) asks = (program, asks, refl)
 asks_by command.Format texts (formatted tree) asks = (tree, asks, refl)
 asks_by asked texts other asks = absurd asks
 
 -- texts that pass stop a call by no more than a limit of lowering
-pass_or_stop : ResolvedIsCore → (asked : Command) (texts : List (List ℕ)) (program : Program) (end : Status) → Passes texts program → ((name : LimitName) → asked ≡ command.Run → EndsLowering texts name → ⊥)
+pass_or_stop : ResolvedIsCore → (asked : Command) (texts : List (List ℕ)) (program : Program) (end : Status) → Passes texts program → ((name : LimitName) → RunsPrograms asked → EndsLowering texts name → ⊥)
     → StopsBy asked texts end → ⊥
 pass_or_stop law asked texts program end a none (treeless b) = hold_or_treeless texts program end a.read b
 pass_or_stop law asked texts program end a none (unresolved judges b full) = hold_or_stop texts program end a.read b full
@@ -193,12 +211,13 @@ form_or_stop : (texts : List (List ℕ)) (tree : List ItemTree) (end : Status) �
 form_or_stop texts tree end a (treeless b) = trees_or_none 1 texts (tree ∷ []) end a b
 form_or_stop texts tree end a (unresolved judges b full) = judges
 form_or_stop texts tree end a (not_accepted judges why b named) = judges
-form_or_stop texts tree end a (not_lowered run name b named) = cc
+form_or_stop texts tree end a (not_lowered run name b named) = run
 
 asks_or_stops : ResolvedIsCore → (asked : Command) (texts : List (List ℕ)) (did : Did) (end : Status) → AsksBy asked texts did → StopsBy asked texts end → ⊥
-asks_or_stops law command.Check texts did end a b = pass_or_stop law command.Check texts a.0 end a.1 (λ name run lowers. cc) b
-asks_or_stops law command.Authority texts did end a b = pass_or_stop law command.Authority texts a.0 end a.1 (λ name run lowers. cc) b
+asks_or_stops law command.Check texts did end a b = pass_or_stop law command.Check texts a.0 end a.1 (λ name run lowers. run) b
+asks_or_stops law command.Authority texts did end a b = pass_or_stop law command.Authority texts a.0 end a.1 (λ name run lowers. run) b
 asks_or_stops law command.Run texts did end a b = pass_or_stop law command.Run texts a.0 end a.1.passes (λ name run lowers. lower_or_run texts a.0 name a.1 lowers) b
+asks_or_stops law command.Trace texts did end a b = pass_or_stop law command.Trace texts a.0 end a.1.passes (λ name run lowers. lower_or_run texts a.0 name a.1 lowers) b
 asks_or_stops law command.Format texts did end a b = form_or_stop texts a.0 end a.1 b
 
 pub ask_or_stop : ResolvedIsCore → (asked : Command) (texts : List (List ℕ)) (did : Did) (end : Status) → Asks asked texts did → Stops asked texts end → ⊥
@@ -208,6 +227,7 @@ same_ask : (asked : Command) (texts : List (List ℕ)) (did other : Did) → Ask
 same_ask command.Check texts did other a b = a.2 ∙ sym b.2
 same_ask command.Authority texts did other a b = a.2 ∙ ap reported (one_program texts a.0 b.0 a.1.read b.1.read) ∙ sym b.2
 same_ask command.Run texts did other a b = a.2 ∙ ap ran (one_program texts a.0 b.0 a.1.passes.read b.1.passes.read) ∙ sym b.2
+same_ask command.Trace texts did other a b = a.2 ∙ ap ran (one_program texts a.0 b.0 a.1.passes.read b.1.passes.read) ∙ sym b.2
 same_ask command.Format texts did other a b =
     let same : a.0 ∷ [] ≡ b.0 ∷ [] = same_trees 1 texts (a.0 ∷ []) (b.0 ∷ []) a.1 b.1 in
     let tree : a.0 ≡ b.0 = cc in

@@ -1,8 +1,8 @@
 -- What a call promises that ran a program, or began to.
-use Rattle.std.proofs.Common.{◌≡◌, ◌≢◌, ◌⊎◌, inl, inr, ◌≤◌, ℕ, List, [], ◌++◌, refl, sym, ◌∙◌, ap, subst, arith}
+use Rattle.std.proofs.Common.{◌≡◌, ◌≢◌, ◌⊎◌, inl, inr, ◌≤◌, ℕ, List, [], ◌++◌, Bool, true, false, refl, sym, ◌∙◌, ap, subst, arith}
 use Rattle.std.proofs.lemmas.List.{append-nil}
 use Rattle.wy_text.specs.Outside.{Rose, SinkState}
-use Rattle.wy_text.proofs.Gains.{gained-nil}
+use Rattle.wy_text.specs.Writing.{StopsShort, WritesUpTo}
 use Rattle.wy_device.specs.Devices.{DevicesState, device_of}
 use Rattle.wy_device.specs.Events.{DidExactly, TellsDeeds, deeds_of}
 use Rattle.wy_device.specs.Operation.{kind_named}
@@ -17,16 +17,22 @@ use Rattle.wy_machine.specs.declared.run_end.RunEnd.TheVariants as end
 use Rattle.wy_sound.specs.Laws.{course}
 use Rattle.wy_sound.specs.Programs.{program_starts}
 use Rattle.wy_types.specs.Program.{Program}
-use Rattle.wy_engine.specs.Headline.{DidFirst, EndsAs, HasCommand, Runs, course_in}
+use Rattle.wy_engine.specs.Headline.{DidFirst, EndsAs, HasRun, IsUncut, IsUnprinted, IsUnwritten, Runs, WritesRun, course_in}
+use Rattle.wy_engine.specs.Judgement.{RunsPrograms, authority_text, running}
 use Rattle.wy_engine.specs.ProgramLaws.{RunsAsMeant}
-use Rattle.wy_engine.specs.Running.{Ran, RunsCode, performed, status_of, stopped}
-use Rattle.wy_engine.specs.TopCall.{TopCall}
+use Rattle.wy_engine.specs.Running.{Ran, RunsCode, TracesCode, performed, status_of, stopped}
+use Rattle.wy_engine.specs.Settings.{Settings}
+use Rattle.wy_engine.specs.Status.{IsOfRun}
+use Rattle.wy_engine.specs.TopCall.{IsSet, TopCall}
+use Rattle.wy_engine.specs.declared.settings.Command.{Command}
 use Rattle.wy_engine.specs.declared.settings.Command.TheVariants as command
 use Rattle.wy_engine.specs.declared.status.Status.{Status}
 use Rattle.wy_engine.specs.declared.status.Status.TheVariants as status
 use Rattle.wy_engine.proofs.CodeRuns.{BeginsWith, begins_with, ends_as, same_deeds}
-use Rattle.wy_engine.proofs.Deeds.{deeds_of-append, did_same, new_deeds_are, none_later, tape_of-tapes_of, tapes_between-of}
-use Rattle.wy_engine.proofs.Statuses.{run_of_end, run_ran}
+use Rattle.wy_engine.proofs.Deeds.{deeds_of-append, did_none, did_same, new_deeds_are, tapes_between-of}
+use Rattle.wy_engine.proofs.OneAnswer.{runs_programs}
+use Rattle.wy_engine.proofs.Statuses.{run_of_end}
+use Rattle.wy_engine.proofs.TracesMade.{begins_traced, rose_traced, uncut_run, writes_events, writes_none}
 
 -- ---- deeds that were done
 
@@ -54,18 +60,27 @@ prefix_of call program depth so tells kind more =
 
 -- nothing was done
 did_nothing : (program : Program) (depth : ℕ) (before after : DevicesState) → after ≡ before → DidEvents program depth before after
-did_nothing program depth before after same = rw same (record {
+did_nothing program depth before after same = record {
   events = [];
-  did = record { console = sym (gained-nil before.console.deeds); folder = sym (gained-nil before.folder.deeds); clock = sym (gained-nil before.clock.deeds); random = sym (gained-nil before.random.deeds) };
+  did = did_none before after same;
   begins = record { first = λ more. ((course program depth (spliced (tapes_of []) more)).events, refl) };
-})
+}
 
 -- the program's code was run
-did_code : (program : Program) → RunsAsMeant program → (depth steps : ℕ) (before after : DevicesState) (s : Status) → RunsCode program depth steps before after s → DidEvents program depth before after
+did_code : (program : Program) → RunsAsMeant program → (depth steps : ℕ) (before after : DevicesState) (s : Status) → RunsCode (lowered program (program_starts program)) depth steps before after s → DidEvents program depth before after
 did_code program laws depth steps before after s so = record {
   events = so.runs.events;
   did = so.runs.did;
   begins = begins_with program laws depth steps so.runs.events so.ended so.runs.ends;
+}
+
+-- .. or traced
+did_traced : (program : Program) → RunsAsMeant program → (depth steps : ℕ) (out out' : SinkState) (before after : DevicesState) (s : Status) → TracesCode (lowered program (program_starts program)) depth steps out out' before after s
+    → DidEvents program depth before after
+did_traced program laws depth steps out out' before after s so = record {
+  events = so.runs.events;
+  did = so.runs.did;
+  begins = begins_traced program laws depth steps so.runs.events out out' so.ended so.runs.ends;
 }
 
 -- ---- how it ended
@@ -92,15 +107,27 @@ written_code program depth k events (end.DeviceFailed grant op) to is = cc
 written_code program depth k events end.SinkFailed to is = to
 written_code program depth k events end.Memory to is = cc
 
-unwritten_code : (program : Program) (depth steps : ℕ) (before after : DevicesState) (s : Status) → RunsCode program depth steps before after s → s ≢ status.Unwritten
+unwritten_code : (program : Program) (depth steps : ℕ) (before after : DevicesState) (s : Status) → RunsCode (lowered program (program_starts program)) depth steps before after s → s ≢ status.Unwritten
 unwritten_code program depth steps before after s so is = written_code program depth steps so.runs.events so.ended so.runs.ends (sym so.says ∙ is)
 
-ends_code : (program : Program) → RunsAsMeant program → (depth steps : ℕ) (before after : DevicesState) (s : Status) → RunsCode program depth steps before after s → TellsDeeds before
-    → s ≢ status.Memory → EndsAs s steps (course program depth (tapes_between before after))
-ends_code program laws depth steps before after s so tells full =
-    subst (λ (t : Tapes). EndsAs s steps (course program depth t)) (sym (tapes_between-of before after so.runs.events tells so.runs.did))
-    (subst (λ (x : Status). EndsAs x steps (course program depth (tapes_of so.runs.events))) (sym so.says)
-    (ends_as program laws depth steps so.runs.events so.ended so.runs.ends (λ is. full (so.says ∙ is))))
+-- a run of code that ended so, over the answers in its events, ends as the meaning does over the answers given
+ends_given : (program : Program) → RunsAsMeant program → (depth steps : ℕ) (before after : DevicesState) (s : Status) (events : List Event) (e : RunEnd) → DidExactly before after events
+    → EndsIn (lowered program (program_starts program)) depth steps events e → s ≡ status_of e → TellsDeeds before → s ≢ status.Memory → EndsAs s steps (course program depth (tapes_between before after))
+ends_given program laws depth steps before after s events e did ends says tells full =
+    subst (λ (t : Tapes). EndsAs s steps (course program depth t)) (sym (tapes_between-of before after events tells did))
+    (subst (λ (x : Status). EndsAs x steps (course program depth (tapes_of events))) (sym says)
+    (ends_as program laws depth steps events e ends (λ is. full (says ∙ is))))
+
+ends_code : (program : Program) → RunsAsMeant program → (depth steps : ℕ) (before after : DevicesState) (s : Status) → RunsCode (lowered program (program_starts program)) depth steps before after s → TellsDeeds before
+    → IsUncut s → EndsAs s steps (course program depth (tapes_between before after))
+ends_code program laws depth steps before after s so tells uncut =
+    ends_given program laws depth steps before after s so.runs.events so.ended so.runs.did so.runs.ends so.says tells uncut.full
+
+ends_traced : (program : Program) → RunsAsMeant program → (depth steps : ℕ) (out out' : SinkState) (before after : DevicesState) (s : Status) → TracesCode (lowered program (program_starts program)) depth steps out out' before after s
+    → TellsDeeds before → IsUncut s → EndsAs s steps (course program depth (tapes_between before after))
+ends_traced program laws depth steps out out' before after s so tells uncut =
+    ends_given program laws depth steps before after s so.runs.events so.ended so.runs.did
+    (uncut_run program depth steps so.runs.events out out' so.ended so.runs.ends (subst (λ (x : Status). IsUncut x) so.says uncut)).0 so.says tells uncut.full
 
 -- the device of an operation that failed counted a fault
 fault_of : (before after : DevicesState) (e : RunEnd) (grant : List ℕ) (op : OpName) → status_of e ≡ status.DeviceFailed grant op → FailsByFault before after e
@@ -115,52 +142,131 @@ fault_of before after end.Memory grant op is failed = absurd (cc)
 
 -- ---- the whole call
 
-pub runs_by : (call : TopCall) (program : Program) → RunsAsMeant program → (asked : HasCommand call command.Run) → call.out_after ≡ call.out
-    → Ran program asked.settings.depth asked.settings.steps call.report call.report_after call.devices call.devices_after call.status → Runs call program
-runs_by call program laws asked out (stopped short same why) =
-    let did = did_nothing program asked.settings.depth call.devices call.devices_after same in
+-- nothing was done, since the report was not written whole
+record StopsBefore (call : TopCall) (text : List ℕ) : Type 0 where
+  short : StopsShort text call.report call.report_after
+  out : call.out_after ≡ call.out
+  same : call.devices_after ≡ call.devices
+  why : (call.status ≡ status.Memory) ⊎ ((call.status ≡ status.Unwritten) × Rose call.report.faults call.report_after.faults)
+
+unprinted : (call : TopCall) (text : List ℕ) (so : StopsBefore call text) → call.status ≡ status.Unwritten → IsUnprinted call so.short.rest
+unprinted call text so is = record { some = so.short.some; devices = so.same; rose = rose_of call.status is so.why }
+
+unwritten_by : (asked : Command) (call : TopCall) (rest : List ℕ) → IsUnprinted call rest → IsUnwritten asked call rest
+unwritten_by command.Check call rest is = is
+unwritten_by command.Authority call rest is = is
+unwritten_by command.Run call rest is = is
+unwritten_by command.Trace call rest is = inl is
+unwritten_by command.Format call rest is = is
+
+stopped_spent : {A : Type 0} → (end : Status) → end ≡ status.Spent → (end ≡ status.Memory) ⊎ ((end ≡ status.Unwritten) × A) → ⊥
+stopped_spent end is (inl other) = let q : status.Spent ≡ status.Memory = sym is ∙ other in cc
+stopped_spent end is (inr other) = let q : status.Spent ≡ status.Unwritten = sym is ∙ other.0 in cc
+
+nothing_written : (asked : Command) (call : TopCall) (settings : Settings) (program : Program) → RunsPrograms asked → StopsBefore call (authority_text program) → WritesRun asked call settings program
+nothing_written command.Check call settings program run so = absurd run
+nothing_written command.Authority call settings program run so = absurd run
+nothing_written command.Run call settings program run so = so.out
+nothing_written command.Trace call settings program run so =
+    writes_none call settings program so.out so.same (λ uncut. stopped_status call.status uncut.full uncut.written so.why) (λ is. stopped_spent call.status is so.why)
+nothing_written command.Format call settings program run so = absurd run
+
+stopped_reached : (call : TopCall) (text : List ℕ) → StopsBefore call text → IsOfRun call.status
+stopped_reached call text so = elim so.why [ inl is ↦ subst IsOfRun (sym is) tt | inr is ↦ subst IsOfRun (sym is.0) tt ]
+
+stopped_by : (call : TopCall) (program : Program) → RunsAsMeant program → HasRun call → StopsBefore call (authority_text program) → Runs call program
+stopped_by call program laws asked so =
+    let did = did_nothing program asked.settings.depth call.devices call.devices_after so.same in
     record {
       asked = asked;
-      reached = run_ran program asked.settings.depth asked.settings.steps call.report call.report_after call.devices call.devices_after call.status (stopped short same why);
-      out = out;
+      reached = stopped_reached call (authority_text program) so;
+      out = nothing_written asked.settings.command call asked.settings program asked.runs so;
       printed = record {
-        front = short.written.front;
-        rest = short.rest;
-        split = short.written.split;
-        taken = short.written.taken;
-        first = inr same;
-        whole = λ written full. absurd (stopped_status call.status full written why);
-        proper = λ is. (short.some, same, rose_of call.status is why);
+        front = so.short.written.front;
+        rest = so.short.rest;
+        split = so.short.written.split;
+        taken = so.short.written.taken;
+        first = inr (so.out, so.same);
+        whole = λ written full. absurd (stopped_status call.status full written so.why);
+        proper = λ is. unwritten_by asked.settings.command call so.short.rest (unprinted call (authority_text program) so is);
       };
       operations = operations_of program laws asked.settings.depth call.devices call.devices_after did;
       prefix = prefix_of call program asked.settings.depth did;
       authority = laws.bounded;
-      ends = λ tells full written. absurd (stopped_status call.status full written why);
-      failed = λ grant op is. absurd (not_failed call.status grant op is why);
-    }
-runs_by call program laws asked out (performed written so) =
-    let did = did_code program laws asked.settings.depth asked.settings.steps call.devices call.devices_after call.status so in
-    record {
-      asked = asked;
-      reached = run_ran program asked.settings.depth asked.settings.steps call.report call.report_after call.devices call.devices_after call.status (performed written so);
-      out = out;
-      printed = record {
-        front = written.front;
-        rest = [];
-        split = written.split;
-        taken = written.taken;
-        first = inl refl;
-        whole = λ _ full. refl;
-        proper = λ is. absurd (unwritten_code program asked.settings.depth asked.settings.steps call.devices call.devices_after call.status so is);
-      };
-      operations = operations_of program laws asked.settings.depth call.devices call.devices_after did;
-      prefix = prefix_of call program asked.settings.depth did;
-      authority = laws.bounded;
-      ends = λ tells full _. ends_code program laws asked.settings.depth asked.settings.steps call.devices call.devices_after call.status so tells full;
-      failed = λ grant op is. fault_of call.devices call.devices_after so.ended grant op (sym so.says ∙ is) so.runs.failed;
+      ends = λ tells uncut. absurd (stopped_status call.status uncut.full uncut.written so.why);
+      failed = λ grant op is. absurd (not_failed call.status grant op is so.why);
     }
 
-pub ran_counted : (program : Program) (depth steps : ℕ) (report report' : SinkState) (devices devices' : DevicesState) (end : Status) → Ran program depth steps report report' devices devices' end
-    → report.faults ≤ report'.faults
-ran_counted program depth steps report report' devices devices' end (stopped short same why) = short.written.counted
-ran_counted program depth steps report report' devices devices' end (performed written so) = written.counted
+-- how code was run after the report was written: what was done, what came to `out`, and how it ended
+record Performs (call : TopCall) (asked : HasRun call) (program : Program) : Type 0 where
+  reached : IsOfRun call.status
+  out : WritesRun asked.settings.command call asked.settings program
+  cut : call.status ≡ status.Unwritten → IsUnwritten asked.settings.command call []
+  did : DidEvents program asked.settings.depth call.devices call.devices_after
+  ends : TellsDeeds call.devices → IsUncut call.status → EndsAs call.status asked.settings.steps (course_in call asked.settings program)
+  failed : (grant : List ℕ) (op : OpName) → call.status ≡ status.DeviceFailed grant op → Rose (device_of call.devices (kind_named op)).faults (device_of call.devices_after (kind_named op)).faults
+
+performed_by : (call : TopCall) (program : Program) → RunsAsMeant program → (asked : HasRun call) → WritesUpTo (authority_text program) [] call.report call.report_after → Performs call asked program
+    → Runs call program
+performed_by call program laws asked written so = record {
+  asked = asked;
+  reached = so.reached;
+  out = so.out;
+  printed = record {
+    front = written.front;
+    rest = [];
+    split = written.split;
+    taken = written.taken;
+    first = inl refl;
+    whole = λ _ full. refl;
+    proper = so.cut;
+  };
+  operations = operations_of program laws asked.settings.depth call.devices call.devices_after so.did;
+  prefix = prefix_of call program asked.settings.depth so.did;
+  authority = laws.bounded;
+  ends = so.ends;
+  failed = so.failed;
+}
+
+-- the words of a call that runs programs, or traces them
+run_command : (call : TopCall) (settings : Settings) (traced : Bool) → IsSet call settings → settings.command ≡ running traced → HasRun call
+run_command call settings traced set is = record { settings = settings; set = set; runs = runs_programs settings.command traced is }
+
+performs_run : (call : TopCall) (settings : Settings) (set : IsSet call settings) (program : Program) → RunsAsMeant program → (is : settings.command ≡ command.Run)
+    → RunsCode (lowered program (program_starts program)) settings.depth settings.steps call.devices call.devices_after call.status → call.out_after ≡ call.out → Performs call (run_command call settings false set is) program
+unfolding run_command
+performs_run call settings set program laws is so out = record {
+  reached = subst IsOfRun (sym so.says) (run_of_end so.ended);
+  out = subst (λ (c : Command). WritesRun c call settings program) (sym is) out;
+  cut = λ unwritten. absurd (unwritten_code program settings.depth settings.steps call.devices call.devices_after call.status so unwritten);
+  did = did_code program laws settings.depth settings.steps call.devices call.devices_after call.status so;
+  ends = ends_code program laws settings.depth settings.steps call.devices call.devices_after call.status so;
+  failed = λ grant op failed. fault_of call.devices call.devices_after so.ended grant op (sym so.says ∙ failed) so.runs.failed;
+}
+
+performs_trace : (call : TopCall) (settings : Settings) (set : IsSet call settings) (program : Program) → RunsAsMeant program → (is : settings.command ≡ command.Trace)
+    → TracesCode (lowered program (program_starts program)) settings.depth settings.steps call.out call.out_after call.devices call.devices_after call.status → Performs call (run_command call settings true set is) program
+unfolding run_command
+performs_trace call settings set program laws is so = record {
+  reached = subst IsOfRun (sym so.says) (run_of_end so.ended);
+  out = subst (λ (c : Command). WritesRun c call settings program) (sym is) (writes_events call settings program laws so);
+  cut = λ unwritten. subst (λ (c : Command). IsUnwritten c call []) (sym is)
+      (inr (refl, rose_traced program settings.depth settings.steps so.runs.events call.out call.out_after so.ended so.runs.ends (sym so.says ∙ unwritten)));
+  did = did_traced program laws settings.depth settings.steps call.out call.out_after call.devices call.devices_after call.status so;
+  ends = ends_traced program laws settings.depth settings.steps call.out call.out_after call.devices call.devices_after call.status so;
+  failed = λ grant op failed. fault_of call.devices call.devices_after so.ended grant op (sym so.says ∙ failed) so.runs.failed;
+}
+
+pub runs_by : (call : TopCall) (settings : Settings) (set : IsSet call settings) (program : Program) → RunsAsMeant program → (traced : Bool) → settings.command ≡ running traced
+    → Ran traced program settings.depth settings.steps call.out call.out_after call.report call.report_after call.devices call.devices_after call.status → Runs call program
+runs_by call settings set program laws traced is (stopped short out same why) =
+    stopped_by call program laws (run_command call settings traced set is) (record { short = short; out = out; same = same; why = why })
+runs_by call settings set program laws false is (performed written so) =
+    performed_by call program laws (run_command call settings false set is) written (performs_run call settings set program laws is so.0 so.1)
+runs_by call settings set program laws true is (performed written so) =
+    performed_by call program laws (run_command call settings true set is) written (performs_trace call settings set program laws is so)
+
+pub ran_counted : (traced : Bool) (program : Program) (depth steps : ℕ) (out out' report report' : SinkState) (devices devices' : DevicesState) (end : Status)
+    → Ran traced program depth steps out out' report report' devices devices' end → report.faults ≤ report'.faults
+ran_counted traced program depth steps out out' report report' devices devices' end (stopped short o same why) = short.written.counted
+ran_counted traced program depth steps out out' report report' devices devices' end (performed written so) = written.counted

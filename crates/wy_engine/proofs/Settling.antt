@@ -129,21 +129,21 @@ settles_answered law runs call settings read set few so (answering.reported prog
       formats = λ tree none. absurd (cc);
       counted = rw report (omega arith);
     }
-settles_answered law runs call settings read set few so (answering.ran program run is ended out) =
-    let reached : IsOfRun call.status = run_ran program settings.depth settings.steps call.report call.report_after call.devices call.devices_after call.status ended in
+settles_answered law runs call settings read set few so (answering.ran program traced run is ended) =
+    let reached : IsOfRun call.status = run_ran traced program settings.depth settings.steps call.out call.out_after call.report call.report_after call.devices call.devices_after call.status ended in
     record {
       reads = reads_all call settings read set few so (run_past call.status reached);
       did = ran program;
       accepts = λ other texts given none. accepts_some law call settings read (ran program) set so
-          (λ told cuts. asks_run settings.command told program run (runnable_of_cut told program (subst (λ (ts : List (List ℕ)). Runnable ts program) cuts is))) reached other texts given;
+          (λ told cuts. asks_run settings.command told traced program run (runnable_of_cut told program (subst (λ (ts : List (List ℕ)). Runnable ts program) cuts is))) reached other texts given;
       quiet = λ none. absurd (cc);
       idle = λ none. absurd (cc);
       runs = λ other same. let e : program ≡ other = cc in subst (λ (p : Program). Runs call p) e
-          (runs_by call program (runs read program is.passes) (has_command call settings command.Run set run) out ended);
+          (runs_by call settings set program (runs read program is.passes) traced run ended);
       checks = λ none. absurd (cc);
       reports = λ program none. absurd (cc);
       formats = λ tree none. absurd (cc);
-      counted = ran_counted program settings.depth settings.steps call.report call.report_after call.devices call.devices_after call.status ended;
+      counted = ran_counted traced program settings.depth settings.steps call.out call.out_after call.report call.report_after call.devices call.devices_after call.status ended;
     }
 settles_answered law runs call settings read set few so (answering.formatted tree format have wrote report devices) =
     let reached : IsOfOut call.status = out_wrote (canonical_form tree) call.out call.out_after call.status wrote in

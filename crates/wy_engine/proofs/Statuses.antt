@@ -74,6 +74,8 @@ crowds_none command.Check texts stop = limited_uncrowded texts stop
 crowds_none command.Authority texts stop = limited_uncrowded texts stop
 crowds_none command.Run texts (inl stop) = limited_uncrowded texts stop
 crowds_none command.Run texts (inr stop) = lowers_uncrowded stop.program (program_starts stop.program) stop.passed
+crowds_none command.Trace texts (inl stop) = limited_uncrowded texts stop
+crowds_none command.Trace texts (inr stop) = lowers_uncrowded stop.program (program_starts stop.program) stop.passed
 crowds_none command.Format texts none = never (status.Limit limit.Files) (λ file bytes h. h) 1 texts none
 
 stops_past : (asked : Command) (texts : List (List ℕ)) (end : Status) → Stops asked texts end → IsPastReading end
@@ -140,10 +142,12 @@ run_of_end (end.DeviceFailed grant op) = tt
 run_of_end end.SinkFailed = tt
 run_of_end end.Memory = tt
 
-pub run_ran : (program : Program) (depth steps : ℕ) (report report' : SinkState) (devices devices' : DevicesState) (end : Status) → Ran program depth steps report report' devices devices' end → IsOfRun end
-run_ran program depth steps report report' devices devices' s (stopped short same (inl is)) = subst IsOfRun (sym is) tt
-run_ran program depth steps report report' devices devices' s (stopped short same (inr is)) = subst IsOfRun (sym is.0) tt
-run_ran program depth steps report report' devices devices' s (performed written so) = subst IsOfRun (sym so.says) (run_of_end so.ended)
+pub run_ran : (traced : Bool) (program : Program) (depth steps : ℕ) (out out' report report' : SinkState) (devices devices' : DevicesState) (end : Status)
+    → Ran traced program depth steps out out' report report' devices devices' end → IsOfRun end
+run_ran traced program depth steps out out' report report' devices devices' s (stopped short o same (inl is)) = subst IsOfRun (sym is) tt
+run_ran traced program depth steps out out' report report' devices devices' s (stopped short o same (inr is)) = subst IsOfRun (sym is.0) tt
+run_ran false program depth steps out out' report report' devices devices' s (performed written so) = subst IsOfRun (sym so.0.says) (run_of_end so.0.ended)
+run_ran true program depth steps out out' report report' devices devices' s (performed written so) = subst IsOfRun (sym so.says) (run_of_end so.ended)
 
 pub out_wrote : (text : List ℕ) (out out' : SinkState) (end : Status) → Wrote text out out' end → IsOfOut end
 out_wrote text out out' end (answering.whole written is) = subst IsOfOut (sym is) tt

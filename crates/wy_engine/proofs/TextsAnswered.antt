@@ -1,11 +1,11 @@
 -- What a call promises of the texts that it was given: they stop it, or something is done with them.
-use Rattle.std.proofs.Common.{◌≡◌, ◌⊎◌, inl, inr, ℕ, List, [], ◌∷◌, refl, sym, subst, length, map}
+use Rattle.std.proofs.Common.{◌≡◌, ◌⊎◌, inl, inr, ℕ, List, [], ◌∷◌, Bool, true, false, refl, sym, subst, length, map}
 use Rattle.wy_syntax.specs.Trees.{ItemTree}
 use Rattle.wy_types.specs.Program.{Program}
 use Rattle.wy_well_formed.specs.WellFormed.{ResolvedIsCore}
 use Rattle.wy_engine.specs.FileTrees.{HaveTrees}
 use Rattle.wy_engine.specs.Headline.{Accepts}
-use Rattle.wy_engine.specs.Judgement.{Asks, Did, Passes, Runnable, Stops, checked, formatted, nothing, ran, reported}
+use Rattle.wy_engine.specs.Judgement.{Asks, Did, Passes, Runnable, Stops, checked, formatted, nothing, ran, reported, running}
 use Rattle.wy_engine.specs.Reading.{ReadsWell}
 use Rattle.wy_engine.specs.Settings.{Settings}
 use Rattle.wy_engine.specs.Status.{IsOfRun, IsOfTexts}
@@ -48,8 +48,9 @@ asks_check asked texts program check is = subst (λ (c : Command). Asks c texts 
 pub asks_report : (asked : Command) (texts : List (List ℕ)) (program : Program) → asked ≡ command.Authority → Passes texts program → Asks asked texts (reported program)
 asks_report asked texts program report is = subst (λ (c : Command). Asks c texts (reported program)) (sym report) is
 
-pub asks_run : (asked : Command) (texts : List (List ℕ)) (program : Program) → asked ≡ command.Run → Runnable texts program → Asks asked texts (ran program)
-asks_run asked texts program run is = subst (λ (c : Command). Asks c texts (ran program)) (sym run) is
+pub asks_run : (asked : Command) (texts : List (List ℕ)) (traced : Bool) (program : Program) → asked ≡ running traced → Runnable texts program → Asks asked texts (ran program)
+asks_run asked texts false program run is = subst (λ (c : Command). Asks c texts (ran program)) (sym run) is
+asks_run asked texts true program run is = subst (λ (c : Command). Asks c texts (ran program)) (sym run) is
 
 pub asks_format : (asked : Command) (texts : List (List ℕ)) (tree : List ItemTree) → asked ≡ command.Format → HaveTrees 1 texts (tree ∷ []) → Asks asked texts (formatted tree)
 asks_format asked texts tree format is = subst (λ (c : Command). Asks c texts (formatted tree)) (sym format) is

@@ -1,5 +1,5 @@
 -- What answering texts does, before it is known which words named them.
-use Rattle.std.specs.Prelude.{◌≡◌, ◌⊎◌, ℕ, List, [], ◌∷◌, Some, None}
+use Rattle.std.specs.Prelude.{◌≡◌, ◌⊎◌, ℕ, List, [], ◌∷◌, Some, None, Bool}
 use Rattle.wy_text.specs.Outside.{Rose, SinkState}
 use Rattle.wy_text.specs.Writing.{StopsShort, WritesUpTo}
 use Rattle.wy_text.specs.declared.limit.LimitName.{LimitName}
@@ -16,7 +16,7 @@ use Rattle.wy_judge.specs.declared.checking.CheckRefusal.TheVariants as refusal
 use Rattle.wy_lower.specs.Counts.{lowering_limit}
 use Rattle.wy_sound.specs.Programs.{program_starts}
 use Rattle.wy_engine.specs.FileTrees.{HaveTrees}
-use Rattle.wy_engine.specs.Judgement.{Passes, Runnable, Stops, accepted_text, authority_text}
+use Rattle.wy_engine.specs.Judgement.{Passes, Runnable, Stops, accepted_text, authority_text, running}
 use Rattle.wy_engine.specs.NameFaults.{names_status}
 use Rattle.wy_engine.specs.Running.{Ran}
 use Rattle.wy_engine.specs.Settings.{Settings}
@@ -47,22 +47,22 @@ pub data ChecksTrees (text : Program → List ℕ) (trees : List (List ItemTree)
   fails : FailsCheck trees end → out' ≡ out → ChecksTrees text trees out out' end
   accepted : (program : Program) → Resolves (all_items trees) program → IsAccepted program → Wrote (text program) out out' end → ChecksTrees text trees out out' end
 
--- what running an accepted program did: nothing, since its code passes a limit or memory was wanting; or it was run
-pub data RunsAccepted (program : Program) (depth steps : ℕ) (report report' : SinkState) (devices devices' : DevicesState) (end : Status) : Type 0 where
-  limited : (name : LimitName) → lowering_limit program (program_starts program) ≡ Some name → end ≡ status.Limit name → report' ≡ report → devices' ≡ devices
-      → RunsAccepted program depth steps report report' devices devices' end
-  wanting : end ≡ status.Memory → report' ≡ report → devices' ≡ devices → RunsAccepted program depth steps report report' devices devices' end
-  ran_program : lowering_limit program (program_starts program) ≡ None → Ran program depth steps report report' devices devices' end
-      → RunsAccepted program depth steps report report' devices devices' end
+-- what running or tracing an accepted program did: nothing, since its code passes a limit or memory was wanting; or it was run
+pub data RunsAccepted (traced : Bool) (program : Program) (depth steps : ℕ) (out out' report report' : SinkState) (devices devices' : DevicesState) (end : Status) : Type 0 where
+  limited : (name : LimitName) → lowering_limit program (program_starts program) ≡ Some name → end ≡ status.Limit name → out' ≡ out → report' ≡ report → devices' ≡ devices
+      → RunsAccepted traced program depth steps out out' report report' devices devices' end
+  wanting : end ≡ status.Memory → out' ≡ out → report' ≡ report → devices' ≡ devices → RunsAccepted traced program depth steps out out' report report' devices devices' end
+  ran_program : lowering_limit program (program_starts program) ≡ None → Ran traced program depth steps out out' report report' devices devices' end
+      → RunsAccepted traced program depth steps out out' report report' devices devices' end
 
 -- .. and with trees: nothing, since they do not pass; or their program was accepted
-pub data RunsTrees (trees : List (List ItemTree)) (depth steps : ℕ) (report report' : SinkState) (devices devices' : DevicesState) (end : Status) : Type 0 where
-  fails_check : FailsCheck trees end → report' ≡ report → devices' ≡ devices → RunsTrees trees depth steps report report' devices devices' end
-  accepted_trees : (program : Program) → Resolves (all_items trees) program → IsAccepted program → RunsAccepted program depth steps report report' devices devices' end
-      → RunsTrees trees depth steps report report' devices devices' end
+pub data RunsTrees (traced : Bool) (trees : List (List ItemTree)) (depth steps : ℕ) (out out' report report' : SinkState) (devices devices' : DevicesState) (end : Status) : Type 0 where
+  fails_check : FailsCheck trees end → out' ≡ out → report' ≡ report → devices' ≡ devices → RunsTrees traced trees depth steps out out' report report' devices devices' end
+  accepted_trees : (program : Program) → Resolves (all_items trees) program → IsAccepted program → RunsAccepted traced program depth steps out out' report report' devices devices' end
+      → RunsTrees traced trees depth steps out out' report report' devices devices' end
 
 -- what was done with texts: nothing, since memory was wanting or they stop the call; it was said that they are accepted;
--- the report of what their program may do was written; a program was run; or the canonical form of a file was written
+-- the report of what their program may do was written; a program was run or traced; or the canonical form of a file was written
 pub data Answered (asked : Settings) (texts : List (List ℕ)) (out out' report report' : SinkState) (devices devices' : DevicesState) (end : Status) : Type 0 where
   declined : (end ≡ status.Memory) ⊎ Stops asked.command texts end → out' ≡ out → report' ≡ report → devices' ≡ devices
       → Answered asked texts out out' report report' devices devices' end
@@ -70,7 +70,7 @@ pub data Answered (asked : Settings) (texts : List (List ℕ)) (out out' report 
       → Answered asked texts out out' report report' devices devices' end
   reported : (program : Program) → asked.command ≡ command.Authority → Passes texts program → Wrote (authority_text program) out out' end → report' ≡ report → devices' ≡ devices
       → Answered asked texts out out' report report' devices devices' end
-  ran : (program : Program) → asked.command ≡ command.Run → Runnable texts program → Ran program asked.depth asked.steps report report' devices devices' end → out' ≡ out
+  ran : (program : Program) (traced : Bool) → asked.command ≡ running traced → Runnable texts program → Ran traced program asked.depth asked.steps out out' report report' devices devices' end
       → Answered asked texts out out' report report' devices devices' end
   formatted : (tree : List ItemTree) → asked.command ≡ command.Format → HaveTrees 1 texts (tree ∷ []) → Wrote (canonical_form tree) out out' end → report' ≡ report → devices' ≡ devices
       → Answered asked texts out out' report report' devices devices' end

@@ -1,22 +1,28 @@
 -- What a call of the top function promises: which texts it accepts, what it prints and writes, which operations it
 -- does, that they are within the authority that it printed, and how it ends.
-use Rattle.std.specs.Prelude.{◌≡◌, ◌≢◌, ◌⊎◌, ◌<◌, ◌≤◌, ◌*◌, ℕ, List, [], ◌++◌, length}
+use Rattle.std.specs.Prelude.{◌≡◌, ◌≢◌, ◌⊎◌, ◌<◌, ◌≤◌, ◌*◌, ℕ, List, [], ◌∷◌, ◌++◌, length}
 use Rattle.wy_text.specs.Outside.{gained, Rose, SinkState}
 use Rattle.wy_device.specs.Devices.{device_of}
 use Rattle.wy_device.specs.Events.{DidExactly, TellsDeeds, deeds_of}
 use Rattle.wy_device.specs.Operation.{kind_named}
 use Rattle.wy_device.specs.Tapes.{Tapes, new_deeds_of, spliced, tapes_between}
 use Rattle.wy_device.specs.declared.deed.Deed.{Deed}
+use Rattle.wy_device.specs.declared.deed.Event.{Event}
 use Rattle.wy_device.specs.declared.operation.Kind.{Kind}
 use Rattle.wy_device.specs.declared.operation.OpName.{OpName}
+use Rattle.wy_code.specs.Running.{Ran, machine}
+use Rattle.wy_lower.specs.Correct.{IsPrefix}
+use Rattle.wy_lower.specs.Lowering.{lowered}
+use Rattle.wy_machine.specs.Steps.{AreQuiet}
 use Rattle.wy_meaning.specs.Bounds.{Bounded}
+use Rattle.wy_meaning.specs.EventLines.{event_line, event_lines}
 use Rattle.wy_meaning.specs.Start.{Course}
 use Rattle.wy_syntax.specs.Canonical.{canonical_form}
 use Rattle.wy_syntax.specs.Trees.{ItemTree}
 use Rattle.wy_types.specs.Program.{Program}
 use Rattle.wy_sound.specs.Laws.{course}
-use Rattle.wy_sound.specs.Programs.{allowed}
-use Rattle.wy_engine.specs.Judgement.{Asks, Did, Stops, accepted_text, authority_text, checked, formatted, nothing, ran, reported}
+use Rattle.wy_sound.specs.Programs.{allowed, program_starts}
+use Rattle.wy_engine.specs.Judgement.{Asks, Did, RunsPrograms, Stops, accepted_text, authority_text, checked, formatted, nothing, ran, reported}
 use Rattle.wy_engine.specs.LastLine.{LineWords, last_line, line_words}
 use Rattle.wy_engine.specs.Settings.{Settings, settings_of}
 use Rattle.wy_engine.specs.Status.{IsOfEnd, IsOfOut, IsOfRun, IsOfTexts}
@@ -41,24 +47,56 @@ pub record HasCommand (call : TopCall) (command : Command) : Type 0 where
   pub set : IsSet call settings
   pub is : settings.command ≡ command
 
+-- .. of one that runs programs
+pub record HasRun (call : TopCall) : Type 0 where
+  pub settings : Settings
+  pub set : IsSet call settings
+  pub runs : RunsPrograms settings.command
+
+-- a part of the report is missing, nothing was done, and the report's sink counted a fault
+pub record IsUnprinted (call : TopCall) (rest : List ℕ) : Type 0 where
+  pub some : 0 < length rest
+  pub devices : call.devices_after ≡ call.devices
+  pub rose : Rose call.report.faults call.report_after.faults
+
+-- Why a status is Unwritten: the report could not be written; or, in `trace` alone, the line of an event could not, and
+-- then `out` counted a fault.
+abbrev pub IsUnwritten : Command → TopCall → List ℕ → Type 0
+IsUnwritten command.Trace call rest = IsUnprinted call rest ⊎ ((rest ≡ []) × Rose call.out.faults call.out_after.faults)
+IsUnwritten command call rest = IsUnprinted call rest
+
 -- The report stands on its sink, whole, before anything is done. Where it could not be written whole, a part of it
 -- stands there and nothing was done.
-pub record PrintsReport (call : TopCall) (text : List ℕ) : Type 0 where
+pub record PrintsReport (call : TopCall) (command : Command) (text : List ℕ) : Type 0 where
   pub front : List ℕ
   pub rest : List ℕ
   pub split : text ≡ front ++ rest
   pub taken : call.report_after.taken ≡ gained call.report.taken front
-  pub first : (rest ≡ []) ⊎ (call.devices_after ≡ call.devices)
+  pub first : (rest ≡ []) ⊎ ((call.out_after ≡ call.out) × (call.devices_after ≡ call.devices))
   pub whole : call.status ≢ status.Unwritten → call.status ≢ status.Memory → rest ≡ []
-  pub proper : call.status ≡ status.Unwritten → (0 < length rest) × (call.devices_after ≡ call.devices) × Rose call.report.faults call.report_after.faults
+  pub proper : call.status ≡ status.Unwritten → IsUnwritten command call rest
 
 -- what a program means over the answers that its devices gave in this call
 abbrev pub course_in : TopCall → Settings → Program → Course
 course_in call settings program = course program settings.depth (tapes_between call.devices call.devices_after)
 
+-- .. and the run of its code
+abbrev pub code_in : TopCall → Settings → Program → Ran
+code_in call settings program = machine (lowered program (program_starts program)) settings.depth settings.steps (tapes_between call.devices call.devices_after)
+
+-- a part of the line of the first of these events, and not the whole, where there are any; and no other is a deed
+pub data BeginsLine (part : List ℕ) : List Event → Type 0 where
+  none : part ≡ [] → BeginsLine part []
+  some : (event : Event) (later : List Event) (cut : List ℕ) → event_line event ≡ part ++ cut → 0 < length cut → AreQuiet later → BeginsLine part (event ∷ later)
+
 -- the deeds that a device did are the first of these
 abbrev pub DidFirst : Kind → TopCall → List Deed → Type 0
 DidFirst kind call deeds = (later : List Deed) × (deeds ≡ new_deeds_of kind call.devices call.devices_after ++ later)
+
+-- the status is that of a run which neither memory nor a write cut short
+pub record IsUncut (end : Status) : Type 0 where
+  pub full : end ≢ status.Memory
+  pub written : end ≢ status.Unwritten
 
 -- A run that was cut short by nothing but its bound on steps. Where the steps that the program's meaning takes are within
 -- the bound, the meaning does not wait for more answers, and the status is that of its end. Where they are more, the run
@@ -67,21 +105,47 @@ pub record EndsAs (end : Status) (bound : ℕ) (c : Course) : Type 0 where
   pub whole : c.steps ≤ bound → IsOfEnd end c.end
   pub spent : bound < c.steps → (end ≡ status.Spent) × (bound < 4 * c.nodes)
 
+-- The line of each event of a traced run was written to `out` when it had happened.
+--   `whole` are the events whose lines stand there; a part of the next one's line may stand behind them.
+--   `further` are those that happened besides; at most the first of them is a deed. There are none unless memory or a write
+--   cut the run short.
+--   Where the devices tell their deeds, all these are the first events of the program's meaning over the answers that
+--   were given: all of them, where nothing cut the run short, and as many as the code has after the steps of the bound,
+--   where it is spent.
+pub record WritesEvents (call : TopCall) (settings : Settings) (program : Program) : Type 0 where
+  pub whole : List Event
+  pub part : List ℕ
+  pub further : List Event
+  pub taken : call.out_after.taken ≡ gained call.out.taken (event_lines whole ++ part)
+  pub begun : BeginsLine part further
+  pub did : DidExactly call.devices call.devices_after (whole ++ further)
+  pub uncut : IsUncut call.status → further ≡ []
+  pub first : TellsDeeds call.devices → IsPrefix (whole ++ further) (course_in call settings program).events
+  pub all : TellsDeeds call.devices → IsUncut call.status → call.status ≢ status.Spent → whole ≡ (course_in call settings program).events
+  pub spent : TellsDeeds call.devices → call.status ≡ status.Spent → whole ≡ (code_in call settings program).events
+
+-- what came to `out`: `run` writes nothing there, and `trace` the lines of the events
+abbrev pub WritesRun : Command → TopCall → Settings → Program → Type 0
+WritesRun command.Run call settings program = call.out_after ≡ call.out
+WritesRun command.Trace call settings program = WritesEvents call settings program
+WritesRun command call settings program = ⊥
+
 -- A program was accepted, and its run was begun. Where the devices tell their deeds:
 --   they did exactly the deeds of the program's meaning over the answers that they gave;
 --   over any tapes that begin with these answers, the deeds that were done are the first of the meaning's;
---   and the status is the one that the meaning's end gives, or Spent, unless memory was wanting or the report was not written.
+--   and the status is the one that the meaning's end gives, or Spent, unless memory was wanting or the report or an event's
+--   line was not written.
 -- At every depth and over all answers each operation is in the authority of every call that is open at it.
 pub record Runs (call : TopCall) (program : Program) : Type 0 where
-  pub asked : HasCommand call command.Run
+  pub asked : HasRun call
   pub reached : IsOfRun call.status
-  pub out : call.out_after ≡ call.out
-  pub printed : PrintsReport call (authority_text program)
+  pub out : WritesRun asked.settings.command call asked.settings program
+  pub printed : PrintsReport call asked.settings.command (authority_text program)
   pub operations : TellsDeeds call.devices → DidExactly call.devices call.devices_after (course_in call asked.settings program).events
   pub prefix : TellsDeeds call.devices → (kind : Kind) (more : Tapes) →
       DidFirst kind call (deeds_of kind (course program asked.settings.depth (spliced (tapes_between call.devices call.devices_after) more)).events)
   pub authority : (depth : ℕ) (tapes : Tapes) → Bounded (allowed program) (course program depth tapes).events
-  pub ends : TellsDeeds call.devices → call.status ≢ status.Memory → call.status ≢ status.Unwritten → EndsAs call.status asked.settings.steps (course_in call asked.settings program)
+  pub ends : TellsDeeds call.devices → IsUncut call.status → EndsAs call.status asked.settings.steps (course_in call asked.settings program)
   pub failed : (grant : List ℕ) (op : OpName) → call.status ≡ status.DeviceFailed grant op → Rose (device_of call.devices (kind_named op)).faults (device_of call.devices_after (kind_named op)).faults
 
 -- A command's text was written to `out`, and nothing else was done. Where it could not be written whole, a part of it

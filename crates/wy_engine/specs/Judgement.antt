@@ -1,6 +1,6 @@
 -- Which texts are accepted and which are refused, what an accepted program means, and its authority. All that the
 -- promises of the top call say of programs, they say by the words of this page.
-use Rattle.std.specs.Prelude.{codes, ◌≡◌, ◌⊎◌, List, [], ◌∷◌, ℕ, Some, None}
+use Rattle.std.specs.Prelude.{codes, ◌≡◌, ◌⊎◌, List, [], ◌∷◌, ℕ, Some, None, Bool, true, false, ⊤}
 use Rattle.wy_text.specs.declared.limit.LimitName.{LimitName}
 use Rattle.wy_syntax.specs.Trees.{ItemTree}
 use Rattle.wy_types.specs.Program.{Program}
@@ -49,6 +49,19 @@ authority_text program = report_text (authority_of program)
 
 -- ---- what a command does with texts
 
+-- a command that runs programs
+abbrev pub RunsPrograms : Command → Type 0
+RunsPrograms command.Check = ⊥
+RunsPrograms command.Authority = ⊥
+RunsPrograms command.Run = ⊤
+RunsPrograms command.Trace = ⊤
+RunsPrograms command.Format = ⊥
+
+-- the command that runs programs, and the one that traces them
+abbrev pub running : Bool → Command
+running false = command.Run
+running true = command.Trace
+
 -- the texts have trees whose names are refused, or whose program is not accepted; and this is the limit or the fault
 abbrev pub StopsLimited : List (List ℕ) → LimitName → Type 0
 StopsLimited texts name = FirstNoTree 1 texts (status.Limit name) ⊎ (NamesStop texts (status.Limit name) ⊎ EndsJudging texts (limited name))
@@ -61,10 +74,12 @@ Stops command texts (status.Syntax place kind) = FirstNoTree 1 texts (status.Syn
 Stops command.Check texts (status.Limit name) = StopsLimited texts name
 Stops command.Authority texts (status.Limit name) = StopsLimited texts name
 Stops command.Run texts (status.Limit name) = StopsLimited texts name ⊎ EndsLowering texts name
+Stops command.Trace texts (status.Limit name) = StopsLimited texts name ⊎ EndsLowering texts name
 Stops command.Format texts (status.Limit name) = FirstNoTree 1 texts (status.Limit name)
 Stops command.Check texts (status.Refused fault) = NamesStop texts (status.Refused fault) ⊎ EndsJudging texts (refused fault)
 Stops command.Authority texts (status.Refused fault) = NamesStop texts (status.Refused fault) ⊎ EndsJudging texts (refused fault)
 Stops command.Run texts (status.Refused fault) = NamesStop texts (status.Refused fault) ⊎ EndsJudging texts (refused fault)
+Stops command.Trace texts (status.Refused fault) = NamesStop texts (status.Refused fault) ⊎ EndsJudging texts (refused fault)
 Stops command texts other = ⊥
 
 -- what a call did: nothing, or it said that texts are accepted, or it reported what a program may do, or it ran a program,
@@ -81,5 +96,6 @@ abbrev pub Asks : Command → List (List ℕ) → Did → Type 0
 Asks command.Check texts checked = (program : Program) × Passes texts program
 Asks command.Authority texts (reported program) = Passes texts program
 Asks command.Run texts (ran program) = Runnable texts program
+Asks command.Trace texts (ran program) = Runnable texts program
 Asks command.Format texts (formatted tree) = HaveTrees 1 texts (tree ∷ [])
 Asks command texts other = ⊥

@@ -72,13 +72,15 @@ abbrev pub command_named : List ℕ → Option Command
 command_named word =
     if bytes_eq word (codes "check") then Some command.Check else
     (if bytes_eq word (codes "authority") then Some command.Authority else
-    (if bytes_eq word (codes "run") then Some command.Run else (if bytes_eq word (codes "format") then Some command.Format else None)))
+    (if bytes_eq word (codes "run") then Some command.Run else
+    (if bytes_eq word (codes "trace") then Some command.Trace else (if bytes_eq word (codes "format") then Some command.Format else None))))
 
--- whether a command takes so many files: `check`, `authority` and `run` one or more, `format` one
+-- whether a command takes so many files: `format` one, each other one or more
 abbrev pub takes : Command → ℕ → Bool
 takes command.Check count = nat_le 1 count
 takes command.Authority count = nat_le 1 count
 takes command.Run count = nat_le 1 count
+takes command.Trace count = nat_le 1 count
 takes command.Format count = count == 1
 
 -- whether the words may be a command's files, of which none begins with a dash

@@ -6,7 +6,7 @@ ghost use Rattle.wy_engine.specs.Answering.{Answered};
 use crate::checking::{check_trees, report_trees};
 use crate::formatting::write_form;
 use crate::parsing::parse_all;
-use crate::running::{Bounds, run_trees};
+use crate::running::{Manner, run_trees};
 use crate::settings::{Command, CommandLine};
 use crate::status::Status;
 use std::alloc::Global;
@@ -15,7 +15,7 @@ use wy_machine::devices::Devices;
 use wy_text::sink::Sink;
 use wy_text::text::Text;
 
-/// Does with texts what a command asks: parses them, and then checks their program, reports what it may do or runs it,
+/// Does with texts what a command asks: parses them, and then checks their program, reports what it may do, runs or traces it,
 /// or writes the canonical form of the one text.
 pub fn answer<O: Sink, E: Sink, D: Device>(
     alloc: Global,
@@ -34,14 +34,21 @@ pub fn answer<O: Sink, E: Sink, D: Device>(
         Ok(trees) => trees,
         Err(end) => return end,
     };
-    let bounds = Bounds {
+    let silent = Manner {
+        traced: false,
+        steps: asked.steps,
+        depth: asked.depth,
+    };
+    let traced = Manner {
+        traced: true,
         steps: asked.steps,
         depth: asked.depth,
     };
     match asked.command {
         Command::Check => check_trees(alloc, trees.as_slice(), out),
         Command::Authority => report_trees(alloc, trees.as_slice(), out),
-        Command::Run => run_trees(alloc, trees.as_slice(), bounds, report, devices),
+        Command::Run => run_trees(alloc, trees.as_slice(), silent, out, report, devices),
+        Command::Trace => run_trees(alloc, trees.as_slice(), traced, out, report, devices),
         Command::Format => write_form(alloc, &trees[0], out),
     }
 }

@@ -1,6 +1,6 @@
 //! The top call: it reads the files that the words name, judges them, prints the authority of what it
-//! accepts, and runs it on the devices that were handed in; or it says whether they are accepted, or writes that
-//! authority, or a file's canonical form.
+//! accepts, and runs or traces it on the devices that were handed in; or it says whether they are accepted, or writes
+//! that authority, or a file's canonical form.
 #![tactic(auto)]
 
 pub mod answering;

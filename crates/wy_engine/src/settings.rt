@@ -13,6 +13,8 @@ pub enum Command {
     Authority,
     /// Judge the files, print the report, and run the program.
     Run,
+    /// As `Run`, and write a line for each event of the run.
+    Trace,
     /// Write the canonical form of one file.
     Format,
 }
@@ -64,6 +66,7 @@ fn command_of(word: &str) -> Option<Command>
         "check" => Some(Command::Check),
         "authority" => Some(Command::Authority),
         "run" => Some(Command::Run),
+        "trace" => Some(Command::Trace),
         "format" => Some(Command::Format),
         _ => None,
     }
@@ -87,7 +90,7 @@ fn takes(command: Command, count: usize) -> bool
     ensures { result ≡ takes command count }
 {
     match command {
-        Command::Check | Command::Authority | Command::Run => count >= 1,
+        Command::Check | Command::Authority | Command::Run | Command::Trace => count >= 1,
         Command::Format => count == 1,
     }
 }

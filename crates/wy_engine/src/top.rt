@@ -77,7 +77,8 @@ fn close<E: Sink>(alloc: Global, words: LineWords<'_>, report: &mut E, settled: 
 /// Does what the words say: reads the files that they name, and parses them. `check` judges their names and their
 /// program by the rules, and says on `out` that it is accepted; `authority` judges as `check` does, and writes the
 /// report of what the program's bodies may do to `out`; `run` judges as `check` does, lowers what is accepted to code, prints the
-/// report on `report`, and runs the code on the devices; `format` writes the canonical form of its one file to `out`. The
+/// report on `report`, and runs the code on the devices; `trace` does so too, and writes the line of each event of the
+/// run to `out`; `format` writes the canonical form of its one file to `out`. The
 /// report ends with a line that says how the call ended, unless all was done (docs/LANGUAGE.md, "The command line",
 /// "Authority and report" and "Statuses").
 ///

@@ -12,4 +12,4 @@ returns-in-Err-Limit g c =
     let passed : lowering_limit program (starts_of program (map started_of c.args.accepted.now.links.instances)) ≡ Some c.in-Err-Limit.name = search rules in
     limited c.in-Err-Limit.name
     (subst (λ (instances : List Instance). lowering_limit program (starts_of program (map started_of instances)) ≡ Some c.in-Err-Limit.name) c.requires.checked.linked.instances
-    passed) (let is = c.in-Err-Limit.name-is in cc) refl refl
+    passed) (let is = c.in-Err-Limit.name-is in cc) refl refl refl

@@ -14,4 +14,4 @@ pub returns-in-Ok : goal.returns-in-Ok
 returns-in-Ok g c = accepted_trees (program_of c.in-Ok.accepted.core) c.in-Ok.ensures.resolved c.in-Ok.ensures.accepted.accepted c.run_accepted.ensures
 
 pub returns-in-Err : goal.returns-in-Err
-returns-in-Err g c = fails_check c.in-Err.ensures.fails refl refl
+returns-in-Err g c = fails_check c.in-Err.ensures.fails refl refl refl

@@ -1,0 +1,175 @@
+-- What a call promises of the lines that a traced run wrote.
+use Rattle.std.proofs.Common.{◌≡◌, ◌≢◌, ◌⊎◌, inl, inr, ◌<◌, ℕ, List, [], ◌∷◌, ◌++◌, refl, sym, ◌∙◌, ap, subst}
+use Rattle.std.proofs.lemmas.List.{append-nil}
+use Rattle.wy_text.proofs.Gains.{gained-nil}
+use Rattle.wy_text.specs.Outside.{Rose, SinkState, gained}
+use Rattle.wy_device.specs.Devices.{DevicesState}
+use Rattle.wy_device.specs.Events.{DidExactly, TellsDeeds}
+use Rattle.wy_device.specs.Tapes.{Tapes, tapes_between}
+use Rattle.wy_device.specs.declared.deed.Event.{Event}
+use Rattle.wy_code.specs.Running.{machine}
+use Rattle.wy_lower.specs.Correct.{IsPrefix}
+use Rattle.wy_lower.specs.Lowering.{lowered}
+use Rattle.wy_machine.specs.Runs.{EndsIn, tapes_of}
+use Rattle.wy_machine.specs.Traces.{EndsTraced, HappenedIn, WroteAll, WroteSome}
+use Rattle.wy_machine.specs.declared.run_end.RunEnd.{RunEnd}
+use Rattle.wy_machine.specs.declared.run_end.RunEnd.TheVariants as end
+use Rattle.wy_meaning.specs.EventLines.{event_lines}
+use Rattle.wy_sound.specs.Laws.{course}
+use Rattle.wy_sound.specs.Programs.{program_starts}
+use Rattle.wy_types.specs.Program.{Program}
+use Rattle.wy_engine.specs.Headline.{BeginsLine, IsUncut, WritesEvents, code_in, course_in, none, some}
+use Rattle.wy_engine.specs.ProgramLaws.{RunsAsMeant}
+use Rattle.wy_engine.specs.Running.{TracesCode, status_of}
+use Rattle.wy_engine.specs.Settings.{Settings}
+use Rattle.wy_engine.specs.TopCall.{TopCall}
+use Rattle.wy_engine.specs.declared.status.Status.{Status}
+use Rattle.wy_engine.specs.declared.status.Status.TheVariants as status
+use Rattle.wy_engine.proofs.CodeRuns.{BeginsWith, all_events, begins_happened, begins_with, spent_events}
+use Rattle.wy_engine.proofs.Deeds.{did_none, no_tapes, spliced-none, tapes_between-of}
+
+-- ---- how a traced run ended
+
+-- one that neither memory nor a write cut short ended as a run does, and wrote the lines of all its events
+pub uncut_run : (program : Program) (depth k : ℕ) (events : List Event) (out out' : SinkState) (e : RunEnd) → EndsTraced (lowered program (program_starts program)) depth k events out out' e
+    → IsUncut (status_of e) → EndsIn (lowered program (program_starts program)) depth k events e × WroteAll events out out'
+uncut_run program depth k events out out' end.Ended to uncut = to
+uncut_run program depth k events out out' (end.Trap kind place) to uncut = to
+uncut_run program depth k events out out' end.TooDeep to uncut = to
+uncut_run program depth k events out out' end.Spent to uncut = to
+uncut_run program depth k events out out' (end.DeviceFailed grant op) to uncut = to
+uncut_run program depth k events out out' end.SinkFailed to uncut = absurd (uncut.written refl)
+uncut_run program depth k events out out' end.Memory to uncut = absurd (uncut.full refl)
+
+-- its events are the first of the meaning's
+pub begins_traced : (program : Program) → RunsAsMeant program → (depth k : ℕ) (events : List Event) (out out' : SinkState) (e : RunEnd)
+    → EndsTraced (lowered program (program_starts program)) depth k events out out' e → BeginsWith program depth events
+begins_traced program laws depth k events out out' end.Ended to = begins_with program laws depth k events end.Ended to.0
+begins_traced program laws depth k events out out' (end.Trap kind place) to = begins_with program laws depth k events (end.Trap kind place) to.0
+begins_traced program laws depth k events out out' end.TooDeep to = begins_with program laws depth k events end.TooDeep to.0
+begins_traced program laws depth k events out out' end.Spent to = begins_with program laws depth k events end.Spent to.0
+begins_traced program laws depth k events out out' (end.DeviceFailed grant op) to = begins_with program laws depth k events (end.DeviceFailed grant op) to.0
+begins_traced program laws depth k events out out' end.SinkFailed to = begins_happened program laws depth k events to.0
+begins_traced program laws depth k events out out' end.Memory to = begins_happened program laws depth k events to.0
+
+-- a traced run whose status is Unwritten had a write to `out` fail
+pub rose_traced : (program : Program) (depth k : ℕ) (events : List Event) (out out' : SinkState) (e : RunEnd) → EndsTraced (lowered program (program_starts program)) depth k events out out' e
+    → status_of e ≡ status.Unwritten → Rose out.faults out'.faults
+rose_traced program depth k events out out' end.Ended to is = absurd (cc)
+rose_traced program depth k events out out' (end.Trap kind place) to is = absurd (cc)
+rose_traced program depth k events out out' end.TooDeep to is = absurd (cc)
+rose_traced program depth k events out out' end.Spent to is = absurd (cc)
+rose_traced program depth k events out out' (end.DeviceFailed grant op) to is = absurd (cc)
+rose_traced program depth k events out out' end.SinkFailed to is = to.2
+rose_traced program depth k events out out' end.Memory to is = absurd (cc)
+
+-- ---- the lines
+
+-- which lines were written, of the events that happened
+record Lines (events : List Event) (out out' : SinkState) : Type 0 where
+  whole : List Event
+  part : List ℕ
+  further : List Event
+  split : events ≡ whole ++ further
+  taken : out'.taken ≡ gained out.taken (event_lines whole ++ part)
+  begun : BeginsLine part further
+
+all_lines : (events : List Event) (out out' : SinkState) → WroteAll events out out' → Lines events out out'
+all_lines events out out' all = record {
+  whole = events;
+  part = [];
+  further = [];
+  split = sym (append-nil events);
+  taken = all ∙ ap (λ x. gained out.taken x) (sym (append-nil (event_lines events)));
+  begun = none refl;
+}
+
+some_lines : (events : List Event) (out out' : SinkState) → WroteSome events out out' → Lines events out out'
+some_lines events out out' so = record {
+  whole = so.whole;
+  part = so.part;
+  further = so.event ∷ so.later;
+  split = so.split;
+  taken = so.taken;
+  begun = some so.event so.later so.cut so.line so.short so.quiet;
+}
+
+either_lines : (events : List Event) (out out' : SinkState) → WroteAll events out out' ⊎ WroteSome events out out' → Lines events out out'
+either_lines events out out' (inl all) = all_lines events out out' all
+either_lines events out out' (inr so) = some_lines events out out' so
+
+lines_of : (program : Program) (depth k : ℕ) (events : List Event) (out out' : SinkState) (e : RunEnd) → EndsTraced (lowered program (program_starts program)) depth k events out out' e
+    → Lines events out out'
+lines_of program depth k events out out' end.Ended to = all_lines events out out' to.1
+lines_of program depth k events out out' (end.Trap kind place) to = all_lines events out out' to.1
+lines_of program depth k events out out' end.TooDeep to = all_lines events out out' to.1
+lines_of program depth k events out out' end.Spent to = all_lines events out out' to.1
+lines_of program depth k events out out' (end.DeviceFailed grant op) to = all_lines events out out' to.1
+lines_of program depth k events out out' end.SinkFailed to = some_lines events out out' to.1
+lines_of program depth k events out out' end.Memory to = either_lines events out out' to.1
+
+-- where nothing cut the run short all lines stand there
+uncut_lines : (program : Program) (depth k : ℕ) (events : List Event) (out out' : SinkState) (e : RunEnd) (to : EndsTraced (lowered program (program_starts program)) depth k events out out' e)
+    → IsUncut (status_of e) → (lines_of program depth k events out out' e to).further ≡ []
+uncut_lines program depth k events out out' end.Ended to uncut = refl
+uncut_lines program depth k events out out' (end.Trap kind place) to uncut = refl
+uncut_lines program depth k events out out' end.TooDeep to uncut = refl
+uncut_lines program depth k events out out' end.Spent to uncut = refl
+uncut_lines program depth k events out out' (end.DeviceFailed grant op) to uncut = refl
+uncut_lines program depth k events out out' end.SinkFailed to uncut = absurd (uncut.written refl)
+uncut_lines program depth k events out out' end.Memory to uncut = absurd (uncut.full refl)
+
+-- ---- the whole call
+
+first_events : (program : Program) (depth : ℕ) (events : List Event) → BeginsWith program depth events → IsPrefix events (course program depth (tapes_of events)).events
+first_events program depth events begins =
+    subst (λ (t : Tapes). IsPrefix events (course program depth t).events) (spliced-none (tapes_of events)) (begins.first no_tapes)
+
+pub writes_events : (call : TopCall) (settings : Settings) (program : Program) → RunsAsMeant program
+    → TracesCode (lowered program (program_starts program)) settings.depth settings.steps call.out call.out_after call.devices call.devices_after call.status → WritesEvents call settings program
+writes_events call settings program laws so =
+    let code = lowered program (program_starts program) in
+    let events = so.runs.events in
+    let lines : Lines events call.out call.out_after = lines_of program settings.depth settings.steps events call.out call.out_after so.ended so.runs.ends in
+    let given : TellsDeeds call.devices → tapes_between call.devices call.devices_after ≡ tapes_of events = λ tells. tapes_between-of call.devices call.devices_after events tells so.runs.did in
+    let ended : (uncut : IsUncut call.status) → IsUncut (status_of so.ended) = λ uncut. subst (λ (s : Status). IsUncut s) so.says uncut in
+    let no_more : IsUncut call.status → lines.further ≡ [] = λ uncut. uncut_lines program settings.depth settings.steps events call.out call.out_after so.ended so.runs.ends (ended uncut) in
+    let all : IsUncut call.status → lines.whole ≡ events = λ uncut. sym (append-nil lines.whole) ∙ ap (λ x. lines.whole ++ x) (sym (no_more uncut)) ∙ sym lines.split in
+    record {
+      whole = lines.whole;
+      part = lines.part;
+      further = lines.further;
+      taken = lines.taken;
+      begun = lines.begun;
+      did = subst (λ es. DidExactly call.devices call.devices_after es) lines.split so.runs.did;
+      uncut = no_more;
+      first = λ tells. subst (λ es. IsPrefix es (course_in call settings program).events) lines.split
+          (subst (λ (t : Tapes). IsPrefix events (course program settings.depth t).events) (sym (given tells))
+          (first_events program settings.depth events (begins_traced program laws settings.depth settings.steps events call.out call.out_after so.ended so.runs.ends)));
+      all = λ tells uncut unspent. all uncut ∙ all_events program laws settings.depth settings.steps events so.ended
+          (uncut_run program settings.depth settings.steps events call.out call.out_after so.ended so.runs.ends (ended uncut)).0 (ended uncut).full (λ is. unspent (so.says ∙ is))
+          ∙ ap (λ (t : Tapes). (course program settings.depth t).events) (sym (given tells));
+      spent = λ tells is. let uncut : IsUncut call.status = spent_uncut call.status is in
+          all uncut ∙ spent_events program settings.depth settings.steps events so.ended
+          (uncut_run program settings.depth settings.steps events call.out call.out_after so.ended so.runs.ends (ended uncut)).0 (sym so.says ∙ is)
+          ∙ ap (λ (t : Tapes). (machine code settings.depth settings.steps t).events) (sym (given tells));
+    }
+  where
+    spent_uncut : (s : Status) → s ≡ status.Spent → IsUncut s
+    spent_uncut s is = record { full = λ other. let q : status.Spent ≡ status.Memory = sym is ∙ other in cc; written = λ other. let q : status.Spent ≡ status.Unwritten = sym is ∙ other in cc }
+
+-- nothing was run
+pub writes_none : (call : TopCall) (settings : Settings) (program : Program) → call.out_after ≡ call.out → call.devices_after ≡ call.devices
+    → (IsUncut call.status → ⊥) → call.status ≢ status.Spent → WritesEvents call settings program
+writes_none call settings program out same cut unspent = record {
+  whole = [];
+  part = [];
+  further = [];
+  taken = ap (λ (s : SinkState). s.taken) out ∙ sym (gained-nil call.out.taken);
+  begun = none refl;
+  did = did_none call.devices call.devices_after same;
+  uncut = λ uncut. refl;
+  first = λ tells. ((course_in call settings program).events, refl);
+  all = λ tells uncut spent. absurd (cut uncut);
+  spent = λ tells is. absurd (unspent is);
+}
