@@ -3,9 +3,11 @@ pub mod Captures
 pub mod Computing
 pub mod Requesting
 pub mod Runs
+pub mod Showing
 pub mod Stacks
 pub mod States
 pub mod Steps
 pub mod StoreStates
+pub mod Traces
 pub mod TrapKinds
 pub mod Words
