@@ -82,7 +82,7 @@ module _ (code : Code) (depth : ℕ) (place : Place) (s : StackState) (w : Store
   IsUncalled (Object a) = ⊥
   IsUncalled (Grant g) = ⊥
 
-  uncalled : (v : Word) → IsUncalled v → (vs : List Word) (st : State) → call_on code depth place m vs v st ≡ stuck
+  pub uncalled : (v : Word) → IsUncalled v → (vs : List Word) (st : State) → call_on code depth place m vs v st ≡ stuck
   uncalled (Int n) u vs st = refl
   uncalled (Truth b) u vs st = refl
   uncalled Nothing u vs st = refl

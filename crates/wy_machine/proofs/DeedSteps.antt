@@ -116,14 +116,14 @@ module _ (code : Code) (depth : ℕ) (place : Place) (s : StackState) (w : Store
   abbrev pub args : List Word
   args = reverse (take k s.running.operands)
 
-  performs : (t : Tapes) → next t ≡ push_reply (performed place (slice_get code.grants g) (slice_get code.methods m) args (store_of code w t)) (state_of code from w t)
+  pub performs : (t : Tapes) → next t ≡ push_reply (performed place (slice_get code.grants g) (slice_get code.methods m) args (store_of code w t)) (state_of code from w t)
   performs t = calls code depth place s w m k (Grant g) receiver t
 
   pub grant_there : IsNotStuck next → slice_get code.grants g ≢ None
   grant_there h e = h.holds no_tapes (performs no_tapes ∙ ap (λ o. push_reply (performed place o (slice_get code.methods m) args (store_of code w no_tapes)) (state_of code from w no_tapes)) e)
 
   module _ (grant : CodeGrant) (granted : slice_get code.grants g ≡ Some grant) where
-    grants : (t : Tapes) → next t ≡ push_reply (requested_of place grant (store_of code w t) (slice_get code.methods m) (texts_named (store_of code w t) args)) (state_of code from w t)
+    pub grants : (t : Tapes) → next t ≡ push_reply (requested_of place grant (store_of code w t) (slice_get code.methods m) (texts_named (store_of code w t) args)) (state_of code from w t)
     grants t = performs t ∙ ap (λ o. push_reply (performed place o (slice_get code.methods m) args (store_of code w t)) (state_of code from w t)) granted
 
     pub method_named : IsNotStuck next → slice_get code.methods m ≢ None
@@ -133,7 +133,7 @@ module _ (code : Code) (depth : ℕ) (place : Place) (s : StackState) (w : Store
       abbrev pub IsAskedFor : Option Op → Type 0
       IsAskedFor op = (t : Tapes) → op ≡ asked_for grant.kind method (texts_named (store_of code w t) args)
 
-      replies : (op : Option Op) → IsAskedFor op → (t : Tapes) → next t ≡ push_reply (requested place grant.name (store_of code w t) op) (state_of code from w t)
+      pub replies : (op : Option Op) → IsAskedFor op → (t : Tapes) → next t ≡ push_reply (requested place grant.name (store_of code w t) op) (state_of code from w t)
       replies op e t =
           grants t
           ∙ ap (λ o. push_reply (requested_of place grant (store_of code w t) o (texts_named (store_of code w t) args)) (state_of code from w t)) named

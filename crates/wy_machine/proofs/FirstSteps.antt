@@ -20,7 +20,7 @@ use Rattle.wy_machine.specs.States.{store_of, state_of}
 use Rattle.wy_machine.specs.Steps.{beginning, starting, AreQuiet, IsNotStuck, Halts, IsStep}
 use Rattle.wy_machine.specs.StoreStates.{StoreState, no_store}
 use Rattle.wy_machine.proofs.Acts.{no_tapes}
-use Rattle.wy_machine.proofs.Leading.{Leads}
+use Rattle.wy_machine.proofs.Leading.{Leads, later}
 use Rattle.wy_machine.proofs.Quiet.{did_quietly, same_devices}
 
 -- the store with the instances' objects
@@ -38,50 +38,49 @@ module _ (code : Code) (depth : ℕ) where
   unfolding machine
   first_sound never = record { holds = λ t wrong. never depth 0 t (ap (λ x. (enter_first x (steps code depth 0)).end) wrong) }
 
-  pub leads_first : (s : StackState) (w : StoreState) (a b : DevicesState) → IsStep code s w (starting code) a b (Ok tt) → Leads code depth 0 s w a b
+  pub leads_so_first : (s : StackState) (w : StoreState) (a b : DevicesState) (h : IsStep code s w (starting code) a b (Ok tt)) (k : ℕ) (more : Tapes) →
+      machine code depth (0 + k) (spliced (tapes_of h.events) more) ≡ later h.events 0 (steps code depth k (state_of code s w more))
   unfolding machine
-  leads_first s w a b h = record {
-    events = h.events;
-    did = h.did;
-    same = h.same;
-    leads = λ k more.
-        let e : 0 + k ≡ k = omega arith in
-        let r = steps code depth k (state_of code s w more) in
-        let n : r.taken ≡ 0 + r.taken = omega arith in
-        ap (λ k. machine code depth k (spliced (tapes_of h.events) more)) e
-        ∙ ap (λ x. enter_first x (steps code depth k)) (h.comes.goes more)
-        ∙ ap (λ n. let r' : Ran = record { end = r.end; events = h.events ++ r.events; taken = n } in r') n;
-  }
+  leads_so_first s w a b h k more =
+      let e : 0 + k ≡ k = omega arith in
+      let r = steps code depth k (state_of code s w more) in
+      let n : r.taken ≡ 0 + r.taken = omega arith in
+      ap (λ k. machine code depth k (spliced (tapes_of h.events) more)) e
+      ∙ ap (λ x. enter_first x (steps code depth k)) (h.comes.goes more)
+      ∙ ap (λ n. let r' : Ran = record { end = r.end; events = h.events ++ r.events; taken = n } in r') n
+
+  abbrev pub leads_first : (s : StackState) (w : StoreState) (a b : DevicesState) → IsStep code s w (starting code) a b (Ok tt) → Leads code depth 0 s w a b
+  leads_first s w a b h = record { events = h.events; did = h.did; same = h.same; leads = leads_so_first s w a b h }
 
   first_there : (is : List Instance) (m : Instance) → (i : Instance) × (slice_get (is ++ m ∷ []) 0 ≡ Some i)
   first_there [] m = (m, refl)
   first_there (i ∷ is) m = (i, refl)
 
   -- the first body is entered before the first step is taken
-  record Enters : Type 0 where
-    pub events : List Event
-    pub quiet : AreQuiet events
-    pub enters : (t : Tapes) → (s : State) × (starting code t ≡ Go events s)
+  pub record Enters : Type 0 where
+    pub event : Event
+    pub quiet : AreQuiet (event ∷ [])
+    pub enters : (t : Tapes) → (s : State) × (starting code t ≡ Go (event ∷ []) s)
 
   enters_one : (i : Instance) → slice_get (all_instances code) 0 ≡ Some i → (b : Option Body) → start_in code (slice_get code.scopes i.scope) ≡ b → IsNotStuck (starting code) → Enters
   enters_one i e None f h = absurd (h.holds no_tapes (ap (begin_instance code 0 [] (store_at_first code no_tapes)) e ∙ ap (begin_body code 0 i.name [] (store_at_first code no_tapes)) f))
   enters_one i e (Some b) f h = record {
-    events = Enter i.name b.name ∷ [];
+    event = Enter i.name b.name;
     quiet = record { none = λ kind. refl };
     enters = λ t. (_, ap (begin_instance code 0 [] (store_at_first code t)) e ∙ ap (begin_body code 0 i.name [] (store_at_first code t)) f);
   }
 
-  enters_first : IsNotStuck (starting code) → Enters
+  pub enters_first : IsNotStuck (starting code) → Enters
   enters_first h = let i = first_there code.instances code.main in enters_one i.0 i.1 (start_in code (slice_get code.scopes i.0.scope)) refl h
 
-  none_taken : (e : Enters) → RunsTo code depth 0 e.events ends.Spent
+  pub none_taken : (e : Enters) → RunsTo code depth 0 (e.event ∷ []) ends.Spent
   unfolding machine steps
   none_taken e = record {
-    ends = λ more. ap (λ x. (enter_first x (steps code depth 0)).end) (e.enters (spliced (tapes_of e.events) more)).1;
-    tells = λ more. ap (λ x. (enter_first x (steps code depth 0)).events) (e.enters (spliced (tapes_of e.events) more)).1 ∙ append-nil e.events;
+    ends = λ more. ap (λ x. (enter_first x (steps code depth 0)).end) (e.enters (spliced (tapes_of (e.event ∷ [])) more)).1;
+    tells = λ more. ap (λ x. (enter_first x (steps code depth 0)).events) (e.enters (spliced (tapes_of (e.event ∷ [])) more)).1 ∙ append-nil (e.event ∷ []);
   }
 
-  halts_first : (k : ℕ) (es : List Event) (end : ends.RunEnd) → Halts es (starting code) end → RunsTo code depth k es end
+  pub halts_first : (k : ℕ) (es : List Event) (end : ends.RunEnd) → Halts es (starting code) end → RunsTo code depth k es end
   unfolding machine
   halts_first k es end h = record {
     ends = λ more. ap (λ x. (enter_first x (steps code depth k)).end) (h.halts more);
@@ -92,7 +91,7 @@ module _ (code : Code) (depth : ℕ) where
   start_stops k s w d Memory sound h =
       let e = enters_first sound in
       let le : 0 ≤ k = omega arith in
-      record { events = e.events; did = did_quietly d e.events e.quiet; ends = (0, le, none_taken e); same = same_devices d; failed = tt }
+      record { events = e.event ∷ []; did = did_quietly d (e.event ∷ []) e.quiet; ends = (0, le, none_taken e); same = same_devices d; failed = tt }
   start_stops k s w d Ended sound h = record { events = h.events; did = h.did; ends = halts_first k h.events _ h.comes; same = h.same; failed = h.failed }
   start_stops k s w d (Trap kind place) sound h = record { events = h.events; did = h.did; ends = halts_first k h.events _ h.comes; same = h.same; failed = h.failed }
   start_stops k s w d TooDeep sound h = record { events = h.events; did = h.did; ends = halts_first k h.events _ h.comes; same = h.same; failed = h.failed }

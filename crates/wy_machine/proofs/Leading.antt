@@ -29,7 +29,7 @@ use Rattle.wy_machine.specs.StoreStates.{StoreState}
 ------------------------------------------------------------
 -- Events after events
 
-deeds_of-append : (kind : Kind) (es fs : List Event) → deeds_of kind (es ++ fs) ≡ deeds_of kind es ++ deeds_of kind fs
+pub deeds_of-append : (kind : Kind) (es fs : List Event) → deeds_of kind (es ++ fs) ≡ deeds_of kind es ++ deeds_of kind fs
 deeds_of-append kind [] fs = refl
 deeds_of-append kind (Enter x b ∷ es) fs = deeds_of-append kind es fs
 deeds_of-append kind (Leave ∷ es) fs = deeds_of-append kind es fs
@@ -90,7 +90,7 @@ counted_of a b p Folder = p.folder.counted
 counted_of a b p Clock = p.clock.counted
 counted_of a b p Random = p.random.counted
 
-fault_after : (a b c : DevicesState) → AreSameDevices a b → AreSameDevices b c → (end : RunEnd) → FailsByFault b c end → FailsByFault a c end
+pub fault_after : (a b c : DevicesState) → AreSameDevices a b → AreSameDevices b c → (end : RunEnd) → FailsByFault b c end → FailsByFault a c end
 fault_after a b c p q (DeviceFailed grant op) r = rose_later _ _ _ (counted_of a b p (kind_named op)) r (counted_of b c q (kind_named op))
 fault_after a b c p q Ended r = r
 fault_after a b c p q (Trap kind place) r = r
@@ -119,22 +119,26 @@ module _ (code : Code) (depth : ℕ) (a : DevicesState) where
   unfolding steps
   further q k s w b l fs more = ap (machine code depth (q + suc k)) (tapes_after l.events fs more) ∙ l.leads (suc k) (spliced (tapes_of fs) more)
 
-  pub leads_more : (q : ℕ) (s s' : StackState) (w w' : StoreState) (b c : DevicesState) → Leads code depth q s w a b → IsStep code s' w' (stepping code depth s w) b c (Ok tt) → Leads code depth (q + 1) s' w' a c
+  pub leads_so : (q : ℕ) (s s' : StackState) (w w' : StoreState) (b c : DevicesState) (l : Leads code depth q s w a b) (h : IsStep code s' w' (stepping code depth s w) b c (Ok tt)) (k : ℕ) (more : Tapes) →
+      machine code depth (q + 1 + k) (spliced (tapes_of (l.events ++ h.events)) more) ≡ later (l.events ++ h.events) (q + 1) (steps code depth k (state_of code s' w' more))
+  leads_so q s s' w w' b c l h k more =
+      let e : q + 1 + k ≡ q + suc k = omega arith in
+      let r = steps code depth k (state_of code s' w' more) in
+      let n : q + suc r.taken ≡ q + 1 + r.taken = omega arith in
+      ap (λ n. machine code depth n (spliced (tapes_of (l.events ++ h.events)) more)) e
+      ∙ further q k s w b l h.events more
+      ∙ ap (λ x. later l.events q (and_then x (steps code depth k))) (h.comes.goes more)
+      ∙ ap₂ (λ es n. let r' : Ran = record { end = r.end; events = es; taken = n } in r') (sym (append_assoc l.events h.events r.events)) n
+
+  abbrev pub leads_more : (q : ℕ) (s s' : StackState) (w w' : StoreState) (b c : DevicesState) → Leads code depth q s w a b → IsStep code s' w' (stepping code depth s w) b c (Ok tt) → Leads code depth (q + 1) s' w' a c
   leads_more q s s' w w' b c l h = record {
     events = l.events ++ h.events;
     did = did_after a b c l.events h.events l.did h.did;
     same = same_after a b c l.same h.same;
-    leads = λ k more.
-        let e : q + 1 + k ≡ q + suc k = omega arith in
-        let r = steps code depth k (state_of code s' w' more) in
-        let n : q + suc r.taken ≡ q + 1 + r.taken = omega arith in
-        ap (λ n. machine code depth n (spliced (tapes_of (l.events ++ h.events)) more)) e
-        ∙ further q k s w b l h.events more
-        ∙ ap (λ x. later l.events q (and_then x (steps code depth k))) (h.comes.goes more)
-        ∙ ap₂ (λ es n. let r' : Ran = record { end = r.end; events = es; taken = n } in r') (sym (append_assoc l.events h.events r.events)) n;
+    leads = leads_so q s s' w w' b c l h;
   }
 
-  halts_to : (q k : ℕ) (s : StackState) (w : StoreState) (b : DevicesState) (l : Leads code depth q s w a b) (fs : List Event) (end : ends.RunEnd) → q < k → Halts fs (stepping code depth s w) end → RunsTo code depth k (l.events ++ fs) end
+  pub halts_to : (q k : ℕ) (s : StackState) (w : StoreState) (b : DevicesState) (l : Leads code depth q s w a b) (fs : List Event) (end : ends.RunEnd) → q < k → Halts fs (stepping code depth s w) end → RunsTo code depth k (l.events ++ fs) end
   halts_to q k s w b l fs end lt h = record { ends = λ more. ap (λ (r : Ran). r.end) (whole more); tells = λ more. ap (λ (r : Ran). r.events) (whole more) }
     where
       whole : (more : Tapes) → machine code depth k (spliced (tapes_of (l.events ++ fs)) more) ≡ later l.events q (record { end = end; events = fs; taken = 1 })
@@ -144,8 +148,8 @@ module _ (code : Code) (depth : ℕ) (a : DevicesState) where
           ∙ further q (k - suc q) s w b l fs more
           ∙ ap (λ x. later l.events q (and_then x (steps code depth (k - suc q)))) (h.halts more)
 
-  -- so many steps and no more
-  spent_to : (q : ℕ) (s : StackState) (w : StoreState) (b : DevicesState) (l : Leads code depth q s w a b) (fs : List Event) → fs ≡ [] → RunsTo code depth q (l.events ++ fs) ends.Spent
+  -- no step more, as memory was wanting
+  pub spent_to : (q : ℕ) (s : StackState) (w : StoreState) (b : DevicesState) (l : Leads code depth q s w a b) (fs : List Event) → fs ≡ [] → RunsTo code depth q (l.events ++ fs) ends.Spent
   unfolding steps
   spent_to q s w b l fs none = record { ends = λ more. ap (λ (r : Ran). r.end) (whole more); tells = λ more. ap (λ (r : Ran). r.events) (whole more) ∙ ap (λ fs. l.events ++ fs) (sym none) }
     where
@@ -157,32 +161,30 @@ module _ (code : Code) (depth : ℕ) (a : DevicesState) where
           ∙ ap (λ n. machine code depth n (spliced (tapes_of l.events) more)) e
           ∙ l.leads 0 more
 
+  pub ends_to : (q k : ℕ) (s : StackState) (w : StoreState) (b : DevicesState) (l : Leads code depth q s w a b) (fs : List Event) (end : RunEnd) → q < k → StopsIn fs (stepping code depth s w) end → EndsIn code depth k (l.events ++ fs) end
+  ends_to q k s w b l fs Ended lt p = halts_to q k s w b l fs _ lt p
+  ends_to q k s w b l fs (Trap kind place) lt p = halts_to q k s w b l fs _ lt p
+  ends_to q k s w b l fs TooDeep lt p = halts_to q k s w b l fs _ lt p
+  ends_to q k s w b l fs Spent lt p = absurd p
+  ends_to q k s w b l fs (DeviceFailed grant op) lt p = halts_to q k s w b l fs _ lt p
+  ends_to q k s w b l fs SinkFailed lt p = p
+  ends_to q k s w b l fs Memory lt p = let le : q ≤ k = omega arith in (q, le, spent_to q s w b l fs p)
+
   pub run_stops : (q k : ℕ) (s s' : StackState) (w w' : StoreState) (b c : DevicesState) (end : RunEnd) → q < k → Leads code depth q s w a b → IsStep code s' w' (stepping code depth s w) b c (Err end) → Runs code depth k a c end
   run_stops q k s s' w w' b c end lt l h = record {
     events = l.events ++ h.events;
     did = did_after a b c l.events h.events l.did h.did;
-    ends = stops end h.comes;
+    ends = ends_to q k s w b l h.events end lt h.comes;
     same = same_after a b c l.same h.same;
     failed = fault_after a b c l.same h.same end h.failed;
   }
-    where
-      stops : (end : RunEnd) → StopsIn h.events (stepping code depth s w) end → EndsIn code depth k (l.events ++ h.events) end
-      stops Ended p = halts_to q k s w b l h.events _ lt p
-      stops (Trap kind place) p = halts_to q k s w b l h.events _ lt p
-      stops TooDeep p = halts_to q k s w b l h.events _ lt p
-      stops Spent p = absurd p
-      stops (DeviceFailed grant op) p = halts_to q k s w b l h.events _ lt p
-      stops SinkFailed p = p
-      stops Memory p = let le : q ≤ k = omega arith in (q, le, spent_to q s w b l h.events p)
+
+  -- so many steps and no more
+  pub spent_now : (q : ℕ) (s : StackState) (w : StoreState) (b : DevicesState) (l : Leads code depth q s w a b) → RunsTo code depth q l.events ends.Spent
+  spent_now q s w b l = subst (λ es. RunsTo code depth q es ends.Spent) (append-nil l.events) (spent_to q s w b l [] refl)
 
   pub run_spent : (k : ℕ) (s : StackState) (w : StoreState) (b : DevicesState) → Leads code depth k s w a b → Runs code depth k a b Spent
-  run_spent k s w b l = record {
-    events = l.events ++ [];
-    did = subst (DidExactly a b) (sym (append-nil l.events)) l.did;
-    ends = spent_to k s w b l [] refl;
-    same = l.same;
-    failed = tt;
-  }
+  run_spent k s w b l = record { events = l.events; did = l.did; ends = spent_now k s w b l; same = l.same; failed = tt }
 
   pub sound_after : (q : ℕ) (s : StackState) (w : StoreState) (b : DevicesState) → NeverStuck code → Leads code depth q s w a b → IsNotStuck (stepping code depth s w)
   unfolding steps

@@ -6,9 +6,13 @@ pub mod DeedSteps
 pub mod Fetching
 pub mod FirstSteps
 pub mod Leading
+pub mod Lines
 pub mod Lookups
 pub mod ObjectSteps
 pub mod Operating
 pub mod OperatorSteps
 pub mod Quiet
+pub mod Showings
 pub mod StartSteps
+pub mod TracedRuns
+pub mod TracedSteps

@@ -4,9 +4,11 @@ pub mod Computing
 pub mod Requesting
 pub mod Devices
 pub mod Runs
+pub mod Showing
 pub mod Stacks
 pub mod States
 pub mod Steps
 pub mod StoreStates
+pub mod Traces
 pub mod TrapKinds
 pub mod Words

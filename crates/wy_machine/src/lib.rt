@@ -4,6 +4,7 @@
 mod arithmetic;
 mod building;
 mod calls;
+mod coming;
 mod computed;
 mod deeds;
 pub mod devices;
@@ -17,6 +18,7 @@ mod performing;
 mod requests;
 pub mod run;
 pub mod run_end;
+mod seen;
 mod stack;
 mod starting;
 mod step;
@@ -24,4 +26,6 @@ mod store;
 #[cfg(test)]
 mod tests;
 mod texts;
+mod traced_run;
+mod tracing;
 mod word;

@@ -4,6 +4,7 @@ ghost use Rattle.wy_device.specs.Devices.{DevicesState, IsInOrder};
 ghost use Rattle.wy_machine.specs.Devices.{states};
 ghost use Rattle.wy_machine.specs.Runs.{Runs};
 ghost use Rattle.wy_machine.specs.Steps.{starting, IsNotStuck, IsStep};
+ghost use Rattle.wy_machine.specs.Traces.{RunsTraced};
 
 use crate::instances::add_instances;
 use crate::machine::Machine;
@@ -12,11 +13,13 @@ use crate::stack::Stack;
 use crate::starting::begin;
 use crate::step::step;
 use crate::store::Store;
+use crate::traced_run::run_code_traced;
 use std::alloc::Global;
 use std::marker::Model;
 use wy_code::code::Code;
 use wy_device::device::Device;
 use crate::devices::Devices;
+use wy_text::sink::Sink;
 use wy_text::text::Memory;
 
 /// Code that is to run, how many calls on objects may be open at once, and the state of its runs.
@@ -51,7 +54,7 @@ pub fn load<'a>(alloc: Global, code: &'a Code, depth: u32) -> Result<Image<'a>, 
 }
 
 /// Begins a run; nothing of an earlier one is left.
-fn start(code: &Code, machine: &mut Machine) -> Result<(), RunEnd>
+pub(crate) fn start(code: &Code, machine: &mut Machine) -> Result<(), RunEnd>
     requires { IsNotStuck (starting code.now) }
     ensures { (d : DevicesState) → IsStep code.now machine.new.stack machine.new.store (starting code.now) d d result }
 {
@@ -92,4 +95,31 @@ pub fn run<D: Device>(image: &mut Image<'_>, devices: &mut Devices<D>, steps: u6
     ensures same { image.new ≡ image.old }
 {
     run_code(image.code, image.depth, &mut image.machine, devices, steps)
+}
+
+/// Runs the code as `run` does, and writes the line of each event to `out` when it has happened
+/// (docs/LANGUAGE.md, "Events"). Where the line of an event could not be written whole, the run ends at
+/// that step, whatever it did: with `SinkFailed` only where the sink counted a fault, else with `Memory`.
+/// A deed whose line is missing is the last one that was done.
+pub fn run_traced<D: Device, O: Sink>(
+    alloc: Global,
+    image: &mut Image<'_>,
+    devices: &mut Devices<D>,
+    steps: u64,
+    out: &mut O,
+) -> RunEnd
+    requires order { IsInOrder (states D.state devices.old) }
+    requires sound { NeverStuck image.old.code }
+    ensures runs { RunsTraced image.old.code image.old.depth steps (states D.state devices.old) (states D.state devices.new) (O.state out.old) (O.state out.new) result }
+    ensures same { image.new ≡ image.old }
+{
+    run_code_traced(
+        alloc,
+        image.code,
+        image.depth,
+        &mut image.machine,
+        devices,
+        steps,
+        out,
+    )
 }
