@@ -20,7 +20,7 @@ use Rattle.wy_code.specs.declared.instruction.Instruction.TheVariants.{Push, Loa
 use Rattle.wy_code.specs.declared.instruction.Placed.{Placed}
 use Rattle.wy_lower.specs.Inside.{Inside, name_code, assigned_value, field_value}
 use Rattle.wy_lower.specs.Parts.{number_in}
-use Rattle.wy_lower.specs.Listing.{one, unary_code, text_code, followed, sides, binary_listing, value_mark, listing, value_listing, values_listing, block_listing, fields_listing}
+use Rattle.wy_lower.specs.Listing.{placed, one, unary_code, text_code, followed, sides, binary_listing, value_mark, listing, value_listing, values_listing, block_listing, fields_listing}
 use Rattle.wy_lower.specs.Emits.{Emits, statement_listing, evaluation, right_listing}
 use Rattle.wy_lower.proofs.EmitLists.{split_at, drop_all}
 use Rattle.wy_lower.proofs.EmitSteps.{emits_then, emits_as, Leaves, leaves_less, leaves_last, leaves_none, leaves_as}
@@ -58,10 +58,9 @@ module _ (i : Inside) where
   unfolding listing
   emits_number a b e place n k form same h = emits_expr a b e (Number place n) form (emits_one a b place (Push (constant.Int k)) (Push (constant.Int n)) (ap (λ (z : ℤ). Push (constant.Int z)) same) h)
 
-  pub emits_quoted : (a b : List Placed) (e : Expr) (place : Place) (bytes : List ℕ) (k : ℕ) → e ≡ Quoted place bytes → k ≡ number_in i.texts bytes → Emits a b (λ at. one place (Push (constant.Text k))) → Emits a b (λ at. listing i at e)
+  pub emits_quoted : (a b : List Placed) (e : Expr) (place : Place) (bytes : List ℕ) → e ≡ Quoted place bytes → Emits a b (λ at. one place (Push (constant.Text (number_in i.texts bytes)))) → Emits a b (λ at. listing i at e)
   unfolding listing
-  emits_quoted a b e place bytes k form same h =
-      emits_expr a b e (Quoted place bytes) form (emits_one a b place (Push (constant.Text k)) (Push (constant.Text (number_in i.texts bytes))) (ap (λ (z : ℕ). Push (constant.Text z)) same) h)
+  emits_quoted a b e place bytes form h = emits_expr a b e (Quoted place bytes) form h
 
   pub emits_truth : (a b : List Placed) (e : Expr) (place : Place) (t : Bool) → e ≡ Truth place t → Emits a b (λ at. one place (Push (constant.Truth t))) → Emits a b (λ at. listing i at e)
   unfolding listing
@@ -75,9 +74,9 @@ module _ (i : Inside) where
   unfolding listing
   emits_this a b e place form h = emits_expr a b e (This place) form h
 
-  pub emits_name : (a b : List Placed) (e : Expr) (place : Place) (name : Binding) (k : Instruction) → e ≡ Name place name → k ≡ name_code i name → Emits a b (λ at. one place k) → Emits a b (λ at. listing i at e)
+  pub emits_name : (a b : List Placed) (e : Expr) (place : Place) (name : Binding) → e ≡ Name place name → Emits a b (λ at. one place (name_code i name)) → Emits a b (λ at. listing i at e)
   unfolding listing
-  emits_name a b e place name k form same h = emits_expr a b e (Name place name) form (emits_one a b place k (name_code i name) same h)
+  emits_name a b e place name form h = emits_expr a b e (Name place name) form h
 
   pub emits_unary : (a b c : List Placed) (e : Expr) (place : Place) (o : UnaryOperator) (x u : Expr) (k : Operator) → e ≡ Unary place o x → u ≡ x → k ≡ unary_code o →
       Emits a b (λ at. listing i at u) → Emits b c (λ at. one place (Op k)) → Emits a c (λ at. listing i at e)
@@ -105,15 +104,15 @@ module _ (i : Inside) where
   emits_text_call a b c e place o xs us k form part own f g =
       emits_expr a c e (TextCall place o xs) form (emits_then a b c (λ at. values_listing i at xs) (λ at. one place (Op (text_code o))) (emits_values a b us xs part f) (emits_one b c place (Op k) (Op (text_code o)) (ap (λ (z : Operator). Op z) own) g))
 
-  pub emits_call : (a b c d : List Placed) (e : Expr) (place : Place) (x u : Expr) (method : List ℕ) (xs us : Values) (k n : ℕ) → e ≡ Call place x method xs → u ≡ x → us ≡ xs → k ≡ number_in i.methods method → n ≡ value_count xs →
-      Emits a b (λ at. listing i at u) → Emits b c (λ at. values_listing i at us) → Emits c d (λ at. one place (CallMethod k n)) → Emits a d (λ at. listing i at e)
+  pub emits_call : (a b c d : List Placed) (e : Expr) (place : Place) (x u : Expr) (method : List ℕ) (xs us : Values) (n : ℕ) → e ≡ Call place x method xs → u ≡ x → us ≡ xs → n ≡ value_count xs →
+      Emits a b (λ at. listing i at u) → Emits b c (λ at. values_listing i at us) → Emits c d (λ at. one place (CallMethod (number_in i.methods method) n)) → Emits a d (λ at. listing i at e)
   unfolding listing
-  emits_call a b c d e place x u method xs us k n form receiver arguments number count f g h =
+  emits_call a b c d e place x u method xs us n form receiver arguments count f g h =
       let own = CallMethod (number_in i.methods method) (value_count xs) in
       emits_expr a d e (Call place x method xs) form (
       emits_then a b d (λ at. listing i at x) (λ at. values_listing i at xs ++ one place own) (emits_expr a b x u (sym receiver) f) (
       emits_then b c d (λ at. values_listing i at xs) (λ at. one place own) (emits_values b c us xs arguments g)
-      (emits_one c d place (CallMethod k n) own (ap (λ (z : ℕ). CallMethod z n) number ∙ ap (λ (z : ℕ). CallMethod (number_in i.methods method) z) count) h)
+      (emits_one c d place (CallMethod (number_in i.methods method) n) own (ap (λ (z : ℕ). CallMethod (number_in i.methods method) z) count) h)
       )
       )
 
@@ -129,14 +128,12 @@ module _ (i : Inside) where
   unfolding listing
   emits_ascribe a b e place x u t form part f = emits_expr a b e (Ascribe place x t) form (emits_value a b u x part f)
 
-  pub emits_assign : (a b c d : List Placed) (e : Expr) (place : Place) (name : Binding) (x u : code.Value) (k : ℕ) → e ≡ Assign place name x → u ≡ x → k ≡ assigned_value i name →
-      Emits a b (λ at. value_listing i at u) → Emits b c (λ at. one place (Set k)) → Emits c d (λ at. one place (Push constant.Unit)) → Emits a d (λ at. listing i at e)
+  pub emits_assign : (a b c : List Placed) (e : Expr) (place : Place) (name : Binding) (x u : code.Value) → e ≡ Assign place name x → u ≡ x →
+      Emits a b (λ at. value_listing i at u) → Emits b c (λ at. placed place (Set (assigned_value i name)) ∷ one place (Push constant.Unit)) → Emits a c (λ at. listing i at e)
   unfolding listing
-  emits_assign a b c d e place name x u k form part own f g h =
-      let set = Set (assigned_value i name) in
-      emits_expr a d e (Assign place name x) form (
-      emits_then a b d (λ at. value_listing i at x) (λ at. one place set ++ one place (Push constant.Unit)) (emits_value a b u x part f)
-      (emits_then b c d (λ at. one place set) (λ at. one place (Push constant.Unit)) (emits_one b c place (Set k) set (ap (λ (z : ℕ). Set z) own) g) h)
+  emits_assign a b c e place name x u form part f g =
+      emits_expr a c e (Assign place name x) form (
+      emits_then a b c (λ at. value_listing i at x) (λ at. placed place (Set (assigned_value i name)) ∷ one place (Push constant.Unit)) (emits_value a b u x part f) g
       )
 
   pub emits_plain : (a b : List Placed) (e : code.Value) (x : Expr) → e ≡ Plain x → Emits a b (λ at. listing i at x) → Emits a b (λ at. value_listing i at e)

@@ -16,6 +16,7 @@ pub mod EmitParts
 pub mod EmitPlaces
 pub mod EmitStarts
 pub mod EmitSteps
+pub mod EmitTables
 pub mod Entering
 mod ExamplesCode
 mod ExamplesLowerable

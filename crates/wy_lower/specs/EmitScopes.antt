@@ -30,3 +30,10 @@ pub record IsTabled (s : Scope) (t : Tables) : Type 0 where
   pub long : length t.makers.items ≡ length s.literals
   pub makers : (l : ℕ) → l < length s.literals → get_or t.makers.items l None ≡ maker_of l s.bodies
   pub nothing : t.nothing ≡ []
+
+-- what is known of each of these scopes
+abbrev pub AreTabled : List Scope → List Tables → Type 0
+AreTabled [] [] = Unit {0}
+AreTabled [] (t ∷ ts) = ⊥
+AreTabled (s ∷ ss) [] = ⊥
+AreTabled (s ∷ ss) (t ∷ ts) = IsTabled s t × AreTabled ss ts

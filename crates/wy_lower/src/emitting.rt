@@ -25,7 +25,8 @@ use wy_text::text::{Memory, Text, from_bytes, from_vec};
 use wy_types::linked::{Actual, Linked};
 use wy_types::resolved::{Body, Core, Scope, ScopeKind, Start};
 
-/// A program with its instances, what the program's own names stand for, and the tables of its texts and method names.
+/// A program with its instances, what the program's own names stand for, the tables of its texts and method names, and what
+/// is known of each scope.
 #[derive(Drop)]
 pub(crate) struct Whole<'a> {
     pub core: &'a Core,
@@ -33,6 +34,7 @@ pub(crate) struct Whole<'a> {
     pub actuals: Vec<Actual>,
     pub texts: IndexSet<Text>,
     pub methods: IndexSet<Text>,
+    pub tables: Vec<Tables>,
 }
 
 // ----------------------------------------------------------------------------

@@ -1,9 +1,12 @@
 //! The instructions of expressions and blocks: the parts in evaluation order, and then the form's own (docs/LANGUAGE.md,
 //! "Code of programs"). Jumps over a side are written when the side stands.
 
-ghost use Rattle.std.specs.Prelude.{◌≡◌, ◌+◌, ◌<◌, ◌++◌, length, slice_set, OnOk, IfOk};
+ghost use Rattle.std.specs.Prelude.{◌≡◌, ◌+◌, ◌<◌, ◌++◌, ◌∷◌, length, slice_set, OnOk, IfOk};
 ghost use Rattle.wy_types.specs.View.{expr_of, value_of, values_of, block_of};
-ghost use Rattle.wy_code.specs.declared.instruction.Instruction.TheVariants.{Jump, JumpFalse};
+ghost use Rattle.wy_code.specs.declared.instruction.Constant.TheVariants as constant;
+ghost use Rattle.wy_code.specs.declared.instruction.Instruction.TheVariants.{Push, Set, Jump, JumpFalse, Call};
+ghost use Rattle.wy_lower.specs.Inside.{name_code, assigned_value};
+ghost use Rattle.wy_lower.specs.Parts.{number_in};
 ghost use Rattle.wy_lower.specs.Listing.{placed, one, unary_code, text_code, mark_of, value_mark, listing, value_listing, values_listing, block_listing, fields_listing};
 ghost use Rattle.wy_lower.specs.Emits.{inside_of, Emits, statement_listing, evaluation, right_listing};
 
@@ -11,8 +14,10 @@ use crate::indexes::{number_in, word};
 use crate::names::{Inside, assigned_value, field_value, name_code, val_slot};
 use wy_code::instruction::{Constant, Instruction, Operator, Placed};
 use wy_text::fault::Place;
-use wy_text::text::Memory;
-use wy_types::code::{BinaryOperator, Block, Expr, Stmt, TextOperator, UnaryOperator, Value};
+use wy_text::text::{Memory, Text};
+use wy_types::code::{
+    BinaryOperator, Binding, Block, Expr, Stmt, TextOperator, UnaryOperator, Value,
+};
 
 /// Adds an instruction at a mark.
 pub(crate) fn put(
@@ -158,6 +163,64 @@ fn end_sides(out: &mut Vec<Placed>, place: Place, first: usize) -> Result<(), Me
 }
 
 // ----------------------------------------------------------------------------
+// What a form adds after its parts
+
+/// Pushes a text that is written out.
+fn put_quoted(
+    out: &mut Vec<Placed>,
+    inside: &Inside,
+    place: Place,
+    text: &Text,
+) -> Result<(), Memory>
+    ensures { OnOk result (Emits out.old.items out.new.items (λ _. one place (Push (constant.Text (number_in (inside_of inside.now).texts text.now))))) }
+{
+    let number = number_in(inside.texts, text)?;
+    put(out, place, Instruction::Push(Constant::Text(number)))
+}
+
+/// Pushes what a name stands for.
+fn put_name(
+    out: &mut Vec<Placed>,
+    inside: &Inside,
+    place: Place,
+    binding: Binding,
+) -> Result<(), Memory>
+    ensures { OnOk result (Emits out.old.items out.new.items (λ _. one place (name_code (inside_of inside.now) binding))) }
+{
+    let code = name_code(inside, binding)?;
+    put(out, place, code)
+}
+
+/// Calls the method of a name with so many arguments.
+fn put_call(
+    out: &mut Vec<Placed>,
+    inside: &Inside,
+    place: Place,
+    name: &Text,
+    arguments: usize,
+) -> Result<(), Memory>
+    ensures { OnOk result (Emits out.old.items out.new.items (λ _. one place (Call (number_in (inside_of inside.now).methods name.now) arguments))) }
+{
+    let method = number_in(inside.methods, name)?;
+    let count = word(arguments)?;
+    put(out, place, Instruction::Call(method, count))
+}
+
+/// Sets what an assignment sets, whose own value is `()`.
+fn put_assigned(
+    out: &mut Vec<Placed>,
+    inside: &Inside,
+    place: Place,
+    binding: Binding,
+) -> Result<(), Memory>
+    ensures { OnOk result (Emits out.old.items out.new.items (λ _. placed place (Set (assigned_value (inside_of inside.now) binding)) ∷ one place (Push constant.Unit))) }
+{
+    let assigned = assigned_value(inside, binding)?;
+    put(out, place, Instruction::Set(assigned))?;
+    put(out, place, Instruction::Push(Constant::Unit))
+}
+
+// ----------------------------------------------------------------------------
 // Forms
 
 /// The code of an expression.
@@ -166,70 +229,37 @@ pub(crate) fn emit_expr(out: &mut Vec<Placed>, inside: &Inside, expr: &Expr) -> 
     ensures { OnOk result (Emits out.old.items out.new.items (λ at. listing (inside_of inside.now) at (expr_of expr.now))) }
 {
     match expr {
-        Expr::Int(place, number) => {
-            put(out, *place, Instruction::Push(Constant::Int(*number)))?;
-            Ok(())
-        }
-        Expr::Text(place, text) => {
-            let number = number_in(inside.texts, text)?;
-            put(out, *place, Instruction::Push(Constant::Text(number)))?;
-            Ok(())
-        }
-        Expr::Bool(place, truth) => {
-            put(out, *place, Instruction::Push(Constant::Truth(*truth)))?;
-            Ok(())
-        }
-        Expr::Unit(place) => {
-            put(out, *place, Instruction::Push(Constant::Unit))?;
-            Ok(())
-        }
-        Expr::This(place) => {
-            put(out, *place, Instruction::Load(0))?;
-            Ok(())
-        }
-        Expr::Name(place, binding) => {
-            let code = name_code(inside, *binding)?;
-            put(out, *place, code)?;
-            Ok(())
-        }
+        Expr::Int(place, number) => put(out, *place, Instruction::Push(Constant::Int(*number))),
+        Expr::Text(place, text) => put_quoted(out, inside, *place, text),
+        Expr::Bool(place, truth) => put(out, *place, Instruction::Push(Constant::Truth(*truth))),
+        Expr::Unit(place) => put(out, *place, Instruction::Push(Constant::Unit)),
+        Expr::This(place) => put(out, *place, Instruction::Load(0)),
+        Expr::Name(place, binding) => put_name(out, inside, *place, *binding),
         Expr::Unary(place, operator, x) => {
             emit_expr(out, inside, x)?;
-            put(out, *place, Instruction::Op(unary_code(*operator)))?;
-            Ok(())
+            put(out, *place, Instruction::Op(unary_code(*operator)))
         }
         Expr::Binary(place, operator, x, y) => {
             emit_expr(out, inside, x)?;
-            emit_right(out, inside, *place, *operator, y)?;
-            Ok(())
+            emit_right(out, inside, *place, *operator, y)
         }
         Expr::TextCall(place, operator, values) => {
             emit_values(out, inside, values)?;
-            put(out, *place, Instruction::Op(text_code(*operator)))?;
-            Ok(())
+            put(out, *place, Instruction::Op(text_code(*operator)))
         }
-        Expr::Call(place, receiver, name, values) => {
+        Expr::Call(place, receiver, name, arguments) => {
             emit_expr(out, inside, receiver)?;
-            emit_values(out, inside, values)?;
-            let method = number_in(inside.methods, name)?;
-            let arguments = word(values.len())?;
-            put(out, *place, Instruction::Call(method, arguments))?;
-            Ok(())
+            emit_values(out, inside, arguments)?;
+            put_call(out, inside, *place, name, arguments.len())
         }
         Expr::New(place, literal, values) => {
             emit_values(out, inside, values)?;
-            put(out, *place, Instruction::New(*literal))?;
-            Ok(())
+            put(out, *place, Instruction::New(*literal))
         }
-        Expr::Ascribe(_, value, _) => {
-            emit_value(out, inside, value)?;
-            Ok(())
-        }
+        Expr::Ascribe(_, value, _) => emit_value(out, inside, value),
         Expr::Assign(place, binding, value) => {
             emit_value(out, inside, value)?;
-            let assigned = assigned_value(inside, *binding)?;
-            put(out, *place, Instruction::Set(assigned))?;
-            put(out, *place, Instruction::Push(Constant::Unit))?;
-            Ok(())
+            put_assigned(out, inside, *place, *binding)
         }
     }
 }

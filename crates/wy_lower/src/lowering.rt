@@ -3,7 +3,7 @@
 ghost use Rattle.std.specs.Prelude.{◌≡◌, ◌++◌, ◌∷◌, [], None, length, map, slice_get, IfOk, IfErr, OnOk};
 ghost use Rattle.wy_types.specs.Program.{program_of, scope_of};
 ghost use Rattle.wy_meaning.specs.Starts.{starts_of, started_of, scope_names, last_scope, main_actuals};
-ghost use Rattle.wy_lower.specs.Lowering.{text_table, start_code, bodies_code, literals_code, grants_code, scopes_bodies, scopes_code, lowered};
+ghost use Rattle.wy_lower.specs.Lowering.{start_code, bodies_code, literals_code, grants_code, scopes_bodies, scopes_code, lowered};
 ghost use Rattle.wy_lower.specs.Counts.{lowering_limit};
 ghost use Rattle.wy_lower.specs.EmitScopes.{IsTabled};
 ghost use Rattle.wy_lower.specs.EmitBodies.{IsWhole, whole_program, whole_starts};
@@ -13,14 +13,14 @@ use crate::emitting::{Whole, add_bodies};
 use crate::indexes::{method_table, texts_of, word};
 use crate::kinds::literals_code;
 use crate::limits::{body_count, some_slots_above};
-use crate::scopes::{Tables, tables_of};
+use crate::scopes::{Tables, tables_of_scopes};
 use crate::starting::{grants_code, instance_code, instances_code, main_actuals};
 use indexmap::IndexSet;
 use std::alloc::Global;
 use wy_code::code::{Body, Code, Grant, Scope};
 use wy_text::limit::LimitName;
 use wy_text::list::Items;
-use wy_text::text::{Memory, Text, from_bytes};
+use wy_text::text::{Memory, from_bytes};
 use wy_types::linked::{Actual, Linked};
 use wy_types::resolved::{self, Core};
 
@@ -42,17 +42,6 @@ impl From<Memory> for LowerRefusal {
     fn from(_memory: Memory) -> LowerRefusal {
         LowerRefusal::Memory
     }
-}
-
-/// The texts that a program writes out, each once.
-fn text_table(alloc: Global, core: &Core) -> Result<IndexSet<Text>, Memory>
-    ensures { IfOk result (λ t. t.keys ≡ text_table (program_of core.now)) }
-{
-    let mut texts = IndexSet::new(alloc);
-    for scope in core.scopes.as_slice() {
-        tables_of(alloc, &mut texts, scope)?;
-    }
-    Ok(texts)
 }
 
 /// The number of the program among the scopes, of which it is the last.
@@ -89,7 +78,8 @@ fn whole_of<'a>(alloc: Global, core: &'a Core, linked: &'a Linked) -> Result<Who
     ensures linked { IfOk result (λ w. w.linked.now ≡ linked.now) }
 {
     let actuals = actuals_of(alloc, core, linked)?;
-    let texts = text_table(alloc, core)?;
+    let mut texts = IndexSet::new(alloc);
+    let tables = tables_of_scopes(alloc, &mut texts, core.scopes.as_slice())?;
     let methods = method_table(alloc, core)?;
     Ok(Whole {
         core,
@@ -97,6 +87,7 @@ fn whole_of<'a>(alloc: Global, core: &'a Core, linked: &'a Linked) -> Result<Who
         actuals,
         texts,
         methods,
+        tables,
     })
 }
 
@@ -140,10 +131,9 @@ fn add_scopes(
     ensures bodies { OnOk result (bodies.new ≡ scopes_bodies (whole_program whole.now) (whole_starts whole.now) (whole_program whole.now).scopes) }
     ensures scopes { OnOk result (scopes.new ≡ scopes_code (whole_program whole.now) (whole_starts whole.now) 0 (whole_program whole.now).scopes) }
 {
-    let mut texts = IndexSet::new(alloc);
-    for scope in whole.core.scopes.as_slice() {
-        let tables = tables_of(alloc, &mut texts, scope)?;
-        add_scope(alloc, whole, scope, &tables, bodies, scopes)?;
+    let all = whole.core.scopes.as_slice();
+    for k in 0..all.len() {
+        add_scope(alloc, whole, &all[k], &whole.tables[k], bodies, scopes)?;
     }
     Ok(())
 }

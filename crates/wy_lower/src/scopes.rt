@@ -3,8 +3,8 @@
 ghost use Rattle.std.specs.Prelude.{◌≡◌, ◌<◌, [], ℕ, None, Some, length, map, get_or, nat_eq, if◌then◌else◌, IfOk, OnOk};
 ghost use Rattle.wy_types.specs.declared.resolved.Literal.{Literal};
 ghost use Rattle.wy_types.specs.Program.{body_of, scope_of};
-ghost use Rattle.wy_lower.specs.Parts.{each_once_after, texts_in, bodies_parts, scope_parts};
-ghost use Rattle.wy_lower.specs.EmitScopes.{or_first, maker_noted, maker_of, bodies_vals, IsTabled};
+ghost use Rattle.wy_lower.specs.Parts.{each_once_after, texts_in, bodies_parts, scope_parts, scopes_parts};
+ghost use Rattle.wy_lower.specs.EmitScopes.{or_first, maker_noted, maker_of, bodies_vals, IsTabled, AreTabled};
 
 use crate::gathering::{Found, gather_block, gather_start};
 use crate::indexes::{Captures, Vals};
@@ -106,11 +106,7 @@ fn bodies_of(
 }
 
 /// What is known of a scope. The texts that it writes out are put into the table.
-pub(crate) fn tables_of(
-    alloc: Global,
-    texts: &mut IndexSet<Text>,
-    scope: &Scope,
-) -> Result<Tables, Memory>
+fn tables_of(alloc: Global, texts: &mut IndexSet<Text>, scope: &Scope) -> Result<Tables, Memory>
     ensures texts { OnOk result (texts.new.keys ≡ each_once_after texts.old.keys (texts_in (scope_parts (scope_of scope.now)))) }
     ensures tables { IfOk result (λ t. IsTabled (scope_of scope.now) t) }
 {
@@ -129,4 +125,20 @@ pub(crate) fn tables_of(
         makers,
         nothing,
     })
+}
+
+/// What is known of each scope. The texts that they write out are put into the table.
+pub(crate) fn tables_of_scopes(
+    alloc: Global,
+    texts: &mut IndexSet<Text>,
+    scopes: &[Scope],
+) -> Result<Vec<Tables>, Memory>
+    ensures texts { OnOk result (texts.new.keys ≡ each_once_after texts.old.keys (texts_in (scopes_parts (map scope_of scopes.now)))) }
+    ensures tables { IfOk result (λ t. AreTabled (map scope_of scopes.now) t.items) }
+{
+    let mut all = Vec::new(alloc);
+    for scope in scopes {
+        all.push(tables_of(alloc, texts, scope)?)?;
+    }
+    Ok(all)
 }

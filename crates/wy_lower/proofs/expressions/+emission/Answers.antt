@@ -1,6 +1,7 @@
 use Rattle.std.proofs.Common.{rules, ◌<◌, ◌≤◌, length, refl, ap, ◌∙◌, subst, w64, SFits}
 use Rattle.std.proofs.lemmas.Int.{to_z-of_z}
 use Rattle.std.proofs.lemmas.Option.{slice_get_read}
+use Rattle.std.proofs.lemmas.Result.{on_ok_weaker}
 use Rattle.wy_types.specs.View.{expr_of, value_of}
 use Rattle.wy_types.proofs.Rows.{expr_text_call, expr_call, expr_new, value_if}
 use Rattle.wy_lower.specs.Listing.{listing}
@@ -10,56 +11,59 @@ use Rattle.wy_lower.proofs.EmitSteps.{emits_sides}
 use Rattle.wy_lower.proofs.EmitForms.{count_is, emits_number, emits_quoted, emits_truth, emits_nothing, emits_this, emits_name, emits_unary, emits_binary, emits_text_call, emits_call, emits_new, emits_ascribe, emits_assign, emits_plain, emits_if, values_more, values_end, block_more, block_end}
 use Rattle.wy_lower.proofs.expressions.+emission.Goals as goal
 
-pub emit_expr-returns-in_ok-put-in-Int : goal.emit_expr-returns-in_ok-put-in-Int
-emit_expr-returns-in_ok-put-in-Int t c =
+pub emit_expr-returns-in-Int : goal.emit_expr-returns-in-Int
+emit_expr-returns-in-Int t c =
     let fits : SFits w64 c.in-Int.number = search rules in
-    emits_number _ _ _ _ _ c.in-Int.number _ (ap expr_of c.in-Int.is) (to_z-of_z w64 c.in-Int.number fits) c.in_ok-put-in-Int.ensures
+    on_ok_weaker c.put.result (emits_number _ _ _ _ _ c.in-Int.number _ (ap expr_of c.in-Int.is) (to_z-of_z w64 c.in-Int.number fits)) c.put.ensures
 
-pub emit_expr-returns-in_ok-put-in-Text : goal.emit_expr-returns-in_ok-put-in-Text
-emit_expr-returns-in_ok-put-in-Text t c = emits_quoted _ _ _ _ _ _ _ (ap expr_of c.in-Text.is) c.in_ok-number-in-Text.ensures c.in_ok-put-in-Text.ensures
+pub emit_expr-returns-in-Text : goal.emit_expr-returns-in-Text
+emit_expr-returns-in-Text t c = on_ok_weaker c.put_quoted.result (emits_quoted _ _ _ _ _ _ (ap expr_of c.in-Text.is)) c.put_quoted.ensures
 
-pub emit_expr-returns-in_ok-put-in-Bool : goal.emit_expr-returns-in_ok-put-in-Bool
-emit_expr-returns-in_ok-put-in-Bool t c = emits_truth _ _ _ _ _ _ (ap expr_of c.in-Bool.is) c.in_ok-put-in-Bool.ensures
+pub emit_expr-returns-in-Bool : goal.emit_expr-returns-in-Bool
+emit_expr-returns-in-Bool t c = on_ok_weaker c.put-in-Bool.result (emits_truth _ _ _ _ _ _ (ap expr_of c.in-Bool.is)) c.put-in-Bool.ensures
 
-pub emit_expr-returns-in_ok-put-in-Unit : goal.emit_expr-returns-in_ok-put-in-Unit
-emit_expr-returns-in_ok-put-in-Unit t c = emits_nothing _ _ _ _ _ (ap expr_of c.in-Unit.is) c.in_ok-put-in-Unit.ensures
+pub emit_expr-returns-in-Unit : goal.emit_expr-returns-in-Unit
+emit_expr-returns-in-Unit t c = on_ok_weaker c.put-in-Unit.result (emits_nothing _ _ _ _ _ (ap expr_of c.in-Unit.is)) c.put-in-Unit.ensures
 
-pub emit_expr-returns-in_ok-put-in-This : goal.emit_expr-returns-in_ok-put-in-This
-emit_expr-returns-in_ok-put-in-This t c = emits_this _ _ _ _ _ (ap expr_of c.in-This.is) c.in_ok-put-in-This.ensures
+pub emit_expr-returns-in-This : goal.emit_expr-returns-in-This
+emit_expr-returns-in-This t c = on_ok_weaker c.put-in-This.result (emits_this _ _ _ _ _ (ap expr_of c.in-This.is)) c.put-in-This.ensures
 
-pub emit_expr-returns-in_ok-put-in-Name : goal.emit_expr-returns-in_ok-put-in-Name
-emit_expr-returns-in_ok-put-in-Name t c = emits_name _ _ _ _ _ _ _ (ap expr_of c.in-Name.is) c.in_ok-code-in-Name.ensures c.in_ok-put-in-Name.ensures
+pub emit_expr-returns-in-Name : goal.emit_expr-returns-in-Name
+emit_expr-returns-in-Name t c = on_ok_weaker c.put_name.result (emits_name _ _ _ _ _ _ (ap expr_of c.in-Name.is)) c.put_name.ensures
 
-pub emit_expr-returns-in_ok-put-in-Unary : goal.emit_expr-returns-in_ok-put-in-Unary
-emit_expr-returns-in_ok-put-in-Unary t c =
-    emits_unary _ _ _ _ _ _ _ _ _ _ (ap expr_of c.in-Unary.is) (ap expr_of c.deref.ensures) c.unary_code.ensures c.in_ok-emit_expr-in-Unary.ensures c.in_ok-put-in-Unary.ensures
+pub emit_expr-returns-in_ok-emit_expr-in-Unary : goal.emit_expr-returns-in_ok-emit_expr-in-Unary
+emit_expr-returns-in_ok-emit_expr-in-Unary t c =
+    on_ok_weaker c.put-in-Unary.result
+    (emits_unary _ _ _ _ _ _ _ _ _ _ (ap expr_of c.in-Unary.is) (ap expr_of c.deref.ensures) c.unary_code.ensures c.in_ok-emit_expr-in-Unary.ensures) c.put-in-Unary.ensures
 
-pub emit_expr-returns-in_ok-emit_right-in-Binary : goal.emit_expr-returns-in_ok-emit_right-in-Binary
-emit_expr-returns-in_ok-emit_right-in-Binary t c =
-    emits_binary _ _ _ _ _ _ _ _ _ _ _ (ap expr_of c.in-Binary.is) (ap expr_of c.deref-in-Binary.ensures) (ap expr_of c.deref-in-Binary-2.ensures) c.in_ok-emit_expr-in-Binary.ensures c.in_ok-emit_right-in-Binary.ensures
+pub emit_expr-returns-in_ok-emit_expr-in-Binary : goal.emit_expr-returns-in_ok-emit_expr-in-Binary
+emit_expr-returns-in_ok-emit_expr-in-Binary t c =
+    on_ok_weaker c.emit_right.result
+    (emits_binary _ _ _ _ _ _ _ _ _ _ _ (ap expr_of c.in-Binary.is) (ap expr_of c.deref-in-Binary.ensures) (ap expr_of c.deref-in-Binary-2.ensures) c.in_ok-emit_expr-in-Binary.ensures) c.emit_right.ensures
 
-pub emit_expr-returns-in_ok-put-in-TextCall : goal.emit_expr-returns-in_ok-put-in-TextCall
-emit_expr-returns-in_ok-put-in-TextCall t c =
+pub emit_expr-returns-in_ok-emit_values-in-TextCall : goal.emit_expr-returns-in_ok-emit_values-in-TextCall
+emit_expr-returns-in_ok-emit_values-in-TextCall t c =
     let form = ap expr_of c.in-TextCall.is ∙ expr_text_call c.in-TextCall.place c.in-TextCall.operator c.in-TextCall.values in
-    emits_text_call _ _ _ _ _ _ _ _ _ _ form refl c.text_code.ensures c.in_ok-emit_values-in-TextCall.ensures c.in_ok-put-in-TextCall.ensures
+    on_ok_weaker c.put-in-TextCall.result (emits_text_call _ _ _ _ _ _ _ _ _ _ form refl c.text_code.ensures c.in_ok-emit_values-in-TextCall.ensures) c.put-in-TextCall.ensures
 
-pub emit_expr-returns-in_ok-put-in-Call : goal.emit_expr-returns-in_ok-put-in-Call
-emit_expr-returns-in_ok-put-in-Call t c =
-    let form = ap expr_of c.in-Call.is ∙ expr_call c.in-Call.place c.in-Call.receiver c.in-Call.name c.in-Call.values in
-    let count = c.in_ok-arguments-in-Call.ensures ∙ c.len.ensures ∙ c.in-Call.values.ok.0 ∙ count_is c.in-Call.values.items in
-    emits_call _ _ _ _ _ _ _ _ _ _ _ _ _ _ form (ap expr_of c.deref-in-Call.ensures) refl c.in_ok-method-in-Call.ensures count c.in_ok-emit_expr-in-Call.ensures c.in_ok-emit_values-in-Call.ensures c.in_ok-put-in-Call.ensures
+pub emit_expr-returns-in_ok-emit_values-in-Call : goal.emit_expr-returns-in_ok-emit_values-in-Call
+emit_expr-returns-in_ok-emit_values-in-Call t c =
+    let form = ap expr_of c.in-Call.is ∙ expr_call c.in-Call.place c.in-Call.receiver c.in-Call.name c.in-Call.arguments in
+    let count = c.len.ensures ∙ c.in-Call.arguments.ok.0 ∙ count_is c.in-Call.arguments.items in
+    on_ok_weaker c.put_call.result
+    (emits_call _ _ _ _ _ _ _ _ _ _ _ _ _ form (ap expr_of c.deref-in-Call.ensures) refl count c.in_ok-emit_expr-in-Call.ensures c.in_ok-emit_values-in-Call.ensures) c.put_call.ensures
 
-pub emit_expr-returns-in_ok-put-in-New : goal.emit_expr-returns-in_ok-put-in-New
-emit_expr-returns-in_ok-put-in-New t c =
+pub emit_expr-returns-in_ok-emit_values-in-New : goal.emit_expr-returns-in_ok-emit_values-in-New
+emit_expr-returns-in_ok-emit_values-in-New t c =
     let form = ap expr_of c.in-New.is ∙ expr_new c.in-New.place c.in-New.literal c.in-New.values in
-    emits_new _ _ _ _ _ _ _ _ _ form refl c.in_ok-emit_values-in-New.ensures c.in_ok-put-in-New.ensures
+    on_ok_weaker c.put-in-New.result (emits_new _ _ _ _ _ _ _ _ _ form refl c.in_ok-emit_values-in-New.ensures) c.put-in-New.ensures
 
-pub emit_expr-returns-in_ok-emit_value-in-Ascribe : goal.emit_expr-returns-in_ok-emit_value-in-Ascribe
-emit_expr-returns-in_ok-emit_value-in-Ascribe t c = emits_ascribe _ _ _ _ _ _ _ _ (ap expr_of c.in-Ascribe.is) (ap value_of c.deref-in-Ascribe.ensures) c.in_ok-emit_value-in-Ascribe.ensures
+pub emit_expr-returns-in-Ascribe : goal.emit_expr-returns-in-Ascribe
+emit_expr-returns-in-Ascribe t c = on_ok_weaker c.emit_value.result (emits_ascribe _ _ _ _ _ _ _ _ (ap expr_of c.in-Ascribe.is) (ap value_of c.deref-in-Ascribe.ensures)) c.emit_value.ensures
 
-pub emit_expr-returns-in_ok-put-in-Assign-2 : goal.emit_expr-returns-in_ok-put-in-Assign-2
-emit_expr-returns-in_ok-put-in-Assign-2 t c =
-    emits_assign _ _ _ _ _ _ _ _ _ _ _ (ap expr_of c.in-Assign.is) (ap value_of c.deref-in-Assign.ensures) c.in_ok-assigned-in-Assign.ensures c.in_ok-emit_value-in-Assign.ensures c.in_ok-put-in-Assign.ensures c.in_ok-put-in-Assign-2.ensures
+pub emit_expr-returns-in_ok-emit_value-in-Assign : goal.emit_expr-returns-in_ok-emit_value-in-Assign
+emit_expr-returns-in_ok-emit_value-in-Assign t c =
+    on_ok_weaker c.put_assigned.result (emits_assign _ _ _ _ _ _ _ _ _ (ap expr_of c.in-Assign.is) (ap value_of c.deref-in-Assign.ensures) c.in_ok-emit_value-in-Assign.ensures) c.put_assigned.ensures
 
 pub emit_right-returns-in_ok-end_sides-in-And : goal.emit_right-returns-in_ok-end_sides-in-And
 emit_right-returns-in_ok-end_sides-in-And t c =
