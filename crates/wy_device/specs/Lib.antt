@@ -1,7 +1,6 @@
 pub mod Deeds
 pub mod Device
 pub mod Devices
-pub mod Ends
 pub mod Events
 pub mod FolderFiles
 pub mod MemClock

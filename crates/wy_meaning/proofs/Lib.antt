@@ -10,4 +10,3 @@ mod ExamplesRows
 pub mod Programs
 pub mod Rows
 pub mod Taking
-pub mod Tapings

@@ -4,8 +4,6 @@ pub mod EndLines
 pub mod Eval
 pub mod EventLines
 pub mod Laws
-pub mod Literals
-pub mod Meaning
 pub mod OpenCalls
 pub mod Operating
 pub mod Performing

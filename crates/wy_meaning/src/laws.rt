@@ -8,15 +8,7 @@ ghost use Rattle.wy_meaning.specs.Bounds.{Call};
 ghost use Rattle.wy_meaning.specs.Laws.{IsCheap, ExtendsOnly, TakesInOrder};
 ghost use Rattle.wy_meaning.specs.Start.{meaning};
 ghost use Rattle.wy_meaning.specs.Starts.{Starts};
-ghost use Rattle.wy_meaning.specs.Literals.{literal_meaning};
-ghost use Rattle.wy_meaning.specs.Meaning.{GoesOn};
 ghost use Rattle.wy_meaning.specs.OpenCalls.{IsSaidOfEachDeed, BoundsBeginnings};
-
-/// Longer tapes only continue what a program that writes literals does: over tapes that begin with some
-/// answers, its events begin with those over just these answers.
-pub fn longer_tapes_continue()
-    ensures { (grant : List ℕ) (texts : List (List ℕ)) → GoesOn (literal_meaning grant texts) }
-{}
 
 /// Events are bounded by an authority exactly where each deed among them is in the authority of every
 /// call that is open at it.
