@@ -30,7 +30,7 @@ returns-in-Some g c =
     let m = c.args.machine.now in
     let r = c.requires.request in
     let old = states g.D.Device.state c.args.devices.now in
-    let new = states g.D.Device.state c.ask.new.devices in
+    let new = states g.D.Device.state c.ask.new.self in
     let stack = c.give.ensures ∙ ap (λ v. pushed v (called_from c.args.code.now c.args.depth c.args.place m.stack m.store c.args.method c.args.count)) (c.new.ensures ∙ ap Text c.in_ok-number.ensures) in
     let es = deed_event c.args.grant.now.name c.args.op.now (Some c.in-Ok.answer) in
     step_to c.args.code.now _ _ _ _ _ old new _ stack (room_filled m.store _ _ c.in-Some.text c.in_ok-make_room.ensures c.fill_room.ensures)
@@ -42,7 +42,7 @@ returns-in-Err-Failed g c =
     let m = c.args.machine.now in
     let r = c.requires.request in
     let old = states g.D.Device.state c.args.devices.now in
-    let new = states g.D.Device.state c.ask.new.devices in
+    let new = states g.D.Device.state c.ask.new.self in
     let failed = c.in-Err-Failed.is ∙ ap Err c.in-Err-Failed.field-0-is in
     named_failure c.args.code.now _ _ _ old new _ _ _ _ c.in_ok-name.ensures c.name-in-Err-Failed.ensures
     (failed_step c.args.code.now c.args.depth c.args.place m.stack m.store c.args.method c.args.count r.number r.receiver c.args.grant.now r.granted r.method r.named c.args.op.now r.asked c.requires.good (room_for_text c.args.code.now c.args.depth c.args.place m.stack m.store c.args.method c.args.count r.number r.receiver c.args.grant.now r.granted r.method r.named c.args.op.now r.asked c.requires.good c.requires.room) old new c.ask.ensures.same (c.ask.ensures.bad failed) (c.ask.ensures.failed failed) _ _)

@@ -22,7 +22,7 @@ returns-in-Some g c =
     let m = c.args.machine.now in
     let r = c.requires.request in
     let old = states g.D.Device.state c.args.devices.now in
-    let new = states g.D.Device.state c.ask.new.devices in
+    let new = states g.D.Device.state c.ask.new.self in
     step_to c.args.code.now _ _ _ _ _ old new _ c.give.ensures refl
     (reply_step c.args.code.now c.args.depth c.args.place m.stack m.store c.args.method c.args.count r.number r.receiver c.args.grant.now r.granted r.method r.named c.args.op.now r.asked c.requires.good (no_text c.args.code.now c.args.depth c.args.place m.stack m.store c.args.method c.args.count r.number r.receiver c.args.grant.now r.granted r.method r.named c.args.op.now r.asked c.requires.good c.requires.no_text) old new c.ask.ensures.same c.requires.sound c.in-Ok.answer c.in-Ok.ensures.answer c.in-Ok.ensures.done c.in-Some.word m.store
     (λ more. word_answered_is c.in-Ok.answer c.in-Some.word c.in-Some.ensures (store_of c.args.code.now m.store more) (deed_event c.args.grant.now.name c.args.op.now (Some c.in-Ok.answer))))
@@ -32,7 +32,7 @@ returns-in-Err-Failed g c =
     let m = c.args.machine.now in
     let r = c.requires.request in
     let old = states g.D.Device.state c.args.devices.now in
-    let new = states g.D.Device.state c.ask.new.devices in
+    let new = states g.D.Device.state c.ask.new.self in
     let failed = c.in-Err-Failed.is ∙ ap Err c.in-Err-Failed.field-0-is in
     named_failure c.args.code.now _ _ _ old new _ _ _ _ c.in_ok-name.ensures c.name-in-Err-Failed.ensures
     (failed_step c.args.code.now c.args.depth c.args.place m.stack m.store c.args.method c.args.count r.number r.receiver c.args.grant.now r.granted r.method r.named c.args.op.now r.asked c.requires.good (no_text c.args.code.now c.args.depth c.args.place m.stack m.store c.args.method c.args.count r.number r.receiver c.args.grant.now r.granted r.method r.named c.args.op.now r.asked c.requires.good c.requires.no_text) old new c.ask.ensures.same (c.ask.ensures.bad failed) (c.ask.ensures.failed failed) _ _)
