@@ -1,12 +1,15 @@
--- Worked examples: trees without places, what they are printed as, and the words that they give to own names.
-use Rattle.std.proofs.Common.{◌≡◌, ℕ, [], ◌∷◌, map, refl}
+-- Worked examples: trees without places, what they are printed as, and the words of items.
+use Rattle.std.proofs.Common.{◌≡◌, ℕ, [], ◌∷◌, inl, refl, subst, arith}
 use Rattle.std.specs.Prelude.{codes, List}
 use Rattle.wy_text.specs.declared.fault.Place.{Place}
+use Rattle.wy_text.specs.declared.token.TokenKind.{TokenKind}
+use Rattle.wy_text.specs.declared.token.TokenKind.TheVariants as kind
 use Rattle.wy_syntax.specs.declared.types.Name.{Name}
-use Rattle.wy_syntax.specs.Trees.{ExprTree, name, text, yes, no, call, none, more, value, run, no_stmts, more_stmts, long, ItemTree, program_item}
+use Rattle.wy_syntax.specs.Tokens.{Tok}
+use Rattle.wy_syntax.specs.Trees.{ExprTree, name, text, yes, no, call, none, more, value, run, no_stmts, more_stmts, long, ItemTree, type_item, program_item}
 use Rattle.wy_syntax.specs.Canonical.{canonical_form}
 use Rattle.wy_canonical.specs.Unplaced.{unplaced}
-use Rattle.wy_canonical.specs.OwnWords.{own_words, IsWord}
+use Rattle.wy_canonical.specs.OwnWords.{IsWord, HasWords}
 
 abbrev at : ℕ → ℕ → Place
 at line column = record { file = 1; line = line; column = column }
@@ -35,16 +38,49 @@ printed_tree = refl
 printed_unplaced : canonical_form (unplaced (writes (at 1 1) (text (codes "a") (at 4 13)))) ≡ codes "program\n  grant c: Console\n  run: {}\n    c.write(\"a\")\n"
 printed_unplaced = refl
 
--- the word of its grant
-granted_word : map own_words (writes (at 1 1) (yes (at 4 13))) ≡ (named (codes "c") 2 9 ∷ []) ∷ []
-granted_word = refl
+-- a word, and three that are none
+letter : IsWord (codes "C")
+letter = ((((λ e. cc), (λ e. cc)), tt), (λ e. cc), (λ e. cc), (λ e. cc))
 
--- a word, and two that are none
-is_word : IsWord (named (codes "c") 2 9)
-is_word = (((λ e. cc), (λ e. cc)), tt)
+spaced : IsWord (codes "c d") → ⊥
+spaced h = h.0.1.0.0 refl
 
-spaced : IsWord (named (codes "c d") 2 9) → ⊥
-spaced h = h.1.0.0 refl
+stopped : IsWord (codes "c.d") → ⊥
+stopped h = h.0.1.0.1 refl
 
-stopped : IsWord (named (codes "c.d") 2 9) → ⊥
-stopped h = h.1.0.1 refl
+program_is_none : IsWord (codes "main") → ⊥
+program_is_none h = h.1 refl
+
+-- a type that is declared under a name
+abbrev declared : List ℕ → ItemTree
+declared word = type_item (record { place = at 1 1; name = named word 1 6; members = [] })
+
+abbrev token : TokenKind → ℕ → Tok
+token k column = record { kind = k; place = at 1 column }
+
+-- its tokens spell it, and their name is a word
+is_declared : HasWords (declared (codes "C"))
+is_declared = (
+  token kind.KwType 1 ∷ token (kind.Name (codes "C")) 6 ∷ token kind.Nl 7 ∷ [],
+  record {
+    front = token kind.KwType 1 ∷ [];
+    back = token (kind.Name (codes "C")) 6 ∷ token kind.Nl 7 ∷ [];
+    parts = refl;
+    first = record { token = token kind.KwType 1; only = refl; kind = refl; place = refl };
+    second = record {
+      front = token (kind.Name (codes "C")) 6 ∷ [];
+      back = token kind.Nl 7 ∷ [];
+      parts = refl;
+      first = record { token = token (kind.Name (codes "C")) 6; only = refl; kind = refl; place = refl };
+      second = record {
+        front = token kind.Nl 7 ∷ [];
+        back = [];
+        parts = refl;
+        first = record { token = token kind.Nl 7; only = refl; kind = refl };
+        second = inl (refl, refl);
+      };
+    };
+  },
+  ((λ w e. absurd cc), ((λ w e. (let same : codes "C" ≡ w = cc in subst IsWord same letter)), ((λ w e. absurd cc), tt))),
+  omega arith,
+)

@@ -27,8 +27,8 @@ pub fn tokens_within_limits()
     ensures { TokensWithinLimits }
 {}
 
-/// The words that a file's items give to own names of scopes have no space and no full stop in them: those of
-/// parameters, grants and lines, and those of used modules.
+/// Each item of a file is spelled by tokens whose names have no space and no full stop in them and are none of `main`,
+/// `init` and `run`, and which are no more than a file may have.
 pub fn trees_have_words()
     ensures { TreesHaveWords }
 {}

@@ -27,6 +27,7 @@ use Rattle.wy_types.specs.Ground.{single_sets}
 use Rattle.wy_types.specs.Core.{literal_captures}
 use Rattle.wy_rules.specs.OwnNames.{opened_count, HasItsType, HaveTheirTypes, IsPlainName, GrantsStandFirst, ModulesCaptureNothing}
 use Rattle.wy_well_formed.specs.News.{scope_news}
+use Rattle.wy_well_formed.specs.OwnWords.{IsWord}
 
 nowhere : Place
 nowhere = record { file = 0; line = 0; column = 0 }
@@ -147,3 +148,16 @@ brought_name h = h.1 (inr (inl refl))
 
 used_name : IsPlainName (codes "pure log") → ⊥
 used_name h = h.0 (inr (inr (inr (inr (inl refl)))))
+
+-- the word that such a name is, and names that no item of words has
+word : IsWord (codes "lg")
+word = ((((λ e. cc), (λ e. cc)), (((λ e. cc), (λ e. cc)), tt)), (λ e. cc), (λ e. cc), (λ e. cc))
+
+brought_is_none : IsWord (codes "a.b") → ⊥
+brought_is_none h = h.0.1.0.1 refl
+
+program_is_none : IsWord (codes "main") → ⊥
+program_is_none h = h.1 refl
+
+start_is_none : IsWord (codes "init") → ⊥
+start_is_none h = h.2 refl

@@ -40,7 +40,10 @@ mod SealedModules
 mod NamesFit
 mod EachScope
 mod MadeOnce
+mod ItemWords
+mod SpelledBodies
 mod NamesAreWords
+mod NamesAreOrdinary
 mod GrantsFirst
 mod NothingCaptured
 mod Examples

@@ -1,22 +1,24 @@
--- The words that scopes have as own names: those that items give to parameters, grants and lines, and those of used modules.
-use Rattle.std.specs.Prelude.{◌≡◌, List, [], ◌++◌}
+-- Items of words: the tokens that spell one have names that are words, and are no more than a file may have.
+use Rattle.std.specs.Prelude.{codes, ◌≡◌, ◌≤◌, ℕ, List, length}
 use Rattle.std.specs.List.{AllByRecursion}
-use Rattle.wy_syntax.specs.declared.types.Name.{Name}
-use Rattle.wy_syntax.specs.Trees.{ItemTree, type_item, pure_item, resource_item, plain_item, program_item}
-use Rattle.wy_names.specs.TypeUses.{param_names}
-use Rattle.wy_names.specs.Scopes.{grant_names, line_words}
+use Rattle.wy_text.specs.declared.limit.LimitName.TheVariants.{Tokens}
+use Rattle.wy_text.specs.LimitName.{limit_number}
+use Rattle.wy_text.specs.declared.token.TokenKind.TheVariants as kind
+use Rattle.wy_syntax.specs.Tokens.{Tok}
+use Rattle.wy_syntax.specs.Trees.{ItemTree}
+use Rattle.wy_syntax.specs.Grammar.{SpellsItem}
 
--- an item's
-abbrev pub own_words : ItemTree → List Name
-own_words (type_item d) = []
-own_words (pure_item place name sealed inside) = inside.uses ++ line_words inside.lines
-own_words (resource_item place name params sealed inside) = param_names params ++ (inside.uses ++ line_words inside.lines)
-own_words (plain_item place name params sealed parts) = param_names params
-own_words (program_item place grants uses lines run effect body) = grant_names grants ++ (uses ++ line_words lines)
+-- no byte of it is a space or a full stop, and it is none of the reserved words by which a report calls the program and what a scope starts with
+abbrev pub IsWord : List ℕ → Type 0
+IsWord w = AllByRecursion (λ b. (b ≡ 32 → ⊥) × (b ≡ 46 → ⊥)) w × (w ≡ codes "main" → ⊥) × (w ≡ codes "init" → ⊥) × (w ≡ codes "run" → ⊥)
 
--- no byte of it is a space or a full stop
-abbrev pub IsWord : Name → Type 0
-IsWord n = AllByRecursion (λ b. (b ≡ 32 → ⊥) × (b ≡ 46 → ⊥)) n.text
+-- each name among the tokens is a word
+abbrev pub AreWords : List Tok → Type 0
+AreWords ts = AllByRecursion (λ (t : Tok). (w : List ℕ) → t.kind ≡ kind.Name w → IsWord w) ts
+
+-- such tokens spell the item, no more than a file may have
+abbrev pub HasWords : ItemTree → Type 0
+HasWords i = (ts : List Tok) × SpellsItem i ts × AreWords ts × (length ts ≤ limit_number Tokens)
 
 abbrev pub HaveWords : List ItemTree → Type 0
-HaveWords items = AllByRecursion (λ i. AllByRecursion IsWord (own_words i)) items
+HaveWords items = AllByRecursion HasWords items

@@ -6,7 +6,7 @@ use Rattle.wy_effects.specs.Members.{In, Apart}
 use Rattle.wy_types.specs.Program.{Program, Scope}
 use Rattle.wy_types.specs.Core.{IsCore}
 use Rattle.wy_types.specs.Ground.{names_of, program_number}
-use Rattle.wy_rules.specs.OwnNames.{LinesAreTyped, HavePlainNames, GrantsStandFirst, ModulesCaptureNothing}
+use Rattle.wy_rules.specs.OwnNames.{LinesAreTyped, HavePlainNames, HasOrdinaryNames, GrantsStandFirst, ModulesCaptureNothing}
 use Rattle.wy_names.specs.Names.{Resolves}
 use Rattle.wy_well_formed.specs.News.{scope_news}
 use Rattle.wy_well_formed.specs.OwnWords.{HaveWords}
@@ -22,6 +22,10 @@ ResolvedNamesFit = (items : List ItemTree) (p : Program) → Resolves items p �
 -- they have no space and no full stop, where the items' words have none
 abbrev pub ResolvedNamesAreWords : Type 0
 ResolvedNamesAreWords = (items : List ItemTree) (p : Program) → Resolves items p → HaveWords items → HavePlainNames p
+
+-- nor is one of them called as the program is, or a method as what a scope starts with, and literals have numbers that can be written out
+abbrev pub ResolvedNamesAreOrdinary : Type 0
+ResolvedNamesAreOrdinary = (items : List ItemTree) (p : Program) → Resolves items p → HaveWords items → HasOrdinaryNames p
 
 -- of those of the program grants stand first
 abbrev pub ResolvedGrantsStandFirst : Type 0

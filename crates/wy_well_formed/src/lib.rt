@@ -2,7 +2,7 @@
 //! clause.
 #![tactic(auto)]
 
-ghost use Rattle.wy_well_formed.specs.WellFormed.{ResolvedGrantsStandFirst, ResolvedIsCore, ResolvedMakesOnce, ResolvedModulesCaptureNothing, ResolvedNamesAreWords, ResolvedNamesFit};
+ghost use Rattle.wy_well_formed.specs.WellFormed.{ResolvedGrantsStandFirst, ResolvedIsCore, ResolvedMakesOnce, ResolvedModulesCaptureNothing, ResolvedNamesAreOrdinary, ResolvedNamesAreWords, ResolvedNamesFit};
 
 /// A program whose names resolve is a core: its numbers are in range, its names differ, its types, effects and bodies
 /// have the forms that their kinds of scope ask, and no module leads back to itself.
@@ -17,10 +17,16 @@ pub fn resolved_names_fit()
     ensures { ResolvedNamesFit }
 {}
 
-/// No own name has a space or a full stop in it, where none of the words has one that the items give to parameters,
-/// grants and lines, or name in a `use`.
+/// No own name has a space or a full stop in it, where the items are spelled by tokens whose names have none.
 pub fn resolved_names_are_words()
     ensures { ResolvedNamesAreWords }
+{}
+
+/// No own name is `main`, no method is named `init` or `run` or has a full stop in its name, and no scope has more than
+/// 2 ^ 64 literals, where the items are spelled by tokens whose names are such, and which are no more than a file may
+/// have.
+pub fn resolved_names_are_ordinary()
+    ensures { ResolvedNamesAreOrdinary }
 {}
 
 /// Of the program's own names the grants stand first.
