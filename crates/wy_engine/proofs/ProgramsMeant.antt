@@ -1,14 +1,13 @@
 -- The program of accepted texts is one that resolving makes, so what the layers below say of such programs holds of it.
 use Rattle.std.proofs.Common.{◌≡◌, ℕ, suc, List, [], ◌∷◌, ◌++◌, refl, sym, subst}
-use Rattle.std.specs.List.{AllByRecursion}
-use Rattle.wy_syntax.specs.Trees.{ItemTree, type_item, pure_item, resource_item, plain_item, program_item}
-use Rattle.wy_syntax.specs.declared.types.Name.{Name}
+use Rattle.wy_syntax.specs.Trees.{ItemTree}
 use Rattle.wy_effects.specs.Members.{Apart, In}
 use Rattle.wy_types.specs.Program.{Program, Scope}
 use Rattle.wy_canonical.specs.OwnWords as files
 use Rattle.wy_names.specs.Declarations.{all_items}
-use Rattle.wy_well_formed.specs.OwnWords.{HaveWords, IsWord, own_words}
-use Rattle.wy_well_formed.specs.WellFormed.{ResolvedGrantsStandFirst, ResolvedIsCore, ResolvedMakesOnce, ResolvedModulesCaptureNothing, ResolvedNamesAreWords, ResolvedNamesFit}
+use Rattle.wy_well_formed.specs.OwnWords.{HaveWords}
+use Rattle.wy_well_formed.specs.WellFormed.{ResolvedGrantsStandFirst, ResolvedIsCore, ResolvedMakesOnce, ResolvedModulesCaptureNothing, ResolvedNamesAreOrdinary, ResolvedNamesAreWords, ResolvedNamesFit}
+use Rattle.wy_rules.specs.OwnNames.{HasOrdinaryNames}
 use Rattle.wy_lower.specs.Laws.{MakesOnce}
 use Rattle.wy_lower.specs.Lowerable.{literals_made}
 use Rattle.wy_sound.specs.Programs.{IsResolved}
@@ -18,17 +17,6 @@ use Rattle.wy_engine.proofs.LiteralsMade.{scope_made}
 
 -- ---- the words of files
 
-same_words : (i : ItemTree) → files.own_words i ≡ own_words i
-same_words (type_item d) = refl
-same_words (pure_item place name sealed inside) = refl
-same_words (resource_item place name params sealed inside) = refl
-same_words (plain_item place name params sealed parts) = refl
-same_words (program_item place grants uses lines run effect body) = refl
-
-item_words : (items : List ItemTree) → files.HaveWords items → HaveWords items
-item_words [] have = tt
-item_words (i ∷ is) have = (subst (λ (ns : List Name). AllByRecursion IsWord ns) (same_words i) have.0, item_words is have.1)
-
 words_both : (items more : List ItemTree) → HaveWords items → HaveWords more → HaveWords (items ++ more)
 words_both [] more a b = b
 words_both (i ∷ is) more a b = (a.0, words_both is more a.1 b)
@@ -37,7 +25,7 @@ pub trees_words : files.TreesHaveWords → (file : ℕ) (texts : List (List ℕ)
 trees_words law file [] [] have = tt
 trees_words law file [] (t ∷ ts) have = absurd have
 trees_words law file (x ∷ xs) [] have = absurd have
-trees_words law file (x ∷ xs) (t ∷ ts) have = words_both t (all_items ts) (item_words t (law file x t have.0)) (trees_words law (suc file) xs ts have.1)
+trees_words law file (x ∷ xs) (t ∷ ts) have = words_both t (all_items ts) (law file x t have.0) (trees_words law (suc file) xs ts have.1)
 
 -- ---- programs that resolving makes
 
@@ -46,6 +34,7 @@ pub record ResolvingLaws : Type 0 where
   pub core : ResolvedIsCore
   pub fit : ResolvedNamesFit
   pub words : ResolvedNamesAreWords
+  pub ordinary : ResolvedNamesAreOrdinary
   pub grants : ResolvedGrantsStandFirst
   pub captures : ResolvedModulesCaptureNothing
   pub once : ResolvedMakesOnce
@@ -59,6 +48,9 @@ is_resolved laws texts program read = record {
   grants = laws.grants (all_items read.trees) program read.resolves;
   captures = laws.captures (all_items read.trees) program read.resolves;
 }
+
+pub has_ordinary_names : ResolvingLaws → (texts : List (List ℕ)) (program : Program) → ResolveTo texts program → HasOrdinaryNames program
+has_ordinary_names laws texts program read = laws.ordinary (all_items read.trees) program read.resolves (trees_words laws.files 1 texts read.trees read.have)
 
 pub makes_once : ResolvingLaws → (texts : List (List ℕ)) (program : Program) → ResolveTo texts program → MakesOnce program
 makes_once laws texts program read = λ s there. subst (λ (ls : List ℕ). Apart ls) (sym (scope_made s)) (laws.once (all_items read.trees) program read.resolves s there)

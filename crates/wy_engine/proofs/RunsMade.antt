@@ -193,6 +193,7 @@ stopped_by call program laws asked so =
       operations = operations_of program laws asked.settings.depth call.devices call.devices_after did;
       prefix = prefix_of call program asked.settings.depth did;
       authority = laws.bounded;
+      reported = laws.reported;
       ends = λ tells uncut. absurd (stopped_status call.status uncut.full uncut.written so.why);
       failed = λ grant op is. absurd (not_failed call.status grant op is so.why);
     }
@@ -224,6 +225,7 @@ performed_by call program laws asked written so = record {
   operations = operations_of program laws asked.settings.depth call.devices call.devices_after so.did;
   prefix = prefix_of call program asked.settings.depth so.did;
   authority = laws.bounded;
+  reported = laws.reported;
   ends = so.ends;
   failed = so.failed;
 }

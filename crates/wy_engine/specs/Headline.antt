@@ -22,7 +22,7 @@ use Rattle.wy_syntax.specs.Trees.{ItemTree}
 use Rattle.wy_types.specs.Program.{Program}
 use Rattle.wy_sound.specs.Laws.{course}
 use Rattle.wy_sound.specs.Programs.{allowed, program_starts}
-use Rattle.wy_engine.specs.Judgement.{Asks, Did, RunsPrograms, Stops, accepted_text, authority_text, checked, formatted, nothing, ran, reported}
+use Rattle.wy_engine.specs.Judgement.{Asks, Did, IsReported, RunsPrograms, Stops, accepted_text, authority_text, checked, formatted, nothing, ran, reported}
 use Rattle.wy_engine.specs.LastLine.{LineWords, last_line, line_words}
 use Rattle.wy_engine.specs.Settings.{Settings, settings_of}
 use Rattle.wy_engine.specs.Status.{IsOfEnd, IsOfOut, IsOfRun, IsOfTexts}
@@ -135,7 +135,8 @@ WritesRun command call settings program = ⊥
 --   over any tapes that begin with these answers, the deeds that were done are the first of the meaning's;
 --   and the status is the one that the meaning's end gives, or Spent, unless memory was wanting or the report or an event's
 --   line was not written.
--- At every depth and over all answers each operation is in the authority of every call that is open at it.
+-- At every depth and over all answers each operation is in the authority of every call that is open at it, which is what
+-- the printed report says of the call's body.
 pub record Runs (call : TopCall) (program : Program) : Type 0 where
   pub asked : HasRun call
   pub reached : IsOfRun call.status
@@ -145,6 +146,7 @@ pub record Runs (call : TopCall) (program : Program) : Type 0 where
   pub prefix : TellsDeeds call.devices → (kind : Kind) (more : Tapes) →
       DidFirst kind call (deeds_of kind (course program asked.settings.depth (spliced (tapes_between call.devices call.devices_after) more)).events)
   pub authority : (depth : ℕ) (tapes : Tapes) → Bounded (allowed program) (course program depth tapes).events
+  pub reported : IsReported program
   pub ends : TellsDeeds call.devices → IsUncut call.status → EndsAs call.status asked.settings.steps (course_in call asked.settings program)
   pub failed : (grant : List ℕ) (op : OpName) → call.status ≡ status.DeviceFailed grant op → Rose (device_of call.devices (kind_named op)).faults (device_of call.devices_after (kind_named op)).faults
 

@@ -7,9 +7,13 @@ use Rattle.wy_types.specs.Program.{Program}
 use Rattle.wy_rules.specs.Ends.{End, IsEnd, limited, refused}
 use Rattle.wy_judge.specs.Checking.{IsAccepted}
 use Rattle.wy_authority.specs.Authority.{authority_of}
-use Rattle.wy_authority.specs.Report.{report_text}
+use Rattle.wy_authority.specs.Report.{named_atoms, report_text}
+use Rattle.wy_authority.specs.declared.rows.BodyRow.{BodyRow}
+use Rattle.wy_authority.specs.declared.rows.InstanceRow.{InstanceRow}
+use Rattle.wy_effects.specs.Members.{In}
 use Rattle.wy_lower.specs.Counts.{lowering_limit}
-use Rattle.wy_sound.specs.Programs.{program_starts}
+use Rattle.wy_sound.specs.Programs.{allowed, program_starts}
+use Rattle.wy_sound.specs.Telling.{call_of}
 use Rattle.wy_engine.specs.FileTrees.{FirstNoTree, HaveTrees}
 use Rattle.wy_engine.specs.NameFaults.{NamesStop, ResolveTo}
 use Rattle.wy_engine.specs.declared.settings.Command.{Command}
@@ -42,6 +46,11 @@ pub record Runnable (texts : List (List ℕ)) (program : Program) : Type 0 where
 -- what is written where texts are accepted
 abbrev pub accepted_text : List ℕ
 accepted_text = codes "accepted\n"
+
+-- what the calls of a body may do is what the report's line of the body says, and no more
+abbrev pub IsReported : Program → Type 0
+IsReported program =
+    (r : InstanceRow) → In r (authority_of program).rows → (b : BodyRow) → In b r.bodies → allowed program (call_of r b) ≡ named_atoms (authority_of program).atoms b.set
 
 -- the report of what a program's bodies may do
 abbrev pub authority_text : Program → List ℕ

@@ -9,16 +9,18 @@ use Rattle.wy_meaning.specs.Laws.{IsCheap, TakesInOrder}
 use Rattle.wy_sound.specs.Laws.{course}
 use Rattle.wy_sound.specs.Programs.{allowed, program_starts}
 use Rattle.wy_types.specs.Program.{Program}
-use Rattle.wy_engine.specs.Judgement.{Passes}
+use Rattle.wy_engine.specs.Judgement.{IsReported, Passes}
 
 -- Its code does what it means, at every depth, bound and answers, and is never stuck; no run of it takes more than four
--- steps a node, or answers out of their order; and each operation in one is in the authority of every call that is open.
+-- steps a node, or answers out of their order; each operation in one is in the authority of every call that is open; and that
+-- authority is what the report says.
 pub record RunsAsMeant (program : Program) : Type 0 where
   pub follows : (depth bound : ℕ) (tapes : Tapes) → Follows (course program depth tapes) bound (machine (lowered program (program_starts program)) depth bound tapes)
   pub stuck : NeverStuck (lowered program (program_starts program))
   pub cheap : (depth : ℕ) (tapes : Tapes) → IsCheap (course program depth tapes)
   pub ordered : (depth : ℕ) → TakesInOrder depth program (program_starts program)
   pub bounded : (depth : ℕ) (tapes : Tapes) → Bounded (allowed program) (course program depth tapes).events
+  pub reported : IsReported program
 
 abbrev pub AcceptedRunAsMeant : Type 0
 AcceptedRunAsMeant = (texts : List (List ℕ)) (program : Program) → Passes texts program → RunsAsMeant program

@@ -7,9 +7,11 @@ use wy_canonical::trees_have_words;
 use wy_lower::laws::{accepted_code_follows, accepted_is_never_stuck};
 use wy_meaning::laws::{answers_are_taken_in_order, nodes_cost_four};
 use wy_sound::laws::events_are_bounded;
+use wy_sound::telling::allowed_is_reported;
 use wy_well_formed::{
     resolved_grants_stand_first, resolved_is_core, resolved_makes_once,
-    resolved_modules_capture_nothing, resolved_names_are_words, resolved_names_fit,
+    resolved_modules_capture_nothing, resolved_names_are_ordinary, resolved_names_are_words,
+    resolved_names_fit,
 };
 
 /// The canonical form of a canonical form is that form: where what `format` wrote has a tree again, it prints as
@@ -20,13 +22,14 @@ pub fn format_again()
 
 /// The program of accepted texts runs as it is meant: its code does what the program means and is never stuck, a run of it
 /// takes at most four steps a node and the answers in their order, and each operation is in the authority of every call
-/// that is open at it.
+/// that is open at it, which is what the report says of its body.
 pub fn accepted_run_as_meant()
     ensures { AcceptedRunAsMeant }
 {
     resolved_is_core();
     resolved_names_fit();
     resolved_names_are_words();
+    resolved_names_are_ordinary();
     resolved_grants_stand_first();
     resolved_modules_capture_nothing();
     resolved_makes_once();
@@ -34,6 +37,7 @@ pub fn accepted_run_as_meant()
     accepted_code_follows();
     accepted_is_never_stuck();
     events_are_bounded();
+    allowed_is_reported();
     nodes_cost_four();
     answers_are_taken_in_order();
 }
