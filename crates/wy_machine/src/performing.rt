@@ -9,13 +9,13 @@ ghost use Rattle.wy_machine.specs.Steps.{acting, IsNotStuck, IsStep};
 
 use crate::building::{MOST_TEXTS, next_text};
 use crate::deeds::{requested, text_in, word_in};
+use crate::devices::Devices;
 use crate::machine::Machine;
 use crate::requests::{answers_text, has_good_name};
 use crate::run_end::{RunEnd, TrapKind};
 use crate::word::{Word, WordKind};
 use wy_code::code::{Code, Grant};
 use wy_device::device::{Device, DeviceError};
-use crate::devices::Devices;
 use wy_device::operation::Op;
 use wy_text::fault::Place;
 

@@ -6,6 +6,7 @@ ghost use Rattle.wy_machine.specs.Runs.{Runs};
 ghost use Rattle.wy_machine.specs.Steps.{starting, IsNotStuck, IsStep};
 ghost use Rattle.wy_machine.specs.Traces.{RunsTraced};
 
+use crate::devices::Devices;
 use crate::instances::add_instances;
 use crate::machine::Machine;
 use crate::run_end::RunEnd;
@@ -18,7 +19,6 @@ use std::alloc::Global;
 use std::marker::Model;
 use wy_code::code::Code;
 use wy_device::device::Device;
-use crate::devices::Devices;
 use wy_text::sink::Sink;
 use wy_text::text::Memory;
 

@@ -9,6 +9,7 @@ ghost use Rattle.wy_machine.specs.Steps.{acting, stepping, IsNotStuck, IsStep};
 
 use crate::building::operate;
 use crate::calls::enter;
+use crate::devices::Devices;
 use crate::machine::Machine;
 use crate::making::make;
 use crate::performing::perform;
@@ -19,7 +20,6 @@ use crate::word::{Word, WordKind};
 use wy_code::code::Code;
 use wy_code::instruction::{Constant, Instruction, Placed};
 use wy_device::device::Device;
-use crate::devices::Devices;
 use wy_text::fault::Place;
 
 /// The instruction that comes next; the body goes on after it.

@@ -4,6 +4,7 @@ ghost use Rattle.wy_machine.specs.Devices.{states};
 ghost use Rattle.wy_machine.specs.Traces.{RunsTraced};
 
 use crate::coming::Coming;
+use crate::devices::Devices;
 use crate::machine::Machine;
 use crate::run::start;
 use crate::run_end::RunEnd;
@@ -11,7 +12,6 @@ use crate::tracing::{step_traced, trace};
 use std::alloc::Global;
 use wy_code::code::Code;
 use wy_device::device::Device;
-use crate::devices::Devices;
 use wy_text::sink::Sink;
 
 /// Runs code from its start, at most so many steps, and writes the line of each event.

@@ -8,6 +8,7 @@ ghost use Rattle.wy_machine.specs.Steps.{stepping, IsNotStuck, IsStep};
 ghost use Rattle.wy_machine.specs.Traces.{IsQuietAfterFirst, Wrote, IsTraced};
 
 use crate::coming::{Coming, coming_next};
+use crate::devices::Devices;
 use crate::machine::Machine;
 use crate::run_end::RunEnd;
 use crate::seen::{Seen, seen_after};
@@ -16,7 +17,6 @@ use std::alloc::Global;
 use wy_code::code::Code;
 use wy_device::deed::Event;
 use wy_device::device::Device;
-use crate::devices::Devices;
 use wy_meaning::event_lines::event_line;
 use wy_text::sink::{Sink, WriteError};
 use wy_text::writing::write_all;
