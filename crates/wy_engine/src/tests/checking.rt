@@ -108,7 +108,7 @@ fn a_program_has_no_more_instances_than_the_limit(rt: HostRuntime) -> Result<(),
 }
 
 /// A module that reaches one type more than there are types in this ring, in which each method gives the next.
-fn ring(alloc: Global, count: u32) -> Result<String, Fail> {
+pub fn ring(alloc: Global, count: u32) -> Result<String, Fail> {
     let mut text = String::new(alloc);
     for at in 1..=count {
         let next = at % count + 1;

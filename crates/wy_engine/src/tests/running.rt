@@ -1,7 +1,8 @@
 use crate::handing_in::devices;
 use crate::status::Status;
+use crate::tests::checking::ring;
 use crate::tests::running_table::{REFUSED, RUNS, Row};
-use crate::tests::support::{call, devices_with, outcome_of};
+use crate::tests::support::{call, devices_with, judged_so, outcome_of};
 use std::alloc::Global;
 use std::test::Fail;
 use wy_device::device::Device;
@@ -92,5 +93,15 @@ fn a_program_writes_as_often_as_it_says(rt: HostRuntime) -> Result<(), Fail> {
     let done = outcome_of(alloc, &["run", "b.wy"], &[("b.wy", source.as_slice())])?;
     assert_eq!(rt; done.number, 0);
     assert_eq!(rt; done.deeds, 1001);
+    Ok(())
+}
+
+#[test]
+fn a_program_that_reaches_no_more_types_than_the_limit_runs(rt: HostRuntime) -> Result<(), Fail> {
+    let alloc = rt.alloc();
+    let report = "authority of main: -\n  run: -\n";
+    assert!(rt; judged_so(alloc, "run", ring(alloc, 1023)?.as_str(), 0, "", report)?);
+    let last = "limit: reached types 1024\n";
+    assert!(rt; judged_so(alloc, "run", ring(alloc, 1024)?.as_str(), 5, "", last)?);
     Ok(())
 }

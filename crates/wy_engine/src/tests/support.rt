@@ -49,7 +49,8 @@ fn shelf(alloc: Global, files: &[(&str, &[u8])]) -> Result<MemShelf, Memory> {
     MemShelf::new(alloc, list, Items::new(alloc))
 }
 
-fn strings(alloc: Global, words: &[&str]) -> Result<Vec<String>, AllocError> {
+/// These words as strings.
+pub fn strings(alloc: Global, words: &[&str]) -> Result<Vec<String>, AllocError> {
     let mut strings = Vec::new(alloc);
     for word in words {
         strings.push(String::from_str(alloc, word)?)?;
