@@ -65,59 +65,51 @@ rose_traced program depth k events out out' end.Memory to is = absurd (cc)
 
 -- ---- the lines
 
--- which lines were written, of the events that happened
-record Lines (events : List Event) (out out' : SinkState) : Type 0 where
+-- which lines a run wrote that ended so, of the events that happened: all of them, where nothing cut it short
+record Lines (events : List Event) (out out' : SinkState) (e : RunEnd) : Type 0 where
   whole : List Event
   part : List ℕ
   further : List Event
   split : events ≡ whole ++ further
   taken : out'.taken ≡ gained out.taken (event_lines whole ++ part)
   begun : BeginsLine part further
+  uncut : IsUncut (status_of e) → further ≡ []
 
-all_lines : (events : List Event) (out out' : SinkState) → WroteAll events out out' → Lines events out out'
-all_lines events out out' all = record {
+all_lines : (events : List Event) (out out' : SinkState) (e : RunEnd) → WroteAll events out out' → Lines events out out' e
+all_lines events out out' e all = record {
   whole = events;
   part = [];
   further = [];
   split = sym (append-nil events);
   taken = all ∙ ap (λ x. gained out.taken x) (sym (append-nil (event_lines events)));
   begun = none refl;
+  uncut = λ uncut. refl;
 }
 
-some_lines : (events : List Event) (out out' : SinkState) → WroteSome events out out' → Lines events out out'
-some_lines events out out' so = record {
+some_lines : (events : List Event) (out out' : SinkState) (e : RunEnd) → (IsUncut (status_of e) → ⊥) → WroteSome events out out' → Lines events out out' e
+some_lines events out out' e cut so = record {
   whole = so.whole;
   part = so.part;
   further = so.event ∷ so.later;
   split = so.split;
   taken = so.taken;
   begun = some so.event so.later so.cut so.line so.short so.quiet;
+  uncut = λ uncut. absurd (cut uncut);
 }
 
-either_lines : (events : List Event) (out out' : SinkState) → WroteAll events out out' ⊎ WroteSome events out out' → Lines events out out'
-either_lines events out out' (inl all) = all_lines events out out' all
-either_lines events out out' (inr so) = some_lines events out out' so
+either_lines : (events : List Event) (out out' : SinkState) → WroteAll events out out' ⊎ WroteSome events out out' → Lines events out out' end.Memory
+either_lines events out out' (inl all) = all_lines events out out' end.Memory all
+either_lines events out out' (inr so) = some_lines events out out' end.Memory (λ uncut. uncut.full refl) so
 
 lines_of : (program : Program) (depth k : ℕ) (events : List Event) (out out' : SinkState) (e : RunEnd) → EndsTraced (lowered program (program_starts program)) depth k events out out' e
-    → Lines events out out'
-lines_of program depth k events out out' end.Ended to = all_lines events out out' to.1
-lines_of program depth k events out out' (end.Trap kind place) to = all_lines events out out' to.1
-lines_of program depth k events out out' end.TooDeep to = all_lines events out out' to.1
-lines_of program depth k events out out' end.Spent to = all_lines events out out' to.1
-lines_of program depth k events out out' (end.DeviceFailed grant op) to = all_lines events out out' to.1
-lines_of program depth k events out out' end.SinkFailed to = some_lines events out out' to.1
+    → Lines events out out' e
+lines_of program depth k events out out' end.Ended to = all_lines events out out' end.Ended to.1
+lines_of program depth k events out out' (end.Trap kind place) to = all_lines events out out' (end.Trap kind place) to.1
+lines_of program depth k events out out' end.TooDeep to = all_lines events out out' end.TooDeep to.1
+lines_of program depth k events out out' end.Spent to = all_lines events out out' end.Spent to.1
+lines_of program depth k events out out' (end.DeviceFailed grant op) to = all_lines events out out' (end.DeviceFailed grant op) to.1
+lines_of program depth k events out out' end.SinkFailed to = some_lines events out out' end.SinkFailed (λ uncut. uncut.written refl) to.1
 lines_of program depth k events out out' end.Memory to = either_lines events out out' to.1
-
--- where nothing cut the run short all lines stand there
-uncut_lines : (program : Program) (depth k : ℕ) (events : List Event) (out out' : SinkState) (e : RunEnd) (to : EndsTraced (lowered program (program_starts program)) depth k events out out' e)
-    → IsUncut (status_of e) → (lines_of program depth k events out out' e to).further ≡ []
-uncut_lines program depth k events out out' end.Ended to uncut = refl
-uncut_lines program depth k events out out' (end.Trap kind place) to uncut = refl
-uncut_lines program depth k events out out' end.TooDeep to uncut = refl
-uncut_lines program depth k events out out' end.Spent to uncut = refl
-uncut_lines program depth k events out out' (end.DeviceFailed grant op) to uncut = refl
-uncut_lines program depth k events out out' end.SinkFailed to uncut = absurd (uncut.written refl)
-uncut_lines program depth k events out out' end.Memory to uncut = absurd (uncut.full refl)
 
 -- ---- the whole call
 
@@ -130,10 +122,10 @@ pub writes_events : (call : TopCall) (settings : Settings) (program : Program) �
 writes_events call settings program laws so =
     let code = lowered program (program_starts program) in
     let events = so.runs.events in
-    let lines : Lines events call.out call.out_after = lines_of program settings.depth settings.steps events call.out call.out_after so.ended so.runs.ends in
+    let lines : Lines events call.out call.out_after so.ended = lines_of program settings.depth settings.steps events call.out call.out_after so.ended so.runs.ends in
     let given : TellsDeeds call.devices → tapes_between call.devices call.devices_after ≡ tapes_of events = λ tells. tapes_between-of call.devices call.devices_after events tells so.runs.did in
     let ended : (uncut : IsUncut call.status) → IsUncut (status_of so.ended) = λ uncut. subst (λ (s : Status). IsUncut s) so.says uncut in
-    let no_more : IsUncut call.status → lines.further ≡ [] = λ uncut. uncut_lines program settings.depth settings.steps events call.out call.out_after so.ended so.runs.ends (ended uncut) in
+    let no_more : IsUncut call.status → lines.further ≡ [] = λ uncut. lines.uncut (ended uncut) in
     let all : IsUncut call.status → lines.whole ≡ events = λ uncut. sym (append-nil lines.whole) ∙ ap (λ x. lines.whole ++ x) (sym (no_more uncut)) ∙ sym lines.split in
     record {
       whole = lines.whole;
