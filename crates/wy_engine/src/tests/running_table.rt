@@ -10,12 +10,12 @@ pub type Row = (
 
 const EMPTY: &[(&str, &str)] = &[("a.wy", "program\n  run: {}\n    ()\n")];
 
-const HELLO: &[(&str, &str)] = &[(
+pub const HELLO: &[(&str, &str)] = &[(
     "b.wy",
     "program\n  grant console: Console\n  run: {console.Out}\n    console.write(\"hello\\n\")\n",
 )];
 
-const DEEP: &[(&str, &str)] = &[(
+pub const DEEP: &[(&str, &str)] = &[(
     "deep.wy",
     "type Loop\n  def go(): {} Unit\nresource module loop(): Loop\n  def go(): {} Unit = this.go()\nprogram\n  grant console: Console\n  instance l = loop()\n  run: {console.Out}\n    console.write(\"s\")\n    l.go()\n",
 )];
@@ -116,16 +116,6 @@ pub static RUNS: [Row; 14] = [
         2,
     ),
     (
-        &["run", "n.wy"],
-        &[(
-            "n.wy",
-            "program\n  grant disk: Folder\n  run: {disk.Read}\n    val t = disk.read(\"../x\")\n    ()\n",
-        )],
-        6,
-        "authority of main: disk.Read\n  run: disk.Read\nn.wy:4:18: trap: BadName\n",
-        0,
-    ),
-    (
         &["run", "c.wy"],
         &[(
             "c.wy",
@@ -135,62 +125,20 @@ pub static RUNS: [Row; 14] = [
         "authority of main: c.Out\n  run: c.Out\n",
         1,
     ),
+    (
+        &["run", "pick.wy"],
+        &[(
+            "pick.wy",
+            "type A\n  def a(): {} Unit\ntype B\n  def a(): {} Unit\n  def b(): {} Unit\ntype Pick\n  def pick(c: Bool, x: B, y: A): {} A\nresource module pick(): Pick\n  def pick(c: Bool, x: B, y: A): {} A = if c then x else y\nprogram\n  run: {}\n    ()\n",
+        )],
+        0,
+        "authority of main: -\n  run: -\n",
+        0,
+    ),
 ];
 
 /// Programs that are refused, of which nothing is run or reported but the last line.
-pub static REFUSED: [Row; 8] = [
-    (
-        &["run", "log.wy", "main.wy"],
-        &[
-            (
-                "log.wy",
-                "type Logger\n  effect Log\n  def log(t: String): {Log} Unit\nresource module logger(disk: Folder): Logger\n  effect Log = {disk.Append}\n  def log(t: String): {} Unit = disk.append(\"log\", t)\n",
-            ),
-            (
-                "main.wy",
-                "program\n  grant disk: Folder\n  instance lg = logger(disk)\n  run: {lg.Log}\n    lg.log(\"a\")\n",
-            ),
-        ],
-        4,
-        "log.wy:6:3: refused: T-Body premise 2 lacks disk.Append\n",
-        0,
-    ),
-    (
-        &["run", "log.wy", "main.wy"],
-        &[
-            (
-                "log.wy",
-                "type Logger\n  effect Log\n  def log(t: String): {Log} Unit\nresource module logger(disk: Folder): Logger\n  effect Log = {disk.Append}\n  def log(t: String): {Log} Unit = disk.append(\"log\", t)\n",
-            ),
-            (
-                "main.wy",
-                "program\n  grant disk: Folder\n  instance lg = logger(disk)\n  run: {}\n    lg.log(\"a\")\n",
-            ),
-        ],
-        4,
-        "main.wy:4:3: refused: T-Body premise 2 lacks lg.Log\n",
-        0,
-    ),
-    (
-        &["run", "plug.wy"],
-        &[(
-            "plug.wy",
-            "type Handler\n  effect Fire\n  def fire(t: String): {Fire} Unit\ntype Plug\n  effect Use\n  def keep(h: Handler[Fire = {Use}]): {Use} Unit\n  def go(): {Use} Unit\nresource module app(disk: Folder): Handler\n  effect Fire = {disk.Append}\n  def fire(t: String): {Fire} Unit = disk.append(\"f\", t)\nplain module plug(first: Handler): Plug\n  var h: Handler = first\n  def keep(n: Handler): Unit\n    h = n\n  def go(): Unit = h.fire(\"go\")\nprogram\n  grant disk: Folder\n  instance a = app(disk)\n  import p = plug(a) at {disk.Append}\n  run: {a.Fire, disk.Append}\n    p.go()\n",
-        )],
-        4,
-        "plug.wy:19:10: refused: I-Import premise 1 lacks a.Fire\n",
-        0,
-    ),
-    (
-        &["run", "cb.wy"],
-        &[(
-            "cb.wy",
-            "type Handler\n  effect Fire\n  def fire(): {Fire} Unit\ntype Button\n  effect Push\n  def set(h: Handler[Fire = {}]): {Push} Unit\ntype Quiet\nresource module button(): Button\n  effect Push = {}\n  def set(h: Handler[Fire = {}]): {Push} Unit = h.fire()\nplain module wild(b: Button): Quiet\nprogram\n  grant disk: Folder\n  instance b = button()\n  import w = wild(b) at {b.Push, disk.Write}\n  run: {}\n    ()\n",
-        )],
-        4,
-        "cb.wy:15:10: refused: I-Import premise 2 lacks disk.Write\n",
-        0,
-    ),
+pub static REFUSED: [Row; 5] = [
     (
         &["run", "two.wy"],
         &[(
@@ -229,6 +177,16 @@ pub static REFUSED: [Row; 8] = [
         )],
         4,
         "c.wy:4:7: refused: T-Seq premise 1\n",
+        0,
+    ),
+    (
+        &["run", "pick.wy"],
+        &[(
+            "pick.wy",
+            "type A\n  def a(): {} Unit\ntype B\n  def a(): {} Unit\n  def b(): {} Unit\ntype Pick\n  def pick(c: Bool, x: B, y: A): {} A\nresource module pick(): Pick\n  def pick(c: Bool, x: B, y: A): {} B = if c then x else y\nprogram\n  run: {}\n    ()\n",
+        )],
+        4,
+        "pick.wy:9:41: refused: T-If premise 3\n",
         0,
     ),
 ];

@@ -1,0 +1,39 @@
+use crate::tests::devices::first_otherwise;
+use crate::tests::primitive_table::{CLOCKS, CONSOLES, FOLDERS, NAMES, ORDERS, RANDOM_SOURCES};
+use std::test::Fail;
+
+#[test]
+fn a_console_gives_its_lines(rt: HostRuntime) -> Result<(), Fail> {
+    assert_eq!(rt; first_otherwise(rt.alloc(), &CONSOLES)?, None);
+    Ok(())
+}
+
+#[test]
+fn a_folder_keeps_what_it_is_told(rt: HostRuntime) -> Result<(), Fail> {
+    assert_eq!(rt; first_otherwise(rt.alloc(), &FOLDERS)?, None);
+    Ok(())
+}
+
+#[test]
+fn a_name_that_is_none_traps_before_the_folder_is_asked(rt: HostRuntime) -> Result<(), Fail> {
+    assert_eq!(rt; first_otherwise(rt.alloc(), &NAMES)?, None);
+    Ok(())
+}
+
+#[test]
+fn the_receiver_comes_before_the_argument(rt: HostRuntime) -> Result<(), Fail> {
+    assert_eq!(rt; first_otherwise(rt.alloc(), &ORDERS)?, None);
+    Ok(())
+}
+
+#[test]
+fn a_clock_gives_whole_seconds(rt: HostRuntime) -> Result<(), Fail> {
+    assert_eq!(rt; first_otherwise(rt.alloc(), &CLOCKS)?, None);
+    Ok(())
+}
+
+#[test]
+fn a_random_source_gives_any_number(rt: HostRuntime) -> Result<(), Fail> {
+    assert_eq!(rt; first_otherwise(rt.alloc(), &RANDOM_SOURCES)?, None);
+    Ok(())
+}

@@ -1,0 +1,513 @@
+use crate::tests::devices::{BLANK, Part, Row};
+
+const READS: Row = Row {
+    words: &["run", "c.wy"],
+    files: &[(
+        "c.wy",
+        r#"program
+  grant console: Console
+  run: {console.In, console.Out}
+    console.write(console.read())
+    console.write(console.read())
+    console.write(console.read())
+"#,
+    )],
+    input: "a\nb",
+    report: "authority of main: console.In, console.Out
+  run: console.In, console.Out
+",
+    ..BLANK
+};
+
+/// A console gives its lines, and then empty texts.
+pub static CONSOLES: [Row; 2] = [
+    Row {
+        console: r#"deed console.read() = "a\n"
+deed console.write("a\n") = ()
+deed console.read() = "b"
+deed console.write("b") = ()
+deed console.read() = ""
+deed console.write("") = ()
+"#,
+        ..READS
+    },
+    Row {
+        failing: Some((Part::Console, 3)),
+        number: 9,
+        last: "console.read: failed\n",
+        console: r#"deed console.read() = "a\n"
+deed console.write("a\n") = ()
+deed console.read() = failed
+"#,
+        ..READS
+    },
+];
+
+const KEEPS: Row = Row {
+    words: &["run", "f.wy"],
+    files: &[(
+        "f.wy",
+        r#"program
+  grant disk: Folder
+  grant console: Console
+  run: {disk.Read, disk.Write, disk.Append, disk.List, console.Out}
+    disk.write("b", "1")
+    disk.append("a", "2")
+    disk.append("b", "3")
+    console.write(disk.names())
+    console.write(if disk.has("c") then "yes" else "no")
+    console.write(disk.read("b"))
+    disk.write("b", disk.read("c"))
+"#,
+    )],
+    report: "authority of main: disk.Read, disk.Write, disk.Append, disk.List, console.Out
+  run: disk.Read, disk.Write, disk.Append, disk.List, console.Out
+",
+    ..BLANK
+};
+
+/// A folder has the files of its grant: their names are in byte order, and a text that is not there is empty.
+pub static FOLDERS: [Row; 2] = [
+    Row {
+        before: &[("disk", "0.x-_", "9"), ("other", "c", "8")],
+        console: r#"deed console.write("0.x-_\na\nb\n") = ()
+deed console.write("no") = ()
+deed console.write("13") = ()
+"#,
+        folder: r#"deed disk.write("b", "1") = ()
+deed disk.append("a", "2") = ()
+deed disk.append("b", "3") = ()
+deed disk.names() = "0.x-_\na\nb\n"
+deed disk.has("c") = false
+deed disk.read("b") = "13"
+deed disk.read("c") = ""
+deed disk.write("b", "") = ()
+"#,
+        after: &[
+            ("disk", "0.x-_", "9"),
+            ("disk", "a", "2"),
+            ("disk", "b", ""),
+            ("other", "c", "8"),
+        ],
+        ..KEEPS
+    },
+    Row {
+        before: &[("disk", "c", "8"), ("disk", "b", "7")],
+        console: r#"deed console.write("a\nb\nc\n") = ()
+deed console.write("yes") = ()
+deed console.write("13") = ()
+"#,
+        folder: r#"deed disk.write("b", "1") = ()
+deed disk.append("a", "2") = ()
+deed disk.append("b", "3") = ()
+deed disk.names() = "a\nb\nc\n"
+deed disk.has("c") = true
+deed disk.read("b") = "13"
+deed disk.read("c") = "8"
+deed disk.write("b", "8") = ()
+"#,
+        after: &[("disk", "a", "2"), ("disk", "b", "8"), ("disk", "c", "8")],
+        ..KEEPS
+    },
+];
+
+const BAD_NAME: Row = Row {
+    words: &["run", "n.wy"],
+    number: 6,
+    ..BLANK
+};
+
+/// A name that is none traps before the folder is asked; the longest name is one.
+pub static NAMES: [Row; 7] = [
+    Row {
+        files: &[(
+            "n.wy",
+            r#"program
+  grant disk: Folder
+  run: {disk.Read}
+    val t = disk.read("../x")
+    ()
+"#,
+        )],
+        report: "authority of main: disk.Read\n  run: disk.Read\n",
+        last: "n.wy:4:18: trap: BadName\n",
+        ..BAD_NAME
+    },
+    Row {
+        files: &[(
+            "n.wy",
+            r#"program
+  grant disk: Folder
+  run: {disk.Read}
+    val t = disk.has("A")
+    ()
+"#,
+        )],
+        report: "authority of main: disk.Read\n  run: disk.Read\n",
+        last: "n.wy:4:18: trap: BadName\n",
+        ..BAD_NAME
+    },
+    Row {
+        files: &[(
+            "n.wy",
+            r#"program
+  grant disk: Folder
+  run: {disk.Write}
+    disk.write("", "t")
+"#,
+        )],
+        report: "authority of main: disk.Write\n  run: disk.Write\n",
+        last: "n.wy:4:10: trap: BadName\n",
+        ..BAD_NAME
+    },
+    Row {
+        files: &[(
+            "n.wy",
+            r#"program
+  grant disk: Folder
+  run: {disk.Append}
+    disk.append(".a", "t")
+"#,
+        )],
+        report: "authority of main: disk.Append\n  run: disk.Append\n",
+        last: "n.wy:4:10: trap: BadName\n",
+        ..BAD_NAME
+    },
+    Row {
+        files: &[(
+            "n.wy",
+            r#"program
+  grant disk: Folder
+  run: {disk.Append}
+    disk.append("a", "1")
+    disk.append("a b", "2")
+"#,
+        )],
+        report: "authority of main: disk.Append\n  run: disk.Append\n",
+        last: "n.wy:5:10: trap: BadName\n",
+        folder: "deed disk.append(\"a\", \"1\") = ()\n",
+        after: &[("disk", "a", "1")],
+        ..BAD_NAME
+    },
+    Row {
+        files: &[(
+            "n.wy",
+            r#"program
+  grant disk: Folder
+  run: {disk.Write}
+    disk.write("aaaaaaaaaaaaaaaaaaaaaaaaaaaaaaaaaaaaaaaaaaaaaaaaaaaaaaaaaaaaaaaaa", "t")
+"#,
+        )],
+        report: "authority of main: disk.Write\n  run: disk.Write\n",
+        last: "n.wy:4:10: trap: BadName\n",
+        ..BAD_NAME
+    },
+    Row {
+        words: &["run", "n.wy"],
+        files: &[(
+            "n.wy",
+            r#"program
+  grant disk: Folder
+  run: {disk.Write}
+    disk.write("aaaaaaaaaaaaaaaaaaaaaaaaaaaaaaaaaaaaaaaaaaaaaaaaaaaaaaaaaaaaaaaa", "t")
+"#,
+        )],
+        report: "authority of main: disk.Write\n  run: disk.Write\n",
+        folder: "deed disk.write(\"aaaaaaaaaaaaaaaaaaaaaaaaaaaaaaaaaaaaaaaaaaaaaaaaaaaaaaaaaaaaaaaa\", \"t\") = ()\n",
+        after: &[(
+            "disk",
+            "aaaaaaaaaaaaaaaaaaaaaaaaaaaaaaaaaaaaaaaaaaaaaaaaaaaaaaaaaaaaaaaa",
+            "t",
+        )],
+        ..BLANK
+    },
+];
+
+pub const ORDERED: Row = Row {
+    words: &["run", "ord.wy"],
+    files: &[(
+        "ord.wy",
+        r#"type Out
+  effect E
+  def put(n: Int): {E} Unit
+type Get
+  effect E
+  def get(): {E} Out[E = {E}]
+resource module get(c: Console): Get
+  effect E = {c.Out}
+  def get(): {E} Out[E = {E}]
+    c.write("1")
+    new
+      def put(n: Int): {E} Unit = c.write(text_show(n))
+program
+  grant console: Console
+  grant clock: Clock
+  instance g = get(console)
+  run: {g.E, clock.Tick}
+    g.get().put(clock.now())
+"#,
+    )],
+    time: 7,
+    report: "authority of g: console.Out
+  init: -
+  get: console.Out
+  new1.put: console.Out
+authority of main: console.Out, clock.Tick
+  run: console.Out, clock.Tick
+",
+    ..BLANK
+};
+
+/// The receiver of a call comes before its argument, and both before the call.
+pub static ORDERS: [Row; 3] = [
+    Row {
+        console: r#"deed console.write("1") = ()
+deed console.write("7") = ()
+"#,
+        clock: "deed clock.now() = 7\n",
+        ..ORDERED
+    },
+    Row {
+        failing: Some((Part::Console, 1)),
+        number: 9,
+        last: "console.write: failed\n",
+        console: "deed console.write(\"1\") = failed\n",
+        ..ORDERED
+    },
+    Row {
+        failing: Some((Part::Clock, 1)),
+        number: 9,
+        last: "clock.now: failed\n",
+        console: "deed console.write(\"1\") = ()\n",
+        clock: "deed clock.now() = failed\n",
+        ..ORDERED
+    },
+];
+
+const TWO_CLOCKS: Row = Row {
+    words: &["run", "c.wy"],
+    files: &[(
+        "c.wy",
+        r#"program
+  grant a: Clock
+  grant b: Clock
+  grant console: Console
+  run: {a.Tick, b.Tick, console.Out}
+    val first = a.now()
+    val second = b.now()
+    console.write(text_show(second - first))
+"#,
+    )],
+    time: 1000,
+    report: "authority of main: a.Tick, b.Tick, console.Out
+  run: a.Tick, b.Tick, console.Out
+",
+    ..BLANK
+};
+
+const STAMP: &str = r#"type Stamp
+  effect E
+  def since(): {E} Int
+resource module stamp(c: Clock): Stamp
+  effect E = {c.Tick}
+  init: {c.Tick}
+  val start: Int = c.now()
+  def since(): {E} Int = c.now() - start
+"#;
+
+/// A clock gives its start and a second for each earlier call, up to the greatest Int, to all grants and instances that ask
+/// it; and where a clock is asked for, another object may stand.
+pub static CLOCKS: [Row; 7] = [
+    Row {
+        console: "deed console.write(\"1\") = ()\n",
+        clock: "deed a.now() = 1000\ndeed b.now() = 1001\n",
+        ..TWO_CLOCKS
+    },
+    Row {
+        time: -1,
+        console: "deed console.write(\"1\") = ()\n",
+        clock: "deed a.now() = -1\ndeed b.now() = 0\n",
+        ..TWO_CLOCKS
+    },
+    Row {
+        time: i64::MAX,
+        console: "deed console.write(\"0\") = ()\n",
+        clock: "deed a.now() = 9223372036854775807\ndeed b.now() = 9223372036854775807\n",
+        ..TWO_CLOCKS
+    },
+    Row {
+        failing: Some((Part::Clock, 2)),
+        number: 9,
+        last: "b.now: failed\n",
+        clock: "deed a.now() = 1000\ndeed b.now() = failed\n",
+        ..TWO_CLOCKS
+    },
+    Row {
+        words: &["run", "stamp.wy", "s.wy"],
+        files: &[
+            ("stamp.wy", STAMP),
+            (
+                "s.wy",
+                r#"program
+  grant clock: Clock
+  grant console: Console
+  instance s = stamp(clock)
+  run: {s.E, console.Out}
+    console.write(text_show(s.since()))
+"#,
+            ),
+        ],
+        time: 40,
+        report: "authority of s: clock.Tick
+  init: clock.Tick
+  since: clock.Tick
+authority of main: clock.Tick, console.Out
+  run: clock.Tick, console.Out
+",
+        console: "deed console.write(\"1\") = ()\n",
+        clock: "deed clock.now() = 40\ndeed clock.now() = 41\n",
+        ..BLANK
+    },
+    Row {
+        words: &["run", "stamp.wy", "s.wy"],
+        files: &[
+            ("stamp.wy", STAMP),
+            (
+                "s.wy",
+                r#"module fixed: Clock
+  effect Tick = {}
+  def now(): {Tick} Int = 7
+program
+  grant console: Console
+  use fixed
+  instance s = stamp(fixed)
+  run: {s.E, console.Out}
+    console.write(text_show(s.since()))
+"#,
+            ),
+        ],
+        report: "authority of pure fixed: -
+  init: -
+  now: -
+authority of s: -
+  init: -
+  since: -
+authority of main: console.Out
+  run: console.Out
+",
+        console: "deed console.write(\"0\") = ()\n",
+        ..BLANK
+    },
+    Row {
+        words: &["run", "c.wy"],
+        files: &[(
+            "c.wy",
+            r#"program
+  grant clock: Clock
+  run: {}
+    val t = clock.now()
+    ()
+"#,
+        )],
+        number: 4,
+        last: "c.wy:3:3: refused: T-Body premise 2 lacks clock.Tick\n",
+        ..BLANK
+    },
+];
+
+const DRAWS: Row = Row {
+    words: &["run", "d.wy"],
+    files: &[(
+        "d.wy",
+        r#"program
+  grant dice: Random
+  grant console: Console
+  run: {dice.Draw, console.Out}
+    console.write(text_show(dice.word()))
+    console.write(text_show(dice.word()))
+    console.write(text_show(dice.word()))
+"#,
+    )],
+    numbers: &[3, i64::MIN],
+    report: "authority of main: dice.Draw, console.Out
+  run: dice.Draw, console.Out
+",
+    console: r#"deed console.write("3") = ()
+deed console.write("-9223372036854775808") = ()
+deed console.write("3") = ()
+"#,
+    random: "deed dice.word() = 3
+deed dice.word() = -9223372036854775808
+deed dice.word() = 3
+",
+    ..BLANK
+};
+
+const QUOTIENT: Row = Row {
+    words: &["run", "q.wy"],
+    files: &[(
+        "q.wy",
+        r#"program
+  grant dice: Random
+  run: {dice.Draw}
+    val q = dice.word() / dice.word()
+    ()
+"#,
+    )],
+    number: 6,
+    report: "authority of main: dice.Draw\n  run: dice.Draw\n",
+    ..BLANK
+};
+
+/// A random source gives any Int, at no cost of depth; what its numbers trap, traps after both were drawn.
+pub static RANDOM_SOURCES: [Row; 7] = [
+    DRAWS,
+    Row {
+        words: &["run", "--depth", "0", "d.wy"],
+        ..DRAWS
+    },
+    Row {
+        numbers: &[],
+        console: r#"deed console.write("0") = ()
+deed console.write("0") = ()
+deed console.write("0") = ()
+"#,
+        random: "deed dice.word() = 0\ndeed dice.word() = 0\ndeed dice.word() = 0\n",
+        ..DRAWS
+    },
+    Row {
+        failing: Some((Part::Random, 2)),
+        number: 9,
+        last: "dice.word: failed\n",
+        console: "deed console.write(\"3\") = ()\n",
+        random: "deed dice.word() = 3\ndeed dice.word() = failed\n",
+        ..DRAWS
+    },
+    Row {
+        numbers: &[1, 0],
+        last: "q.wy:4:25: trap: ZeroDivisor\n",
+        random: "deed dice.word() = 1\ndeed dice.word() = 0\n",
+        ..QUOTIENT
+    },
+    Row {
+        numbers: &[i64::MIN, -1],
+        last: "q.wy:4:25: trap: Overflow\n",
+        random: "deed dice.word() = -9223372036854775808\ndeed dice.word() = -1\n",
+        ..QUOTIENT
+    },
+    Row {
+        words: &["run", "d.wy"],
+        files: &[(
+            "d.wy",
+            r#"program
+  grant dice: Random
+  run: {}
+    val n = dice.word()
+    ()
+"#,
+        )],
+        number: 4,
+        last: "d.wy:3:3: refused: T-Body premise 2 lacks dice.Draw\n",
+        ..BLANK
+    },
+];

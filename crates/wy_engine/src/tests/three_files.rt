@@ -1,0 +1,15 @@
+use crate::tests::devices::first_otherwise;
+use crate::tests::three_files_table::{FAILING, RUNS};
+use std::test::Fail;
+
+#[test]
+fn three_files_are_one_program(rt: HostRuntime) -> Result<(), Fail> {
+    assert_eq!(rt; first_otherwise(rt.alloc(), &RUNS)?, None);
+    Ok(())
+}
+
+#[test]
+fn a_call_on_the_outside_that_fails_ends_the_run(rt: HostRuntime) -> Result<(), Fail> {
+    assert_eq!(rt; first_otherwise(rt.alloc(), &FAILING)?, None);
+    Ok(())
+}
