@@ -1,5 +1,6 @@
 //! Calls over a console, a folder, a clock and a random source in memory, with what each of them did.
 
+ghost use Rattle.std.specs.Prelude.{◌≡◌, IfOk};
 ghost use Rattle.wy_device.specs.Devices.{IsInOrder};
 ghost use Rattle.wy_machine.specs.Devices.{states};
 
@@ -10,12 +11,12 @@ use std::alloc::Global;
 use std::test::Fail;
 use wy_device::deed::{Deed, DeedList, Event};
 use wy_device::device::Device;
-use wy_device::folder_files::FolderFile;
+use wy_device::folder_files::{FolderFile, FolderList};
 use wy_device::handed::Handed;
 use wy_device::mem_clock::MemClock;
 use wy_device::mem_console::MemConsole;
 use wy_device::mem_folder::MemFolder;
-use wy_device::mem_random::MemRandom;
+use wy_device::mem_random::{MemRandom, NumberList};
 use wy_device::operation::{Answer, Kind, Op};
 use wy_machine::devices::Devices;
 use wy_meaning::event_lines::event_line;
@@ -106,13 +107,17 @@ fn shelf_of(alloc: Global, row: &Row) -> Result<MemShelf, Memory> {
 }
 
 /// The console of a row.
-fn console_of(alloc: Global, row: &Row) -> Result<MemConsole, Memory> {
+fn console_of(alloc: Global, row: &Row) -> Result<Handed, Fail>
+    ensures { IfOk result (λ device. (⟦<Handed as Device>⟧.state device).kind ≡ Kind.Console) }
+{
     let input = from_bytes(alloc, row.input.as_bytes())?;
-    MemConsole::new(alloc, input, fails_of(alloc, row, Part::Console)?)
+    let console = MemConsole::new(alloc, input, fails_of(alloc, row, Part::Console)?)?;
+    let console: Box<dyn Device> = Box::new(alloc, console)?;
+    Ok(Handed::new(console))
 }
 
-/// The folder of a row, before the call.
-fn folder_of(alloc: Global, row: &Row) -> Result<MemFolder, Memory> {
+/// The files of a row's folder, before the call.
+fn files_of(alloc: Global, row: &Row) -> Result<FolderList, Memory> {
     let mut list = Items::new(alloc);
     for (grant, name, text) in row.before {
         let grant = from_bytes(alloc, grant.as_bytes())?;
@@ -120,21 +125,45 @@ fn folder_of(alloc: Global, row: &Row) -> Result<MemFolder, Memory> {
         let text = from_bytes(alloc, text.as_bytes())?;
         list.push(FolderFile { grant, name, text })?;
     }
-    MemFolder::new(alloc, list, fails_of(alloc, row, Part::Folder)?)
+    Ok(list)
+}
+
+/// The folder of a row, before the call.
+fn folder_of(alloc: Global, row: &Row) -> Result<Handed, Fail>
+    ensures { IfOk result (λ device. (⟦<Handed as Device>⟧.state device).kind ≡ Kind.Folder) }
+{
+    let files = files_of(alloc, row)?;
+    let folder = MemFolder::new(alloc, files, fails_of(alloc, row, Part::Folder)?)?;
+    let folder: Box<dyn Device> = Box::new(alloc, folder)?;
+    Ok(Handed::new(folder))
 }
 
 /// The clock of a row.
-fn clock_of(alloc: Global, row: &Row) -> Result<MemClock, Memory> {
-    MemClock::new(alloc, row.time, fails_of(alloc, row, Part::Clock)?)
+fn clock_of(alloc: Global, row: &Row) -> Result<Handed, Fail>
+    ensures { IfOk result (λ device. (⟦<Handed as Device>⟧.state device).kind ≡ Kind.Clock) }
+{
+    let clock = MemClock::new(alloc, row.time, fails_of(alloc, row, Part::Clock)?)?;
+    let clock: Box<dyn Device> = Box::new(alloc, clock)?;
+    Ok(Handed::new(clock))
 }
 
-/// The random source of a row.
-fn random_of(alloc: Global, row: &Row) -> Result<MemRandom, Memory> {
+/// The numbers of a row's random source.
+fn numbers_of(alloc: Global, row: &Row) -> Result<NumberList, Memory> {
     let mut list = Items::new(alloc);
     for number in row.numbers {
         list.push(*number)?;
     }
-    MemRandom::new(alloc, list, fails_of(alloc, row, Part::Random)?)
+    Ok(list)
+}
+
+/// The random source of a row.
+fn random_of(alloc: Global, row: &Row) -> Result<Handed, Fail>
+    ensures { IfOk result (λ device. (⟦<Handed as Device>⟧.state device).kind ≡ Kind.Random) }
+{
+    let numbers = numbers_of(alloc, row)?;
+    let random = MemRandom::new(alloc, numbers, fails_of(alloc, row, Part::Random)?)?;
+    let random: Box<dyn Device> = Box::new(alloc, random)?;
+    Ok(Handed::new(random))
 }
 
 fn copied(deed: &Deed) -> Result<Deed, Memory> {
@@ -240,15 +269,11 @@ fn comes_over<D: Device>(alloc: Global, row: &Row, devices: Devices<D>) -> Resul
 
 /// Whether what the row says comes of its call.
 fn comes_so(alloc: Global, row: &Row) -> Result<bool, Fail> {
-    let console: Box<dyn Device> = Box::new(alloc, console_of(alloc, row)?)?;
-    let folder: Box<dyn Device> = Box::new(alloc, folder_of(alloc, row)?)?;
-    let clock: Box<dyn Device> = Box::new(alloc, clock_of(alloc, row)?)?;
-    let random: Box<dyn Device> = Box::new(alloc, random_of(alloc, row)?)?;
     let all = devices(
-        Handed::new(console),
-        Handed::new(folder),
-        Handed::new(clock),
-        Handed::new(random),
+        console_of(alloc, row)?,
+        folder_of(alloc, row)?,
+        clock_of(alloc, row)?,
+        random_of(alloc, row)?,
     );
     comes_over(alloc, row, all)
 }
