@@ -1,5 +1,5 @@
 -- What was done with texts, by what was done with their trees.
-use Rattle.std.proofs.Common.{◌≡◌, ◌≢◌, ◌⊎◌, inl, inr, ℕ, suc, List, [], ◌∷◌, Some, None, Bool, true, false, refl, sym, ap, subst, length}
+use Rattle.std.proofs.Common.{◌≡◌, ◌≢◌, ◌⊎◌, inl, inr, ℕ, suc, List, [], ◌∷◌, Some, None, refl, sym, ap, subst, length}
 use Rattle.wy_text.specs.Outside.{SinkState}
 use Rattle.wy_text.specs.declared.limit.LimitName.{LimitName}
 use Rattle.wy_device.specs.Devices.{DevicesState}
@@ -12,13 +12,16 @@ use Rattle.wy_rules.specs.Ends as ends
 use Rattle.wy_judge.specs.Checking.{IsAccepted, IsRefusalOf}
 use Rattle.wy_judge.specs.declared.checking.CheckRefusal.{CheckRefusal}
 use Rattle.wy_judge.specs.declared.checking.CheckRefusal.TheVariants as refusal
-use Rattle.wy_engine.specs.Answering.{Answered, ChecksTrees, FailsCheck, RunsAccepted, RunsTrees, Wrote, accepted, accepted_trees, check_status, checked, declined, fails, fails_check, formatted, limited, nameless, not_accepted, ran, ran_program, reported, wanting}
+use Rattle.wy_engine.specs.Answering.{Answered, ChecksTrees, FailsCheck, RunsAccepted, RunsTrees, accepted, accepted_trees, check_status, checked, declined, fails, fails_check, formatted, limited, nameless, not_accepted, ran, ran_program, reported, wanting}
 use Rattle.wy_engine.specs.FileTrees.{FirstNoTree, HaveTrees}
-use Rattle.wy_engine.specs.Judgement.{Passes, Stops, accepted_text, authority_text, running}
+use Rattle.wy_engine.specs.Judgement.{IsNumbered, Passes, RunsPrograms, Stops, accepted_text, authority_text, running}
 use Rattle.wy_engine.specs.NameFaults.{ResolveTo}
-use Rattle.wy_engine.specs.Settings.{Settings}
-use Rattle.wy_engine.specs.declared.settings.Command.{Command}
-use Rattle.wy_engine.specs.declared.settings.Command.TheVariants as command
+use Rattle.wy_engine.specs.Writing.{Wrote}
+use Rattle.wy_settings.specs.Settings.{Settings}
+use Rattle.wy_settings.specs.declared.command_line.Command.{Command}
+use Rattle.wy_settings.specs.declared.command_line.Command.TheVariants as command
+use Rattle.wy_engine.specs.declared.running.Mode.{Mode}
+use Rattle.wy_engine.specs.declared.running.Mode.TheVariants as mode
 use Rattle.wy_engine.specs.declared.status.Status.{Status}
 use Rattle.wy_engine.specs.declared.status.Status.TheVariants as status
 use Rattle.wy_engine.proofs.NamesJudged.{JudgesNames, names_stop}
@@ -66,26 +69,31 @@ pub passes_check : (texts : List (List ℕ)) (trees : List (List ItemTree)) (pro
     → Passes texts program
 passes_check texts trees program have resolves passes = record { read = resolve_to texts trees program have resolves; accepted = passes }
 
-did_accepted : (asked : Settings) (texts : List (List ℕ)) (traced : Bool) (program : Program) (out out' report report' : SinkState) (devices devices' : DevicesState) (end : Status)
-    → asked.command ≡ running traced → Passes texts program → RunsAccepted traced program asked.depth asked.steps out out' report report' devices devices' end
+did_accepted : (asked : Settings) (texts : List (List ℕ)) (way : Mode) (program : Program) (out out' report report' : SinkState) (devices devices' : DevicesState) (end : Status)
+    → asked.command ≡ running way → IsNumbered way asked.files → Passes texts program → RunsAccepted way program asked.depth asked.steps out out' report report' devices devices' end
     → Answered asked texts out out' report report' devices devices' end
-did_accepted asked texts traced program out out' report report' devices devices' end run passes (limited name passed is o r d) =
+did_accepted asked texts way program out out' report report' devices devices' end run number passes (limited name passed is o r d) =
     declined (inr (subst (λ (s : Status). Stops asked.command texts s) (sym is)
-    (stops_lowered asked.command texts name (runs_programs asked.command traced run) (record { program = program; passes = passes; passed = passed })))) o r d
-did_accepted asked texts traced program out out' report report' devices devices' end run passes (wanting is o r d) = declined (inl is) o r d
-did_accepted asked texts traced program out out' report report' devices devices' end run passes (ran_program within so) = ran program traced run (record { passes = passes; within = within }) so
+    (stops_lowered asked.command texts name (runs_programs asked.command way run) (record { program = program; passes = passes; passed = passed })))) o r d
+did_accepted asked texts way program out out' report report' devices devices' end run number passes (wanting is o r d) = declined (inl is) o r d
+did_accepted asked texts way program out out' report report' devices devices' end run number passes (ran_program within so) = ran program way run number (record { passes = passes; within = within }) so
 
-judges_run : (traced : Bool) → JudgesNames (running traced)
-judges_run false = tt
-judges_run true = tt
+judges_run : (way : Mode) → JudgesNames (running way)
+judges_run mode.Silent = tt
+judges_run mode.Traced = tt
+judges_run (mode.Summed number) = tt
 
-pub did_run : (asked : Settings) (texts : List (List ℕ)) (traced : Bool) (trees : List (List ItemTree)) (out out' report report' : SinkState) (devices devices' : DevicesState) (end : Status)
-    → asked.command ≡ running traced → HaveTrees 1 texts trees → RunsTrees traced trees asked.depth asked.steps out out' report report' devices devices' end
+-- a command that is one which runs programs
+pub runs_as : {asked named : Command} → asked ≡ named → RunsPrograms named → RunsPrograms asked
+runs_as is runs = subst (λ (c : Command). RunsPrograms c) (sym is) runs
+
+pub did_run : (asked : Settings) (texts : List (List ℕ)) (way : Mode) (trees : List (List ItemTree)) (out out' report report' : SinkState) (devices devices' : DevicesState) (end : Status)
+    → asked.command ≡ running way → IsNumbered way asked.files → HaveTrees 1 texts trees → RunsTrees way trees asked.depth asked.steps out out' report report' devices devices' end
     → Answered asked texts out out' report report' devices devices' end
-did_run asked texts traced trees out out' report report' devices devices' end run have (fails_check why o r d) =
-    declined (failed_check asked.command texts trees end (judges_as asked.command (running traced) run (judges_run traced)) have why) o r d
-did_run asked texts traced trees out out' report report' devices devices' end run have (accepted_trees program resolves passes so) =
-    did_accepted asked texts traced program out out' report report' devices devices' end run (passes_check texts trees program have resolves passes) so
+did_run asked texts way trees out out' report report' devices devices' end run number have (fails_check why o r d) =
+    declined (failed_check asked.command texts trees end (judges_as asked.command (running way) run (judges_run way)) have why) o r d
+did_run asked texts way trees out out' report report' devices devices' end run number have (accepted_trees program resolves passes so) =
+    did_accepted asked texts way program out out' report report' devices devices' end run number (passes_check texts trees program have resolves passes) so
 
 pub did_check : (asked : Settings) (texts : List (List ℕ)) (trees : List (List ItemTree)) (out out' report : SinkState) (devices : DevicesState) (end : Status)
     → asked.command ≡ command.Check → HaveTrees 1 texts trees → ChecksTrees (λ (program : Program). accepted_text) trees out out' end → Answered asked texts out out' report report devices devices end

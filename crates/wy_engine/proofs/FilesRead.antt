@@ -1,55 +1,108 @@
 -- Which files a call read, and what the texts of its files are.
-use Rattle.std.proofs.Common.{◌≡◌, ◌≢◌, ◌≤◌, ℕ, List, [], Some, None, false, refl, sym, ◌∙◌, ap, subst, arith, length, map, take}
+use Rattle.std.proofs.Common.{◌≡◌, ◌≢◌, ◌≤◌, inl, inr, ℕ, List, [], ◌∷◌, Option, Some, None, true, false, refl, sym, ◌∙◌, ap, subst, arith, length, take, is_some}
+use Rattle.std.specs.Option.{option_map}
 use Rattle.std.proofs.lemmas.List.{append-nil}
 use Rattle.std.proofs.Math.Seq.{take-length}
 use Rattle.wy_text.specs.Outside.{gained, Rose}
+use Rattle.wy_text.specs.Shelf.{ShelfState}
 use Rattle.wy_text.specs.declared.limit.LimitName.TheVariants as limit
 use Rattle.wy_engine.specs.Reading.{GivesFiles, ReadsWell}
-use Rattle.wy_engine.specs.Settings.{Settings}
-use Rattle.wy_engine.specs.TopCall.{IsGiven, IsSet, ReadsFiles, ReadsInOrder, TopCall, most_files, reads_of, texts_of}
-use Rattle.wy_engine.specs.declared.settings.Command.{Command}
+use Rattle.wy_sample.specs.Sample.{sample_text}
+use Rattle.wy_settings.specs.Settings.{Settings, sample_number, takes}
+use Rattle.wy_engine.specs.TopCall.{HasTexts, IsGiven, IsSet, ReadsFiles, ReadsFor, ReadsInOrder, TellsTexts, TopCall, most_files, reads_of, sampled, takes_files}
+use Rattle.wy_settings.specs.declared.command_line.Command.{Command}
+use Rattle.wy_settings.specs.declared.command_line.Command.TheVariants as command
 use Rattle.wy_engine.specs.declared.status.Status.TheVariants as status
-use Rattle.wy_engine.proofs.Givens.{cut, cut_texts}
+use Rattle.wy_engine.proofs.Givens.{IsTextOf, cut_texts}
 use Rattle.wy_engine.proofs.Statuses.{IsPastReading}
 
-same_settings : (call : TopCall) (one other : Settings) → IsSet call one → IsSet call other → one ≡ other
+pub same_settings : (call : TopCall) (one other : Settings) → IsSet call one → IsSet call other → one ≡ other
 same_settings call one other a b = let e : Some one ≡ Some other = sym a ∙ b in cc
 
 pub reads_by : (call : TopCall) (settings : Settings) → IsSet call settings → length settings.files ≤ most_files → call.status ≢ status.Usage → call.status ≢ status.Limit limit.Files
-    → ReadsInOrder call settings.files → ((file : ℕ) → call.status ≡ status.Unread file → Rose call.shelf.faults call.shelf_after.faults) → ReadsFiles call
+    → ReadsFor settings.command call settings.files → ((file : ℕ) → call.status ≡ status.Unread file → Rose call.shelf.faults call.shelf_after.faults) → ReadsFiles call
 reads_by call settings set few some uncrowded order counted = record {
   usage = λ is. absurd (some is);
   faulty = λ none. let q : Some settings ≡ None = sym set ∙ none in absurd (cc);
   crowd = λ is. absurd (uncrowded is);
   crowded = λ other same many. let h : length other.files ≤ most_files = subst (λ (s : Settings). length s.files ≤ most_files) (same_settings call settings other set same) few in absurd (omega arith);
-  reads = λ other same small. subst (λ (s : Settings). ReadsInOrder call s.files) (same_settings call settings other set same) order;
+  reads = λ other same small. subst (λ (s : Settings). ReadsFor s.command call s.files) (same_settings call settings other set same) order;
   counted = counted;
 }
 
--- all files were read
+pub is_sample : (asked : Command) → takes_files asked ≡ false → asked ≡ command.Sample
+is_sample command.Check none = absurd (cc)
+is_sample command.Authority none = absurd (cc)
+is_sample command.Run none = absurd (cc)
+is_sample command.Trace none = absurd (cc)
+is_sample command.Sample none = refl
+is_sample command.Format none = absurd (cc)
+
+pub reads_for : (asked : Command) (call : TopCall) (names : List (List ℕ)) → takes_files asked ≡ true → ReadsInOrder call names → ReadsFor asked call names
+reads_for command.Check call names takes order = order
+reads_for command.Authority call names takes order = order
+reads_for command.Run call names takes order = order
+reads_for command.Trace call names takes order = order
+reads_for command.Sample call names takes order = absurd (cc)
+reads_for command.Format call names takes order = order
+
+tells_of : (asked : Command) (shelf : ShelfState) (names texts : List (List ℕ)) → takes_files asked ≡ true → HasTexts asked shelf names texts → TellsTexts shelf names texts
+tells_of command.Check shelf names texts takes has = has
+tells_of command.Authority shelf names texts takes has = has
+tells_of command.Run shelf names texts takes has = has
+tells_of command.Trace shelf names texts takes has = has
+tells_of command.Sample shelf names texts takes has = absurd (cc)
+tells_of command.Format shelf names texts takes has = has
+
+-- the text that the number of a sample makes
+pub record SampleMade (names : List (List ℕ)) : Type 0 where
+  pub texts : List (List ℕ)
+  pub is : sampled names ≡ Some texts
+
+pub sample_made : (asked : Command) (names : List (List ℕ)) → asked ≡ command.Sample → takes asked names ≡ true → SampleMade names
+sample_made asked names sample fits = by (sample_number names) refl (subst (λ (c : Command). takes c names ≡ true) sample fits)
+  where
+    by : (o : Option ℕ) → sample_number names ≡ o → is_some {T = ℕ} (sample_number names) ≡ true → SampleMade names
+    by None is some = let q : is_some {T = ℕ} None ≡ true = sym (ap (λ (o : Option ℕ). is_some o) is) ∙ some in absurd (cc)
+    by (Some n) is some = record { texts = sample_text n ∷ []; is = ap (option_map (λ number. sample_text number ∷ [])) is }
+
+-- how the texts of a call came: they were read, or the number of a sample made them
+pub data Came (call : TopCall) (settings : Settings) (read : List (List ℕ)) : Type 0 where
+  read_well : takes_files settings.command ≡ true → ReadsWell settings.files (length settings.files) call.shelf call.shelf_after read → Came call settings read
+  made : settings.command ≡ command.Sample → call.shelf_after ≡ call.shelf → sampled settings.files ≡ Some read → Came call settings read
+
+-- all texts came
 pub reads_all : (call : TopCall) (settings : Settings) (texts : List (List ℕ)) → IsSet call settings → length settings.files ≤ most_files
-    → ReadsWell settings.files (length settings.files) call.shelf call.shelf_after texts → IsPastReading call.status → ReadsFiles call
-reads_all call settings texts set few so past = reads_by call settings set few past.usage past.crowd (record {
+    → Came call settings texts → IsPastReading call.status → ReadsFiles call
+reads_all call settings texts set few (read_well takes so) past = reads_by call settings set few past.usage past.crowd (reads_for settings.command call settings.files takes (record {
   well = length settings.files;
   badly = [];
   reads = so.reads ∙ ap (λ x. gained call.shelf.reads x) (sym (append-nil (reads_of false (take (length settings.files) settings.files))));
   unread = λ file is. absurd (past.unread file is);
   others = λ none. refl;
   all = λ full none. refl;
-}) (λ file is. absurd (past.unread file is))
+})) (λ file is. absurd (past.unread file is))
+reads_all call settings texts set few (made asked shelf is) past = reads_by call settings set few past.usage past.crowd
+    (subst (λ (c : Command). ReadsFor c call settings.files) (sym asked) (record { shelf = shelf; unread = past.unread }))
+    (λ file is. absurd (past.unread file is))
 
--- the texts of a call, and those that were read
+-- the texts of a call, and those that came
 pub record IsRead (asked other : Command) (read texts : List (List ℕ)) : Type 0 where
   pub same : asked ≡ other
-  pub cuts : read ≡ map cut texts
+  pub came : IsTextOf read texts
 
-pub given_read : (call : TopCall) (settings : Settings) (read : List (List ℕ)) (other : Command) (texts : List (List ℕ)) → IsSet call settings
-    → ReadsWell settings.files (length settings.files) call.shelf call.shelf_after read → IsGiven call other texts → IsRead settings.command other read texts
-given_read call settings read other texts set so given =
+pub given_came : (call : TopCall) (settings : Settings) (read : List (List ℕ)) (other : Command) (texts : List (List ℕ)) → IsSet call settings
+    → Came call settings read → IsGiven call other texts → IsRead settings.command other read texts
+given_came call settings read other texts set came given =
     let e : settings ≡ given.settings = same_settings call settings given.settings set given.set in
-    let names : settings.files ≡ given.settings.files = ap (λ (s : Settings). s.files) e in
-    record {
-      same = ap (λ (s : Settings). s.command) e ∙ given.is;
-      cuts = cut_texts call.shelf given.files settings.files read texts given.told (subst (λ x. GivesFiles call.shelf x read) (take-length settings.files) so.gives)
-          (subst (λ x. texts_of given.files x ≡ Some texts) (sym names) given.found);
-    }
+    let has : HasTexts settings.command call.shelf settings.files texts = subst (λ (s : Settings). HasTexts s.command call.shelf s.files texts) (sym e) given.texts_are in
+    record { same = ap (λ (s : Settings). s.command) e ∙ given.is; came = by came has }
+  where
+    by : Came call settings read → HasTexts settings.command call.shelf settings.files texts → IsTextOf read texts
+    by (read_well takes so) has =
+        let told : TellsTexts call.shelf settings.files texts = tells_of settings.command call.shelf settings.files texts takes has in
+        inl (cut_texts call.shelf told.files settings.files read texts told.told (subst (λ x. GivesFiles call.shelf x read) (take-length settings.files) so.gives) told.found)
+    by (made asked shelf is) has =
+        let there : sampled settings.files ≡ Some texts = subst (λ (c : Command). HasTexts c call.shelf settings.files texts) asked has in
+        let same : Some read ≡ Some texts = sym is ∙ there in
+        inr (cc)

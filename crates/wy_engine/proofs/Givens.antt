@@ -1,6 +1,6 @@
 -- The texts that a shelf tells, and those that were read from it: reading no more than one byte past the limit on a
 -- file's bytes changes nothing of what the texts say.
-use Rattle.std.proofs.Common.{◌≡◌, inl, inr, ◌<◌, ◌≤◌, ℕ, suc, List, [], ◌∷◌, Option, Some, None, refl, sym, ap, subst, arith, length, take, map, min, ◌+◌}
+use Rattle.std.proofs.Common.{◌≡◌, ◌⊎◌, inl, inr, ◌<◌, ◌≤◌, ℕ, suc, List, [], ◌∷◌, Option, Some, None, refl, sym, ap, subst, arith, length, take, map, min, ◌+◌}
 use Rattle.std.specs.Option.{option_and_then, option_map}
 use Rattle.std.proofs.lemmas.List.{length-take, take_all}
 use Rattle.wy_text.specs.Shelf.{GivesFile, ShelfState, file_named}
@@ -14,9 +14,10 @@ use Rattle.wy_engine.specs.Judgement.{Passes, Runnable, Stops}
 use Rattle.wy_engine.specs.NameFaults.{NamesStop, ResolveTo}
 use Rattle.wy_engine.specs.Reading.{GivesFiles}
 use Rattle.wy_engine.specs.TopCall.{texts_of}
-use Rattle.wy_engine.specs.declared.settings.Command.{Command}
-use Rattle.wy_engine.specs.declared.settings.Command.TheVariants as command
+use Rattle.wy_settings.specs.declared.command_line.Command.{Command}
+use Rattle.wy_settings.specs.declared.command_line.Command.TheVariants as command
 use Rattle.wy_engine.specs.declared.status.Status.{Status}
+use Rattle.wy_engine.specs.declared.status.Status.TheVariants as status
 use Rattle.wy_engine.proofs.OneAnswer.{StopsBy, not_accepted, not_lowered, stops_by, stops_of, treeless, unresolved}
 use Rattle.wy_engine.proofs.OneTree.{IsWhy, Why, large, none_of, reason_of, unexpected, wrong}
 
@@ -105,10 +106,10 @@ names_of_cut texts end stop = record { trees = stop.trees; have = trees_of_cut 1
 core_of_cut : (texts : List (List ℕ)) (program : Program) → ResolveTo (map cut texts) program → ResolveTo texts program
 core_of_cut texts program read = record { trees = read.trees; have = trees_of_cut 1 texts read.trees read.have; resolves = read.resolves }
 
-pub passes_of_cut : (texts : List (List ℕ)) (program : Program) → Passes (map cut texts) program → Passes texts program
+passes_of_cut : (texts : List (List ℕ)) (program : Program) → Passes (map cut texts) program → Passes texts program
 passes_of_cut texts program is = record { read = core_of_cut texts program is.read; accepted = is.accepted }
 
-pub runnable_of_cut : (texts : List (List ℕ)) (program : Program) → Runnable (map cut texts) program → Runnable texts program
+runnable_of_cut : (texts : List (List ℕ)) (program : Program) → Runnable (map cut texts) program → Runnable texts program
 runnable_of_cut texts program is = record { passes = passes_of_cut texts program is.passes; within = is.within }
 
 stop_of_cut : (asked : Command) (texts : List (List ℕ)) (end : Status) → StopsBy asked (map cut texts) end → StopsBy asked texts end
@@ -117,8 +118,32 @@ stop_of_cut asked texts end (unresolved judges stop full) = unresolved judges (n
 stop_of_cut asked texts end (not_accepted judges why is named) = not_accepted judges why (record { program = is.program; read = core_of_cut texts is.program is.read; ends = is.ends }) named
 stop_of_cut asked texts end (not_lowered run name is named) = not_lowered run name (record { program = is.program; passes = passes_of_cut texts is.program is.passes; passed = is.passed }) named
 
-pub stops_of_cut : (asked : Command) (texts : List (List ℕ)) (end : Status) → Stops asked (map cut texts) end → Stops asked texts end
+stops_of_cut : (asked : Command) (texts : List (List ℕ)) (end : Status) → Stops asked (map cut texts) end → Stops asked texts end
 stops_of_cut asked texts end stops = stops_of asked texts end (stop_of_cut asked texts end (stops_by asked (map cut texts) end stops))
 
-pub tree_of_cuts : (texts : List (List ℕ)) (tree : List ItemTree) → HaveTrees 1 (map cut texts) (tree ∷ []) → HaveTrees 1 texts (tree ∷ [])
+tree_of_cuts : (texts : List (List ℕ)) (tree : List ItemTree) → HaveTrees 1 (map cut texts) (tree ∷ []) → HaveTrees 1 texts (tree ∷ [])
 tree_of_cuts texts tree have = trees_of_cut 1 texts (tree ∷ []) have
+
+-- ---- texts that came say the same as those of the call
+
+-- the texts that came are what is read of these, or these
+abbrev pub IsTextOf : List (List ℕ) → List (List ℕ) → Type 0
+IsTextOf read texts = (read ≡ map cut texts) ⊎ (read ≡ texts)
+
+-- what holds of the texts that came holds of the call's, where it does so of what is read of them
+by_read : (P : List (List ℕ) → Type 0) (read texts : List (List ℕ)) → (P (map cut texts) → P texts) → IsTextOf read texts → P read → P texts
+by_read P read texts whole (inl cuts) holds = whole (subst P cuts holds)
+by_read P read texts whole (inr same) holds = subst P same holds
+
+pub passes_read : (read texts : List (List ℕ)) (program : Program) → IsTextOf read texts → Passes read program → Passes texts program
+passes_read read texts program = by_read (λ (ts : List (List ℕ)). Passes ts program) read texts (passes_of_cut texts program)
+
+pub runnable_read : (read texts : List (List ℕ)) (program : Program) → IsTextOf read texts → Runnable read program → Runnable texts program
+runnable_read read texts program = by_read (λ (ts : List (List ℕ)). Runnable ts program) read texts (runnable_of_cut texts program)
+
+pub tree_read : (read texts : List (List ℕ)) (tree : List ItemTree) → IsTextOf read texts → HaveTrees 1 read (tree ∷ []) → HaveTrees 1 texts (tree ∷ [])
+tree_read read texts tree = by_read (λ (ts : List (List ℕ)). HaveTrees 1 ts (tree ∷ [])) read texts (tree_of_cuts texts tree)
+
+pub stopped_read : (asked : Command) (read texts : List (List ℕ)) (end : Status) → IsTextOf read texts → (end ≡ status.Memory) ⊎ Stops asked read end → (end ≡ status.Memory) ⊎ Stops asked texts end
+stopped_read asked read texts end of (inl is) = inl is
+stopped_read asked read texts end of (inr stops) = inr (by_read (λ (ts : List (List ℕ)). Stops asked ts end) read texts (stops_of_cut asked texts end) of stops)

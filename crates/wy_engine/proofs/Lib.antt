@@ -1,16 +1,13 @@
 mod CodeRuns
-mod DashedWords
 mod Deeds
 mod Doing
 mod EndOnce
 mod Examples
 mod ExamplesNames
 mod FilesRead
-mod FilesTaken
 mod Givens
 mod LiteralsMade
 mod NamesJudged
-mod Numerals
 mod OneAnswer
 mod OneBad
 mod OneItem
@@ -22,5 +19,6 @@ mod ReadingOn
 mod RunsMade
 mod Settling
 mod Statuses
+mod SumsMade
 mod TextsAnswered
 mod TracesMade

@@ -15,8 +15,8 @@ use Rattle.wy_names.proofs.OneAnswer.{one_refusal, resolved_or_refused}
 use Rattle.wy_engine.specs.FileTrees.{HaveTrees}
 use Rattle.wy_engine.specs.Judgement.{Stops}
 use Rattle.wy_engine.specs.NameFaults.{NamesResolve, NamesStop, names_status}
-use Rattle.wy_engine.specs.declared.settings.Command.{Command}
-use Rattle.wy_engine.specs.declared.settings.Command.TheVariants as command
+use Rattle.wy_settings.specs.declared.command_line.Command.{Command}
+use Rattle.wy_settings.specs.declared.command_line.Command.TheVariants as command
 use Rattle.wy_engine.specs.declared.status.Status.{Status}
 use Rattle.wy_engine.specs.declared.status.Status.TheVariants as status
 use Rattle.wy_engine.proofs.OneTree.{same_trees}
@@ -43,6 +43,7 @@ JudgesNames command.Check = Unit {0}
 JudgesNames command.Authority = Unit {0}
 JudgesNames command.Run = Unit {0}
 JudgesNames command.Trace = Unit {0}
+JudgesNames command.Sample = Unit {0}
 JudgesNames command.Format = ⊥
 
 stops_refused : (asked : Command) (texts : List (List ℕ)) (fault : Fault) → JudgesNames asked → NamesStop texts (status.Refused fault) → Stops asked texts (status.Refused fault)
@@ -50,6 +51,7 @@ stops_refused command.Check texts fault judges stop = inl stop
 stops_refused command.Authority texts fault judges stop = inl stop
 stops_refused command.Run texts fault judges stop = inl stop
 stops_refused command.Trace texts fault judges stop = inl stop
+stops_refused command.Sample texts fault judges stop = inl stop
 stops_refused command.Format texts fault judges stop = absurd judges
 
 stops_limit : (asked : Command) (texts : List (List ℕ)) (name : LimitName) → JudgesNames asked → NamesStop texts (status.Limit name) → Stops asked texts (status.Limit name)
@@ -57,6 +59,7 @@ stops_limit command.Check texts name judges stop = inr (inl stop)
 stops_limit command.Authority texts name judges stop = inr (inl stop)
 stops_limit command.Run texts name judges stop = inl (inr (inl stop))
 stops_limit command.Trace texts name judges stop = inl (inr (inl stop))
+stops_limit command.Sample texts name judges stop = inl (inr (inl stop))
 stops_limit command.Format texts name judges stop = absurd judges
 
 -- what a refusal of names gives stops a command that judges them, but for want of memory

@@ -1,5 +1,5 @@
 -- Texts have one answer: a status that ends the call, or one thing that is done with them.
-use Rattle.std.proofs.Common.{◌≡◌, ◌≢◌, inl, inr, ℕ, List, [], ◌∷◌, Option, Some, None, Bool, true, false, refl, sym, ◌∙◌, ap, subst}
+use Rattle.std.proofs.Common.{◌≡◌, ◌≢◌, inl, inr, ℕ, List, [], ◌∷◌, Option, Some, None, refl, sym, ◌∙◌, ap, subst}
 use Rattle.wy_text.specs.declared.limit.LimitName.{LimitName}
 use Rattle.wy_syntax.specs.Trees.{ItemTree}
 use Rattle.wy_types.specs.Core.{IsCore}
@@ -15,8 +15,10 @@ use Rattle.wy_sound.specs.Programs.{program_starts}
 use Rattle.wy_engine.specs.FileTrees.{FirstNoTree, HasNoTree, HaveTrees}
 use Rattle.wy_engine.specs.Judgement.{Asks, Did, EndsJudging, EndsLowering, Passes, Runnable, RunsPrograms, Stops, StopsLimited, checked, formatted, ran, reported, running}
 use Rattle.wy_engine.specs.NameFaults.{NamesStop, ResolveTo}
-use Rattle.wy_engine.specs.declared.settings.Command.{Command}
-use Rattle.wy_engine.specs.declared.settings.Command.TheVariants as command
+use Rattle.wy_settings.specs.declared.command_line.Command.{Command}
+use Rattle.wy_settings.specs.declared.command_line.Command.TheVariants as command
+use Rattle.wy_engine.specs.declared.running.Mode.{Mode}
+use Rattle.wy_engine.specs.declared.running.Mode.TheVariants as mode
 use Rattle.wy_engine.specs.declared.status.Status.{Status}
 use Rattle.wy_engine.specs.declared.status.Status.TheVariants as status
 use Rattle.wy_engine.proofs.NamesJudged.{JudgesNames, one_names_stop, resolve_or_stop, stops_names}
@@ -52,7 +54,9 @@ stops_by command.Authority texts (status.Limit name) stop = by_limit command.Aut
 stops_by command.Run texts (status.Limit name) (inl stop) = by_limit command.Run texts name tt stop
 stops_by command.Run texts (status.Limit name) (inr stop) = not_lowered tt name stop refl
 stops_by command.Trace texts (status.Limit name) (inl stop) = by_limit command.Trace texts name tt stop
+stops_by command.Sample texts (status.Limit name) (inl stop) = by_limit command.Sample texts name tt stop
 stops_by command.Trace texts (status.Limit name) (inr stop) = not_lowered tt name stop refl
+stops_by command.Sample texts (status.Limit name) (inr stop) = not_lowered tt name stop refl
 stops_by command.Format texts (status.Limit name) stop = treeless stop
 stops_by command.Check texts (status.Refused fault) (inl stop) = unresolved tt stop (λ e. cc)
 stops_by command.Check texts (status.Refused fault) (inr stop) = not_accepted tt (refused fault) stop refl
@@ -61,7 +65,9 @@ stops_by command.Authority texts (status.Refused fault) (inr stop) = not_accepte
 stops_by command.Run texts (status.Refused fault) (inl stop) = unresolved tt stop (λ e. cc)
 stops_by command.Run texts (status.Refused fault) (inr stop) = not_accepted tt (refused fault) stop refl
 stops_by command.Trace texts (status.Refused fault) (inl stop) = unresolved tt stop (λ e. cc)
+stops_by command.Sample texts (status.Refused fault) (inl stop) = unresolved tt stop (λ e. cc)
 stops_by command.Trace texts (status.Refused fault) (inr stop) = not_accepted tt (refused fault) stop refl
+stops_by command.Sample texts (status.Refused fault) (inr stop) = not_accepted tt (refused fault) stop refl
 stops_by command.Format texts (status.Refused fault) stop = absurd stop
 stops_by asked texts status.Ended stop = absurd stop
 stops_by asked texts status.Usage stop = absurd stop
@@ -85,6 +91,7 @@ stops_treeless command.Check texts (status.Limit name) first = inl first
 stops_treeless command.Authority texts (status.Limit name) first = inl first
 stops_treeless command.Run texts (status.Limit name) first = inl (inl first)
 stops_treeless command.Trace texts (status.Limit name) first = inl (inl first)
+stops_treeless command.Sample texts (status.Limit name) first = inl (inl first)
 stops_treeless command.Format texts (status.Limit name) first = first
 stops_treeless asked texts (status.Refused fault) first = absurd (never (status.Refused fault) (λ file bytes h. h) 1 texts first)
 stops_treeless asked texts status.Ended first = absurd (never status.Ended (λ file bytes h. h) 1 texts first)
@@ -105,19 +112,23 @@ stops_ended command.Authority texts (refused fault) judges is = inr is
 stops_ended command.Run texts (limited name) judges is = inl (inr (inr is))
 stops_ended command.Run texts (refused fault) judges is = inr is
 stops_ended command.Trace texts (limited name) judges is = inl (inr (inr is))
+stops_ended command.Sample texts (limited name) judges is = inl (inr (inr is))
 stops_ended command.Trace texts (refused fault) judges is = inr is
+stops_ended command.Sample texts (refused fault) judges is = inr is
 stops_ended command.Format texts why judges is = absurd judges
 
--- the two commands that run programs
-pub runs_programs : (asked : Command) (traced : Bool) → asked ≡ running traced → RunsPrograms asked
-runs_programs asked false is = subst (λ (c : Command). RunsPrograms c) (sym is) tt
-runs_programs asked true is = subst (λ (c : Command). RunsPrograms c) (sym is) tt
+-- the commands that run programs
+pub runs_programs : (asked : Command) (way : Mode) → asked ≡ running way → RunsPrograms asked
+runs_programs asked mode.Silent is = subst (λ (c : Command). RunsPrograms c) (sym is) tt
+runs_programs asked mode.Traced is = subst (λ (c : Command). RunsPrograms c) (sym is) tt
+runs_programs asked (mode.Summed number) is = subst (λ (c : Command). RunsPrograms c) (sym is) tt
 
 pub stops_lowered : (asked : Command) (texts : List (List ℕ)) (name : LimitName) → RunsPrograms asked → EndsLowering texts name → Stops asked texts (status.Limit name)
 stops_lowered command.Check texts name run is = absurd run
 stops_lowered command.Authority texts name run is = absurd run
 stops_lowered command.Run texts name run is = inr is
 stops_lowered command.Trace texts name run is = inr is
+stops_lowered command.Sample texts name run is = inr is
 stops_lowered command.Format texts name run is = absurd run
 
 pub stops_of : (asked : Command) (texts : List (List ℕ)) (end : Status) → StopsBy asked texts end → Stops asked texts end
@@ -189,6 +200,7 @@ AsksBy command.Check texts did = (program : Program) × Passes texts program × 
 AsksBy command.Authority texts did = (program : Program) × Passes texts program × (did ≡ reported program)
 AsksBy command.Run texts did = (program : Program) × Runnable texts program × (did ≡ ran program)
 AsksBy command.Trace texts did = (program : Program) × Runnable texts program × (did ≡ ran program)
+AsksBy command.Sample texts did = (program : Program) × Runnable texts program × (did ≡ ran program)
 AsksBy command.Format texts did = (tree : List ItemTree) × HaveTrees 1 texts (tree ∷ []) × (did ≡ formatted tree)
 
 asks_by : (asked : Command) (texts : List (List ℕ)) (did : Did) → Asks asked texts did → AsksBy asked texts did
@@ -196,6 +208,7 @@ asks_by command.Check texts checked asks = (asks.0, asks.1, refl)
 asks_by command.Authority texts (reported program) asks = (program, asks, refl)
 asks_by command.Run texts (ran program) asks = (program, asks, refl)
 asks_by command.Trace texts (ran program) asks = (program, asks, refl)
+asks_by command.Sample texts (ran program) asks = (program, asks, refl)
 asks_by command.Format texts (formatted tree) asks = (tree, asks, refl)
 asks_by asked texts other asks = absurd asks
 
@@ -218,6 +231,7 @@ asks_or_stops law command.Check texts did end a b = pass_or_stop law command.Che
 asks_or_stops law command.Authority texts did end a b = pass_or_stop law command.Authority texts a.0 end a.1 (λ name run lowers. run) b
 asks_or_stops law command.Run texts did end a b = pass_or_stop law command.Run texts a.0 end a.1.passes (λ name run lowers. lower_or_run texts a.0 name a.1 lowers) b
 asks_or_stops law command.Trace texts did end a b = pass_or_stop law command.Trace texts a.0 end a.1.passes (λ name run lowers. lower_or_run texts a.0 name a.1 lowers) b
+asks_or_stops law command.Sample texts did end a b = pass_or_stop law command.Sample texts a.0 end a.1.passes (λ name run lowers. lower_or_run texts a.0 name a.1 lowers) b
 asks_or_stops law command.Format texts did end a b = form_or_stop texts a.0 end a.1 b
 
 pub ask_or_stop : ResolvedIsCore → (asked : Command) (texts : List (List ℕ)) (did : Did) (end : Status) → Asks asked texts did → Stops asked texts end → ⊥
@@ -228,6 +242,7 @@ same_ask command.Check texts did other a b = a.2 ∙ sym b.2
 same_ask command.Authority texts did other a b = a.2 ∙ ap reported (one_program texts a.0 b.0 a.1.read b.1.read) ∙ sym b.2
 same_ask command.Run texts did other a b = a.2 ∙ ap ran (one_program texts a.0 b.0 a.1.passes.read b.1.passes.read) ∙ sym b.2
 same_ask command.Trace texts did other a b = a.2 ∙ ap ran (one_program texts a.0 b.0 a.1.passes.read b.1.passes.read) ∙ sym b.2
+same_ask command.Sample texts did other a b = a.2 ∙ ap ran (one_program texts a.0 b.0 a.1.passes.read b.1.passes.read) ∙ sym b.2
 same_ask command.Format texts did other a b =
     let same : a.0 ∷ [] ≡ b.0 ∷ [] = same_trees 1 texts (a.0 ∷ []) (b.0 ∷ []) a.1 b.1 in
     let tree : a.0 ≡ b.0 = cc in

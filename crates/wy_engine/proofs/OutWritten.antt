@@ -1,10 +1,10 @@
 -- What a call promises that wrote a text to `out`, or a part of it.
 use Rattle.std.proofs.Common.{◌≡◌, ℕ, List, [], refl, sym, ◌∙◌, subst}
-use Rattle.wy_engine.specs.Answering.{Wrote, cut, starved, whole}
 use Rattle.wy_engine.specs.Headline.{HasCommand, Writes}
 use Rattle.wy_engine.specs.Status.{IsOfOut}
 use Rattle.wy_engine.specs.TopCall.{TopCall}
-use Rattle.wy_engine.specs.declared.settings.Command.{Command}
+use Rattle.wy_engine.specs.Writing.{Wrote, cut, starved, whole}
+use Rattle.wy_settings.specs.declared.command_line.Command.{Command}
 use Rattle.wy_engine.specs.declared.status.Status.TheVariants as status
 
 pub writes_by : (call : TopCall) (command : Command) (text : List ℕ) → HasCommand call command → call.report_after ≡ call.report → call.devices_after ≡ call.devices

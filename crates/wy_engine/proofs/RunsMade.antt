@@ -1,5 +1,5 @@
 -- What a call promises that ran a program, or began to.
-use Rattle.std.proofs.Common.{◌≡◌, ◌≢◌, ◌⊎◌, inl, inr, ◌≤◌, ℕ, List, [], ◌++◌, Bool, true, false, refl, sym, ◌∙◌, ap, subst, arith}
+use Rattle.std.proofs.Common.{◌≡◌, ◌≢◌, ◌⊎◌, inl, inr, ◌≤◌, ℕ, List, [], ◌++◌, Some, refl, sym, ◌∙◌, ap, subst, arith}
 use Rattle.std.proofs.lemmas.List.{append-nil}
 use Rattle.wy_text.specs.Outside.{Rose, SinkState}
 use Rattle.wy_text.specs.Writing.{StopsShort, WritesUpTo}
@@ -17,21 +17,24 @@ use Rattle.wy_machine.specs.declared.run_end.RunEnd.TheVariants as end
 use Rattle.wy_sound.specs.Laws.{course}
 use Rattle.wy_sound.specs.Programs.{program_starts}
 use Rattle.wy_types.specs.Program.{Program}
-use Rattle.wy_engine.specs.Headline.{DidFirst, EndsAs, HasRun, IsUncut, IsUnprinted, IsUnwritten, Runs, WritesRun, course_in}
-use Rattle.wy_engine.specs.Judgement.{RunsPrograms, authority_text, running}
+use Rattle.wy_engine.specs.Headline.{DidFirst, EndsAs, HasEnded, HasRun, IsUncut, IsUnprinted, IsUnwritten, Runs, WritesRun, course_in}
+use Rattle.wy_engine.specs.Judgement.{IsNumbered, authority_text, running, summary_text}
 use Rattle.wy_engine.specs.ProgramLaws.{RunsAsMeant}
-use Rattle.wy_engine.specs.Running.{Ran, RunsCode, TracesCode, performed, status_of, stopped}
-use Rattle.wy_engine.specs.Settings.{Settings}
+use Rattle.wy_engine.specs.Running.{Ran, RunsCode, SumsCode, ThenWrote, TracesCode, performed, skipped, status_of, stopped, summed}
+use Rattle.wy_settings.specs.Settings.{Settings, sample_number}
 use Rattle.wy_engine.specs.Status.{IsOfRun}
 use Rattle.wy_engine.specs.TopCall.{IsSet, TopCall}
-use Rattle.wy_engine.specs.declared.settings.Command.{Command}
-use Rattle.wy_engine.specs.declared.settings.Command.TheVariants as command
+use Rattle.wy_settings.specs.declared.command_line.Command.{Command}
+use Rattle.wy_settings.specs.declared.command_line.Command.TheVariants as command
+use Rattle.wy_engine.specs.declared.running.Mode.{Mode}
+use Rattle.wy_engine.specs.declared.running.Mode.TheVariants as mode
 use Rattle.wy_engine.specs.declared.status.Status.{Status}
 use Rattle.wy_engine.specs.declared.status.Status.TheVariants as status
 use Rattle.wy_engine.proofs.CodeRuns.{BeginsWith, begins_with, ends_as, same_deeds}
 use Rattle.wy_engine.proofs.Deeds.{deeds_of-append, did_none, did_same, new_deeds_are, tapes_between-of}
 use Rattle.wy_engine.proofs.OneAnswer.{runs_programs}
-use Rattle.wy_engine.proofs.Statuses.{run_of_end}
+use Rattle.wy_engine.proofs.Statuses.{run_of_end, then_run}
+use Rattle.wy_engine.proofs.SumsMade.{ended_by, ended_wrote, rose_wrote, sums_by, sums_none, uncut_ended, unfailed_wrote}
 use Rattle.wy_engine.proofs.TracesMade.{begins_traced, rose_traced, uncut_run, writes_events, writes_none}
 
 -- ---- deeds that were done
@@ -157,30 +160,34 @@ unwritten_by command.Check call rest is = is
 unwritten_by command.Authority call rest is = is
 unwritten_by command.Run call rest is = is
 unwritten_by command.Trace call rest is = inl is
+unwritten_by command.Sample call rest is = inl is
 unwritten_by command.Format call rest is = is
+
+stopped_ended : {A : Type 0} → (end : Status) → end ≡ status.Ended → (end ≡ status.Memory) ⊎ ((end ≡ status.Unwritten) × A) → ⊥
+stopped_ended end is (inl other) = let q : status.Ended ≡ status.Memory = sym is ∙ other in cc
+stopped_ended end is (inr other) = let q : status.Ended ≡ status.Unwritten = sym is ∙ other.0 in cc
 
 stopped_spent : {A : Type 0} → (end : Status) → end ≡ status.Spent → (end ≡ status.Memory) ⊎ ((end ≡ status.Unwritten) × A) → ⊥
 stopped_spent end is (inl other) = let q : status.Spent ≡ status.Memory = sym is ∙ other in cc
 stopped_spent end is (inr other) = let q : status.Spent ≡ status.Unwritten = sym is ∙ other.0 in cc
 
-nothing_written : (asked : Command) (call : TopCall) (settings : Settings) (program : Program) → RunsPrograms asked → StopsBefore call (authority_text program) → WritesRun asked call settings program
-nothing_written command.Check call settings program run so = absurd run
-nothing_written command.Authority call settings program run so = absurd run
-nothing_written command.Run call settings program run so = so.out
-nothing_written command.Trace call settings program run so =
+nothing_written : (way : Mode) (call : TopCall) (settings : Settings) (program : Program) → IsNumbered way settings.files → StopsBefore call (authority_text program) → WritesRun (running way) call settings program
+nothing_written mode.Silent call settings program number so = so.out
+nothing_written mode.Traced call settings program number so =
     writes_none call settings program so.out so.same (λ uncut. stopped_status call.status uncut.full uncut.written so.why) (λ is. stopped_spent call.status is so.why)
-nothing_written command.Format call settings program run so = absurd run
+nothing_written (mode.Summed number) call settings program is so =
+    sums_none call settings program number is so.out (λ ended. stopped_ended call.status ended so.why) (inl so.same)
 
 stopped_reached : (call : TopCall) (text : List ℕ) → StopsBefore call text → IsOfRun call.status
 stopped_reached call text so = elim so.why [ inl is ↦ subst IsOfRun (sym is) tt | inr is ↦ subst IsOfRun (sym is.0) tt ]
 
-stopped_by : (call : TopCall) (program : Program) → RunsAsMeant program → HasRun call → StopsBefore call (authority_text program) → Runs call program
-stopped_by call program laws asked so =
+stopped_by : (call : TopCall) (program : Program) → RunsAsMeant program → (asked : HasRun call) → WritesRun asked.settings.command call asked.settings program → StopsBefore call (authority_text program) → Runs call program
+stopped_by call program laws asked out so =
     let did = did_nothing program asked.settings.depth call.devices call.devices_after so.same in
     record {
       asked = asked;
       reached = stopped_reached call (authority_text program) so;
-      out = nothing_written asked.settings.command call asked.settings program asked.runs so;
+      out = out;
       printed = record {
         front = so.short.written.front;
         rest = so.short.rest;
@@ -230,12 +237,12 @@ performed_by call program laws asked written so = record {
   failed = so.failed;
 }
 
--- the words of a call that runs programs, or traces them
-run_command : (call : TopCall) (settings : Settings) (traced : Bool) → IsSet call settings → settings.command ≡ running traced → HasRun call
-run_command call settings traced set is = record { settings = settings; set = set; runs = runs_programs settings.command traced is }
+-- the words of a call that runs programs
+run_command : (call : TopCall) (settings : Settings) (way : Mode) → IsSet call settings → settings.command ≡ running way → HasRun call
+run_command call settings way set is = record { settings = settings; set = set; runs = runs_programs settings.command way is }
 
 performs_run : (call : TopCall) (settings : Settings) (set : IsSet call settings) (program : Program) → RunsAsMeant program → (is : settings.command ≡ command.Run)
-    → RunsCode (lowered program (program_starts program)) settings.depth settings.steps call.devices call.devices_after call.status → call.out_after ≡ call.out → Performs call (run_command call settings false set is) program
+    → RunsCode (lowered program (program_starts program)) settings.depth settings.steps call.devices call.devices_after call.status → call.out_after ≡ call.out → Performs call (run_command call settings mode.Silent set is) program
 unfolding run_command
 performs_run call settings set program laws is so out = record {
   reached = subst IsOfRun (sym so.says) (run_of_end so.ended);
@@ -247,7 +254,7 @@ performs_run call settings set program laws is so out = record {
 }
 
 performs_trace : (call : TopCall) (settings : Settings) (set : IsSet call settings) (program : Program) → RunsAsMeant program → (is : settings.command ≡ command.Trace)
-    → TracesCode (lowered program (program_starts program)) settings.depth settings.steps call.out call.out_after call.devices call.devices_after call.status → Performs call (run_command call settings true set is) program
+    → TracesCode (lowered program (program_starts program)) settings.depth settings.steps call.out call.out_after call.devices call.devices_after call.status → Performs call (run_command call settings mode.Traced set is) program
 unfolding run_command
 performs_trace call settings set program laws is so = record {
   reached = subst IsOfRun (sym so.says) (run_of_end so.ended);
@@ -259,16 +266,57 @@ performs_trace call settings set program laws is so = record {
   failed = λ grant op failed. fault_of call.devices call.devices_after so.ended grant op (sym so.says ∙ failed) so.runs.failed;
 }
 
-pub runs_by : (call : TopCall) (settings : Settings) (set : IsSet call settings) (program : Program) → RunsAsMeant program → (traced : Bool) → settings.command ≡ running traced
-    → Ran traced program settings.depth settings.steps call.out call.out_after call.report call.report_after call.devices call.devices_after call.status → Runs call program
-runs_by call settings set program laws traced is (stopped short out same why) =
-    stopped_by call program laws (run_command call settings traced set is) (record { short = short; out = out; same = same; why = why })
-runs_by call settings set program laws false is (performed written so) =
-    performed_by call program laws (run_command call settings false set is) written (performs_run call settings set program laws is so.0 so.1)
-runs_by call settings set program laws true is (performed written so) =
-    performed_by call program laws (run_command call settings true set is) written (performs_trace call settings set program laws is so)
+-- what a run was cut short by is no write to `out`, unless it was the text behind it
+then_unwritten : (program : Program) (depth k : ℕ) (events : List Event) (text : List ℕ) (out out' : SinkState) (ended : RunEnd) (s : Status) → EndsIn (lowered program (program_starts program)) depth k events ended
+    → ThenWrote text out out' ended s → s ≡ status.Unwritten → Rose out.faults out'.faults
+then_unwritten program depth k events text out out' ended s to (summed is wrote) unwritten = rose_wrote text out out' s wrote unwritten
+then_unwritten program depth k events text out out' ended s to (skipped other same says) unwritten = absurd (written_code program depth k events ended to (sym says ∙ unwritten))
 
-pub ran_counted : (traced : Bool) (program : Program) (depth steps : ℕ) (out out' report report' : SinkState) (devices devices' : DevicesState) (end : Status)
-    → Ran traced program depth steps out out' report report' devices devices' end → report.faults ≤ report'.faults
-ran_counted traced program depth steps out out' report report' devices devices' end (stopped short o same why) = short.written.counted
-ran_counted traced program depth steps out out' report report' devices devices' end (performed written so) = written.counted
+then_failed : (text : List ℕ) (out out' : SinkState) (ended : RunEnd) (s : Status) (grant : List ℕ) (op : OpName) → ThenWrote text out out' ended s → s ≡ status.DeviceFailed grant op → status_of ended ≡ status.DeviceFailed grant op
+then_failed text out out' ended s grant op (summed is wrote) failed = absurd (unfailed_wrote text out out' s wrote grant op failed)
+then_failed text out out' ended s grant op (skipped other same says) failed = sym says ∙ failed
+
+-- the status of a run whose text was written whole is that of the run
+then_status : (text : List ℕ) (out out' : SinkState) (ended : RunEnd) (s : Status) → ThenWrote text out out' ended s → IsUncut s → s ≡ status_of ended
+then_status text out out' ended s (summed is wrote) uncut = ended_wrote text out out' s wrote uncut.full uncut.written ∙ sym (ap status_of is)
+then_status text out out' ended s (skipped other same says) uncut = says
+
+performs_sample : (call : TopCall) (settings : Settings) (set : IsSet call settings) (program : Program) → RunsAsMeant program → (number : ℕ) → sample_number settings.files ≡ Some number → (is : settings.command ≡ command.Sample)
+    → SumsCode (summary_text number program) (lowered program (program_starts program)) settings.depth settings.steps call.out call.out_after call.devices call.devices_after call.status
+    → Performs call (run_command call settings (mode.Summed number) set is) program
+unfolding run_command
+performs_sample call settings set program laws number numbered is so =
+    let code : RunsCode (lowered program (program_starts program)) settings.depth settings.steps call.devices call.devices_after (status_of so.ended) = record { ended = so.ended; runs = so.runs; says = refl } in
+    let finished : so.ended ≡ end.Ended → TellsDeeds call.devices → HasEnded call settings program = λ ended tells.
+        ended_by call settings program (subst (λ (e : RunEnd). EndsAs (status_of e) settings.steps (course_in call settings program)) ended
+        (ends_code program laws settings.depth settings.steps call.devices call.devices_after (status_of so.ended) code tells (uncut_ended so.ended ended))) in
+    record {
+      reached = then_run (summary_text number program) call.out call.out_after so.ended call.status so.wrote;
+      out = subst (λ (c : Command). WritesRun c call settings program) (sym is) (sums_by call settings program number numbered so.ended so.wrote finished
+          (λ _ unwritten. written_code program settings.depth settings.steps so.runs.events so.ended so.runs.ends unwritten));
+      cut = λ unwritten. subst (λ (c : Command). IsUnwritten c call []) (sym is)
+          (inr (refl, then_unwritten program settings.depth settings.steps so.runs.events (summary_text number program) call.out call.out_after so.ended call.status so.runs.ends so.wrote unwritten));
+      did = did_code program laws settings.depth settings.steps call.devices call.devices_after (status_of so.ended) code;
+      ends = λ tells uncut. let same : call.status ≡ status_of so.ended = then_status (summary_text number program) call.out call.out_after so.ended call.status so.wrote uncut in
+          subst (λ (s : Status). EndsAs s settings.steps (course_in call settings program)) (sym same)
+          (ends_code program laws settings.depth settings.steps call.devices call.devices_after (status_of so.ended) code tells (subst (λ (s : Status). IsUncut s) same uncut));
+      failed = λ grant op failed. fault_of call.devices call.devices_after so.ended grant op (then_failed (summary_text number program) call.out call.out_after so.ended call.status grant op so.wrote failed) so.runs.failed;
+    }
+
+pub runs_by : (call : TopCall) (settings : Settings) (set : IsSet call settings) (program : Program) → RunsAsMeant program → (way : Mode) → settings.command ≡ running way → IsNumbered way settings.files
+    → Ran way program settings.depth settings.steps call.out call.out_after call.report call.report_after call.devices call.devices_after call.status → Runs call program
+unfolding run_command
+runs_by call settings set program laws way is number (stopped short out same why) =
+    let so : StopsBefore call (authority_text program) = record { short = short; out = out; same = same; why = why } in
+    stopped_by call program laws (run_command call settings way set is) (subst (λ (c : Command). WritesRun c call settings program) (sym is) (nothing_written way call settings program number so)) so
+runs_by call settings set program laws mode.Silent is number (performed written so) =
+    performed_by call program laws (run_command call settings mode.Silent set is) written (performs_run call settings set program laws is so.0 so.1)
+runs_by call settings set program laws mode.Traced is number (performed written so) =
+    performed_by call program laws (run_command call settings mode.Traced set is) written (performs_trace call settings set program laws is so)
+runs_by call settings set program laws (mode.Summed n) is number (performed written so) =
+    performed_by call program laws (run_command call settings (mode.Summed n) set is) written (performs_sample call settings set program laws n number is so)
+
+pub ran_counted : (way : Mode) (program : Program) (depth steps : ℕ) (out out' report report' : SinkState) (devices devices' : DevicesState) (end : Status)
+    → Ran way program depth steps out out' report report' devices devices' end → report.faults ≤ report'.faults
+ran_counted way program depth steps out out' report report' devices devices' end (stopped short o same why) = short.written.counted
+ran_counted way program depth steps out out' report report' devices devices' end (performed written so) = written.counted

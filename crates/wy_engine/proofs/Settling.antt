@@ -1,7 +1,10 @@
 -- What a call promises at each way out of it, before its last line is written.
-use Rattle.std.proofs.Common.{◌≡◌, ◌≤◌, inl, ℕ, List, [], ◌∷◌, Some, true, false, refl, sym, ◌∙◌, ap, subst, arith, length, take, drop}
+use Rattle.std.proofs.Common.{◌≡◌, ◌≢◌, ◌≤◌, ◌<◌, inl, ℕ, List, [], ◌∷◌, Option, None, Some, Bool, true, false, refl, sym, ◌∙◌, ap, subst, arith, length, take, drop}
+use Rattle.std.proofs.lemmas.Bool.Decides.{nat_tests}
 use Rattle.std.proofs.lemmas.List.{append-nil}
-use Rattle.wy_text.specs.Outside.{gained}
+use Rattle.wy_text.proofs.Gains.{gained-nil}
+use Rattle.wy_text.specs.Outside.{SinkState, gained}
+use Rattle.wy_text.specs.Shelf.{ShelfState}
 use Rattle.wy_text.specs.declared.limit.LimitName.TheVariants as limit
 use Rattle.wy_syntax.specs.Canonical.{canonical_form}
 use Rattle.wy_syntax.specs.Trees.{ItemTree}
@@ -9,36 +12,122 @@ use Rattle.wy_types.specs.Program.{Program}
 use Rattle.wy_well_formed.specs.WellFormed.{ResolvedIsCore}
 use Rattle.wy_engine.specs.Answering.{Answered}
 use Rattle.wy_engine.specs.Answering as answering
-use Rattle.wy_engine.specs.FileTrees.{HaveTrees}
-use Rattle.wy_engine.specs.Headline.{HasCommand, Runs, Settles, Writes}
-use Rattle.wy_engine.specs.Judgement.{Passes, Runnable, accepted_text, authority_text, checked, formatted, nothing, ran, reported}
+use Rattle.wy_engine.specs.Headline.{Accepts, Closes, HasCommand, Headline, Runs, Settles, Writes, before_last_line}
+use Rattle.wy_engine.specs.LastLine.{LineWords, line_words}
+use Rattle.wy_engine.specs.Judgement.{accepted_text, authority_text, checked, formatted, nothing, ran, reported}
 use Rattle.wy_engine.specs.ProgramLaws.{AcceptedRunAsMeant}
-use Rattle.wy_engine.specs.Reading.{ReadsWell, StopsAfter, StopsAt}
-use Rattle.wy_engine.specs.Settings.{Settings}
-use Rattle.wy_engine.specs.Status.{IsOfOut, IsOfRun, IsOfTexts}
-use Rattle.wy_engine.specs.TopCall.{IsSet, TopCall, most_files, reads_of}
-use Rattle.wy_engine.specs.declared.settings.Command.{Command}
-use Rattle.wy_engine.specs.declared.settings.Command.TheVariants as command
+use Rattle.wy_engine.specs.Reading.{StopsAfter, StopsAt}
+use Rattle.wy_settings.specs.Settings.{Settings, settings_of, takes}
+use Rattle.wy_engine.specs.Status.{IsOfOut, IsOfRun, IsOfTexts, refusal_status}
+use Rattle.wy_engine.specs.TopCall.{IsGiven, IsQuiet, IsSet, ReadsFiles, ReadsFor, TopCall, most_files, reads_of, takes_files}
+use Rattle.wy_settings.specs.declared.command_line.Command.{Command}
+use Rattle.wy_settings.specs.declared.command_line.Command.TheVariants as command
+use Rattle.wy_settings.specs.declared.command_line.SettingsRefusal.{SettingsRefusal}
+use Rattle.wy_settings.specs.declared.command_line.SettingsRefusal.TheVariants as words
+use Rattle.wy_engine.specs.declared.status.Status.{Status}
 use Rattle.wy_engine.specs.declared.status.Status.TheVariants as status
-use Rattle.wy_engine.proofs.FilesRead.{reads_all, reads_by}
-use Rattle.wy_engine.proofs.Givens.{passes_of_cut, runnable_of_cut, tree_of_cuts}
+use Rattle.wy_engine.proofs.FilesRead.{Came, is_sample, reads_all, reads_by, reads_for, same_settings}
+use Rattle.wy_engine.proofs.Givens.{passes_read, runnable_read, tree_read}
 use Rattle.wy_engine.proofs.OutWritten.{writes_by}
 use Rattle.wy_engine.proofs.RunsMade.{ran_counted, runs_by}
 use Rattle.wy_engine.proofs.Statuses.{idle_declined, out_past, out_run, out_wrote, past_declined, run_past, run_ran}
 use Rattle.wy_engine.proofs.TextsAnswered.{accepts_none, accepts_some, asks_check, asks_format, asks_report, asks_run}
 
+-- `format` has one file
+pub one_of_format : (named : Command) (files : List (List ℕ)) → takes named files ≡ true → named ≡ command.Format → length files ≡ 1
+one_of_format named files is format =
+    let fits : takes command.Format files ≡ true = subst (λ (c : Command). takes c files ≡ true) format is in
+    grind (arith, nat_tests)
+
+-- a call that did nothing, and that its texts did not end
+quiet_settles : (call : TopCall) → ReadsFiles call → ((asked : Command) (texts : List (List ℕ)) → IsGiven call asked texts → ((file : ℕ) → call.status ≢ status.Unread file) → Accepts call asked nothing texts)
+    → IsQuiet call → (call.status ≢ status.Memory → ¬ IsOfRun call.status) → Settles call
+quiet_settles call reads accepts quiet idle = record {
+  reads = reads;
+  did = nothing;
+  accepts = accepts;
+  quiet = λ _. quiet;
+  idle = λ _. idle;
+  runs = λ program none. absurd (cc);
+  checks = λ none. absurd (cc);
+  reports = λ program none. absurd (cc);
+  formats = λ tree none. absurd (cc);
+  counted = rw quiet.report (omega arith);
+}
+
+-- the words gave no settings
+pub settles_faulty : (call : TopCall) → settings_of call.words ≡ None → call.shelf_after ≡ call.shelf → IsQuiet call → call.status ≡ status.Usage → Settles call
+settles_faulty call none shelf quiet is = quiet_settles call
+    (record {
+      usage = λ _. none;
+      faulty = λ _. ((λ full. is), shelf);
+      crowd = λ crowd. let q : status.Usage ≡ status.Limit limit.Files = sym is ∙ crowd in absurd (cc);
+      crowded = λ settings set. let q : Some settings ≡ None = sym set ∙ none in absurd (cc);
+      reads = λ settings set. let q : Some settings ≡ None = sym set ∙ none in absurd (cc);
+      counted = λ file unread. let q : status.Usage ≡ status.Unread file = sym is ∙ unread in absurd (cc);
+    })
+    (λ asked texts given. let q : Some given.settings ≡ None = sym given.set ∙ none in absurd (cc))
+    quiet (λ full run. subst IsOfRun is run)
+
+-- nothing was read, for want of memory
+nothing_for : (asked : Command) (call : TopCall) (names : List (List ℕ)) → call.shelf_after ≡ call.shelf → call.status ≡ status.Memory → ReadsFor asked call names
+nothing_for asked call names shelf is = by (takes_files asked) refl
+  where
+    unread : (file : ℕ) → call.status ≢ status.Unread file
+    unread file same = let q : status.Memory ≡ status.Unread file = sym is ∙ same in cc
+    by : (b : Bool) → takes_files asked ≡ b → ReadsFor asked call names
+    by true takes = reads_for asked call names takes (record {
+      well = 0;
+      badly = [];
+      reads = ap (λ (s : ShelfState). s.reads) shelf ∙ sym (gained-nil call.shelf.reads);
+      unread = λ file same. absurd (unread file same);
+      others = λ none. refl;
+      all = λ full none. absurd (full is);
+    })
+    by false none = subst (λ (c : Command). ReadsFor c call names) (sym (is_sample asked none)) (record { shelf = shelf; unread = unread })
+
+-- memory was wanting while the words were read
+pub settles_unsettled : (call : TopCall) → call.shelf_after ≡ call.shelf → IsQuiet call → call.status ≡ status.Memory → Settles call
+settles_unsettled call shelf quiet is = quiet_settles call
+    (record {
+      usage = λ usage. let q : status.Memory ≡ status.Usage = sym is ∙ usage in absurd (cc);
+      faulty = λ _. ((λ full. absurd (full is)), shelf);
+      crowd = λ crowd. let q : status.Memory ≡ status.Limit limit.Files = sym is ∙ crowd in absurd (cc);
+      crowded = λ settings set many. ((λ full. absurd (full is)), shelf);
+      reads = λ settings set few. nothing_for settings.command call settings.files shelf is;
+      counted = λ file unread. let q : status.Memory ≡ status.Unread file = sym is ∙ unread in absurd (cc);
+    })
+    (λ asked texts given none. record {
+      stopped = λ of_texts. absurd (subst IsOfTexts is of_texts);
+      stops = λ end stop full. absurd (full is);
+      done = inl refl;
+      does = λ other asks full. absurd (full is);
+    })
+    quiet (λ full run. full is)
+
+-- the last line of a call that wanted memory does not hang on its words
+pub closes_unsettled : (one other : LineWords) (end : Status) (before after : SinkState) → Closes one status.Memory end before after → Closes other status.Memory end before after
+closes_unsettled one other end before after closes = record {
+  line = closes.line;
+  cut = closes.cut;
+  split = closes.split;
+  taken = closes.taken;
+  whole = closes.whole;
+  kept = closes.kept;
+}
+
 -- a file was not read
-pub settles_unread : (call : TopCall) (settings : Settings) (file : ℕ) → IsSet call settings → length settings.files ≤ most_files → StopsAt settings.files file call.shelf call.shelf_after
+pub settles_unread : (call : TopCall) (settings : Settings) (file : ℕ) → IsSet call settings → takes_files settings.command ≡ true → length settings.files ≤ most_files → StopsAt settings.files file call.shelf call.shelf_after
     → call.out_after ≡ call.out → call.report_after ≡ call.report → call.devices_after ≡ call.devices → call.status ≡ status.Unread file → Settles call
-settles_unread call settings file set few stops out report devices is = record {
-  reads = reads_by call settings set few (λ usage. let q : status.Unread file ≡ status.Usage = sym is ∙ usage in absurd (cc)) (λ crowd. let q : status.Unread file ≡ status.Limit limit.Files = sym is ∙ crowd in absurd (cc)) (record {
+settles_unread call settings file set takes few stops out report devices is = record {
+  reads = reads_by call settings set few (λ usage. let q : status.Unread file ≡ status.Usage = sym is ∙ usage in absurd (cc)) (λ crowd. let q : status.Unread file ≡ status.Limit limit.Files = sym is ∙ crowd in absurd (cc)) (reads_for settings.command call settings.files takes (record {
     well = stops.well;
     badly = reads_of true (take 1 (drop stops.well settings.files));
     reads = stops.reads;
     unread = λ other same. let q : status.Unread file ≡ status.Unread other = sym is ∙ same in let e : other ≡ file = cc in (stops.within, e ∙ stops.number, refl);
     others = λ none. absurd (none file is);
     all = λ full none. absurd (none file is);
-  }) (λ other same. stops.counted);
+  })) (λ other same. stops.counted);
   did = nothing;
   accepts = λ asked texts given none. absurd (none file is);
   quiet = λ _. record { out = out; report = report; devices = devices };
@@ -51,17 +140,17 @@ settles_unread call settings file set few stops out report devices is = record {
 }
 
 -- memory was wanting while files were read
-pub settles_starved : (call : TopCall) (settings : Settings) → IsSet call settings → length settings.files ≤ most_files → StopsAfter settings.files call.shelf call.shelf_after
+pub settles_starved : (call : TopCall) (settings : Settings) → IsSet call settings → takes_files settings.command ≡ true → length settings.files ≤ most_files → StopsAfter settings.files call.shelf call.shelf_after
     → call.out_after ≡ call.out → call.report_after ≡ call.report → call.devices_after ≡ call.devices → call.status ≡ status.Memory → Settles call
-settles_starved call settings set few stops out report devices is = record {
-  reads = reads_by call settings set few (λ usage. let q : status.Memory ≡ status.Usage = sym is ∙ usage in absurd (cc)) (λ crowd. let q : status.Memory ≡ status.Limit limit.Files = sym is ∙ crowd in absurd (cc)) (record {
+settles_starved call settings set takes few stops out report devices is = record {
+  reads = reads_by call settings set few (λ usage. let q : status.Memory ≡ status.Usage = sym is ∙ usage in absurd (cc)) (λ crowd. let q : status.Memory ≡ status.Limit limit.Files = sym is ∙ crowd in absurd (cc)) (reads_for settings.command call settings.files takes (record {
     well = stops.well;
     badly = [];
     reads = stops.reads ∙ ap (λ x. gained call.shelf.reads x) (sym (append-nil (reads_of false (take stops.well settings.files))));
     unread = λ file same. let q : status.Memory ≡ status.Unread file = sym is ∙ same in absurd (cc);
     others = λ none. refl;
     all = λ full none. absurd (full is);
-  }) (λ file same. let q : status.Memory ≡ status.Unread file = sym is ∙ same in absurd (cc));
+  })) (λ file same. let q : status.Memory ≡ status.Unread file = sym is ∙ same in absurd (cc));
   did = nothing;
   accepts = λ asked texts given none. record {
     stopped = λ of_texts. absurd (subst IsOfTexts is of_texts);
@@ -78,12 +167,12 @@ settles_starved call settings set few stops out report devices is = record {
   counted = rw report (omega arith);
 }
 
--- the files were read, and their texts answered
+-- texts came and were answered
 has_command : (call : TopCall) (settings : Settings) (named : Command) → IsSet call settings → settings.command ≡ named → HasCommand call named
 has_command call settings named set is = record { settings = settings; set = set; is = is }
 
 pub settles_answered : ResolvedIsCore → AcceptedRunAsMeant → (call : TopCall) (settings : Settings) (read : List (List ℕ)) → IsSet call settings → length settings.files ≤ most_files
-    → ReadsWell settings.files (length settings.files) call.shelf call.shelf_after read
+    → Came call settings read
     → Answered settings read call.out call.out_after call.report call.report_after call.devices call.devices_after call.status → Settles call
 unfolding has_command
 settles_answered law runs call settings read set few so (answering.declined why out report devices) = record {
@@ -104,7 +193,7 @@ settles_answered law runs call settings read set few so (answering.checked progr
       reads = reads_all call settings read set few so (out_past call.status reached);
       did = checked;
       accepts = λ other texts given none. accepts_some law call settings read checked set so
-          (λ told cuts. asks_check settings.command told program check (passes_of_cut told program (subst (λ (ts : List (List ℕ)). Passes ts program) cuts passes))) (out_run call.status reached) other texts given;
+          (λ told same. asks_check settings.command told program check (passes_read read told program same passes)) (out_run call.status reached) other texts given;
       quiet = λ none. absurd (cc);
       idle = λ none. absurd (cc);
       runs = λ program none. absurd (cc);
@@ -119,7 +208,7 @@ settles_answered law runs call settings read set few so (answering.reported prog
       reads = reads_all call settings read set few so (out_past call.status reached);
       did = reported program;
       accepts = λ other texts given none. accepts_some law call settings read (reported program) set so
-          (λ told cuts. asks_report settings.command told program asks (passes_of_cut told program (subst (λ (ts : List (List ℕ)). Passes ts program) cuts passes))) (out_run call.status reached) other texts given;
+          (λ told same. asks_report settings.command told program asks (passes_read read told program same passes)) (out_run call.status reached) other texts given;
       quiet = λ none. absurd (cc);
       idle = λ none. absurd (cc);
       runs = λ program none. absurd (cc);
@@ -129,21 +218,21 @@ settles_answered law runs call settings read set few so (answering.reported prog
       formats = λ tree none. absurd (cc);
       counted = rw report (omega arith);
     }
-settles_answered law runs call settings read set few so (answering.ran program traced run is ended) =
-    let reached : IsOfRun call.status = run_ran traced program settings.depth settings.steps call.out call.out_after call.report call.report_after call.devices call.devices_after call.status ended in
+settles_answered law runs call settings read set few so (answering.ran program way run number is ended) =
+    let reached : IsOfRun call.status = run_ran way program settings.depth settings.steps call.out call.out_after call.report call.report_after call.devices call.devices_after call.status ended in
     record {
       reads = reads_all call settings read set few so (run_past call.status reached);
       did = ran program;
       accepts = λ other texts given none. accepts_some law call settings read (ran program) set so
-          (λ told cuts. asks_run settings.command told traced program run (runnable_of_cut told program (subst (λ (ts : List (List ℕ)). Runnable ts program) cuts is))) reached other texts given;
+          (λ told same. asks_run settings.command told way program run (runnable_read read told program same is)) reached other texts given;
       quiet = λ none. absurd (cc);
       idle = λ none. absurd (cc);
       runs = λ other same. let e : program ≡ other = cc in subst (λ (p : Program). Runs call p) e
-          (runs_by call settings set program (runs read program is.passes) traced run ended);
+          (runs_by call settings set program (runs read program is.passes) way run number ended);
       checks = λ none. absurd (cc);
       reports = λ program none. absurd (cc);
       formats = λ tree none. absurd (cc);
-      counted = ran_counted traced program settings.depth settings.steps call.out call.out_after call.report call.report_after call.devices call.devices_after call.status ended;
+      counted = ran_counted way program settings.depth settings.steps call.out call.out_after call.report call.report_after call.devices call.devices_after call.status ended;
     }
 settles_answered law runs call settings read set few so (answering.formatted tree format have wrote report devices) =
     let reached : IsOfOut call.status = out_wrote (canonical_form tree) call.out call.out_after call.status wrote in
@@ -151,7 +240,7 @@ settles_answered law runs call settings read set few so (answering.formatted tre
       reads = reads_all call settings read set few so (out_past call.status reached);
       did = formatted tree;
       accepts = λ other texts given none. accepts_some law call settings read (formatted tree) set so
-          (λ told cuts. asks_format settings.command told tree format (tree_of_cuts told tree (subst (λ (ts : List (List ℕ)). HaveTrees 1 ts (tree ∷ [])) cuts have))) (out_run call.status reached) other texts given;
+          (λ told same. asks_format settings.command told tree format (tree_read read told tree same have)) (out_run call.status reached) other texts given;
       quiet = λ none. absurd (cc);
       idle = λ none. absurd (cc);
       runs = λ program none. absurd (cc);
@@ -161,3 +250,19 @@ settles_answered law runs call settings read set few so (answering.formatted tre
           (writes_by call command.Format (canonical_form tree) (has_command call settings command.Format set format) report devices wrote);
       counted = rw report (omega arith);
     }
+
+-- words that give no settings end a call, and so does want of memory for them
+pub refused_call : (call : TopCall) (refusal : SettingsRefusal) → (refusal ≡ words.Usage → settings_of call.words ≡ None) → call.shelf_after ≡ call.shelf → call.out_after ≡ call.out → call.devices_after ≡ call.devices
+    → Closes (line_words None) (refusal_status refusal) call.status call.report call.report_after → Headline call
+refused_call call words.Usage none shelf out devices closes = record {
+  settled = status.Usage;
+  report = call.report;
+  settles = settles_faulty (before_last_line call status.Usage call.report) (none refl) shelf (record { out = out; report = refl; devices = devices }) refl;
+  closes = subst (λ (o : Option Settings). Closes (line_words o) status.Usage call.status call.report call.report_after) (sym (none refl)) closes;
+}
+refused_call call words.Memory none shelf out devices closes = record {
+  settled = status.Memory;
+  report = call.report;
+  settles = settles_unsettled (before_last_line call status.Memory call.report) shelf (record { out = out; report = refl; devices = devices }) refl;
+  closes = closes_unsettled (line_words None) (line_words (settings_of call.words)) call.status call.report call.report_after closes;
+}

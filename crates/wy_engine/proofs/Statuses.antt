@@ -13,13 +13,14 @@ use Rattle.wy_sound.specs.Programs.{program_starts}
 use Rattle.wy_types.specs.Program.{Program}
 use Rattle.wy_rules.specs.Ends.{FirstEnd, IsEnd, IsLimitEnd, limited}
 use Rattle.wy_rules.specs.Refusals.{Numbered}
-use Rattle.wy_engine.specs.Answering.{Wrote}
-use Rattle.wy_engine.specs.Answering as answering
 use Rattle.wy_engine.specs.Judgement.{Stops, StopsLimited}
-use Rattle.wy_engine.specs.Running.{Ran, performed, status_of, stopped}
+use Rattle.wy_engine.specs.Running.{Ran, ThenWrote, performed, skipped, status_of, stopped, summary_in, summed}
 use Rattle.wy_engine.specs.Status.{IsOfOut, IsOfRun, IsOfTexts}
-use Rattle.wy_engine.specs.declared.settings.Command.{Command}
-use Rattle.wy_engine.specs.declared.settings.Command.TheVariants as command
+use Rattle.wy_engine.specs.Writing.{Wrote, cut, starved, whole}
+use Rattle.wy_settings.specs.declared.command_line.Command.{Command}
+use Rattle.wy_settings.specs.declared.command_line.Command.TheVariants as command
+use Rattle.wy_engine.specs.declared.running.Mode.{Mode}
+use Rattle.wy_engine.specs.declared.running.Mode.TheVariants as mode
 use Rattle.wy_engine.specs.declared.status.Status.{Status}
 use Rattle.wy_engine.specs.declared.status.Status.TheVariants as status
 use Rattle.wy_engine.proofs.NamesJudged.{uncrowded}
@@ -76,6 +77,8 @@ crowds_none command.Run texts (inl stop) = limited_uncrowded texts stop
 crowds_none command.Run texts (inr stop) = lowers_uncrowded stop.program (program_starts stop.program) stop.passed
 crowds_none command.Trace texts (inl stop) = limited_uncrowded texts stop
 crowds_none command.Trace texts (inr stop) = lowers_uncrowded stop.program (program_starts stop.program) stop.passed
+crowds_none command.Sample texts (inl stop) = limited_uncrowded texts stop
+crowds_none command.Sample texts (inr stop) = lowers_uncrowded stop.program (program_starts stop.program) stop.passed
 crowds_none command.Format texts none = never (status.Limit limit.Files) (λ file bytes h. h) 1 texts none
 
 stops_past : (asked : Command) (texts : List (List ℕ)) (end : Status) → Stops asked texts end → IsPastReading end
@@ -142,17 +145,23 @@ run_of_end (end.DeviceFailed grant op) = tt
 run_of_end end.SinkFailed = tt
 run_of_end end.Memory = tt
 
-pub run_ran : (traced : Bool) (program : Program) (depth steps : ℕ) (out out' report report' : SinkState) (devices devices' : DevicesState) (end : Status)
-    → Ran traced program depth steps out out' report report' devices devices' end → IsOfRun end
-run_ran traced program depth steps out out' report report' devices devices' s (stopped short o same (inl is)) = subst IsOfRun (sym is) tt
-run_ran traced program depth steps out out' report report' devices devices' s (stopped short o same (inr is)) = subst IsOfRun (sym is.0) tt
-run_ran false program depth steps out out' report report' devices devices' s (performed written so) = subst IsOfRun (sym so.0.says) (run_of_end so.0.ended)
-run_ran true program depth steps out out' report report' devices devices' s (performed written so) = subst IsOfRun (sym so.says) (run_of_end so.ended)
-
 pub out_wrote : (text : List ℕ) (out out' : SinkState) (end : Status) → Wrote text out out' end → IsOfOut end
-out_wrote text out out' end (answering.whole written is) = subst IsOfOut (sym is) tt
-out_wrote text out out' end (answering.cut short rose is) = subst IsOfOut (sym is) tt
-out_wrote text out out' end (answering.starved rest written is) = subst IsOfOut (sym is) tt
+out_wrote text out out' end (whole written is) = subst IsOfOut (sym is) tt
+out_wrote text out out' end (cut short rose is) = subst IsOfOut (sym is) tt
+out_wrote text out out' end (starved rest written is) = subst IsOfOut (sym is) tt
+
+pub then_run : (text : List ℕ) (out out' : SinkState) (ended : RunEnd) (end : Status) → ThenWrote text out out' ended end → IsOfRun end
+then_run text out out' ended end (summed is wrote) = out_run end (out_wrote text out out' end wrote)
+then_run text out out' ended end (skipped other same says) = subst IsOfRun (sym says) (run_of_end ended)
+
+pub run_ran : (way : Mode) (program : Program) (depth steps : ℕ) (out out' report report' : SinkState) (devices devices' : DevicesState) (end : Status)
+    → Ran way program depth steps out out' report report' devices devices' end → IsOfRun end
+run_ran way program depth steps out out' report report' devices devices' s (stopped short o same (inl is)) = subst IsOfRun (sym is) tt
+run_ran way program depth steps out out' report report' devices devices' s (stopped short o same (inr is)) = subst IsOfRun (sym is.0) tt
+run_ran mode.Silent program depth steps out out' report report' devices devices' s (performed written so) = subst IsOfRun (sym so.0.says) (run_of_end so.0.ended)
+run_ran mode.Traced program depth steps out out' report report' devices devices' s (performed written so) = subst IsOfRun (sym so.says) (run_of_end so.ended)
+run_ran (mode.Summed number) program depth steps out out' report report' devices devices' s (performed written so) =
+    then_run (summary_in (mode.Summed number) program) out out' so.ended s so.wrote
 
 pub past_declined : (asked : Command) (texts : List (List ℕ)) (end : Status) → (end ≡ status.Memory) ⊎ Stops asked texts end → IsPastReading end
 past_declined asked texts end (inl is) = run_past end (subst IsOfRun (sym is) tt)

@@ -1,38 +1,37 @@
 -- What a call promises of the texts that it was given: they stop it, or something is done with them.
-use Rattle.std.proofs.Common.{◌≡◌, ◌⊎◌, inl, inr, ℕ, List, [], ◌∷◌, Bool, true, false, refl, sym, subst, length, map}
+use Rattle.std.proofs.Common.{◌≡◌, ◌⊎◌, inl, inr, ℕ, List, [], ◌∷◌, refl, sym, subst}
 use Rattle.wy_syntax.specs.Trees.{ItemTree}
 use Rattle.wy_types.specs.Program.{Program}
 use Rattle.wy_well_formed.specs.WellFormed.{ResolvedIsCore}
 use Rattle.wy_engine.specs.FileTrees.{HaveTrees}
 use Rattle.wy_engine.specs.Headline.{Accepts}
 use Rattle.wy_engine.specs.Judgement.{Asks, Did, Passes, Runnable, Stops, checked, formatted, nothing, ran, reported, running}
-use Rattle.wy_engine.specs.Reading.{ReadsWell}
-use Rattle.wy_engine.specs.Settings.{Settings}
+use Rattle.wy_settings.specs.Settings.{Settings}
 use Rattle.wy_engine.specs.Status.{IsOfRun, IsOfTexts}
 use Rattle.wy_engine.specs.TopCall.{IsGiven, IsSet, TopCall}
-use Rattle.wy_engine.specs.declared.settings.Command.{Command}
-use Rattle.wy_engine.specs.declared.settings.Command.TheVariants as command
+use Rattle.wy_settings.specs.declared.command_line.Command.{Command}
+use Rattle.wy_settings.specs.declared.command_line.Command.TheVariants as command
+use Rattle.wy_engine.specs.declared.running.Mode.{Mode}
+use Rattle.wy_engine.specs.declared.running.Mode.TheVariants as mode
 use Rattle.wy_engine.specs.declared.status.Status.TheVariants as status
-use Rattle.wy_engine.proofs.FilesRead.{IsRead, given_read}
-use Rattle.wy_engine.proofs.Givens.{cut, stops_of_cut}
+use Rattle.wy_engine.proofs.FilesRead.{Came, IsRead, given_came}
+use Rattle.wy_engine.proofs.Givens.{IsTextOf, stopped_read}
 use Rattle.wy_engine.proofs.OneAnswer.{ask_or_stop, one_ask, one_stop}
 use Rattle.wy_engine.proofs.Statuses.{run_or_texts}
 
-accepts_stopped : ResolvedIsCore → (call : TopCall) (asked : Command) (texts : List (List ℕ)) → (call.status ≡ status.Memory) ⊎ Stops asked (map cut texts) call.status → Accepts call asked nothing texts
+accepts_stopped : ResolvedIsCore → (call : TopCall) (asked : Command) (texts : List (List ℕ)) → (call.status ≡ status.Memory) ⊎ Stops asked texts call.status → Accepts call asked nothing texts
 accepts_stopped law call asked texts (inl is) = record {
   stopped = λ of_texts. absurd (subst IsOfTexts is of_texts);
   stops = λ end stop full. absurd (full is);
   done = inl refl;
   does = λ other asks full. absurd (full is);
 }
-accepts_stopped law call asked texts (inr stops) =
-    let here : Stops asked texts call.status = stops_of_cut asked texts call.status stops in
-    record {
-      stopped = λ _. here;
-      stops = λ end stop full. one_stop law asked texts call.status end here stop;
-      done = inl refl;
-      does = λ other asks full. absurd (ask_or_stop law asked texts other call.status asks here);
-    }
+accepts_stopped law call asked texts (inr here) = record {
+  stopped = λ _. here;
+  stops = λ end stop full. one_stop law asked texts call.status end here stop;
+  done = inl refl;
+  does = λ other asks full. absurd (ask_or_stop law asked texts other call.status asks here);
+}
 
 accepts_done : ResolvedIsCore → (call : TopCall) (asked : Command) (did : Did) (texts : List (List ℕ)) → Asks asked texts did → IsOfRun call.status → Accepts call asked did texts
 accepts_done law call asked did texts asks run = record {
@@ -48,28 +47,29 @@ asks_check asked texts program check is = subst (λ (c : Command). Asks c texts 
 pub asks_report : (asked : Command) (texts : List (List ℕ)) (program : Program) → asked ≡ command.Authority → Passes texts program → Asks asked texts (reported program)
 asks_report asked texts program report is = subst (λ (c : Command). Asks c texts (reported program)) (sym report) is
 
-pub asks_run : (asked : Command) (texts : List (List ℕ)) (traced : Bool) (program : Program) → asked ≡ running traced → Runnable texts program → Asks asked texts (ran program)
-asks_run asked texts false program run is = subst (λ (c : Command). Asks c texts (ran program)) (sym run) is
-asks_run asked texts true program run is = subst (λ (c : Command). Asks c texts (ran program)) (sym run) is
+pub asks_run : (asked : Command) (texts : List (List ℕ)) (way : Mode) (program : Program) → asked ≡ running way → Runnable texts program → Asks asked texts (ran program)
+asks_run asked texts mode.Silent program run is = subst (λ (c : Command). Asks c texts (ran program)) (sym run) is
+asks_run asked texts mode.Traced program run is = subst (λ (c : Command). Asks c texts (ran program)) (sym run) is
+asks_run asked texts (mode.Summed number) program run is = subst (λ (c : Command). Asks c texts (ran program)) (sym run) is
 
 pub asks_format : (asked : Command) (texts : List (List ℕ)) (tree : List ItemTree) → asked ≡ command.Format → HaveTrees 1 texts (tree ∷ []) → Asks asked texts (formatted tree)
 asks_format asked texts tree format is = subst (λ (c : Command). Asks c texts (formatted tree)) (sym format) is
 
 accepts_where : (call : TopCall) (asked other : Command) (did : Did) (read texts : List (List ℕ)) → IsRead asked other read texts
-    → ((cuts : read ≡ map cut texts) → Accepts call asked did texts) → Accepts call other did texts
-accepts_where call asked other did read texts is accepts = subst (λ (c : Command). Accepts call c did texts) is.same (accepts is.cuts)
+    → ((same : IsTextOf read texts) → Accepts call asked did texts) → Accepts call other did texts
+accepts_where call asked other did read texts is accepts = subst (λ (c : Command). Accepts call c did texts) is.same (accepts is.came)
 
--- the texts that were read stop the call
+-- the texts that came stop the call
 pub accepts_none : ResolvedIsCore → (call : TopCall) (settings : Settings) (read : List (List ℕ)) → IsSet call settings
-    → ReadsWell settings.files (length settings.files) call.shelf call.shelf_after read → (call.status ≡ status.Memory) ⊎ Stops settings.command read call.status
+    → Came call settings read → (call.status ≡ status.Memory) ⊎ Stops settings.command read call.status
     → (other : Command) (texts : List (List ℕ)) → IsGiven call other texts → Accepts call other nothing texts
-accepts_none law call settings read set so why other texts given =
-    accepts_where call settings.command other nothing read texts (given_read call settings read other texts set so given) (λ cuts. accepts_stopped law call settings.command texts
-    (subst (λ (ts : List (List ℕ)). (call.status ≡ status.Memory) ⊎ Stops settings.command ts call.status) cuts why))
+accepts_none law call settings read set came why other texts given =
+    accepts_where call settings.command other nothing read texts (given_came call settings read other texts set came given) (λ same. accepts_stopped law call settings.command texts
+    (stopped_read settings.command read texts call.status same why))
 
 -- .. or something is done with them
 pub accepts_some : ResolvedIsCore → (call : TopCall) (settings : Settings) (read : List (List ℕ)) (did : Did) → IsSet call settings
-    → ReadsWell settings.files (length settings.files) call.shelf call.shelf_after read → ((texts : List (List ℕ)) → read ≡ map cut texts → Asks settings.command texts did) → IsOfRun call.status
+    → Came call settings read → ((texts : List (List ℕ)) → IsTextOf read texts → Asks settings.command texts did) → IsOfRun call.status
     → (other : Command) (texts : List (List ℕ)) → IsGiven call other texts → Accepts call other did texts
-accepts_some law call settings read did set so asks run other texts given =
-    accepts_where call settings.command other did read texts (given_read call settings read other texts set so given) (λ cuts. accepts_done law call settings.command did texts (asks texts cuts) run)
+accepts_some law call settings read did set came asks run other texts given =
+    accepts_where call settings.command other did read texts (given_came call settings read other texts set came given) (λ same. accepts_done law call settings.command did texts (asks texts same) run)

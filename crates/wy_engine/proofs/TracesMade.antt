@@ -21,7 +21,7 @@ use Rattle.wy_types.specs.Program.{Program}
 use Rattle.wy_engine.specs.Headline.{BeginsLine, IsUncut, WritesEvents, code_in, course_in, none, some}
 use Rattle.wy_engine.specs.ProgramLaws.{RunsAsMeant}
 use Rattle.wy_engine.specs.Running.{TracesCode, status_of}
-use Rattle.wy_engine.specs.Settings.{Settings}
+use Rattle.wy_settings.specs.Settings.{Settings}
 use Rattle.wy_engine.specs.TopCall.{TopCall}
 use Rattle.wy_engine.specs.declared.status.Status.{Status}
 use Rattle.wy_engine.specs.declared.status.Status.TheVariants as status

@@ -1,7 +1,6 @@
 -- What answering texts does, before it is known which words named them.
-use Rattle.std.specs.Prelude.{◌≡◌, ◌⊎◌, ℕ, List, [], ◌∷◌, Some, None, Bool}
-use Rattle.wy_text.specs.Outside.{Rose, SinkState}
-use Rattle.wy_text.specs.Writing.{StopsShort, WritesUpTo}
+use Rattle.std.specs.Prelude.{◌≡◌, ◌⊎◌, ℕ, List, [], ◌∷◌, Some, None}
+use Rattle.wy_text.specs.Outside.{SinkState}
 use Rattle.wy_text.specs.declared.limit.LimitName.{LimitName}
 use Rattle.wy_device.specs.Devices.{DevicesState}
 use Rattle.wy_syntax.specs.Canonical.{canonical_form}
@@ -16,20 +15,16 @@ use Rattle.wy_judge.specs.declared.checking.CheckRefusal.TheVariants as refusal
 use Rattle.wy_lower.specs.Counts.{lowering_limit}
 use Rattle.wy_sound.specs.Programs.{program_starts}
 use Rattle.wy_engine.specs.FileTrees.{HaveTrees}
-use Rattle.wy_engine.specs.Judgement.{Passes, Runnable, Stops, accepted_text, authority_text, running}
+use Rattle.wy_engine.specs.Judgement.{IsNumbered, Passes, Runnable, Stops, accepted_text, authority_text, running}
 use Rattle.wy_engine.specs.NameFaults.{names_status}
 use Rattle.wy_engine.specs.Running.{Ran}
-use Rattle.wy_engine.specs.Settings.{Settings}
-use Rattle.wy_engine.specs.declared.settings.Command.{Command}
-use Rattle.wy_engine.specs.declared.settings.Command.TheVariants as command
+use Rattle.wy_engine.specs.Writing.{Wrote}
+use Rattle.wy_engine.specs.declared.running.Mode.{Mode}
+use Rattle.wy_settings.specs.Settings.{Settings}
+use Rattle.wy_settings.specs.declared.command_line.Command.{Command}
+use Rattle.wy_settings.specs.declared.command_line.Command.TheVariants as command
 use Rattle.wy_engine.specs.declared.status.Status.{Status}
 use Rattle.wy_engine.specs.declared.status.Status.TheVariants as status
-
--- a text was written to `out`, whole or in part
-pub data Wrote (text : List ℕ) (out out' : SinkState) (end : Status) : Type 0 where
-  whole : WritesUpTo text [] out out' → end ≡ status.Ended → Wrote text out out' end
-  cut : StopsShort text out out' → Rose out.faults out'.faults → end ≡ status.Unwritten → Wrote text out out' end
-  starved : (rest : List ℕ) → WritesUpTo text rest out out' → end ≡ status.Memory → Wrote text out out' end
 
 -- the status of a call whose program is not accepted
 abbrev pub check_status : CheckRefusal → Status
@@ -47,22 +42,22 @@ pub data ChecksTrees (text : Program → List ℕ) (trees : List (List ItemTree)
   fails : FailsCheck trees end → out' ≡ out → ChecksTrees text trees out out' end
   accepted : (program : Program) → Resolves (all_items trees) program → IsAccepted program → Wrote (text program) out out' end → ChecksTrees text trees out out' end
 
--- what running or tracing an accepted program did: nothing, since its code passes a limit or memory was wanting; or it was run
-pub data RunsAccepted (traced : Bool) (program : Program) (depth steps : ℕ) (out out' report report' : SinkState) (devices devices' : DevicesState) (end : Status) : Type 0 where
+-- what running an accepted program did: nothing, since its code passes a limit or memory was wanting; or it was run
+pub data RunsAccepted (way : Mode) (program : Program) (depth steps : ℕ) (out out' report report' : SinkState) (devices devices' : DevicesState) (end : Status) : Type 0 where
   limited : (name : LimitName) → lowering_limit program (program_starts program) ≡ Some name → end ≡ status.Limit name → out' ≡ out → report' ≡ report → devices' ≡ devices
-      → RunsAccepted traced program depth steps out out' report report' devices devices' end
-  wanting : end ≡ status.Memory → out' ≡ out → report' ≡ report → devices' ≡ devices → RunsAccepted traced program depth steps out out' report report' devices devices' end
-  ran_program : lowering_limit program (program_starts program) ≡ None → Ran traced program depth steps out out' report report' devices devices' end
-      → RunsAccepted traced program depth steps out out' report report' devices devices' end
+      → RunsAccepted way program depth steps out out' report report' devices devices' end
+  wanting : end ≡ status.Memory → out' ≡ out → report' ≡ report → devices' ≡ devices → RunsAccepted way program depth steps out out' report report' devices devices' end
+  ran_program : lowering_limit program (program_starts program) ≡ None → Ran way program depth steps out out' report report' devices devices' end
+      → RunsAccepted way program depth steps out out' report report' devices devices' end
 
 -- .. and with trees: nothing, since they do not pass; or their program was accepted
-pub data RunsTrees (traced : Bool) (trees : List (List ItemTree)) (depth steps : ℕ) (out out' report report' : SinkState) (devices devices' : DevicesState) (end : Status) : Type 0 where
-  fails_check : FailsCheck trees end → out' ≡ out → report' ≡ report → devices' ≡ devices → RunsTrees traced trees depth steps out out' report report' devices devices' end
-  accepted_trees : (program : Program) → Resolves (all_items trees) program → IsAccepted program → RunsAccepted traced program depth steps out out' report report' devices devices' end
-      → RunsTrees traced trees depth steps out out' report report' devices devices' end
+pub data RunsTrees (way : Mode) (trees : List (List ItemTree)) (depth steps : ℕ) (out out' report report' : SinkState) (devices devices' : DevicesState) (end : Status) : Type 0 where
+  fails_check : FailsCheck trees end → out' ≡ out → report' ≡ report → devices' ≡ devices → RunsTrees way trees depth steps out out' report report' devices devices' end
+  accepted_trees : (program : Program) → Resolves (all_items trees) program → IsAccepted program → RunsAccepted way program depth steps out out' report report' devices devices' end
+      → RunsTrees way trees depth steps out out' report report' devices devices' end
 
 -- what was done with texts: nothing, since memory was wanting or they stop the call; it was said that they are accepted;
--- the report of what their program may do was written; a program was run or traced; or the canonical form of a file was written
+-- the report of what their program may do was written; a program was run; or the canonical form of a file was written
 pub data Answered (asked : Settings) (texts : List (List ℕ)) (out out' report report' : SinkState) (devices devices' : DevicesState) (end : Status) : Type 0 where
   declined : (end ≡ status.Memory) ⊎ Stops asked.command texts end → out' ≡ out → report' ≡ report → devices' ≡ devices
       → Answered asked texts out out' report report' devices devices' end
@@ -70,7 +65,7 @@ pub data Answered (asked : Settings) (texts : List (List ℕ)) (out out' report 
       → Answered asked texts out out' report report' devices devices' end
   reported : (program : Program) → asked.command ≡ command.Authority → Passes texts program → Wrote (authority_text program) out out' end → report' ≡ report → devices' ≡ devices
       → Answered asked texts out out' report report' devices devices' end
-  ran : (program : Program) (traced : Bool) → asked.command ≡ running traced → Runnable texts program → Ran traced program asked.depth asked.steps out out' report report' devices devices' end
+  ran : (program : Program) (way : Mode) → asked.command ≡ running way → IsNumbered way asked.files → Runnable texts program → Ran way program asked.depth asked.steps out out' report report' devices devices' end
       → Answered asked texts out out' report report' devices devices' end
   formatted : (tree : List ItemTree) → asked.command ≡ command.Format → HaveTrees 1 texts (tree ∷ []) → Wrote (canonical_form tree) out out' end → report' ≡ report → devices' ≡ devices
       → Answered asked texts out out' report report' devices devices' end

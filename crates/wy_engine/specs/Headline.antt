@@ -1,10 +1,11 @@
 -- What a call of the top function promises: which texts it accepts, what it prints and writes, which operations it
 -- does, that they are within the authority that it printed, and how it ends.
-use Rattle.std.specs.Prelude.{◌≡◌, ◌≢◌, ◌⊎◌, ◌<◌, ◌≤◌, ◌*◌, ℕ, List, [], ◌∷◌, ◌++◌, length}
+use Rattle.std.specs.Prelude.{◌≡◌, ◌≢◌, ◌⊎◌, ◌<◌, ◌≤◌, ◌*◌, ℕ, List, [], ◌∷◌, ◌++◌, Some, length}
 use Rattle.wy_text.specs.Outside.{gained, Rose, SinkState}
 use Rattle.wy_device.specs.Devices.{device_of}
 use Rattle.wy_device.specs.Events.{DidExactly, TellsDeeds, deeds_of}
 use Rattle.wy_device.specs.Operation.{kind_named}
+use Rattle.wy_device.specs.RunEnds as ends
 use Rattle.wy_device.specs.Tapes.{Tapes, new_deeds_of, spliced, tapes_between}
 use Rattle.wy_device.specs.declared.deed.Deed.{Deed}
 use Rattle.wy_device.specs.declared.deed.Event.{Event}
@@ -22,13 +23,13 @@ use Rattle.wy_syntax.specs.Trees.{ItemTree}
 use Rattle.wy_types.specs.Program.{Program}
 use Rattle.wy_sound.specs.Laws.{course}
 use Rattle.wy_sound.specs.Programs.{allowed, program_starts}
-use Rattle.wy_engine.specs.Judgement.{Asks, Did, IsReported, RunsPrograms, Stops, accepted_text, authority_text, checked, formatted, nothing, ran, reported}
+use Rattle.wy_engine.specs.Judgement.{Asks, Did, IsReported, RunsPrograms, Stops, accepted_text, authority_text, checked, formatted, nothing, ran, reported, summary_text}
 use Rattle.wy_engine.specs.LastLine.{LineWords, last_line, line_words}
-use Rattle.wy_engine.specs.Settings.{Settings, settings_of}
+use Rattle.wy_settings.specs.Settings.{Settings, sample_number, settings_of}
 use Rattle.wy_engine.specs.Status.{IsOfEnd, IsOfOut, IsOfRun, IsOfTexts}
 use Rattle.wy_engine.specs.TopCall.{IsGiven, IsQuiet, IsSet, ReadsFiles, TopCall}
-use Rattle.wy_engine.specs.declared.settings.Command.{Command}
-use Rattle.wy_engine.specs.declared.settings.Command.TheVariants as command
+use Rattle.wy_settings.specs.declared.command_line.Command.{Command}
+use Rattle.wy_settings.specs.declared.command_line.Command.TheVariants as command
 use Rattle.wy_engine.specs.declared.status.Status.{Status}
 use Rattle.wy_engine.specs.declared.status.Status.TheVariants as status
 
@@ -59,10 +60,11 @@ pub record IsUnprinted (call : TopCall) (rest : List ℕ) : Type 0 where
   pub devices : call.devices_after ≡ call.devices
   pub rose : Rose call.report.faults call.report_after.faults
 
--- Why a status is Unwritten: the report could not be written; or, in `trace` alone, the line of an event could not, and
--- then `out` counted a fault.
+-- Why a status is Unwritten: the report could not be written; or, in `trace`, the line of an event could not, or in
+-- `sample` the line that sums it up, and then `out` counted a fault.
 abbrev pub IsUnwritten : Command → TopCall → List ℕ → Type 0
 IsUnwritten command.Trace call rest = IsUnprinted call rest ⊎ ((rest ≡ []) × Rose call.out.faults call.out_after.faults)
+IsUnwritten command.Sample call rest = IsUnprinted call rest ⊎ ((rest ≡ []) × Rose call.out.faults call.out_after.faults)
 IsUnwritten command call rest = IsUnprinted call rest
 
 -- The report stands on its sink, whole, before anything is done. Where it could not be written whole, a part of it
@@ -124,10 +126,31 @@ pub record WritesEvents (call : TopCall) (settings : Settings) (program : Progra
   pub all : TellsDeeds call.devices → IsUncut call.status → call.status ≢ status.Spent → whole ≡ (course_in call settings program).events
   pub spent : TellsDeeds call.devices → call.status ≡ status.Spent → whole ≡ (code_in call settings program).events
 
--- what came to `out`: `run` writes nothing there, and `trace` the lines of the events
+-- the program's meaning over the answers that were given ends within the bound
+pub record HasEnded (call : TopCall) (settings : Settings) (program : Program) : Type 0 where
+  pub within : (course_in call settings program).steps ≤ settings.steps
+  pub ended : (course_in call settings program).end ≡ ends.Ended
+
+-- The line that sums a sample up came to `out`: whole where the status is Ended, and a part of it, or nothing, where it is
+-- Unwritten or where memory was wanting; else nothing. Where the devices tell their deeds, something of it stands there only behind a run
+-- that did all that the program means, and so it is where the status is Unwritten but for the report.
+pub record SumsUp (call : TopCall) (settings : Settings) (program : Program) : Type 0 where
+  pub number : ℕ
+  pub is : sample_number settings.files ≡ Some number
+  pub front : List ℕ
+  pub rest : List ℕ
+  pub split : summary_text number program ≡ front ++ rest
+  pub taken : call.out_after.taken ≡ gained call.out.taken front
+  pub whole : call.status ≡ status.Ended → rest ≡ []
+  pub others : IsUncut call.status → call.status ≢ status.Ended → front ≡ []
+  pub begun : (front ≡ []) ⊎ (TellsDeeds call.devices → HasEnded call settings program)
+  pub cut : call.status ≡ status.Unwritten → (call.devices_after ≡ call.devices) ⊎ (TellsDeeds call.devices → HasEnded call settings program)
+
+-- what came to `out`: `run` writes nothing there, `trace` the lines of the events, and `sample` the line that sums it up
 abbrev pub WritesRun : Command → TopCall → Settings → Program → Type 0
 WritesRun command.Run call settings program = call.out_after ≡ call.out
 WritesRun command.Trace call settings program = WritesEvents call settings program
+WritesRun command.Sample call settings program = SumsUp call settings program
 WritesRun command call settings program = ⊥
 
 -- A program was accepted, and its run was begun. Where the devices tell their deeds:

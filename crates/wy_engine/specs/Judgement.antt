@@ -1,6 +1,6 @@
 -- Which texts are accepted and which are refused, what an accepted program means, and its authority. All that the
 -- promises of the top call say of programs, they say by the words of this page.
-use Rattle.std.specs.Prelude.{codes, ◌≡◌, ◌⊎◌, List, [], ◌∷◌, ℕ, Some, None, Bool, true, false, ⊤}
+use Rattle.std.specs.Prelude.{codes, ◌≡◌, ◌⊎◌, List, [], ◌∷◌, ℕ, Some, None, ⊤, ◌+◌, length}
 use Rattle.wy_text.specs.declared.limit.LimitName.{LimitName}
 use Rattle.wy_syntax.specs.Trees.{ItemTree}
 use Rattle.wy_types.specs.Program.{Program}
@@ -16,8 +16,12 @@ use Rattle.wy_sound.specs.Programs.{allowed, program_starts}
 use Rattle.wy_sound.specs.Telling.{call_of}
 use Rattle.wy_engine.specs.FileTrees.{FirstNoTree, HaveTrees}
 use Rattle.wy_engine.specs.NameFaults.{NamesStop, ResolveTo}
-use Rattle.wy_engine.specs.declared.settings.Command.{Command}
-use Rattle.wy_engine.specs.declared.settings.Command.TheVariants as command
+use Rattle.wy_sample.specs.Sample.{summary_line}
+use Rattle.wy_settings.specs.Settings.{sample_number}
+use Rattle.wy_settings.specs.declared.command_line.Command.{Command}
+use Rattle.wy_settings.specs.declared.command_line.Command.TheVariants as command
+use Rattle.wy_engine.specs.declared.running.Mode.{Mode}
+use Rattle.wy_engine.specs.declared.running.Mode.TheVariants as mode
 use Rattle.wy_engine.specs.declared.status.Status.{Status}
 use Rattle.wy_engine.specs.declared.status.Status.TheVariants as status
 
@@ -56,6 +60,15 @@ IsReported program =
 abbrev pub authority_text : Program → List ℕ
 authority_text program = report_text (authority_of program)
 
+-- how many lines of bodies these rows of a report have
+abbrev pub body_lines : List InstanceRow → ℕ
+body_lines [] = 0
+body_lines (row ∷ rows) = length row.bodies + body_lines rows
+
+-- the line that sums the run of a sample up
+abbrev pub summary_text : ℕ → Program → List ℕ
+summary_text number program = summary_line number (body_lines (authority_of program).rows)
+
 -- ---- what a command does with texts
 
 -- a command that runs programs
@@ -64,12 +77,19 @@ RunsPrograms command.Check = ⊥
 RunsPrograms command.Authority = ⊥
 RunsPrograms command.Run = ⊤
 RunsPrograms command.Trace = ⊤
+RunsPrograms command.Sample = ⊤
 RunsPrograms command.Format = ⊥
 
--- the command that runs programs, and the one that traces them
-abbrev pub running : Bool → Command
-running false = command.Run
-running true = command.Trace
+-- the command that runs programs in this way
+abbrev pub running : Mode → Command
+running mode.Silent = command.Run
+running mode.Traced = command.Trace
+running (mode.Summed number) = command.Sample
+
+-- the number of a sample is its file word's
+abbrev pub IsNumbered : Mode → List (List ℕ) → Type 0
+IsNumbered (mode.Summed number) names = sample_number names ≡ Some number
+IsNumbered way names = ⊤
 
 -- the texts have trees whose names are refused, or whose program is not accepted; and this is the limit or the fault
 abbrev pub StopsLimited : List (List ℕ) → LimitName → Type 0
@@ -84,11 +104,13 @@ Stops command.Check texts (status.Limit name) = StopsLimited texts name
 Stops command.Authority texts (status.Limit name) = StopsLimited texts name
 Stops command.Run texts (status.Limit name) = StopsLimited texts name ⊎ EndsLowering texts name
 Stops command.Trace texts (status.Limit name) = StopsLimited texts name ⊎ EndsLowering texts name
+Stops command.Sample texts (status.Limit name) = StopsLimited texts name ⊎ EndsLowering texts name
 Stops command.Format texts (status.Limit name) = FirstNoTree 1 texts (status.Limit name)
 Stops command.Check texts (status.Refused fault) = NamesStop texts (status.Refused fault) ⊎ EndsJudging texts (refused fault)
 Stops command.Authority texts (status.Refused fault) = NamesStop texts (status.Refused fault) ⊎ EndsJudging texts (refused fault)
 Stops command.Run texts (status.Refused fault) = NamesStop texts (status.Refused fault) ⊎ EndsJudging texts (refused fault)
 Stops command.Trace texts (status.Refused fault) = NamesStop texts (status.Refused fault) ⊎ EndsJudging texts (refused fault)
+Stops command.Sample texts (status.Refused fault) = NamesStop texts (status.Refused fault) ⊎ EndsJudging texts (refused fault)
 Stops command texts other = ⊥
 
 -- what a call did: nothing, or it said that texts are accepted, or it reported what a program may do, or it ran a program,
@@ -106,5 +128,6 @@ Asks command.Check texts checked = (program : Program) × Passes texts program
 Asks command.Authority texts (reported program) = Passes texts program
 Asks command.Run texts (ran program) = Runnable texts program
 Asks command.Trace texts (ran program) = Runnable texts program
+Asks command.Sample texts (ran program) = Runnable texts program
 Asks command.Format texts (formatted tree) = HaveTrees 1 texts (tree ∷ [])
 Asks command texts other = ⊥

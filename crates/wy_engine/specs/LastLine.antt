@@ -11,7 +11,7 @@ use Rattle.wy_device.specs.RunEnds.{RunEnd, Trap, TooDeep, Spent, DeviceFailed}
 use Rattle.wy_meaning.specs.EndLines.{end_line}
 use Rattle.wy_authority.specs.Report.{atom_text}
 use Rattle.wy_machine.specs.TrapKinds.{trap_meant}
-use Rattle.wy_engine.specs.Settings.{Settings, usual_steps, usual_depth}
+use Rattle.wy_settings.specs.Settings.{Settings, usual_steps, usual_depth}
 use Rattle.wy_engine.specs.declared.status.Status.{Status}
 use Rattle.wy_engine.specs.declared.status.Status.TheVariants as status
 use Rattle.wy_engine.specs.declared.status.SyntaxKind.{SyntaxKind}

@@ -9,6 +9,6 @@ pub mod Parsed
 pub mod ProgramLaws
 pub mod Reading
 pub mod Running
-pub mod Settings
 pub mod Status
 pub mod TopCall
+pub mod Writing

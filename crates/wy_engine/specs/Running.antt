@@ -1,5 +1,5 @@
 -- What running a program does, step by step.
-use Rattle.std.specs.Prelude.{◌≡◌, ◌⊎◌, ℕ, List, [], Bool, true, false}
+use Rattle.std.specs.Prelude.{◌≡◌, ◌≢◌, ◌⊎◌, ℕ, List, []}
 use Rattle.wy_text.specs.Outside.{Rose, SinkState}
 use Rattle.wy_text.specs.Writing.{StopsShort, WritesUpTo}
 use Rattle.wy_device.specs.Devices.{DevicesState}
@@ -11,7 +11,10 @@ use Rattle.wy_machine.specs.Traces.{RunsTraced}
 use Rattle.wy_machine.specs.declared.run_end.RunEnd.{RunEnd}
 use Rattle.wy_machine.specs.declared.run_end.RunEnd.TheVariants as end
 use Rattle.wy_sound.specs.Programs.{program_starts}
-use Rattle.wy_engine.specs.Judgement.{authority_text}
+use Rattle.wy_engine.specs.Judgement.{authority_text, summary_text}
+use Rattle.wy_engine.specs.Writing.{Wrote}
+use Rattle.wy_engine.specs.declared.running.Mode.{Mode}
+use Rattle.wy_engine.specs.declared.running.Mode.TheVariants as mode
 use Rattle.wy_engine.specs.declared.status.Status.{Status}
 use Rattle.wy_engine.specs.declared.status.Status.TheVariants as status
 
@@ -37,18 +40,36 @@ pub record TracesCode (code : Code) (depth steps : ℕ) (out out' : SinkState) (
   pub runs : RunsTraced code depth steps devices devices' out out' ended
   pub says : end ≡ status_of ended
 
--- code was run and nothing was written to `out`, or it was traced
-abbrev pub RunsImage : Bool → Code → ℕ → ℕ → SinkState → SinkState → DevicesState → DevicesState → Status → Type 0
-RunsImage false code depth steps out out' devices devices' end = RunsCode code depth steps devices devices' end × (out' ≡ out)
-RunsImage true code depth steps out out' devices devices' end = TracesCode code depth steps out out' devices devices' end
+-- what came to `out` behind a run that ended so: a text, where it ended well, and else nothing
+pub data ThenWrote (text : List ℕ) (out out' : SinkState) (ended : RunEnd) (says : Status) : Type 0 where
+  summed : ended ≡ end.Ended → Wrote text out out' says → ThenWrote text out out' ended says
+  skipped : ended ≢ end.Ended → out' ≡ out → says ≡ status_of ended → ThenWrote text out out' ended says
+
+-- code was run, and a text was written to `out` where it ended well
+pub record SumsCode (text : List ℕ) (code : Code) (depth steps : ℕ) (out out' : SinkState) (devices devices' : DevicesState) (end : Status) : Type 0 where
+  pub ended : RunEnd
+  pub runs : Runs code depth steps devices devices' ended
+  pub wrote : ThenWrote text out out' ended end
+
+-- Code was run and nothing was written to `out`; or it was traced; or a text that sums the run up was written to `out` where
+-- it ended well.
+abbrev pub RunsImage : Mode → List ℕ → Code → ℕ → ℕ → SinkState → SinkState → DevicesState → DevicesState → Status → Type 0
+RunsImage mode.Silent text code depth steps out out' devices devices' end = RunsCode code depth steps devices devices' end × (out' ≡ out)
+RunsImage mode.Traced text code depth steps out out' devices devices' end = TracesCode code depth steps out out' devices devices' end
+RunsImage (mode.Summed number) text code depth steps out out' devices devices' end = SumsCode text code depth steps out out' devices devices' end
+
+-- the text that sums a run up, which only a sample has
+abbrev pub summary_in : Mode → Program → List ℕ
+summary_in (mode.Summed number) program = summary_text number program
+summary_in way program = []
 
 -- .. which is a program's
-abbrev pub RunsAs : Bool → Program → ℕ → ℕ → SinkState → SinkState → DevicesState → DevicesState → Status → Type 0
-RunsAs traced program depth steps out out' devices devices' end = RunsImage traced (lowered program (program_starts program)) depth steps out out' devices devices' end
+abbrev pub RunsAs : Mode → Program → ℕ → ℕ → SinkState → SinkState → DevicesState → DevicesState → Status → Type 0
+RunsAs way program depth steps out out' devices devices' end = RunsImage way (summary_in way program) (lowered program (program_starts program)) depth steps out out' devices devices' end
 
--- a program was run or traced: its report was not written whole and nothing was done; or it was, and then its code was run
-pub data Ran (traced : Bool) (program : Program) (depth steps : ℕ) (out out' report report' : SinkState) (devices devices' : DevicesState) (end : Status) : Type 0 where
+-- a program was run: its report was not written whole and nothing was done; or it was, and then its code was run
+pub data Ran (way : Mode) (program : Program) (depth steps : ℕ) (out out' report report' : SinkState) (devices devices' : DevicesState) (end : Status) : Type 0 where
   stopped : StopsShort (authority_text program) report report' → out' ≡ out → devices' ≡ devices
-      → (end ≡ status.Memory) ⊎ ((end ≡ status.Unwritten) × Rose report.faults report'.faults) → Ran traced program depth steps out out' report report' devices devices' end
-  performed : WritesUpTo (authority_text program) [] report report' → RunsAs traced program depth steps out out' devices devices' end
-      → Ran traced program depth steps out out' report report' devices devices' end
+      → (end ≡ status.Memory) ⊎ ((end ≡ status.Unwritten) × Rose report.faults report'.faults) → Ran way program depth steps out out' report report' devices devices' end
+  performed : WritesUpTo (authority_text program) [] report report' → RunsAs way program depth steps out out' devices devices' end
+      → Ran way program depth steps out out' report report' devices devices' end

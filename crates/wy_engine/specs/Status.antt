@@ -3,6 +3,8 @@ use Rattle.std.specs.Prelude.{◌≡◌, ℕ, ⊤}
 use Rattle.wy_device.specs.RunEnds as ends
 use Rattle.wy_device.specs.RunEnds.{RunEnd}
 use Rattle.wy_machine.specs.TrapKinds.{trap_meant}
+use Rattle.wy_settings.specs.declared.command_line.SettingsRefusal.{SettingsRefusal}
+use Rattle.wy_settings.specs.declared.command_line.SettingsRefusal.TheVariants as words
 use Rattle.wy_engine.specs.declared.status.Status.{Status}
 use Rattle.wy_engine.specs.declared.status.Status.TheVariants as status
 
@@ -20,6 +22,11 @@ number_of status.Spent = 8
 number_of (status.DeviceFailed grant op) = 9
 number_of status.Unwritten = 10
 number_of status.Memory = 11
+
+-- the status of words that give no settings
+abbrev pub refusal_status : SettingsRefusal → Status
+refusal_status words.Usage = status.Usage
+refusal_status words.Memory = status.Memory
 
 -- the status is that of a run which ended so
 abbrev pub IsOfEnd : Status → RunEnd → Type 0

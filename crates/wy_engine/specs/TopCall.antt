@@ -8,8 +8,10 @@ use Rattle.wy_text.specs.declared.limit.LimitName.TheVariants as limit
 use Rattle.wy_text.specs.declared.shelf.NamedText.{NamedText}
 use Rattle.wy_text.specs.declared.shelf.ReadDone.{ReadDone}
 use Rattle.wy_device.specs.Devices.{DevicesState}
-use Rattle.wy_engine.specs.Settings.{Settings, settings_of}
-use Rattle.wy_engine.specs.declared.settings.Command.{Command}
+use Rattle.wy_sample.specs.Sample.{sample_text}
+use Rattle.wy_settings.specs.Settings.{Settings, sample_number, settings_of}
+use Rattle.wy_settings.specs.declared.command_line.Command.{Command}
+use Rattle.wy_settings.specs.declared.command_line.Command.TheVariants as command
 use Rattle.wy_engine.specs.declared.status.Status.{Status}
 use Rattle.wy_engine.specs.declared.status.Status.TheVariants as status
 
@@ -38,15 +40,37 @@ abbrev pub texts_of : List NamedText → List (List ℕ) → Option (List (List 
 texts_of files [] = Some []
 texts_of files (name ∷ names) = option_and_then (λ text. option_map (λ texts. text ∷ texts) (texts_of files names)) (file_named name files)
 
--- a call of the command, which has no more files than the limit; and these are the texts that the shelf tells for them
+-- the shelf tells these texts for files of these names
+pub record TellsTexts (shelf : ShelfState) (names texts : List (List ℕ)) : Type 0 where
+  pub files : List NamedText
+  pub told : shelf.files ≡ Some files
+  pub found : texts_of files names ≡ Some texts
+
+-- the one text of `sample`, by its file word, which is a number
+abbrev pub sampled : List (List ℕ) → Option (List (List ℕ))
+sampled names = option_map (λ number. sample_text number ∷ []) (sample_number names)
+
+-- whether the words of a command name files
+abbrev pub takes_files : Command → Bool
+takes_files command.Check = true
+takes_files command.Authority = true
+takes_files command.Run = true
+takes_files command.Trace = true
+takes_files command.Sample = false
+takes_files command.Format = true
+
+-- the texts of a command: those that the shelf tells for its files, and of `sample` the one that its number makes
+abbrev pub HasTexts : Command → ShelfState → List (List ℕ) → List (List ℕ) → Type 0
+HasTexts command.Sample shelf names texts = sampled names ≡ Some texts
+HasTexts asked shelf names texts = TellsTexts shelf names texts
+
+-- a call of the command, which has no more files than the limit; and these are its texts
 pub record IsGiven (call : TopCall) (command : Command) (texts : List (List ℕ)) : Type 0 where
   pub settings : Settings
   pub set : IsSet call settings
   pub is : settings.command ≡ command
   pub few : length settings.files ≤ most_files
-  pub files : List NamedText
-  pub told : call.shelf.files ≡ Some files
-  pub found : texts_of files settings.files ≡ Some texts
+  pub texts_are : HasTexts settings.command call.shelf settings.files texts
 
 -- reads of these names, all with this outcome
 abbrev pub reads_of : Bool → List (List ℕ) → List ReadDone
@@ -62,14 +86,24 @@ pub record ReadsInOrder (call : TopCall) (names : List (List ℕ)) : Type 0 wher
   pub others : ((file : ℕ) → call.status ≢ status.Unread file) → badly ≡ []
   pub all : call.status ≢ status.Memory → ((file : ℕ) → call.status ≢ status.Unread file) → well ≡ length names
 
+-- nothing was read
+pub record ReadsNothing (call : TopCall) : Type 0 where
+  pub shelf : call.shelf_after ≡ call.shelf
+  pub unread : (file : ℕ) → call.status ≢ status.Unread file
+
+-- what a command reads: the files of its words, and for `sample` nothing
+abbrev pub ReadsFor : Command → TopCall → List (List ℕ) → Type 0
+ReadsFor command.Sample call names = ReadsNothing call
+ReadsFor asked call names = ReadsInOrder call names
+
 -- Which calls end by their words, and which reads were made. The shelf is asked for nothing where the words give no
--- settings, or more files than the limit.
+-- settings, or more files than the limit. Only want of memory may come in the place of what ends such a call.
 pub record ReadsFiles (call : TopCall) : Type 0 where
   pub usage : call.status ≡ status.Usage → settings_of call.words ≡ None
-  pub faulty : settings_of call.words ≡ None → (call.status ≡ status.Usage) × (call.shelf_after ≡ call.shelf)
+  pub faulty : settings_of call.words ≡ None → (call.status ≢ status.Memory → call.status ≡ status.Usage) × (call.shelf_after ≡ call.shelf)
   pub crowd : call.status ≡ status.Limit limit.Files → (settings : Settings) → IsSet call settings → most_files < length settings.files
-  pub crowded : (settings : Settings) → IsSet call settings → most_files < length settings.files → (call.status ≡ status.Limit limit.Files) × (call.shelf_after ≡ call.shelf)
-  pub reads : (settings : Settings) → IsSet call settings → length settings.files ≤ most_files → ReadsInOrder call settings.files
+  pub crowded : (settings : Settings) → IsSet call settings → most_files < length settings.files → (call.status ≢ status.Memory → call.status ≡ status.Limit limit.Files) × (call.shelf_after ≡ call.shelf)
+  pub reads : (settings : Settings) → IsSet call settings → length settings.files ≤ most_files → ReadsFor settings.command call settings.files
   pub counted : (file : ℕ) → call.status ≡ status.Unread file → Rose call.shelf.faults call.shelf_after.faults
 
 -- neither sink was written to, and no device was touched

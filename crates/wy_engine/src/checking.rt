@@ -1,11 +1,13 @@
 ghost use Rattle.std.specs.Prelude.{◌≡◌, map, IfOk, IfErr};
+ghost use Rattle.std.specs.Option.{IfSome};
+ghost use Rattle.wy_authority.specs.Authority.{authority_of};
 ghost use Rattle.wy_syntax.specs.Views.{file_tree};
 ghost use Rattle.wy_types.specs.Program.{program_of};
 ghost use Rattle.wy_names.specs.Declarations.{all_items};
 ghost use Rattle.wy_names.specs.Names.{Resolves};
 ghost use Rattle.wy_link.specs.Checking.{IsCheckedProgram};
 ghost use Rattle.wy_engine.specs.Answering.{ChecksTrees, FailsCheck, check_status};
-ghost use Rattle.wy_engine.specs.Judgement.{accepted_text, authority_text};
+ghost use Rattle.wy_engine.specs.Judgement.{accepted_text, authority_text, body_lines};
 
 use crate::judging::names_status;
 use crate::status::Status;
@@ -13,6 +15,7 @@ use crate::writing::write_out;
 use std::alloc::Global;
 use wy_authority::authority::authority;
 use wy_authority::report::report;
+use wy_authority::rows::{Authority, InstanceRow};
 use wy_judge::checking::CheckRefusal;
 use wy_link::checking::check;
 use wy_link::linking::Links;
@@ -69,19 +72,46 @@ pub fn check_trees<O: Sink>(alloc: Global, trees: &[Tree], out: &mut O) -> Statu
     }
 }
 
+/// The authority of a program that is accepted.
+fn authority_of(alloc: Global, accepted: &Accepted) -> Result<Authority, Memory>
+    requires { IsCheckedProgram (program_of accepted.now.core) accepted.now.links }
+    ensures { IfOk result (λ a. a ≡ authority_of (program_of accepted.now.core)) }
+{
+    let links = &accepted.links;
+    authority(
+        alloc,
+        &accepted.core,
+        links.instances.as_slice(),
+        links.sets.as_slice(),
+    )
+}
+
 /// The report of the authority of a program that is accepted.
 pub fn report_of(alloc: Global, accepted: &Accepted) -> Result<Text, Memory>
     requires { IsCheckedProgram (program_of accepted.now.core) accepted.now.links }
     ensures { IfOk result (λ t. t ≡ authority_text (program_of accepted.now.core)) }
 {
-    let links = &accepted.links;
-    let authority = authority(
-        alloc,
-        &accepted.core,
-        links.instances.as_slice(),
-        links.sets.as_slice(),
-    )?;
+    let authority = authority_of(alloc, accepted)?;
     report(alloc, &authority)
+}
+
+/// How many lines of bodies these rows have; `None` where they are more than can be counted, which no memory holds.
+fn body_lines(rows: &[InstanceRow]) -> Option<u64>
+    ensures { IfSome result (λ n. n ≡ body_lines rows.now) }
+{
+    let Some((row, rest)) = rows.split_first() else {
+        return Some(0);
+    };
+    body_lines(rest)?.checked_add(row.bodies.len() as u64)
+}
+
+/// How many lines of bodies the report of an accepted program has.
+pub fn body_lines_of(alloc: Global, accepted: &Accepted) -> Result<u64, Memory>
+    requires { IsCheckedProgram (program_of accepted.now.core) accepted.now.links }
+    ensures { IfOk result (λ n. n ≡ body_lines (authority_of (program_of accepted.now.core)).rows) }
+{
+    let authority = authority_of(alloc, accepted)?;
+    body_lines(authority.rows.as_slice()).ok_or(Memory)
 }
 
 /// Judges trees, and writes the report of the authority of their program to `out`, where it is accepted

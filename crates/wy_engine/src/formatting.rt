@@ -1,6 +1,6 @@
 ghost use Rattle.wy_syntax.specs.Canonical.{canonical_form};
 ghost use Rattle.wy_syntax.specs.Views.{file_tree};
-ghost use Rattle.wy_engine.specs.Answering.{Wrote};
+ghost use Rattle.wy_engine.specs.Writing.{Wrote};
 
 use crate::status::Status;
 use crate::writing::write_out;

@@ -4,13 +4,20 @@ ghost use Rattle.wy_device.specs.Traps.{trap_text};
 ghost use Rattle.wy_machine.specs.TrapKinds.{trap_meant};
 ghost use Rattle.wy_engine.specs.LastLine.{fault_text, file_word, lacks_text, last_line, limit_line, place_text, syntax_text};
 
-use crate::settings::LineWords;
 use crate::status::{Status, SyntaxKind};
 use std::alloc::Global;
 use wy_machine::run_end::TrapKind;
 use wy_text::fault::{AtomName, Fault, Place};
 use wy_text::limit::LimitName;
 use wy_text::text::Memory;
+
+/// What the last line of a call needs of its words: the file words, and the bounds of a run.
+#[derive(Clone, Copy, Debug)]
+pub struct LineWords<'a> {
+    pub names: &'a [String],
+    pub steps: u64,
+    pub depth: u32,
+}
 
 /// The file word of a number, which counts from 1; the empty text where there is none.
 fn word_of(names: &[String], file: u16) -> &str

@@ -12,7 +12,6 @@ pub mod laws;
 pub mod parsing;
 pub mod reading;
 pub mod running;
-pub mod settings;
 pub mod status;
 #[cfg(test)]
 mod tests;

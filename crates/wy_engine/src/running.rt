@@ -1,4 +1,4 @@
-ghost use Rattle.std.specs.Prelude.{◌≡◌, map};
+ghost use Rattle.std.specs.Prelude.{◌≡◌, IfOk, map};
 ghost use Rattle.wy_code.specs.Running.{NeverStuck};
 ghost use Rattle.wy_device.specs.Devices.{IsInOrder};
 ghost use Rattle.wy_machine.specs.Devices.{states};
@@ -9,26 +9,40 @@ ghost use Rattle.wy_syntax.specs.Views.{file_tree};
 ghost use Rattle.wy_types.specs.Program.{program_of};
 ghost use Rattle.wy_engine.specs.Answering.{RunsAccepted, RunsTrees};
 ghost use Rattle.wy_engine.specs.FileTrees.{AreOfFiles};
-ghost use Rattle.wy_engine.specs.Running.{RunsImage, status_of};
+ghost use Rattle.wy_engine.specs.Running.{RunsImage, ThenWrote, status_of, summary_in};
 
-use crate::checking::{Accepted, judge_trees, report_of};
+use crate::checking::{Accepted, body_lines_of, judge_trees, report_of};
 use crate::laws::accepted_run_as_meant;
 use crate::status::Status;
+use crate::writing::write_out;
 use std::alloc::Global;
 use wy_device::device::Device;
 use wy_lower::lowering::{LowerRefusal, lower};
 use wy_machine::devices::Devices;
 use wy_machine::run::{Image, load, run, run_traced};
 use wy_machine::run_end::RunEnd;
+use wy_sample::sample::summary;
 use wy_syntax::items::Tree;
 use wy_text::sink::{Sink, WriteError};
+use wy_text::text::{Memory, Text, from_bytes};
 use wy_text::writing::write_all;
 
-/// How a program is run: whether the line of each event is written, how many steps the run may take, and how many calls on
-/// objects may be open in it at once.
+/// In which way a program is run.
+#[derive(Clone, Copy, Debug)]
+pub enum Mode {
+    /// Nothing is written to `out`.
+    Silent,
+    /// The line of each event is written to `out` when it has happened.
+    Traced,
+    /// Where the run ended, a line is written to `out` that sums it up. The program is the sample of this number.
+    Summed(u32),
+}
+
+/// How a program is run: in which way, how many steps the run may take, and how many calls on objects may be open in it at
+/// once.
 #[derive(Clone, Copy, Debug)]
 pub struct Manner {
-    pub traced: bool,
+    pub way: Mode,
     pub steps: u64,
     pub depth: u32,
 }
@@ -48,22 +62,45 @@ fn status_of(end: RunEnd) -> Status
     }
 }
 
-/// Runs code that was loaded, and writes the line of each event to `out` where it is to be traced.
+/// Writes a text to `out` where a run ended well, and gives the status of it all.
+fn sum_up<O: Sink>(end: RunEnd, summary: &[u8], out: &mut O) -> Status
+    ensures { ThenWrote summary.now (O.state out.old) (O.state out.new) end result }
+{
+    match end {
+        RunEnd::Ended => write_out(out, summary),
+        other => status_of(other),
+    }
+}
+
+/// Runs code that was loaded; where it is to be traced, writes the line of each event to `out`, and where it is to be summed
+/// up, this text behind it.
 fn run_image<O: Sink, D: Device>(
     alloc: Global,
     image: &mut Image<'_>,
     manner: Manner,
+    summary: &[u8],
     out: &mut O,
     devices: &mut Devices<D>,
 ) -> Status
     requires in_order { IsInOrder (states D.state devices.old) }
     requires never_stuck { NeverStuck image.old.code }
-    ensures { RunsImage manner.traced image.old.code image.old.depth manner.steps (O.state out.old) (O.state out.new) (states D.state devices.old) (states D.state devices.new) result }
+    ensures { RunsImage manner.way summary.now image.old.code image.old.depth manner.steps (O.state out.old) (O.state out.new) (states D.state devices.old) (states D.state devices.new) result }
 {
-    if manner.traced {
-        status_of(run_traced(alloc, image, devices, manner.steps, out))
-    } else {
-        status_of(run(image, devices, manner.steps))
+    match manner.way {
+        Mode::Silent => status_of(run(image, devices, manner.steps)),
+        Mode::Traced => status_of(run_traced(alloc, image, devices, manner.steps, out)),
+        Mode::Summed(_) => sum_up(run(image, devices, manner.steps), summary, out),
+    }
+}
+
+/// The text that sums a run of an accepted program up, which only a sample has.
+fn summary_of(alloc: Global, accepted: &Accepted, way: Mode) -> Result<Text, Memory>
+    requires { IsCheckedProgram (program_of accepted.now.core) accepted.now.links }
+    ensures { IfOk result (λ text. text ≡ summary_in way (program_of accepted.now.core)) }
+{
+    match way {
+        Mode::Summed(number) => summary(alloc, number, body_lines_of(alloc, accepted)?),
+        Mode::Silent | Mode::Traced => from_bytes(alloc, b""),
     }
 }
 
@@ -79,7 +116,7 @@ fn run_accepted<O: Sink, E: Sink, D: Device>(
     requires checked { IsCheckedProgram (program_of accepted.now.core) accepted.now.links }
     requires in_order { IsInOrder (states D.state devices.old) }
     requires never_stuck { NeverStuck (lowered (program_of accepted.now.core) (program_starts (program_of accepted.now.core))) }
-    ensures { RunsAccepted manner.traced (program_of accepted.now.core) manner.depth manner.steps (O.state out.old) (O.state out.new) (E.state report.old) (E.state report.new) (states D.state devices.old) (states D.state devices.new) result }
+    ensures { RunsAccepted manner.way (program_of accepted.now.core) manner.depth manner.steps (O.state out.old) (O.state out.new) (E.state report.old) (E.state report.new) (states D.state devices.old) (states D.state devices.new) result }
 {
     let code = match lower(alloc, &accepted.core, &accepted.links.instances) {
         Ok(code) => code,
@@ -92,15 +129,18 @@ fn run_accepted<O: Sink, E: Sink, D: Device>(
     let Ok(text) = report_of(alloc, accepted) else {
         return Status::Memory;
     };
+    let Ok(summary) = summary_of(alloc, accepted, manner.way) else {
+        return Status::Memory;
+    };
     match write_all(report, text.as_bytes()) {
-        Ok(()) => run_image(alloc, &mut image, manner, out, devices),
+        Ok(()) => run_image(alloc, &mut image, manner, summary.as_bytes(), out, devices),
         Err(WriteError::Failed) => Status::Unwritten,
         Err(WriteError::Memory) => Status::Memory,
     }
 }
 
 /// Judges trees, and where their program is accepted prints its report and runs it; where it is to be traced, the line of
-/// each event comes to `out` when it has happened (docs/LANGUAGE.md, "Authority and report", "Events" and "How a run ends").
+/// each event comes to `out` when it has happened, and where it is to be summed up, a line behind a run that ended (docs/LANGUAGE.md, "Authority and report", "Events" and "How a run ends").
 pub fn run_trees<O: Sink, E: Sink, D: Device>(
     alloc: Global,
     trees: &[Tree],
@@ -111,7 +151,7 @@ pub fn run_trees<O: Sink, E: Sink, D: Device>(
 ) -> Status
     requires of_files { AreOfFiles (map file_tree trees.now) }
     requires in_order { IsInOrder (states D.state devices.old) }
-    ensures { RunsTrees manner.traced (map file_tree trees.now) manner.depth manner.steps (O.state out.old) (O.state out.new) (E.state report.old) (E.state report.new) (states D.state devices.old) (states D.state devices.new) result }
+    ensures { RunsTrees manner.way (map file_tree trees.now) manner.depth manner.steps (O.state out.old) (O.state out.new) (E.state report.old) (E.state report.new) (states D.state devices.old) (states D.state devices.new) result }
 {
     accepted_run_as_meant();
     match judge_trees(alloc, trees) {

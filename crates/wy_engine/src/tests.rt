@@ -18,6 +18,8 @@ mod programs;
 mod programs_table;
 mod running;
 mod running_table;
+mod samples;
+mod samples_table;
 mod support;
 mod syntax;
 mod syntax_table;

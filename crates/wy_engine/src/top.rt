@@ -1,18 +1,24 @@
-ghost use Rattle.std.specs.Prelude.{◌≡◌, ◌≤◌, map, string_bytes};
+ghost use Rattle.std.specs.Prelude.{◌≡◌, ◌≤◌, List, None, Some, ℕ, length, map, false, string_bytes, true};
 ghost use Rattle.wy_device.specs.Devices.{IsInOrder};
 ghost use Rattle.wy_machine.specs.Devices.{states};
+ghost use Rattle.wy_settings.specs.Settings.{settings_of, takes};
+ghost use Rattle.wy_engine.specs.Answering.{Answered};
 ghost use Rattle.wy_engine.specs.Headline.{Closes, Headline, Settles};
-ghost use Rattle.wy_engine.specs.TopCall.{TopCall};
+ghost use Rattle.wy_engine.specs.LastLine.{line_words};
+ghost use Rattle.wy_engine.specs.Status.{refusal_status};
+ghost use Rattle.wy_engine.specs.TopCall.{TopCall, sampled, takes_files};
 
 use crate::answering::answer;
-use crate::last_line::last_line_of;
+use crate::last_line::{LineWords, last_line_of};
 use crate::laws::accepted_run_as_meant;
 use crate::reading::{Stop, read_all};
-use crate::settings::{LineWords, command_line, line_words};
 use crate::status::Status;
 use std::alloc::Global;
 use wy_device::device::Device;
 use wy_machine::devices::Devices;
+use wy_settings::command_line::{Command, CommandLine, SettingsRefusal, USUAL_DEPTH, USUAL_STEPS};
+use wy_sample::sample::sample;
+use wy_settings::settings::{sample_number, settings};
 use wy_text::limit::LimitName;
 use wy_text::shelf::Shelf;
 use wy_text::sink::{Sink, WriteError};
@@ -22,18 +28,51 @@ use wy_well_formed::resolved_is_core;
 /// The most files of a call.
 const MOST_FILES: usize = 64;
 
-/// Reads the files that the words name, parses them, and does with them what the command asks.
+/// Whether the words of a command name files.
+fn takes_files(command: Command) -> bool
+    ensures { result ≡ takes_files command }
+{
+    match command {
+        Command::Check | Command::Authority | Command::Run | Command::Trace | Command::Format => true,
+        Command::Sample => false,
+    }
+}
+
+/// Makes the sample of a command line, and does with it what the command asks.
+fn answer_sample<O: Sink, E: Sink, D: Device>(
+    alloc: Global,
+    line: CommandLine<'_>,
+    out: &mut O,
+    report: &mut E,
+    devices: &mut Devices<D>,
+) -> Status
+    requires in_order { IsInOrder (states D.state devices.old) }
+    requires asked { takes_files line.command ≡ false }
+    requires fits { takes line.command (map string_bytes line.files.now) ≡ true }
+    ensures { (texts : List (List ℕ)) → sampled (map string_bytes line.entry.files.now) ≡ Some texts → Answered (record { command = line.entry.command; steps = line.entry.steps; depth = line.entry.depth; files = map string_bytes line.entry.files.now }) texts (O.state out.old) (O.state out.new) (E.state report.old) (E.state report.new) (states D.state devices.old) (states D.state devices.new) result }
+{
+    let Some(number) = sample_number(line.files) else {
+        unreachable!()
+    };
+    let Ok(text) = sample(alloc, number) else {
+        return Status::Memory;
+    };
+    answer(alloc, line, &[text], out, report, devices)
+}
+
+/// Reads the files of a command line, or makes its sample, parses them, and does with them what the command asks.
 fn settle<S: Shelf, O: Sink, E: Sink, D: Device>(
     alloc: Global,
-    words: &[String],
+    line: CommandLine<'_>,
     shelf: &mut S,
     out: &mut O,
     report: &mut E,
     devices: &mut Devices<D>,
 ) -> Status
-    requires { IsInOrder (states D.state devices.old) }
-    ensures { Settles (record {
-      words = map string_bytes words.now;
+    requires in_order { IsInOrder (states D.state devices.old) }
+    requires fits { takes line.command (map string_bytes line.files.now) ≡ true }
+    ensures { (words : List (List ℕ)) → settings_of words ≡ Some (record { command = line.entry.command; steps = line.entry.steps; depth = line.entry.depth; files = map string_bytes line.entry.files.now }) → Settles (record {
+      words = words;
       shelf = S.state shelf.old;
       shelf_after = S.state shelf.new;
       out = O.state out.old;
@@ -47,11 +86,11 @@ fn settle<S: Shelf, O: Sink, E: Sink, D: Device>(
 {
     resolved_is_core();
     accepted_run_as_meant();
-    let Some(line) = command_line(words) else {
-        return Status::Usage;
-    };
     if line.files.len() > MOST_FILES {
         return Status::Limit(LimitName::Files);
+    }
+    if !takes_files(line.command) {
+        return answer_sample(alloc, line, out, report, devices);
     }
     match read_all(alloc, shelf, line.files) {
         Err(Stop::Unread(file)) => Status::Unread(file),
@@ -74,11 +113,44 @@ fn close<E: Sink>(alloc: Global, words: LineWords<'_>, report: &mut E, settled: 
     }
 }
 
+/// What the last line of a call needs of its command line.
+fn line_words(line: CommandLine<'_>) -> LineWords<'_>
+    ensures { line_words (Some (record { command = line.entry.command; steps = line.entry.steps; depth = line.entry.depth; files = map string_bytes line.entry.files.now })) ≡ record { names = map string_bytes result.names.now; steps = result.steps; depth = result.depth } }
+{
+    LineWords {
+        names: line.files,
+        steps: line.steps,
+        depth: line.depth,
+    }
+}
+
+/// What the last line of a call needs of words that give no settings.
+fn no_words() -> LineWords<'static>
+    ensures { line_words None ≡ record { names = map string_bytes result.names.now; steps = result.steps; depth = result.depth } }
+{
+    LineWords {
+        names: &[],
+        steps: USUAL_STEPS,
+        depth: USUAL_DEPTH,
+    }
+}
+
+/// The status of words that give no settings.
+fn status_of(refusal: SettingsRefusal) -> Status
+    ensures { result ≡ refusal_status refusal }
+{
+    match refusal {
+        SettingsRefusal::Usage => Status::Usage,
+        SettingsRefusal::Memory => Status::Memory,
+    }
+}
+
 /// Does what the words say: reads the files that they name, and parses them. `check` judges their names and their
 /// program by the rules, and says on `out` that it is accepted; `authority` judges as `check` does, and writes the
 /// report of what the program's bodies may do to `out`; `run` judges as `check` does, lowers what is accepted to code, prints the
 /// report on `report`, and runs the code on the devices; `trace` does so too, and writes the line of each event of the
-/// run to `out`; `format` writes the canonical form of its one file to `out`. The
+/// run to `out`; `sample` runs the program that its number makes, reads no file, and writes a line that sums it up to `out`
+/// where the run ended; `format` writes the canonical form of its one file to `out`. The
 /// report ends with a line that says how the call ended, unless all was done (docs/LANGUAGE.md, "The command line",
 /// "Authority and report" and "Statuses").
 ///
@@ -105,6 +177,12 @@ pub fn wyvern<S: Shelf, O: Sink, E: Sink, D: Device>(
       status = result;
     }) }
 {
-    let settled = settle(alloc, words, shelf, out, report, devices);
-    close(alloc, line_words(words), report, settled)
+    match settings(alloc, words) {
+        Ok(settings) => {
+            let line = settings.line();
+            let settled = settle(alloc, line, shelf, out, report, devices);
+            close(alloc, line_words(line), report, settled)
+        }
+        Err(refusal) => close(alloc, no_words(), report, status_of(refusal)),
+    }
 }

@@ -1,4 +1,4 @@
-ghost use Rattle.wy_engine.specs.Answering.{Wrote};
+ghost use Rattle.wy_engine.specs.Writing.{Wrote};
 
 use crate::status::Status;
 use wy_text::sink::{Sink, WriteError};

@@ -96,7 +96,7 @@ pub fn sample(alloc: Global, number: u32) -> Result<Text, Memory>
 /// The line that sums the run of a sample up: its number, which is how many instances it has, and how
 /// many lines of bodies stand in its report (docs/LANGUAGE.md, "Samples"). `Err` comes only where memory
 /// is wanting.
-pub fn summary(alloc: Global, number: u32, bodies: u32) -> Result<Text, Memory>
+pub fn summary(alloc: Global, number: u32, bodies: u64) -> Result<Text, Memory>
     ensures { IfOk result (λ line. line ≡ texts.summary_line number bodies) }
 {
     let line = format!(in alloc; "sample {number}: instances {number}, bodies {bodies}\n")?;

@@ -3,7 +3,7 @@ use std::alloc::Global;
 use std::test::Fail;
 
 /// Words that are no command line.
-static FAULTY: [&[&str]; 21] = [
+static FAULTY: [&[&str]; 26] = [
     &[],
     &["check"],
     &["check", "-b.wy"],
@@ -24,7 +24,12 @@ static FAULTY: [&[&str]; 21] = [
     &["run", "--steps", "00000000000009", "b.wy"],
     &["run", "--depth", "100001", "b.wy"],
     &["check", "--depth", "x", "b.wy"],
-    &["run", "b.wy", "--steps", "9"],
+    &["run", "--steps", "9", "--steps", "9", "b.wy"],
+    &["sample"],
+    &["sample", "0"],
+    &["sample", "201"],
+    &["sample", "b.wy"],
+    &["sample", "1", "2"],
 ];
 
 /// Whether a call with these words, over a shelf with an empty `b.wy`, ends with the status of the number and the

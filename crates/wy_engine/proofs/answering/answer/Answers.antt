@@ -1,7 +1,7 @@
-use Rattle.std.proofs.Common.{arith, false, true, map, length, ◌≡◌, ◌∙◌, sym}
+use Rattle.std.proofs.Common.{arith, map, length, ◌≡◌, ◌∙◌, sym}
 use Rattle.std.proofs.lemmas.List.{length-map}
 use Rattle.wy_syntax.specs.Views.{file_tree}
-use Rattle.wy_engine.proofs.Doing.{as_many, did_check, did_format, did_none, did_report, did_run}
+use Rattle.wy_engine.proofs.Doing.{as_many, did_check, did_format, did_none, did_report, did_run, runs_as}
 use Rattle.wy_engine.proofs.OneItem.{one_mapped}
 use Rattle.wy_engine.proofs.answering.answer.Goals as goal
 
@@ -15,10 +15,13 @@ pub returns-in-Authority : goal.returns-in-Authority
 returns-in-Authority g c = did_report _ _ (map file_tree c.in-Ok.trees.items) _ _ _ _ _ c.in-Authority.is c.in-Ok.ensures.trees (rw (← c.as_slice-in-Authority.ensures.value) c.report_trees.ensures)
 
 pub returns-in-Run : goal.returns-in-Run
-returns-in-Run g c = did_run _ _ false (map file_tree c.in-Ok.trees.items) _ _ _ _ _ _ _ c.in-Run.is c.in-Ok.ensures.trees (rw (← c.as_slice-in-Run.ensures.value) c.run_trees.ensures)
+returns-in-Run g c = did_run _ _ c.way_of.result (map file_tree c.in-Ok.trees.items) _ _ _ _ _ _ _ (c.way_of.ensures.runs (runs_as c.in-Run.is tt)) c.way_of.ensures.numbered c.in-Ok.ensures.trees (rw (← c.as_slice-in-Run.ensures.value) c.run_trees.ensures)
 
 pub returns-in-Trace : goal.returns-in-Trace
-returns-in-Trace g c = did_run _ _ true (map file_tree c.in-Ok.trees.items) _ _ _ _ _ _ _ c.in-Trace.is c.in-Ok.ensures.trees (rw (← c.as_slice-in-Trace.ensures.value) c.run_trees-in-Trace.ensures)
+returns-in-Trace g c = did_run _ _ c.way_of.result (map file_tree c.in-Ok.trees.items) _ _ _ _ _ _ _ (c.way_of.ensures.runs (runs_as c.in-Trace.is tt)) c.way_of.ensures.numbered c.in-Ok.ensures.trees (rw (← c.as_slice-in-Trace.ensures.value) c.run_trees-in-Trace.ensures)
+
+pub returns-in-Sample : goal.returns-in-Sample
+returns-in-Sample g c = did_run _ _ c.way_of.result (map file_tree c.in-Ok.trees.items) _ _ _ _ _ _ _ (c.way_of.ensures.runs (runs_as c.in-Sample.is tt)) c.way_of.ensures.numbered c.in-Ok.ensures.trees (rw (← c.as_slice-in-Sample.ensures.value) c.run_trees-in-Sample.ensures)
 
 pub index-requires : goal.index-requires
 index-requires g c =

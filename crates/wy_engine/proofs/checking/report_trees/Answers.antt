@@ -1,7 +1,8 @@
 use Rattle.std.proofs.Common.{refl}
 use Rattle.wy_text.proofs.Gains.{wrote_nothing}
 use Rattle.wy_types.specs.Program.{program_of}
-use Rattle.wy_engine.specs.Answering.{accepted, fails, starved}
+use Rattle.wy_engine.specs.Answering.{accepted, fails}
+use Rattle.wy_engine.specs.Writing.{starved}
 use Rattle.wy_engine.proofs.checking.report_trees.Goals as goal
 
 pub returns-in-Err : goal.returns-in-Err

@@ -1,0 +1,119 @@
+-- The settings that words give, tried on examples.
+use Rattle.std.proofs.Common.{codes, ◌≡◌, ℕ, List, [], ◌∷◌, Some, None, refl}
+use Rattle.clap.proofs.OnLiterals.{clap_on_literals}
+use Rattle.wy_settings.specs.Settings.{Settings, most_depth, settings_of, usual_depth, usual_steps}
+use Rattle.wy_settings.specs.declared.command_line.Command.{Command}
+use Rattle.wy_settings.specs.declared.command_line.Command.TheVariants as command
+
+-- settings with the usual bounds
+abbrev usual : Command → List (List ℕ) → Settings
+usual named files = record { command = named; steps = usual_steps; depth = usual_depth; files = files }
+
+one_file : settings_of (codes "run" ∷ codes "b.wy" ∷ []) ≡ Some (usual command.Run (codes "b.wy" ∷ []))
+unfolding clap_on_literals
+one_file = refl
+
+two_files : settings_of (codes "check" ∷ codes "a.wy" ∷ codes "b.wy" ∷ []) ≡ Some (usual command.Check (codes "a.wy" ∷ codes "b.wy" ∷ []))
+unfolding clap_on_literals
+two_files = refl
+
+authority_words : settings_of (codes "authority" ∷ codes "a.wy" ∷ []) ≡ Some (usual command.Authority (codes "a.wy" ∷ []))
+unfolding clap_on_literals
+authority_words = refl
+
+format_words : settings_of (codes "format" ∷ codes "b.wy" ∷ []) ≡ Some (usual command.Format (codes "b.wy" ∷ []))
+unfolding clap_on_literals
+format_words = refl
+
+two_formats : settings_of (codes "format" ∷ codes "a.wy" ∷ codes "b.wy" ∷ []) ≡ None
+unfolding clap_on_literals
+two_formats = refl
+
+no_words : settings_of [] ≡ None
+unfolding clap_on_literals
+no_words = refl
+
+no_files : settings_of (codes "run" ∷ []) ≡ None
+unfolding clap_on_literals
+no_files = refl
+
+other_words : settings_of (codes "walk" ∷ codes "b.wy" ∷ []) ≡ None
+unfolding clap_on_literals
+other_words = refl
+
+no_help : settings_of (codes "run" ∷ codes "--help" ∷ codes "b.wy" ∷ []) ≡ None
+unfolding clap_on_literals
+no_help = refl
+
+-- ---- options stand anywhere, with their number in the next word or behind an equals sign
+
+few_steps : settings_of (codes "run" ∷ codes "--steps" ∷ codes "9" ∷ codes "a.wy" ∷ []) ≡ Some (record { command = command.Run; steps = 9; depth = usual_depth; files = codes "a.wy" ∷ [] })
+unfolding clap_on_literals
+few_steps = refl
+
+options_last : settings_of (codes "run" ∷ codes "a.wy" ∷ codes "--depth=0" ∷ codes "b.wy" ∷ codes "--steps=0000000012345" ∷ [])
+    ≡ Some (record { command = command.Run; steps = 12345; depth = 0; files = codes "a.wy" ∷ codes "b.wy" ∷ [] })
+unfolding clap_on_literals
+options_last = refl
+
+option_first : settings_of (codes "--depth" ∷ codes "100000" ∷ codes "check" ∷ codes "a.wy" ∷ []) ≡ Some (record { command = command.Check; steps = usual_steps; depth = most_depth; files = codes "a.wy" ∷ [] })
+unfolding clap_on_literals
+option_first = refl
+
+option_twice : settings_of (codes "run" ∷ codes "--steps" ∷ codes "1" ∷ codes "--steps" ∷ codes "1" ∷ codes "a.wy" ∷ []) ≡ None
+unfolding clap_on_literals
+option_twice = refl
+
+other_option : settings_of (codes "run" ∷ codes "a.wy" ∷ codes "-b.wy" ∷ []) ≡ None
+unfolding clap_on_literals
+other_option = refl
+
+-- ---- a dash alone is a file, and so is all that stands behind two
+
+dashes : settings_of (codes "run" ∷ codes "-" ∷ codes "--" ∷ codes "-b.wy" ∷ codes "--steps" ∷ []) ≡ Some (usual command.Run (codes "-" ∷ codes "-b.wy" ∷ codes "--steps" ∷ []))
+unfolding clap_on_literals
+dashes = refl
+
+-- ---- numbers
+
+too_deep : settings_of (codes "run" ∷ codes "--depth" ∷ codes "100001" ∷ codes "a.wy" ∷ []) ≡ None
+unfolding clap_on_literals
+too_deep = refl
+
+too_many_steps : settings_of (codes "run" ∷ codes "--steps" ∷ codes "1000000000001" ∷ codes "a.wy" ∷ []) ≡ None
+unfolding clap_on_literals
+too_many_steps = refl
+
+fourteen_digits : settings_of (codes "run" ∷ codes "--steps" ∷ codes "00000000000001" ∷ codes "a.wy" ∷ []) ≡ None
+unfolding clap_on_literals
+fourteen_digits = refl
+
+no_numeral : settings_of (codes "run" ∷ codes "--steps" ∷ codes "+1" ∷ codes "a.wy" ∷ []) ≡ None
+unfolding clap_on_literals
+no_numeral = refl
+
+no_number : settings_of (codes "run" ∷ codes "a.wy" ∷ codes "--steps" ∷ []) ≡ None
+unfolding clap_on_literals
+no_number = refl
+
+-- ---- the number of a sample
+
+sample_words : settings_of (codes "sample" ∷ codes "200" ∷ []) ≡ Some (usual command.Sample (codes "200" ∷ []))
+unfolding clap_on_literals
+sample_words = refl
+
+sample_zero : settings_of (codes "sample" ∷ codes "0" ∷ []) ≡ None
+unfolding clap_on_literals
+sample_zero = refl
+
+sample_past : settings_of (codes "sample" ∷ codes "201" ∷ []) ≡ None
+unfolding clap_on_literals
+sample_past = refl
+
+two_samples : settings_of (codes "sample" ∷ codes "1" ∷ codes "2" ∷ []) ≡ None
+unfolding clap_on_literals
+two_samples = refl
+
+sample_of_a_file : settings_of (codes "sample" ∷ codes "a.wy" ∷ []) ≡ None
+unfolding clap_on_literals
+sample_of_a_file = refl
