@@ -2,14 +2,23 @@
 //! trusted: they meet the traits of the outside, and tell nothing of what a file, a stream or a clock holds.
 #![tactic(auto)]
 
+mod clock;
 mod console;
+mod fault;
+mod file_name;
 mod files;
+mod folder;
+mod plain_file;
+mod random;
 mod stream;
 #[cfg(test)]
 mod tests;
 
+use clock::RealClock;
 use console::RealConsole;
 use files::RealFiles;
+use folder::RealFolder;
+use random::RealRandom;
 use std::alloc::Global;
 use std::env;
 use std::io::{self, BufReader};
@@ -17,8 +26,6 @@ use std::process::ExitCode;
 use stream::Stream;
 use wy_device::device::Device;
 use wy_device::handed::Handed;
-use wy_device::operation::Kind;
-use wy_device::shut::Shut;
 use wy_engine::handing_in::devices;
 use wy_engine::status::Status;
 use wy_engine::top::wyvern;
@@ -39,9 +46,10 @@ fn run(rt: HostRuntime) -> io::Result<Status> {
     let input = BufReader::new(alloc, rt.stdin())?;
     let console = RealConsole::new(alloc, input, rt.stdout())?;
     let console: Box<dyn Device> = Box::new(alloc, console)?;
-    let folder: Box<dyn Device> = Box::new(alloc, Shut::new(Kind::Folder))?;
-    let clock: Box<dyn Device> = Box::new(alloc, Shut::new(Kind::Clock))?;
-    let random: Box<dyn Device> = Box::new(alloc, Shut::new(Kind::Random))?;
+    let folder = RealFolder::new(alloc, rt.clone()?, String::from_str(alloc, ".")?);
+    let folder: Box<dyn Device> = Box::new(alloc, folder)?;
+    let clock: Box<dyn Device> = Box::new(alloc, RealClock::new(rt.clone()?))?;
+    let random: Box<dyn Device> = Box::new(alloc, RealRandom::new(rt.clone()?))?;
     let mut handed = devices(
         Handed::new(console),
         Handed::new(folder),

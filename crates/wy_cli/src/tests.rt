@@ -1,3 +1,6 @@
+mod folders;
+mod numbers;
+
 use crate::console::RealConsole;
 use crate::files::RealFiles;
 use crate::stream::Stream;

@@ -1,0 +1,220 @@
+ghost use Rattle.std.specs.Prelude.{◌≡◌, ◌≤◌, ◌++◌, ◌∷◌, Err, IfOk, OnOk, IsTrue, Contains, true, length, string_bytes};
+ghost use Rattle.wy_text.specs.Outside.{Rose};
+ghost use Rattle.wy_device.specs.Device.{DeviceState};
+ghost use Rattle.wy_device.specs.Requests as requests;
+
+use crate::fault::count_fault;
+use crate::file_name::is_file_name;
+use crate::plain_file::{append_file, file_names, is_folder, is_plain_file, read_file, write_file};
+use std::alloc::Global;
+use std::collections::BTreeSet;
+use std::io::{self, ErrorKind};
+use std::rt::Files;
+use std::str;
+use wy_device::deed::DeedList;
+use wy_device::device::{Device, DeviceError};
+use wy_device::mem_folder::LONGEST_TEXT;
+use wy_device::operation::{Answer, Kind, Op};
+use wy_text::text::{Memory, Text, from_vec};
+
+/// The folders of the machine: a grant's is the one of its name in the base. It tells no deeds.
+#[derive(Drop)]
+pub struct RealFolder<R> {
+    alloc: Global,
+    rt: R,
+    base: String,
+    faults: u64,
+}
+
+/// Whether bytes can be the name of a grant's folder, as each name of the language can: a path with it leads
+/// one folder down.
+fn leads_down(name: &[u8]) -> bool
+    ensures { IsTrue result → ¬ Contains name.now 46 × (¬ Contains name.now 47) }
+{
+    !name.is_empty() && !name.contains(&b'.') && !name.contains(&b'/')
+}
+
+/// The path of what goes by this name in a folder.
+fn path_in(alloc: Global, folder: &str, name: &str) -> Result<String, Memory>
+    ensures { IfOk result (λ path. string_bytes path ≡ folder.now ++ 47 ∷ name.now) }
+{
+    Ok(format!(in alloc; "{folder}/{name}")?)
+}
+
+/// Names, each followed by a newline.
+fn lines_of(alloc: Global, names: &BTreeSet<String>) -> Result<Vec<u8>, Memory> {
+    let mut lines = Vec::new(alloc);
+    for name in names {
+        lines.extend_from_slice(name.as_bytes())?;
+        lines.push(b'\n')?;
+    }
+    Ok(lines)
+}
+
+impl<R: Files + AllocGlobal + Clone + Drop> RealFolder<R> {
+    /// The base is the path of the folder that the grants' folders are in.
+    pub fn new(alloc: Global, rt: R, base: String) -> RealFolder<R> {
+        RealFolder {
+            alloc,
+            rt,
+            base,
+            faults: 0,
+        }
+    }
+
+    /// What a look or a read gave. It changed nothing on the machine, so want of memory is no fault.
+    fn told<T: Drop>(&mut self, outcome: io::Result<T>) -> Result<T, DeviceError>
+        ensures counted { self.old.faults ≤ self.new.faults }
+        ensures failed { result ≡ Err DeviceError.Failed → Rose self.old.faults self.new.faults }
+    {
+        match outcome {
+            Ok(value) => Ok(value),
+            Err(error) if error.kind() == ErrorKind::OutOfMemory => Err(DeviceError::Memory),
+            Err(_) => Err(count_fault(&mut self.faults)),
+        }
+    }
+
+    /// What a write gave. It may have changed something, so each error is a fault.
+    fn done(&mut self, outcome: io::Result<()>) -> Result<(), DeviceError>
+        ensures counted { self.old.faults ≤ self.new.faults }
+        ensures failed { result ≡ Err DeviceError.Failed → Rose self.old.faults self.new.faults }
+    {
+        match outcome {
+            Ok(()) => Ok(()),
+            Err(_) => Err(count_fault(&mut self.faults)),
+        }
+    }
+
+    /// The text of these bytes, of which there are no more than an answer may have.
+    fn text_of(&mut self, bytes: Vec<u8>) -> Result<Text, DeviceError>
+        ensures text { IfOk result (λ text. text ≡ bytes.items) }
+        ensures short { IfOk result (λ text. length text ≤ 1048576) }
+        ensures counted { self.old.faults ≤ self.new.faults }
+        ensures failed { result ≡ Err DeviceError.Failed → Rose self.old.faults self.new.faults }
+    {
+        if bytes.len() > LONGEST_TEXT {
+            return Err(count_fault(&mut self.faults));
+        }
+        Ok(from_vec(bytes))
+    }
+
+    /// The path of a grant's folder, which is there and is no link.
+    fn folder_path(&mut self, grant: &Text) -> Result<String, DeviceError>
+        ensures path { IfOk result (λ path. string_bytes path ≡ string_bytes self.old.base ++ 47 ∷ grant.now) }
+        ensures counted { self.old.faults ≤ self.new.faults }
+        ensures failed { result ≡ Err DeviceError.Failed → Rose self.old.faults self.new.faults }
+    {
+        let Ok(name) = str::from_utf8(grant.as_bytes()) else {
+            return Err(count_fault(&mut self.faults));
+        };
+        if !leads_down(grant.as_bytes()) {
+            return Err(count_fault(&mut self.faults));
+        }
+        let path = path_in(self.alloc, self.base.as_str(), name)?;
+        let there = is_folder(&self.rt, path.as_str());
+        if self.told(there)? {
+            Ok(path)
+        } else {
+            Err(count_fault(&mut self.faults))
+        }
+    }
+
+    /// The path of a file in a grant's folder. The name is a file's: no other leads to a path.
+    fn file_path(&mut self, grant: &Text, name: &Text) -> Result<String, DeviceError>
+        ensures path { IfOk result (λ path. string_bytes path ≡ string_bytes self.old.base ++ 47 ∷ grant.now ++ 47 ∷ name.now) }
+        ensures named { OnOk result (requests.is_file_name name.now ≡ true) }
+        ensures counted { self.old.faults ≤ self.new.faults }
+        ensures failed { result ≡ Err DeviceError.Failed → Rose self.old.faults self.new.faults }
+    {
+        let Ok(file) = str::from_utf8(name.as_bytes()) else {
+            return Err(count_fault(&mut self.faults));
+        };
+        if !is_file_name(name.as_bytes()) {
+            return Err(count_fault(&mut self.faults));
+        }
+        let folder = self.folder_path(grant)?;
+        Ok(path_in(self.alloc, folder.as_str(), file)?)
+    }
+
+    fn read(&mut self, grant: &Text, name: &Text) -> Result<Text, DeviceError>
+        ensures short { IfOk result (λ text. length text ≤ 1048576) }
+        ensures counted { self.old.faults ≤ self.new.faults }
+        ensures failed { result ≡ Err DeviceError.Failed → Rose self.old.faults self.new.faults }
+    {
+        let path = self.file_path(grant, name)?;
+        let bytes = read_file(&self.rt, self.alloc, path.as_str(), LONGEST_TEXT as u64 + 1);
+        let bytes = self.told(bytes)?;
+        self.text_of(bytes)
+    }
+
+    fn has(&mut self, grant: &Text, name: &Text) -> Result<bool, DeviceError>
+        ensures counted { self.old.faults ≤ self.new.faults }
+        ensures failed { result ≡ Err DeviceError.Failed → Rose self.old.faults self.new.faults }
+    {
+        let path = self.file_path(grant, name)?;
+        let there = is_plain_file(&self.rt, path.as_str());
+        self.told(there)
+    }
+
+    fn write(&mut self, grant: &Text, name: &Text, text: &Text) -> Result<(), DeviceError>
+        ensures counted { self.old.faults ≤ self.new.faults }
+        ensures failed { result ≡ Err DeviceError.Failed → Rose self.old.faults self.new.faults }
+    {
+        let path = self.file_path(grant, name)?;
+        let written = write_file(&self.rt, path.as_str(), text.as_bytes());
+        self.done(written)
+    }
+
+    fn append(&mut self, grant: &Text, name: &Text, text: &Text) -> Result<(), DeviceError>
+        ensures counted { self.old.faults ≤ self.new.faults }
+        ensures failed { result ≡ Err DeviceError.Failed → Rose self.old.faults self.new.faults }
+    {
+        let path = self.file_path(grant, name)?;
+        let written = append_file(&self.rt, path.as_str(), text.as_bytes());
+        self.done(written)
+    }
+
+    fn names(&mut self, grant: &Text) -> Result<Text, DeviceError>
+        ensures short { IfOk result (λ text. length text ≤ 1048576) }
+        ensures counted { self.old.faults ≤ self.new.faults }
+        ensures failed { result ≡ Err DeviceError.Failed → Rose self.old.faults self.new.faults }
+    {
+        let path = self.folder_path(grant)?;
+        let names = file_names(&self.rt, path.as_str());
+        let names = self.told(names)?;
+        let lines = lines_of(self.alloc, &names)?;
+        self.text_of(lines)
+    }
+}
+
+impl<R: Files + AllocGlobal + Clone + Drop> Device for RealFolder<R> {
+    ghost use Rattle.wy_device.specs.Device.{untold};
+    ghost use Rattle.wy_device.specs.declared.operation.Kind.TheVariants.{Folder};
+
+    ghost state = { λ f. record { kind = Folder; deeds = untold; faults = f.faults } };
+
+    fn kind(&self) -> Kind {
+        Kind::Folder
+    }
+
+    fn deeds(&self) -> Option<&DeedList> {
+        None
+    }
+
+    fn perform(&mut self, grant: &Text, op: &Op) -> Result<Answer, DeviceError> {
+        match op {
+            Op::FolderRead(name) => Ok(Answer::Bytes(self.read(grant, name)?)),
+            Op::FolderHas(name) => Ok(Answer::Truth(self.has(grant, name)?)),
+            Op::FolderWrite(name, text) => {
+                self.write(grant, name, text)?;
+                Ok(Answer::Unit)
+            }
+            Op::FolderAppend(name, text) => {
+                self.append(grant, name, text)?;
+                Ok(Answer::Unit)
+            }
+            Op::FolderNames => Ok(Answer::Bytes(self.names(grant)?)),
+            _ => unreachable!(),
+        }
+    }
+}

@@ -1,0 +1,112 @@
+//! Plain files of the machine. No symbolic link is followed: a file is opened only where a plain file stands by
+//! its name, and what was opened is used only where it is the very file that was seen there.
+
+use crate::file_name::is_file_name;
+use std::alloc::Global;
+use std::collections::BTreeSet;
+use std::fs::{self, File, Metadata, OpenFile, OpenOptions};
+use std::io::{self, ErrorKind, Read, Write};
+use std::os::unix::fs::MetadataExt;
+use std::rt::Files;
+
+/// What stands by a name itself, and not behind a link there; `None` where nothing does.
+fn seen_at<R: Files>(rt: &R, path: &str) -> io::Result<Option<Metadata>> {
+    match fs::symlink_metadata(rt, path) {
+        Ok(seen) => Ok(Some(seen)),
+        Err(error) if error.kind() == ErrorKind::NotFound => Ok(None),
+        Err(error) => Err(error),
+    }
+}
+
+/// Whether a plain file stands by this name.
+pub fn is_plain_file<R: Files>(rt: &R, path: &str) -> io::Result<bool> {
+    match seen_at(rt, path)? {
+        Some(seen) => Ok(seen.is_file()),
+        None => Ok(false),
+    }
+}
+
+/// Whether a folder stands by this name.
+pub fn is_folder<R: Files>(rt: &R, path: &str) -> io::Result<bool> {
+    match seen_at(rt, path)? {
+        Some(seen) => Ok(seen.is_dir()),
+        None => Ok(false),
+    }
+}
+
+/// Whether two looks saw one file.
+fn is_same_file(one: &Metadata, other: &Metadata) -> bool {
+    one.dev() == other.dev() && one.ino() == other.ino()
+}
+
+/// Opens the plain file of this name; `None` where nothing stands there.
+///
+/// Between the look and the opening the machine may put something else there, so what was opened is compared
+/// with what was seen. Until then it is neither read nor changed.
+fn open_plain<R: Files>(rt: &R, how: &OpenOptions, path: &str) -> io::Result<Option<R::File>> {
+    let Some(seen) = seen_at(rt, path)? else {
+        return Ok(None);
+    };
+    if !seen.is_file() {
+        return Err(io::Error::from(ErrorKind::Unsupported));
+    }
+    let file = how.open(rt, path)?;
+    let opened = file.metadata()?;
+    if !is_same_file(&seen, &opened) {
+        return Err(io::Error::from(ErrorKind::ResourceBusy));
+    }
+    Ok(Some(file))
+}
+
+/// Opens the plain file of this name, and makes it where nothing stands there.
+fn open_or_make<R: Files>(rt: &R, how: &OpenOptions, path: &str) -> io::Result<R::File> {
+    match open_plain(rt, how, path)? {
+        Some(file) => Ok(file),
+        None => File::create_new(rt, path),
+    }
+}
+
+/// The first bytes of a plain file; none where nothing stands by its name.
+pub fn read_file<R: Files>(rt: &R, alloc: Global, path: &str, most: u64) -> io::Result<Vec<u8>> {
+    let mut bytes = Vec::new(alloc);
+    if let Some(file) = open_plain(rt, OpenOptions::new().read(true), path)? {
+        file.take(most).read_to_end(&mut bytes)?;
+    }
+    Ok(bytes)
+}
+
+/// Makes these the bytes of a plain file, which may be there or not. After an error it may hold a first part of them.
+pub fn write_file<R: Files>(rt: &R, path: &str, bytes: &[u8]) -> io::Result<()> {
+    let mut file = open_or_make(rt, OpenOptions::new().write(true), path)?;
+    file.set_len(0)?;
+    file.write_all(bytes)
+}
+
+/// Puts these bytes at the end of a plain file, which may be there or not. After an error a first part of them may
+/// stand there.
+pub fn append_file<R: Files>(rt: &R, path: &str, bytes: &[u8]) -> io::Result<()> {
+    let mut file = open_or_make(rt, OpenOptions::new().append(true), path)?;
+    file.write_all(bytes)
+}
+
+/// The names of the plain files in a folder that are file names, in byte order.
+pub fn file_names<R: Files + AllocGlobal + Clone + Drop>(
+    rt: &R,
+    folder: &str,
+) -> io::Result<BTreeSet<String>> {
+    let mut names = BTreeSet::new(rt.alloc());
+    for entry in fs::read_dir(rt, folder)? {
+        match entry {
+            Ok(entry) => {
+                let name = entry.file_name();
+                if is_file_name(name.as_bytes()) && is_plain_file(rt, entry.path().as_str())? {
+                    names.insert(String::from_str(rt.alloc(), name)?)?;
+                }
+            }
+            // A name that is no text is no file name.
+            Err(error) if error.kind() == ErrorKind::InvalidFilename => {}
+            Err(error) => return Err(error),
+        }
+    }
+    Ok(names)
+}
