@@ -1,13 +1,14 @@
-ghost use Rattle.std.specs.Prelude.{◌≡◌, ◌≤◌, ◌++◌, ◌∷◌, Err, IfOk, OnOk, IsTrue, Contains, true, length, string_bytes};
+ghost use Rattle.std.specs.Prelude.{◌≡◌, ◌≤◌, ◌++◌, ◌∷◌, Err, Ok, IfOk, OnOk, IsTrue, Contains, true, length, string_bytes};
 ghost use Rattle.wy_text.specs.Outside.{Rose};
 ghost use Rattle.wy_device.specs.Device.{DeviceState};
 ghost use Rattle.wy_device.specs.Requests as requests;
+ghost use Rattle.wy_cli.specs.FolderNames.{ListsFileNames};
 
 use crate::fault::count_fault;
 use crate::file_name::is_file_name;
+use crate::listing::listing;
 use crate::plain_file::{append_file, file_names, is_folder, is_plain_file, read_file, write_file};
 use std::alloc::Global;
-use std::collections::BTreeSet;
 use std::io::{self, ErrorKind};
 use std::rt::Files;
 use std::str;
@@ -41,16 +42,6 @@ fn path_in(alloc: Global, folder: &str, name: &str) -> Result<String, Memory>
     Ok(format!(in alloc; "{folder}/{name}")?)
 }
 
-/// Names, each followed by a newline.
-fn lines_of(alloc: Global, names: &BTreeSet<String>) -> Result<Vec<u8>, Memory> {
-    let mut lines = Vec::new(alloc);
-    for name in names {
-        lines.extend_from_slice(name.as_bytes())?;
-        lines.push(b'\n')?;
-    }
-    Ok(lines)
-}
-
 impl<R: Files + AllocGlobal + Clone + Drop> RealFolder<R> {
     /// The base is the path of the folder that the grants' folders are in.
     pub fn new(alloc: Global, rt: R, base: String) -> RealFolder<R> {
@@ -64,6 +55,7 @@ impl<R: Files + AllocGlobal + Clone + Drop> RealFolder<R> {
 
     /// What a look or a read gave. It changed nothing on the machine, so want of memory is no fault.
     fn told<T: Drop>(&mut self, outcome: io::Result<T>) -> Result<T, DeviceError>
+        ensures same { IfOk result (λ value. outcome ≡ Ok value) }
         ensures counted { self.old.faults ≤ self.new.faults }
         ensures failed { result ≡ Err DeviceError.Failed → Rose self.old.faults self.new.faults }
     {
@@ -175,6 +167,7 @@ impl<R: Files + AllocGlobal + Clone + Drop> RealFolder<R> {
     }
 
     fn names(&mut self, grant: &Text) -> Result<Text, DeviceError>
+        ensures listed { IfOk result ListsFileNames }
         ensures short { IfOk result (λ text. length text ≤ 1048576) }
         ensures counted { self.old.faults ≤ self.new.faults }
         ensures failed { result ≡ Err DeviceError.Failed → Rose self.old.faults self.new.faults }
@@ -182,7 +175,7 @@ impl<R: Files + AllocGlobal + Clone + Drop> RealFolder<R> {
         let path = self.folder_path(grant)?;
         let names = file_names(&self.rt, path.as_str());
         let names = self.told(names)?;
-        let lines = lines_of(self.alloc, &names)?;
+        let lines = listing(self.alloc, &names)?;
         self.text_of(lines)
     }
 }

@@ -8,6 +8,7 @@ mod fault;
 mod file_name;
 mod files;
 mod folder;
+mod listing;
 mod plain_file;
 mod random;
 mod stream;

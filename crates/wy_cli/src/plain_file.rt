@@ -1,7 +1,11 @@
 //! Plain files of the machine. No symbolic link is followed: a file is opened only where a plain file stands by
 //! its name, and what was opened is used only where it is the very file that was seen there.
 
+ghost use Rattle.std.specs.Prelude.{IfOk};
+ghost use Rattle.wy_cli.specs.FolderNames.{HoldsFileNames};
+
 use crate::file_name::is_file_name;
+use crate::listing::put_name;
 use std::alloc::Global;
 use std::collections::BTreeSet;
 use std::fs::{self, File, Metadata, OpenFile, OpenOptions};
@@ -89,18 +93,20 @@ pub fn append_file<R: Files>(rt: &R, path: &str, bytes: &[u8]) -> io::Result<()>
     file.write_all(bytes)
 }
 
-/// The names of the plain files in a folder that are file names, in byte order.
+/// The names of the plain files in a folder that are file names.
 pub fn file_names<R: Files + AllocGlobal + Clone + Drop>(
     rt: &R,
     folder: &str,
-) -> io::Result<BTreeSet<String>> {
+) -> io::Result<BTreeSet<String>>
+    ensures { IfOk result HoldsFileNames }
+{
     let mut names = BTreeSet::new(rt.alloc());
     for entry in fs::read_dir(rt, folder)? {
         match entry {
             Ok(entry) => {
                 let name = entry.file_name();
                 if is_file_name(name.as_bytes()) && is_plain_file(rt, entry.path().as_str())? {
-                    names.insert(String::from_str(rt.alloc(), name)?)?;
+                    put_name(rt.alloc(), &mut names, name)?;
                 }
             }
             // A name that is no text is no file name.
