@@ -8,7 +8,8 @@ use wy_device::device::{Device, DeviceError};
 use wy_device::operation::{Answer, Kind, Op};
 use wy_text::text::Text;
 
-/// The machine's clock. It tells no deeds.
+/// The machine's clock, in whole seconds since 1970 began. It fails where the clock can't be read, stands before
+/// 1970, or stands past the greatest Int, and tells no deeds.
 #[derive(Drop)]
 pub struct RealClock<R> {
     rt: R,
@@ -16,13 +17,13 @@ pub struct RealClock<R> {
 }
 
 impl<R: Clock + Drop> RealClock<R> {
+    /// A clock with no faults yet. It takes no memory.
     pub fn new(rt: R) -> RealClock<R> {
         RealClock { rt, faults: 0 }
     }
 }
 
-/// The whole seconds since 1970 began; `None` where the clock can't be read, stands before 1970, or stands
-/// past the greatest Int.
+/// The seconds; `None` where there are none to give.
 fn seconds_now<R: Clock>(rt: &R) -> Option<i64> {
     let now = SystemTime::now(rt).ok()?;
     let since = now.duration_since(UNIX_EPOCH).ok()?;

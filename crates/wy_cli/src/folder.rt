@@ -19,6 +19,11 @@ use wy_device::operation::{Answer, Kind, Op};
 use wy_text::text::{Memory, Text, from_vec};
 
 /// The folders of the machine: a grant's is the one of its name in the base. It tells no deeds.
+///
+/// `has` is true of plain files alone, and a name that nothing goes by is read as the empty text. An operation
+/// fails where the grant's folder is not there or is a symbolic link, where a name is no file's, where something
+/// else than a plain file is read or written, where a text is longer than an answer may be, and where the machine
+/// refuses. A write that failed may have done a part of its work. (docs/LANGUAGE.md, "Primitive types")
 #[derive(Drop)]
 pub struct RealFolder<R> {
     alloc: Global,
@@ -43,7 +48,8 @@ fn path_in(alloc: Global, folder: &str, name: &str) -> Result<String, Memory>
 }
 
 impl<R: Files + AllocGlobal + Clone + Drop> RealFolder<R> {
-    /// The base is the path of the folder that the grants' folders are in.
+    /// Folders with no faults yet. The base is the path of the folder that the grants' folders are in.
+    /// It takes no memory.
     pub fn new(alloc: Global, rt: R, base: String) -> RealFolder<R> {
         RealFolder {
             alloc,
@@ -90,7 +96,8 @@ impl<R: Files + AllocGlobal + Clone + Drop> RealFolder<R> {
         Ok(from_vec(bytes))
     }
 
-    /// The path of a grant's folder, which is there and is no link.
+    /// The path of a grant's folder, which is there and is no link. Between this look and what follows the
+    /// machine may change: whoever may write in the base can put a link there.
     fn folder_path(&mut self, grant: &Text) -> Result<String, DeviceError>
         ensures path { IfOk result (λ path. string_bytes path ≡ string_bytes self.old.base ++ 47 ∷ grant.now) }
         ensures counted { self.old.faults ≤ self.new.faults }

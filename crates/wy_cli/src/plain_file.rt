@@ -70,7 +70,7 @@ fn open_or_make<R: Files>(rt: &R, how: &OpenOptions, path: &str) -> io::Result<R
     }
 }
 
-/// The first bytes of a plain file; none where nothing stands by its name.
+/// The first bytes of a plain file, at most so many; none where nothing stands by its name.
 pub fn read_file<R: Files>(rt: &R, alloc: Global, path: &str, most: u64) -> io::Result<Vec<u8>> {
     let mut bytes = Vec::new(alloc);
     if let Some(file) = open_plain(rt, OpenOptions::new().read(true), path)? {
@@ -93,7 +93,7 @@ pub fn append_file<R: Files>(rt: &R, path: &str, bytes: &[u8]) -> io::Result<()>
     file.write_all(bytes)
 }
 
-/// The names of the plain files in a folder that are file names.
+/// The names of the plain files in a folder that are file names. Whatever else is there is left out.
 pub fn file_names<R: Files + AllocGlobal + Clone + Drop>(
     rt: &R,
     folder: &str,

@@ -12,7 +12,8 @@ use wy_text::text::Text;
 /// Where the machine gives random bytes.
 const SOURCE: &str = "/dev/urandom";
 
-/// The machine's random source, opened anew for each number. It tells no deeds.
+/// The machine's random source, opened anew for each number. It fails where the source can't be opened or gives
+/// fewer than eight bytes, and tells no deeds.
 #[derive(Drop)]
 pub struct RealRandom<R> {
     rt: R,
@@ -20,6 +21,7 @@ pub struct RealRandom<R> {
 }
 
 impl<R: Files + Drop> RealRandom<R> {
+    /// A source with no faults yet. It takes no memory.
     pub fn new(rt: R) -> RealRandom<R> {
         RealRandom { rt, faults: 0 }
     }
