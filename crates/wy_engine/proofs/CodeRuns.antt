@@ -1,15 +1,12 @@
 -- A run of a program's code does what the program means: its events are the first of the meaning's over what was
 -- answered, its deeds are all of the meaning's, and it ends as the meaning does or is spent.
-use Rattle.std.proofs.Common.{◌≡◌, ◌≢◌, ◌⊎◌, inl, inr, ◌≤◌, ◌<◌, ◌*◌, ℕ, List, [], ◌∷◌, ◌++◌, refl, sym, ◌∙◌, ap, subst, arith}
+use Rattle.std.proofs.Common.{◌≡◌, ◌≢◌, ◌⊎◌, inl, inr, ◌≤◌, ◌<◌, ℕ, List, [], ◌++◌, refl, sym, ◌∙◌, ap, subst, arith}
 use Rattle.std.proofs.lemmas.Bool.{cases_lt}
 use Rattle.std.proofs.lemmas.List.{append-nil}
 use Rattle.wy_code.specs.Running.{Ran as RanCode, machine}
-use Rattle.wy_code.specs.declared.code.Code.{Code}
-use Rattle.wy_device.specs.declared.deed.Deed.{Deed as DeedRecord}
 use Rattle.wy_device.specs.declared.deed.Event.{Event}
 use Rattle.wy_device.specs.declared.operation.Kind.{Kind}
 use Rattle.wy_device.specs.Events.{deeds_of}
-use Rattle.wy_device.specs.Requests.{tape_of}
 use Rattle.wy_device.specs.RunEnds as ends
 use Rattle.wy_device.specs.Tapes.{Tapes, answers, spliced}
 use Rattle.wy_lower.specs.Correct.{Follows, IsPrefix}

@@ -1,7 +1,6 @@
 -- What was done with texts, by what was done with their trees.
-use Rattle.std.proofs.Common.{◌≡◌, ◌≢◌, ◌⊎◌, inl, inr, ℕ, suc, List, [], ◌∷◌, Some, None, refl, sym, ap, subst, length}
+use Rattle.std.proofs.Common.{◌≡◌, ◌≢◌, ◌⊎◌, inl, inr, ℕ, suc, List, [], ◌∷◌, refl, sym, ap, subst, length}
 use Rattle.wy_text.specs.Outside.{SinkState}
-use Rattle.wy_text.specs.declared.limit.LimitName.{LimitName}
 use Rattle.wy_device.specs.Devices.{DevicesState}
 use Rattle.wy_syntax.specs.Canonical.{canonical_form}
 use Rattle.wy_syntax.specs.Trees.{ItemTree}

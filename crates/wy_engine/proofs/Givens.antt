@@ -15,7 +15,6 @@ use Rattle.wy_engine.specs.NameFaults.{NamesStop, ResolveTo}
 use Rattle.wy_engine.specs.Reading.{GivesFiles}
 use Rattle.wy_engine.specs.TopCall.{texts_of}
 use Rattle.wy_settings.specs.declared.command_line.Command.{Command}
-use Rattle.wy_settings.specs.declared.command_line.Command.TheVariants as command
 use Rattle.wy_engine.specs.declared.status.Status.{Status}
 use Rattle.wy_engine.specs.declared.status.Status.TheVariants as status
 use Rattle.wy_engine.proofs.OneAnswer.{StopsBy, not_accepted, not_lowered, stops_by, stops_of, treeless, unresolved}

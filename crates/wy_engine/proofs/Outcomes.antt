@@ -1,5 +1,5 @@
 -- What a run came to, by how far it got.
-use Rattle.std.proofs.Common.{◌≡◌, ◌⊎◌, ◌<◌, ℕ, List, [], refl, inl, inr, subst}
+use Rattle.std.proofs.Common.{◌≡◌, ℕ, List, [], refl, inl, inr, subst}
 use Rattle.wy_text.specs.Outside.{Rose, SinkState}
 use Rattle.wy_text.specs.Writing.{StopsShort, WritesUpTo}
 use Rattle.wy_device.specs.Devices.{DevicesState}

@@ -1,15 +1,14 @@
 -- The program of accepted texts is one that resolving makes, so what the layers below say of such programs holds of it.
-use Rattle.std.proofs.Common.{◌≡◌, ℕ, suc, List, [], ◌∷◌, ◌++◌, refl, sym, subst}
+use Rattle.std.proofs.Common.{ℕ, suc, List, [], ◌∷◌, ◌++◌, sym, subst}
 use Rattle.wy_syntax.specs.Trees.{ItemTree}
-use Rattle.wy_effects.specs.Members.{Apart, In}
-use Rattle.wy_types.specs.Program.{Program, Scope}
+use Rattle.wy_effects.specs.Members.{Apart}
+use Rattle.wy_types.specs.Program.{Program}
 use Rattle.wy_canonical.specs.OwnWords as files
 use Rattle.wy_names.specs.Declarations.{all_items}
 use Rattle.wy_well_formed.specs.OwnWords.{HaveWords}
 use Rattle.wy_well_formed.specs.WellFormed.{ResolvedGrantsStandFirst, ResolvedIsCore, ResolvedMakesOnce, ResolvedModulesCaptureNothing, ResolvedNamesAreOrdinary, ResolvedNamesAreWords, ResolvedNamesFit}
 use Rattle.wy_rules.specs.OwnNames.{HasOrdinaryNames}
 use Rattle.wy_lower.specs.Laws.{MakesOnce}
-use Rattle.wy_lower.specs.Lowerable.{literals_made}
 use Rattle.wy_sound.specs.Programs.{IsResolved}
 use Rattle.wy_engine.specs.FileTrees.{HaveTrees}
 use Rattle.wy_engine.specs.NameFaults.{ResolveTo}

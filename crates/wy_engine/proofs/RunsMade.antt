@@ -1,6 +1,5 @@
 -- What a call promises that ran a program, or began to.
-use Rattle.std.proofs.Common.{◌≡◌, ◌≢◌, ◌⊎◌, inl, inr, ◌≤◌, ℕ, List, [], ◌++◌, Some, refl, sym, ◌∙◌, ap, subst, arith}
-use Rattle.std.proofs.lemmas.List.{append-nil}
+use Rattle.std.proofs.Common.{◌≡◌, ◌≢◌, ◌⊎◌, inl, inr, ◌≤◌, ℕ, List, [], ◌++◌, Some, refl, sym, ◌∙◌, ap, subst}
 use Rattle.wy_text.specs.Outside.{Rose, SinkState}
 use Rattle.wy_text.specs.Writing.{StopsShort, WritesUpTo}
 use Rattle.wy_device.specs.Devices.{DevicesState, device_of}
@@ -288,8 +287,8 @@ unfolding run_command
 performs_sample call settings set program laws number numbered is so =
     let code : RunsCode (lowered program (program_starts program)) settings.depth settings.steps call.devices call.devices_after (status_of so.ended) = record { ended = so.ended; runs = so.runs; says = refl } in
     let finished : so.ended ≡ end.Ended → TellsDeeds call.devices → HasEnded call settings program = λ ended tells.
-        ended_by call settings program (subst (λ (e : RunEnd). EndsAs (status_of e) settings.steps (course_in call settings program)) ended
-        (ends_code program laws settings.depth settings.steps call.devices call.devices_after (status_of so.ended) code tells (uncut_ended so.ended ended))) in
+    ended_by call settings program (subst (λ (e : RunEnd). EndsAs (status_of e) settings.steps (course_in call settings program)) ended
+    (ends_code program laws settings.depth settings.steps call.devices call.devices_after (status_of so.ended) code tells (uncut_ended so.ended ended))) in
     record {
       reached = then_run (summary_text number program) call.out call.out_after so.ended call.status so.wrote;
       out = subst (λ (c : Command). WritesRun c call settings program) (sym is) (sums_by call settings program number numbered so.ended so.wrote finished

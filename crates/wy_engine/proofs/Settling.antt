@@ -1,5 +1,5 @@
 -- What a call promises at each way out of it, before its last line is written.
-use Rattle.std.proofs.Common.{◌≡◌, ◌≢◌, ◌≤◌, ◌<◌, inl, ℕ, List, [], ◌∷◌, Option, None, Some, Bool, true, false, refl, sym, ◌∙◌, ap, subst, arith, length, take, drop}
+use Rattle.std.proofs.Common.{◌≡◌, ◌≢◌, ◌≤◌, inl, ℕ, List, [], Option, None, Some, Bool, true, false, refl, sym, ◌∙◌, ap, subst, arith, length, take, drop}
 use Rattle.std.proofs.lemmas.Bool.Decides.{nat_tests}
 use Rattle.std.proofs.lemmas.List.{append-nil}
 use Rattle.wy_text.proofs.Gains.{gained-nil}
@@ -26,7 +26,7 @@ use Rattle.wy_settings.specs.declared.command_line.SettingsRefusal.{SettingsRefu
 use Rattle.wy_settings.specs.declared.command_line.SettingsRefusal.TheVariants as words
 use Rattle.wy_engine.specs.declared.status.Status.{Status}
 use Rattle.wy_engine.specs.declared.status.Status.TheVariants as status
-use Rattle.wy_engine.proofs.FilesRead.{Came, is_sample, reads_all, reads_by, reads_for, same_settings}
+use Rattle.wy_engine.proofs.FilesRead.{Came, is_sample, reads_all, reads_by, reads_for}
 use Rattle.wy_engine.proofs.Givens.{passes_read, runnable_read, tree_read}
 use Rattle.wy_engine.proofs.OutWritten.{writes_by}
 use Rattle.wy_engine.proofs.RunsMade.{ran_counted, runs_by}
@@ -75,6 +75,7 @@ nothing_for asked call names shelf is = by (takes_files asked) refl
   where
     unread : (file : ℕ) → call.status ≢ status.Unread file
     unread file same = let q : status.Memory ≡ status.Unread file = sym is ∙ same in cc
+
     by : (b : Bool) → takes_files asked ≡ b → ReadsFor asked call names
     by true takes = reads_for asked call names takes (record {
       well = 0;

@@ -1,9 +1,8 @@
 -- What a call promises of the lines that a traced run wrote.
-use Rattle.std.proofs.Common.{◌≡◌, ◌≢◌, ◌⊎◌, inl, inr, ◌<◌, ℕ, List, [], ◌∷◌, ◌++◌, refl, sym, ◌∙◌, ap, subst}
+use Rattle.std.proofs.Common.{◌≡◌, ◌≢◌, ◌⊎◌, inl, inr, ℕ, List, [], ◌∷◌, ◌++◌, refl, sym, ◌∙◌, ap, subst}
 use Rattle.std.proofs.lemmas.List.{append-nil}
 use Rattle.wy_text.proofs.Gains.{gained-nil}
 use Rattle.wy_text.specs.Outside.{Rose, SinkState, gained}
-use Rattle.wy_device.specs.Devices.{DevicesState}
 use Rattle.wy_device.specs.Events.{DidExactly, TellsDeeds}
 use Rattle.wy_device.specs.Tapes.{Tapes, tapes_between}
 use Rattle.wy_device.specs.declared.deed.Event.{Event}
@@ -11,14 +10,14 @@ use Rattle.wy_code.specs.Running.{machine}
 use Rattle.wy_lower.specs.Correct.{IsPrefix}
 use Rattle.wy_lower.specs.Lowering.{lowered}
 use Rattle.wy_machine.specs.Runs.{EndsIn, tapes_of}
-use Rattle.wy_machine.specs.Traces.{EndsTraced, HappenedIn, WroteAll, WroteSome}
+use Rattle.wy_machine.specs.Traces.{EndsTraced, WroteAll, WroteSome}
 use Rattle.wy_machine.specs.declared.run_end.RunEnd.{RunEnd}
 use Rattle.wy_machine.specs.declared.run_end.RunEnd.TheVariants as end
 use Rattle.wy_meaning.specs.EventLines.{event_lines}
 use Rattle.wy_sound.specs.Laws.{course}
 use Rattle.wy_sound.specs.Programs.{program_starts}
 use Rattle.wy_types.specs.Program.{Program}
-use Rattle.wy_engine.specs.Headline.{BeginsLine, IsUncut, WritesEvents, code_in, course_in, none, some}
+use Rattle.wy_engine.specs.Headline.{BeginsLine, IsUncut, WritesEvents, course_in, none, some}
 use Rattle.wy_engine.specs.ProgramLaws.{RunsAsMeant}
 use Rattle.wy_engine.specs.Running.{TracesCode, status_of}
 use Rattle.wy_settings.specs.Settings.{Settings}

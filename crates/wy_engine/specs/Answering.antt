@@ -21,7 +21,6 @@ use Rattle.wy_engine.specs.Running.{Ran}
 use Rattle.wy_engine.specs.Writing.{Wrote}
 use Rattle.wy_engine.specs.declared.running.Mode.{Mode}
 use Rattle.wy_settings.specs.Settings.{Settings}
-use Rattle.wy_settings.specs.declared.command_line.Command.{Command}
 use Rattle.wy_settings.specs.declared.command_line.Command.TheVariants as command
 use Rattle.wy_engine.specs.declared.status.Status.{Status}
 use Rattle.wy_engine.specs.declared.status.Status.TheVariants as status

@@ -16,8 +16,8 @@ use crate::status::Status;
 use std::alloc::Global;
 use wy_device::device::Device;
 use wy_machine::devices::Devices;
-use wy_settings::command_line::{Command, CommandLine, SettingsRefusal, USUAL_DEPTH, USUAL_STEPS};
 use wy_sample::sample::sample;
+use wy_settings::command_line::{Command, CommandLine, SettingsRefusal, USUAL_DEPTH, USUAL_STEPS};
 use wy_settings::settings::{sample_number, settings};
 use wy_text::limit::LimitName;
 use wy_text::shelf::Shelf;
@@ -33,7 +33,8 @@ fn takes_files(command: Command) -> bool
     ensures { result ≡ takes_files command }
 {
     match command {
-        Command::Check | Command::Authority | Command::Run | Command::Trace | Command::Format => true,
+        Command::Check | Command::Authority | Command::Run | Command::Trace | Command::Format =>
+            true,
         Command::Sample => false,
     }
 }

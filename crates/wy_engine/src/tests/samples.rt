@@ -23,17 +23,29 @@ fn the_greatest_sample_is_run(rt: HostRuntime) -> Result<(), Fail> {
     let done = outcome_of(rt.alloc(), &["sample", "200"], &[])?;
     assert_eq!(rt; done.number, 0);
     assert_eq!(rt; done.deeds, 2);
-    assert_eq!(rt; done.out.bytes(), b"sample 200: instances 200, bodies 401\n".as_slice());
+    assert_eq!(rt;
+        done.out.bytes(),
+        b"sample 200: instances 200, bodies 401\n".as_slice()
+    );
     Ok(())
 }
 
 #[test]
-fn the_greatest_sample_is_run_though_its_summary_is_not_written(rt: HostRuntime) -> Result<(), Fail> {
+fn the_greatest_sample_is_run_though_its_summary_is_not_written(
+    rt: HostRuntime,
+) -> Result<(), Fail> {
     let alloc = rt.alloc();
     let mut all = devices_with!(alloc, Items::new(alloc));
     let mut out = MemSink::new(alloc, failing_at(alloc, 1)?)?;
     let mut report = MemSink::new(alloc, Items::new(alloc))?;
-    let status = call_with(alloc, &["sample", "200"], &[], &mut out, &mut report, &mut all)?;
+    let status = call_with(
+        alloc,
+        &["sample", "200"],
+        &[],
+        &mut out,
+        &mut report,
+        &mut all,
+    )?;
     assert_eq!(rt; status.number(), 10);
     assert_eq!(rt; all.deeds(Kind::Console).ok_or("told")?.len(), 2);
     assert!(rt; out.bytes().is_empty());

@@ -1,4 +1,4 @@
-use Rattle.std.proofs.Common.{refl, rules}
+use Rattle.std.proofs.Common.{rules}
 use Rattle.wy_engine.specs.Running.{summed}
 use Rattle.wy_engine.proofs.running.sum_up.Goals as goal
 

@@ -1,4 +1,4 @@
-use Rattle.std.proofs.Common.{◌≡◌, ◌∙◌, Some, List, [], ◌∷◌, ℕ, ap, sym}
+use Rattle.std.proofs.Common.{◌≡◌, ◌∙◌, Some, [], ◌∷◌, ap}
 use Rattle.std.specs.Option.{option_map}
 use Rattle.wy_sample.specs.Sample.{sample_text}
 use Rattle.wy_engine.proofs.top.answer_sample.Goals as goal

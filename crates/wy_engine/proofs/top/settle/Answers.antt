@@ -1,4 +1,4 @@
-use Rattle.std.proofs.Common.{rules, arith, ◌≡◌, ◌≤◌, ◌<◌, ◌∙◌, Some, ℕ, List, refl, sym, length, map, string_bytes}
+use Rattle.std.proofs.Common.{rules, arith, ◌≡◌, ◌≤◌, ◌∙◌, refl, sym, length, map, string_bytes}
 use Rattle.std.proofs.lemmas.List.{length-map}
 use Rattle.wy_settings.specs.Settings.{Settings}
 use Rattle.wy_settings.specs.declared.command_line.Command.TheVariants as command
