@@ -2,6 +2,9 @@
 //! trusted: they meet the traits of the outside, and tell nothing of what a file, a stream or a clock holds.
 #![tactic(auto)]
 
+ghost use Rattle.std.specs.Prelude.{◌≡◌, IfOk};
+ghost use Rattle.wy_device.specs.declared.operation.Kind.{Kind};
+
 mod clock;
 mod console;
 mod fault;
@@ -40,22 +43,52 @@ fn words(rt: &HostRuntime) -> io::Result<Vec<String>> {
     Ok(words)
 }
 
+/// The console: standard input and standard output.
+fn real_console(rt: &HostRuntime) -> io::Result<Handed>
+    ensures { IfOk result (λ device. (⟦<Handed as Device>⟧.state device).kind ≡ Kind.Console) }
+{
+    let alloc = rt.alloc();
+    let input = BufReader::new(alloc, rt.stdin())?;
+    let console = RealConsole::new(alloc, input, rt.stdout())?;
+    let console: Box<dyn Device> = Box::new(alloc, console)?;
+    Ok(Handed::new(console))
+}
+
+/// The folders in the working folder.
+fn real_folder(rt: &HostRuntime) -> io::Result<Handed>
+    ensures { IfOk result (λ device. (⟦<Handed as Device>⟧.state device).kind ≡ Kind.Folder) }
+{
+    let alloc = rt.alloc();
+    let folder = RealFolder::new(alloc, rt.clone()?, String::from_str(alloc, ".")?);
+    let folder: Box<dyn Device> = Box::new(alloc, folder)?;
+    Ok(Handed::new(folder))
+}
+
+/// The machine's clock.
+fn real_clock(rt: &HostRuntime) -> io::Result<Handed>
+    ensures { IfOk result (λ device. (⟦<Handed as Device>⟧.state device).kind ≡ Kind.Clock) }
+{
+    let clock: Box<dyn Device> = Box::new(rt.alloc(), RealClock::new(rt.clone()?))?;
+    Ok(Handed::new(clock))
+}
+
+/// The machine's random source.
+fn real_random(rt: &HostRuntime) -> io::Result<Handed>
+    ensures { IfOk result (λ device. (⟦<Handed as Device>⟧.state device).kind ≡ Kind.Random) }
+{
+    let random: Box<dyn Device> = Box::new(rt.alloc(), RealRandom::new(rt.clone()?))?;
+    Ok(Handed::new(random))
+}
+
 /// Makes the outside of the call from the real one, and calls.
 fn run(rt: HostRuntime) -> io::Result<Status> {
     let alloc: Global = rt.alloc();
     let words = words(&rt).unwrap_or(Vec::new(alloc));
-    let input = BufReader::new(alloc, rt.stdin())?;
-    let console = RealConsole::new(alloc, input, rt.stdout())?;
-    let console: Box<dyn Device> = Box::new(alloc, console)?;
-    let folder = RealFolder::new(alloc, rt.clone()?, String::from_str(alloc, ".")?);
-    let folder: Box<dyn Device> = Box::new(alloc, folder)?;
-    let clock: Box<dyn Device> = Box::new(alloc, RealClock::new(rt.clone()?))?;
-    let random: Box<dyn Device> = Box::new(alloc, RealRandom::new(rt.clone()?))?;
     let mut handed = devices(
-        Handed::new(console),
-        Handed::new(folder),
-        Handed::new(clock),
-        Handed::new(random),
+        real_console(&rt)?,
+        real_folder(&rt)?,
+        real_clock(&rt)?,
+        real_random(&rt)?,
     );
     let mut out = Stream::new(rt.stdout());
     let mut report = Stream::new(rt.stderr());
