@@ -2,7 +2,9 @@
 //! trusted: they meet the traits of the outside, and tell nothing of what a file, a stream or a clock holds.
 #![tactic(auto)]
 
-ghost use Rattle.std.specs.Prelude.{◌≡◌, IfOk};
+ghost use Rattle.std.specs.Prelude.{◌≡◌};
+ghost use Rattle.wy_device.specs.Devices.{IsInOrder};
+ghost use Rattle.wy_machine.specs.Devices.{states};
 ghost use Rattle.wy_device.specs.declared.operation.Kind.{Kind};
 
 mod clock;
@@ -30,6 +32,7 @@ use std::process::ExitCode;
 use stream::Stream;
 use wy_device::device::Device;
 use wy_device::handed::Handed;
+use wy_engine::devices::Devices;
 use wy_engine::handing_in::devices;
 use wy_engine::status::Status;
 use wy_engine::top::wyvern;
@@ -43,64 +46,60 @@ fn words(rt: &HostRuntime) -> io::Result<Vec<String>> {
     Ok(words)
 }
 
-/// The console: standard input and standard output.
-fn real_console(rt: &HostRuntime) -> io::Result<Handed>
-    ensures { IfOk result (λ device. (⟦<Handed as Device>⟧.state device).kind ≡ Kind.Console) }
+/// Hands in four devices, which are of the four kinds in their order.
+fn hand_in(
+    console: Box<dyn Device>,
+    folder: Box<dyn Device>,
+    clock: Box<dyn Device>,
+    random: Box<dyn Device>,
+) -> Devices<Handed>
+    requires console { (state console).kind ≡ Kind.Console }
+    requires folder { (state folder).kind ≡ Kind.Folder }
+    requires clock { (state clock).kind ≡ Kind.Clock }
+    requires random { (state random).kind ≡ Kind.Random }
+    ensures { IsInOrder (states ⟦<Handed as Device>⟧.state result) }
 {
-    let alloc = rt.alloc();
-    let input = BufReader::new(alloc, rt.stdin())?;
-    let console = RealConsole::new(alloc, input, rt.stdout())?;
-    let console: Box<dyn Device> = Box::new(alloc, console)?;
-    Ok(Handed::new(console))
+    devices(
+        Handed::new(console),
+        Handed::new(folder),
+        Handed::new(clock),
+        Handed::new(random),
+    )
 }
 
-/// The folders in the working folder.
-fn real_folder(rt: &HostRuntime) -> io::Result<Handed>
-    ensures { IfOk result (λ device. (⟦<Handed as Device>⟧.state device).kind ≡ Kind.Folder) }
+/// Makes the rest of the outside from the real one, and calls.
+fn call(rt: HostRuntime, handed: Devices<Handed>) -> Status
+    requires { IsInOrder (states ⟦<Handed as Device>⟧.state handed) }
 {
-    let alloc = rt.alloc();
-    let folder = RealFolder::new(alloc, rt.clone()?, String::from_str(alloc, ".")?);
-    let folder: Box<dyn Device> = Box::new(alloc, folder)?;
-    Ok(Handed::new(folder))
-}
-
-/// The machine's clock.
-fn real_clock(rt: &HostRuntime) -> io::Result<Handed>
-    ensures { IfOk result (λ device. (⟦<Handed as Device>⟧.state device).kind ≡ Kind.Clock) }
-{
-    let clock: Box<dyn Device> = Box::new(rt.alloc(), RealClock::new(rt.clone()?))?;
-    Ok(Handed::new(clock))
-}
-
-/// The machine's random source.
-fn real_random(rt: &HostRuntime) -> io::Result<Handed>
-    ensures { IfOk result (λ device. (⟦<Handed as Device>⟧.state device).kind ≡ Kind.Random) }
-{
-    let random: Box<dyn Device> = Box::new(rt.alloc(), RealRandom::new(rt.clone()?))?;
-    Ok(Handed::new(random))
-}
-
-/// Makes the outside of the call from the real one, and calls.
-fn run(rt: HostRuntime) -> io::Result<Status> {
+    let mut handed = handed;
     let alloc: Global = rt.alloc();
     let words = words(&rt).unwrap_or(Vec::new(alloc));
-    let mut handed = devices(
-        real_console(&rt)?,
-        real_folder(&rt)?,
-        real_clock(&rt)?,
-        real_random(&rt)?,
-    );
     let mut out = Stream::new(rt.stdout());
     let mut report = Stream::new(rt.stderr());
     let mut shelf = RealFiles::new(alloc, rt);
-    Ok(wyvern(
+    wyvern(
         alloc,
         words.as_slice(),
         &mut shelf,
         &mut out,
         &mut report,
         &mut handed,
-    ))
+    )
+}
+
+/// Makes the devices of the machine, and calls with them.
+fn run(rt: HostRuntime) -> io::Result<Status> {
+    let alloc: Global = rt.alloc();
+    // (boxed first: behind others the prover does not find its kind)
+    let clock: Box<dyn Device> = Box::new(alloc, RealClock::new(rt.clone()?))?;
+    let input = BufReader::new(alloc, rt.stdin())?;
+    let console = RealConsole::new(alloc, input, rt.stdout())?;
+    let console: Box<dyn Device> = Box::new(alloc, console)?;
+    let folder = RealFolder::new(alloc, rt.clone()?, String::from_str(alloc, ".")?);
+    let folder: Box<dyn Device> = Box::new(alloc, folder)?;
+    let random: Box<dyn Device> = Box::new(alloc, RealRandom::new(rt.clone()?))?;
+    let handed = hand_in(console, folder, clock, random);
+    Ok(call(rt, handed))
 }
 
 fn main(rt: HostRuntime) -> ExitCode {
