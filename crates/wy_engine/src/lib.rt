@@ -13,8 +13,6 @@ pub mod parsing;
 pub mod reading;
 pub mod running;
 pub mod status;
-#[cfg(test)]
-mod tests;
 pub mod top;
 pub mod writing;
 

@@ -1,7 +1,7 @@
-use crate::tests::devices::{BLANK, Part, Row};
-use crate::tests::primitive_table::ORDERED;
-use crate::tests::running_table::{DEEP, HELLO};
-use crate::tests::three_files_table::WHOLE;
+use crate::devices::{BLANK, Part, Row};
+use crate::primitive_table::ORDERED;
+use crate::running_table::{DEEP, HELLO};
+use crate::three_files_table::WHOLE;
 
 const WRITER: &str = "authority of main: console.Out\n  run: console.Out\n";
 
@@ -34,6 +34,39 @@ const FOUR_WRITES: Row = Row {
     )],
     report: WRITER,
     ..BLANK
+};
+
+/// A trace of three files, with a used module and an object.
+pub const THREE_FILES: Row = Row {
+    words: &["trace", "types.wy", "parts.wy", "main.wy"],
+    out: r#"enter pure clean init
+leave
+enter lg init
+leave
+enter rep init
+leave
+enter main run
+enter rep each
+deed data.read("in") = "x"
+enter lg log
+enter pure clean safe
+leave
+deed logs.append("log", "x\n") = ()
+leave
+enter main new1.got
+enter pure clean safe
+leave
+deed console.write("x") = ()
+leave
+leave
+enter lg log
+enter pure clean safe
+leave
+deed logs.append("log", "done\n") = ()
+leave
+leave
+"#,
+    ..WHOLE
 };
 
 /// Runs with a line for each event: of one body, of three files with a used module and an object, with the receiver before the
@@ -70,37 +103,7 @@ deed console.write("c") = failed
 "#,
         ..FOUR_WRITES
     },
-    Row {
-        words: &["trace", "types.wy", "parts.wy", "main.wy"],
-        out: r#"enter pure clean init
-leave
-enter lg init
-leave
-enter rep init
-leave
-enter main run
-enter rep each
-deed data.read("in") = "x"
-enter lg log
-enter pure clean safe
-leave
-deed logs.append("log", "x\n") = ()
-leave
-enter main new1.got
-enter pure clean safe
-leave
-deed console.write("x") = ()
-leave
-leave
-enter lg log
-enter pure clean safe
-leave
-deed logs.append("log", "done\n") = ()
-leave
-leave
-"#,
-        ..WHOLE
-    },
+    THREE_FILES,
     Row {
         words: &["trace", "ord.wy"],
         out: r#"enter g init

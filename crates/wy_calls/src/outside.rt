@@ -1,8 +1,7 @@
 ghost use Rattle.std.specs.Prelude.{Some};
 ghost use Rattle.wy_text.specs.Outside.{SinkState};
 
-use crate::handing_in::devices;
-use crate::tests::support::{call, devices_with, failing_at};
+use crate::support::{call, devices_with, failing_at};
 use std::alloc::Global;
 use std::test::Fail;
 use wy_device::device::Device;
@@ -10,6 +9,7 @@ use wy_device::handed::Handed;
 use wy_device::mem_console::MemConsole;
 use wy_device::operation::Kind;
 use wy_device::shut::Shut;
+use wy_engine::handing_in::devices;
 use wy_text::list::Items;
 use wy_text::mem_sink::MemSink;
 use wy_text::sink::{Sink, WriteError};

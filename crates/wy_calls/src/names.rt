@@ -1,5 +1,5 @@
-use crate::tests::names_table::{FIRST, REFUSED};
-use crate::tests::support::outcome_of;
+use crate::names_table::{FIRST, REFUSED};
+use crate::support::outcome_of;
 use std::alloc::Global;
 use std::test::Fail;
 use wy_text::mem_sink::MemSink;

@@ -1,13 +1,13 @@
-use crate::handing_in::devices;
-use crate::tests::devices::first_otherwise;
-use crate::tests::samples_table::SAMPLES;
-use crate::tests::support::{call_with, devices_with, failing_at, outcome_of};
+use crate::devices::first_otherwise;
+use crate::samples_table::SAMPLES;
+use crate::support::{call_with, devices_with, failing_at, outcome_of};
 use std::test::Fail;
 use wy_device::device::Device;
 use wy_device::handed::Handed;
 use wy_device::mem_console::MemConsole;
 use wy_device::operation::Kind;
 use wy_device::shut::Shut;
+use wy_engine::handing_in::devices;
 use wy_text::list::Items;
 use wy_text::mem_sink::MemSink;
 use wy_text::text::from_bytes;

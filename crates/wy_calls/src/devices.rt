@@ -4,9 +4,7 @@ ghost use Rattle.std.specs.Prelude.{◌≡◌, IfOk};
 ghost use Rattle.wy_device.specs.Devices.{IsInOrder};
 ghost use Rattle.wy_machine.specs.Devices.{states};
 
-use crate::handing_in::devices;
-use crate::tests::support::strings;
-use crate::top::wyvern;
+use crate::support::{call_with, strings};
 use std::alloc::Global;
 use std::test::Fail;
 use wy_device::deed::{Deed, DeedList, Event};
@@ -18,6 +16,8 @@ use wy_device::mem_console::MemConsole;
 use wy_device::mem_folder::MemFolder;
 use wy_device::mem_random::{MemRandom, NumberList};
 use wy_device::operation::{Answer, Kind, Op};
+use wy_engine::handing_in::devices;
+use wy_engine::top::wyvern;
 use wy_machine::devices::Devices;
 use wy_meaning::event_lines::event_line;
 use wy_text::list::{CallList, Items};
@@ -173,15 +173,27 @@ fn copied(deed: &Deed) -> Result<Deed, Memory> {
     }
 }
 
-/// Whether the lines of these deeds are the text.
-fn are_told(alloc: Global, deeds: Option<&DeedList>, text: &str) -> Result<bool, Fail> {
+/// The lines of these deeds.
+fn lines_of(alloc: Global, deeds: Option<&DeedList>) -> Result<Vec<u8>, Fail> {
     let deeds = deeds.ok_or("told")?;
     let mut lines: Vec<u8> = Vec::new(alloc);
     for deed in deeds.as_slice() {
         let line = event_line(alloc, &Event::Deed(copied(deed)?))?;
         lines.extend_from_slice(line.as_bytes())?;
     }
+    Ok(lines)
+}
+
+/// Whether the lines of these deeds are the text.
+fn are_told(alloc: Global, deeds: Option<&DeedList>, text: &str) -> Result<bool, Fail> {
+    let lines = lines_of(alloc, deeds)?;
     Ok(lines.as_slice() == text.as_bytes())
+}
+
+/// Whether the lines of these deeds are the first of the text.
+fn are_first(alloc: Global, deeds: Option<&DeedList>, text: &str) -> Result<bool, Fail> {
+    let lines = lines_of(alloc, deeds)?;
+    Ok(text.as_bytes().starts_with(lines.as_slice()))
 }
 
 /// Whether the devices did what the row says.
@@ -191,6 +203,16 @@ fn did_so<D: Device>(alloc: Global, row: &Row, devices: &Devices<D>) -> Result<b
             && are_told(alloc, devices.deeds(Kind::Folder), row.folder)?
             && are_told(alloc, devices.deeds(Kind::Clock), row.clock)?
             && are_told(alloc, devices.deeds(Kind::Random), row.random)?,
+    )
+}
+
+/// Whether the devices did the first of what the row says.
+fn began_so<D: Device>(alloc: Global, row: &Row, devices: &Devices<D>) -> Result<bool, Fail> {
+    Ok(
+        are_first(alloc, devices.deeds(Kind::Console), row.console)?
+            && are_first(alloc, devices.deeds(Kind::Folder), row.folder)?
+            && are_first(alloc, devices.deeds(Kind::Clock), row.clock)?
+            && are_first(alloc, devices.deeds(Kind::Random), row.random)?,
     )
 }
 
@@ -286,4 +308,59 @@ pub fn first_otherwise(alloc: Global, rows: &[Row]) -> Result<Option<usize>, Fai
         }
     }
     Ok(None)
+}
+
+/// Whether the row's call over these devices has its status, and did and wrote the first of what the row says.
+fn stops_over<D: Device>(alloc: Global, row: &Row, devices: &mut Devices<D>) -> Result<bool, Fail>
+    requires { IsInOrder (states D.state devices.old) }
+{
+    let mut out = MemSink::new(alloc, fails_of(alloc, row, Part::Out)?)?;
+    let mut report = MemSink::new(alloc, fails_of(alloc, row, Part::Report)?)?;
+    let number = number_of(alloc, row, &mut out, &mut report, devices)?;
+    Ok(
+        number == row.number
+            && row.out.as_bytes().starts_with(out.bytes())
+            && began_so(alloc, row, devices)?,
+    )
+}
+
+/// Whether the row's call has its status, and did and wrote the first of what the row says.
+pub fn stops_so(alloc: Global, row: &Row) -> Result<bool, Fail> {
+    let mut all = devices(
+        console_of(alloc, row)?,
+        folder_of(alloc, row)?,
+        clock_of(alloc, row)?,
+        random_of(alloc, row)?,
+    );
+    stops_over(alloc, row, &mut all)
+}
+
+/// Whether the call of the row's words with these files ends well over these devices, or is refused and does nothing.
+fn is_quiet_over<D: Device>(
+    alloc: Global,
+    row: &Row,
+    files: &[(&str, &[u8])],
+    devices: &mut Devices<D>,
+) -> Result<bool, Fail>
+    requires { IsInOrder (states D.state devices.old) }
+{
+    let mut out = MemSink::new(alloc, Items::new(alloc))?;
+    let mut report = MemSink::new(alloc, Items::new(alloc))?;
+    let status = call_with(alloc, row.words, files, &mut out, &mut report, devices)?;
+    match status.number() {
+        0 => Ok(true),
+        3 | 4 => did_so(alloc, &BLANK, devices),
+        _ => Ok(false),
+    }
+}
+
+/// Whether the call of the row's words with these files ends well, or is refused and does nothing.
+pub fn is_quiet(alloc: Global, row: &Row, files: &[(&str, &[u8])]) -> Result<bool, Fail> {
+    let mut all = devices(
+        console_of(alloc, row)?,
+        folder_of(alloc, row)?,
+        clock_of(alloc, row)?,
+        random_of(alloc, row)?,
+    );
+    is_quiet_over(alloc, row, files, &mut all)
 }

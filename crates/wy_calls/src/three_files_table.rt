@@ -1,6 +1,6 @@
-use crate::tests::devices::{BLANK, Kept, Part, Row};
+use crate::devices::{BLANK, Kept, Part, Row};
 
-const TYPES: &str = r#"type Logger
+pub const TYPES: &str = r#"type Logger
   effect Log
   def log(t: String): {Log} Unit
 type Names
@@ -13,7 +13,7 @@ type Report
   def each(s: Taker[Got = {All}]): {All} Unit
 "#;
 
-const PARTS: &str = r#"module clean: Names
+pub const PARTS: &str = r#"module clean: Names
   def safe(t: String): {} String
     if text_size(t) == 0
       "empty"
@@ -31,7 +31,7 @@ plain module report(l: Logger, d: Folder): Report
     s.got(last)
 "#;
 
-const MAIN: &str = r#"program
+pub const MAIN: &str = r#"program
   grant console: Console
   grant data: Folder
   grant logs: Folder

@@ -1,6 +1,6 @@
 //! Calls of `sample` with small numbers.
 
-use crate::tests::devices::{BLANK, Part, Row};
+use crate::devices::{BLANK, Part, Row};
 
 /// The sample of 3.
 const THREE: Row = Row {

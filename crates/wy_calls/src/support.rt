@@ -1,9 +1,6 @@
 ghost use Rattle.wy_device.specs.Devices.{IsInOrder};
 ghost use Rattle.wy_machine.specs.Devices.{states};
 
-use crate::handing_in::devices;
-use crate::status::Status;
-use crate::top::wyvern;
 use std::alloc::{AllocError, Global};
 use std::test::Fail;
 use wy_device::device::Device;
@@ -11,6 +8,9 @@ use wy_device::handed::Handed;
 use wy_device::mem_console::MemConsole;
 use wy_device::operation::Kind;
 use wy_device::shut::Shut;
+use wy_engine::handing_in::devices;
+use wy_engine::status::Status;
+use wy_engine::top::wyvern;
 use wy_machine::devices::Devices;
 use wy_text::list::Items;
 use wy_text::mem_shelf::MemShelf;

@@ -1,6 +1,6 @@
-use crate::tests::checking_table::{ACCEPTED, BODIES, HEAD, REFUSED};
-use crate::tests::lines_table;
-use crate::tests::support::{judged_so, outcome_of};
+use crate::checking_table::{ACCEPTED, BODIES, HEAD, REFUSED};
+use crate::lines_table;
+use crate::support::{judged_so, outcome_of};
 use std::alloc::Global;
 use std::test::Fail;
 

@@ -1,5 +1,5 @@
-use crate::tests::devices::first_otherwise;
-use crate::tests::programs_table::{LOGGERS, OBJECTS, REFUSED};
+use crate::devices::first_otherwise;
+use crate::programs_table::{LOGGERS, OBJECTS, REFUSED};
 use std::test::Fail;
 
 #[test]

@@ -1,6 +1,5 @@
-use crate::handing_in::devices;
-use crate::tests::outside::Trickle;
-use crate::tests::support::{call_with, devices_with, failing_at, outcome_of};
+use crate::outside::Trickle;
+use crate::support::{call_with, devices_with, failing_at, outcome_of};
 use std::alloc::Global;
 use std::test::Fail;
 use wy_device::device::Device;
@@ -8,6 +7,7 @@ use wy_device::handed::Handed;
 use wy_device::mem_console::MemConsole;
 use wy_device::operation::Kind;
 use wy_device::shut::Shut;
+use wy_engine::handing_in::devices;
 use wy_text::list::Items;
 use wy_text::mem_sink::MemSink;
 use wy_text::text::from_bytes;
@@ -71,25 +71,6 @@ fn first_otherwise(alloc: Global, cases: &[(&[&str], u8, &str)]) -> Result<Optio
 #[test]
 fn files_are_read_and_parsed_in_the_order_of_their_words(rt: HostRuntime) -> Result<(), Fail> {
     assert_eq!(rt; first_otherwise(rt.alloc(), &ORDERS)?, None);
-    Ok(())
-}
-
-/// Whether a call of `run` with so many files ends so.
-fn many_end_so(alloc: Global, count: u32, number: u8, line: &str) -> Result<bool, Fail> {
-    let mut words = Vec::new(alloc);
-    words.push("run")?;
-    for _ in 0..count {
-        words.push("a.wy")?;
-    }
-    ends_so(alloc, words.as_slice(), number, line)
-}
-
-#[test]
-fn sixty_four_files_are_read_and_one_more_passes_the_limit(rt: HostRuntime) -> Result<(), Fail> {
-    let alloc = rt.alloc();
-    let twice = "a.wy:1:6: refused: N-Twice premise 1\n";
-    assert!(rt; many_end_so(alloc, 64, 4, twice)?);
-    assert!(rt; many_end_so(alloc, 65, 5, "limit: files 64\n")?);
     Ok(())
 }
 

@@ -1,4 +1,4 @@
-use crate::tests::support::outcome_of;
+use crate::support::outcome_of;
 use std::alloc::Global;
 use std::test::Fail;
 

@@ -1,4 +1,4 @@
-use crate::tests::devices::{BLANK, Part, Row};
+use crate::devices::{BLANK, Part, Row};
 
 const READS: Row = Row {
     words: &["run", "c.wy"],

@@ -1,5 +1,5 @@
-use crate::tests::devices::first_otherwise;
-use crate::tests::primitive_table::{CLOCKS, CONSOLES, FOLDERS, NAMES, ORDERS, RANDOM_SOURCES};
+use crate::devices::first_otherwise;
+use crate::primitive_table::{CLOCKS, CONSOLES, FOLDERS, NAMES, ORDERS, RANDOM_SOURCES};
 use std::test::Fail;
 
 #[test]

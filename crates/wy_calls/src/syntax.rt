@@ -1,9 +1,8 @@
-use crate::tests::canonical_table::ACCEPTED;
-use crate::tests::support::outcome_of;
-use crate::tests::syntax_table::REFUSED;
+use crate::canonical_table::ACCEPTED;
+use crate::support::outcome_of;
+use crate::syntax_table::REFUSED;
 use std::alloc::Global;
 use std::test::Fail;
-use wy_text::mem_sink::MemSink;
 
 /// Whether `format` writes the form for the text, and nothing else.
 fn is_printed(alloc: Global, text: &str, form: &str) -> Result<bool, Fail> {
@@ -109,73 +108,5 @@ fn first_not_said(alloc: Global, cases: &[(&[u8], &str)]) -> Result<Option<usize
 #[test]
 fn what_is_wrong_in_a_text_is_named_with_its_place(rt: HostRuntime) -> Result<(), Fail> {
     assert_eq!(rt; first_not_said(rt.alloc(), &LEXICAL)?, None);
-    Ok(())
-}
-
-/// What is said of a text that has a piece so many times behind a front.
-fn said_of(alloc: Global, front: &[u8], piece: &[u8], count: u32) -> Result<MemSink, Fail> {
-    let mut text = Vec::from_slice(alloc, front)?;
-    for _ in 0..count {
-        text.extend_from_slice(piece)?;
-    }
-    let done = outcome_of(alloc, &["run", "b.wy"], &[("b.wy", text.as_slice())])?;
-    Ok(done.report)
-}
-
-/// A piece so many times behind a front is within a limit, and once more passes it.
-static LIMITS: [(&[u8], &[u8], u32, &str); 4] = [
-    (b"", b"x", 64, "limit: name bytes 64\n"),
-    (b"", b".", 128, "limit: marks 128\n"),
-    (b"x ", b"\n", 1_048_574, "limit: file bytes 1048576\n"),
-    (b"", b"x\n", 131_071, "limit: tokens 262144\n"),
-];
-
-/// The number of the first case in which the limit comes too early or too late.
-fn first_not_limited(
-    alloc: Global,
-    cases: &[(&[u8], &[u8], u32, &str)],
-) -> Result<Option<usize>, Fail> {
-    for (at, (front, piece, most, line)) in cases.iter().enumerate() {
-        let within = said_of(alloc, front, piece, *most)?;
-        let past = said_of(alloc, front, piece, most.saturating_add(1))?;
-        if within.bytes() != b"b.wy:1:1: syntax: Unexpected\n".as_slice()
-            || past.bytes() != line.as_bytes()
-        {
-            return Ok(Some(at));
-        }
-    }
-    Ok(None)
-}
-
-#[test]
-fn a_limit_is_passed_by_one_more(rt: HostRuntime) -> Result<(), Fail> {
-    assert_eq!(rt; first_not_limited(rt.alloc(), &LIMITS)?, None);
-    Ok(())
-}
-
-/// What is said of a file whose lines go in one by one, up to so many spaces.
-fn said_of_indents(alloc: Global, deepest: u32) -> Result<MemSink, Fail> {
-    let mut text = Vec::new(alloc);
-    for width in 0..=deepest {
-        for _ in 0..width {
-            text.extend_from_slice(b" ")?;
-        }
-        text.extend_from_slice(b"x\n")?;
-    }
-    let done = outcome_of(alloc, &["run", "b.wy"], &[("b.wy", text.as_slice())])?;
-    Ok(done.report)
-}
-
-#[test]
-fn indents_go_to_sixty_four(rt: HostRuntime) -> Result<(), Fail> {
-    let alloc = rt.alloc();
-    assert_eq!(rt;
-        said_of_indents(alloc, 64)?.bytes(),
-        b"b.wy:1:1: syntax: Unexpected\n".as_slice()
-    );
-    assert_eq!(rt;
-        said_of_indents(alloc, 65)?.bytes(),
-        b"limit: indents 64\n".as_slice()
-    );
     Ok(())
 }

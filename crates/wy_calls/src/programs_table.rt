@@ -1,4 +1,4 @@
-use crate::tests::devices::{BLANK, Row};
+use crate::devices::{BLANK, Row};
 
 const LOG: &str = r#"type Logger
   effect Log

@@ -1,5 +1,5 @@
-use crate::tests::devices::first_otherwise;
-use crate::tests::tracing_table::{CUT, TRACES};
+use crate::devices::first_otherwise;
+use crate::tracing_table::{CUT, TRACES};
 use std::test::Fail;
 
 #[test]

@@ -1,5 +1,5 @@
-use crate::tests::authority_table::{REFUSED, REPORTS};
-use crate::tests::support::judged_so;
+use crate::authority_table::{REFUSED, REPORTS};
+use crate::support::judged_so;
 use std::alloc::Global;
 use std::test::Fail;
 

@@ -1,5 +1,5 @@
-use crate::tests::devices::first_otherwise;
-use crate::tests::three_files_table::{FAILING, RUNS};
+use crate::devices::first_otherwise;
+use crate::three_files_table::{FAILING, RUNS};
 use std::test::Fail;
 
 #[test]

@@ -1,0 +1,66 @@
+//! Calls of `wyvern` with the outside in memory, over its library, so that the calls are proved apart from it. The
+//! expected reports, lines and statuses are those of docs/LANGUAGE.md.
+#![tactic(auto)]
+
+#[cfg(test)]
+mod authority;
+#[cfg(test)]
+mod authority_table;
+#[cfg(test)]
+mod canonical_table;
+#[cfg(test)]
+mod checking;
+#[cfg(test)]
+mod checking_table;
+#[cfg(test)]
+mod devices;
+#[cfg(test)]
+mod examples;
+#[cfg(test)]
+mod examples_table;
+#[cfg(test)]
+mod files;
+#[cfg(test)]
+mod hostile;
+#[cfg(test)]
+mod limits;
+#[cfg(test)]
+mod lines_table;
+#[cfg(test)]
+mod names;
+#[cfg(test)]
+mod names_table;
+#[cfg(test)]
+mod outside;
+#[cfg(test)]
+mod primitive;
+#[cfg(test)]
+mod primitive_table;
+#[cfg(test)]
+mod programs;
+#[cfg(test)]
+mod programs_table;
+#[cfg(test)]
+mod running;
+#[cfg(test)]
+mod running_table;
+#[cfg(test)]
+mod samples;
+#[cfg(test)]
+mod samples_table;
+#[cfg(test)]
+mod support;
+#[cfg(test)]
+mod syntax;
+#[cfg(test)]
+mod syntax_table;
+#[cfg(test)]
+mod three_files;
+#[cfg(test)]
+mod three_files_table;
+#[cfg(test)]
+mod tracing;
+#[cfg(test)]
+mod tracing_table;
+#[cfg(test)]
+mod words;
