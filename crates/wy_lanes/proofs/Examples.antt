@@ -1,7 +1,7 @@
 -- The definitions of specs/, tried on examples.
-use Rattle.std.proofs.Common.{codes, ◌≡◌, [], ◌∷◌, ◌++◌, replicate, refl, arith}
+use Rattle.std.proofs.Common.{codes, ◌≡◌, [], ◌∷◌, ◌++◌, replicate, refl, arith, true, false}
 use Rattle.wy_lanes.specs.Classes.{is_word, mask_of, masks_of}
-use Rattle.wy_lanes.specs.Words.{AllInside, row_of, union_of}
+use Rattle.wy_lanes.specs.Words.{AllInside, has_bit, row_of, union_of}
 
 -- ---- words
 
@@ -28,6 +28,15 @@ first_row = refl
 
 second_row : row_of (1 ∷ 2 ∷ 3 ∷ 4 ∷ 5 ∷ 6 ∷ 7 ∷ 8 ∷ 9 ∷ 10 ∷ 11 ∷ 12 ∷ 13 ∷ 14 ∷ 15 ∷ 16 ∷ []) 1 ≡ 9 ∷ 10 ∷ 11 ∷ 12 ∷ 13 ∷ 14 ∷ 15 ∷ 16 ∷ []
 second_row = refl
+
+bit_of_second_word : has_bit (0 ∷ 4 ∷ []) 66 ≡ true
+bit_of_second_word = refl
+
+other_bit : has_bit (0 ∷ 4 ∷ []) 65 ≡ false
+other_bit = refl
+
+bit_past_the_words : has_bit (4 ∷ []) 66 ≡ false
+bit_past_the_words = refl
 
 -- ---- bytes
 
