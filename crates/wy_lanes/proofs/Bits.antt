@@ -1,9 +1,9 @@
 -- What the definitions on words and on classes say of single bits.
-use Rattle.std.proofs.Common.{◌≡◌, ℕ, zero, suc, ◌+◌, ◌*◌, ◌<◌, ◌≤◌, ◌^◌, ◌/◌, ◌%◌, max, Bool, true, false, cond, ◌||◌, nat_eq, List, [], ◌∷◌, length, map, get_or, bit_or, refl, sym, ap, ap₂, ◌∙◌, inl, inr, arith}
+use Rattle.std.proofs.Common.{◌≡◌, ℕ, zero, suc, ◌+◌, ◌*◌, ◌<◌, ◌≤◌, ◌^◌, ◌/◌, ◌%◌, max, Bool, true, false, cond, ◌||◌, nat_eq, List, [], ◌∷◌, length, map, get_or, get_or-set_other, get_or-set_same, ext_get_or, set, bit_or, w64, refl, sym, ap, ap₂, ◌∙◌, inl, inr, arith}
 use Rattle.std.proofs.Math.ListN.{get_or-eq_default}
-use Rattle.std.proofs.lemmas.Bool.{cases_lt, eq-eqb, eqb-true}
+use Rattle.std.proofs.lemmas.Bool.{cases_eq, cases_lt, eq-eqb, eqb-true, false≢true, ne_eqb}
 use Rattle.std.proofs.lemmas.List.{get_or-map, length-map}
-use Rattle.std.proofs.lemmas.Nat.Bits.{bit_at_or, bit_at-lt, bit_at_above, same_from_bits}
+use Rattle.std.proofs.lemmas.Nat.Bits.{bit_at_or, bit_at-lt, bit_at_above, bit_at_set_other, bit_at_set_same, same_from_bits, same_from_bits_below}
 use Rattle.std.proofs.lemmas.Simd.{bit_mask_l}
 use Rattle.std.specs.Int.{bit_at}
 use Rattle.wy_lanes.specs.Classes.{mask_of}
@@ -83,6 +83,43 @@ pub AllInside-from_bits : (xs ys : List ℕ) → ((k : ℕ) → get_or xs k 0 < 
 AllInside-from_bits xs ys fit bits =
     AllInside-from_words xs ys (λ k lt. IsInside-from_bits (get_or xs k 0) (get_or ys k 0) (fit k)
     (λ i small set. eqb-true _ _ (sym (has_bit-at ys k i small) ∙ bits (64 * k + i) (omega (arith, lt, small)) (has_bit-at xs k i small ∙ eq-eqb _ _ set))))
+
+same_bit : (u v : ℕ) → u < 2 → v < 2 → nat_eq u 1 ≡ nat_eq v 1 → u ≡ v
+same_bit zero zero small_u small_v same = refl
+same_bit zero (suc zero) small_u small_v same = absurd (false≢true same)
+same_bit (suc zero) zero small_u small_v same = absurd (false≢true (sym same))
+same_bit (suc zero) (suc zero) small_u small_v same = refl
+same_bit u (suc (suc v)) small_u small_v same = absurd (omega (arith, small_v))
+same_bit (suc (suc u)) v small_u small_v same = absurd (omega (arith, small_u))
+
+-- lists of words that have the same bits are the same
+pub words_from_bits : (xs ys : List ℕ) → length xs ≡ length ys → ((k : ℕ) → get_or xs k 0 < 2 ^ 64) → ((k : ℕ) → get_or ys k 0 < 2 ^ 64)
+    → ((n : ℕ) → n < 64 * length xs → has_bit xs n ≡ has_bit ys n) → xs ≡ ys
+words_from_bits xs ys long fit_xs fit_ys bits =
+    ext_get_or 0 xs ys long (λ k lt. same_from_bits_below 64 (get_or xs k 0) (get_or ys k 0) (fit_xs k) (fit_ys k)
+    (λ i small. same_bit _ _ (bit_at-lt (get_or xs k 0) i) (bit_at-lt (get_or ys k 0) i)
+    (sym (has_bit-at xs k i small) ∙ bits (64 * k + i) (omega (arith, lt, small)) ∙ has_bit-at ys k i small)))
+
+-- where `1 << n % 64` is put into word n / 64, bit n is set and no other changes
+pub has_bit-set : (xs : List ℕ) (n m : ℕ) → n / 64 < length xs
+    → has_bit (set xs (n / 64) (bit_or (get_or xs (n / 64) 0) (1 * 2 ^ (n % 64) % 2 ^ 64))) m ≡ (nat_eq m n || has_bit xs m)
+has_bit-set xs n m within =
+    let w = get_or xs (n / 64) 0 in
+    let v = bit_or w (1 * 2 ^ (n % 64) % 2 ^ 64) in
+    let small : n % 64 < 64 = omega arith in
+    elim (cases_eq (m / 64) (n / 64)) [
+      | inl same ↦
+          let here : get_or (set xs (n / 64) v) (m / 64) 0 ≡ v = ap (λ (j : ℕ). get_or (set xs (n / 64) v) j 0) same ∙ get_or-set_same xs (n / 64) v 0 within in
+          let word = ap (λ (y : ℕ). nat_eq (bit_at y (m % 64)) 1) here in
+          elim (cases_eq (m % 64) (n % 64)) [
+            | inl equal ↦ word ∙ ap (λ (j : ℕ). nat_eq (bit_at v j) 1) equal ∙ eq-eqb _ _ (bit_at_set_same w64 w (n % 64) small)
+                ∙ sym (ap (λ (b : Bool). b || has_bit xs m) (eq-eqb m n (omega (arith, same, equal))))
+            | inr other ↦ word ∙ ap (λ (b : ℕ). nat_eq b 1) (bit_at_set_other w64 w (n % 64) small (m % 64) other)
+                ∙ sym (ap (λ (b : Bool). b || has_bit xs m) (ne_eqb m n (λ e. other (ap (λ (x : ℕ). x % 64) e))) ∙ ap (λ (j : ℕ). nat_eq (bit_at (get_or xs j 0) (m % 64)) 1) same)
+          ]
+      | inr other ↦ ap (λ (y : ℕ). nat_eq (bit_at y (m % 64)) 1) (get_or-set_other xs (n / 64) (m / 64) v 0 other)
+          ∙ sym (ap (λ (b : Bool). b || has_bit xs m) (ne_eqb m n (λ e. other (ap (λ (x : ℕ). x / 64) e))))
+    ]
 
 -- a bit of a mask says whether the byte in its place is of the class
 pub bit_at-mask_of : (p : ℕ → Bool) (bytes : List ℕ) (i : ℕ) → i < length bytes → bit_at (mask_of p bytes) i ≡ cond (p (get_or bytes i 0)) 1 0

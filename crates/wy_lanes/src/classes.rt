@@ -1,3 +1,5 @@
+//! Which bytes of a block are of a class, as bits.
+
 ghost use Rattle.std.specs.Prelude.{◌≡◌, ◌-◌, ◌≤◌, ◌==◌, ◌++◌, length, replicate};
 ghost use Rattle.wy_lanes.specs.Classes.{is_word, mask_of, masks_of};
 

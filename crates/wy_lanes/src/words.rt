@@ -1,3 +1,5 @@
+//! Words of 64 bits as sets of bits: union, inclusion, and the first row of words outside a bound.
+
 ghost use Rattle.std.specs.Prelude.{◌≡◌, ◌+◌, ◌*◌, ◌%◌, ◌<◌, ◌≤◌, ◌↔◌, ℕ, IfNone, IfSome, IsTrue, bit_or, length};
 ghost use Rattle.std.specs.Simd.Lanes.{chunk, put_chunk, zip2};
 ghost use Rattle.wy_lanes.specs.Words.{AllInside, row_of, union_of};
