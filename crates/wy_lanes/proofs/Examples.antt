@@ -1,0 +1,57 @@
+-- The definitions of specs/, tried on examples.
+use Rattle.std.proofs.Common.{codes, ◌≡◌, [], ◌∷◌, ◌++◌, replicate, refl, arith, true, false}
+use Rattle.wy_lanes.specs.Classes.{is_word, mask_of, masks_of}
+use Rattle.wy_lanes.specs.Words.{AllInside, has_bit, row_of, union_of}
+
+-- ---- words
+
+no_words : union_of [] [] ≡ []
+no_words = refl
+
+two_unions : union_of (5 ∷ 0 ∷ []) (3 ∷ 8 ∷ []) ≡ 7 ∷ 8 ∷ []
+two_unions = refl
+
+highest_bits : union_of (0x8000_0000_0000_0000 ∷ []) (0x7fff_ffff_ffff_ffff ∷ []) ≡ 0xffff_ffff_ffff_ffff ∷ []
+highest_bits = refl
+
+none_inside : AllInside [] []
+none_inside = tt
+
+two_inside : AllInside (4 ∷ 0 ∷ []) (5 ∷ 0 ∷ [])
+two_inside = (refl, (refl, tt))
+
+bit_outside : AllInside (4 ∷ 2 ∷ []) (5 ∷ 5 ∷ []) → ⊥
+bit_outside all = omega (arith, all.1.0)
+
+first_row : row_of (1 ∷ 2 ∷ 3 ∷ 4 ∷ 5 ∷ 6 ∷ 7 ∷ 8 ∷ 9 ∷ 10 ∷ 11 ∷ 12 ∷ 13 ∷ 14 ∷ 15 ∷ 16 ∷ []) 0 ≡ 1 ∷ 2 ∷ 3 ∷ 4 ∷ 5 ∷ 6 ∷ 7 ∷ 8 ∷ []
+first_row = refl
+
+second_row : row_of (1 ∷ 2 ∷ 3 ∷ 4 ∷ 5 ∷ 6 ∷ 7 ∷ 8 ∷ 9 ∷ 10 ∷ 11 ∷ 12 ∷ 13 ∷ 14 ∷ 15 ∷ 16 ∷ []) 1 ≡ 9 ∷ 10 ∷ 11 ∷ 12 ∷ 13 ∷ 14 ∷ 15 ∷ 16 ∷ []
+second_row = refl
+
+bit_of_second_word : has_bit (0 ∷ 4 ∷ []) 66 ≡ true
+bit_of_second_word = refl
+
+other_bit : has_bit (0 ∷ 4 ∷ []) 65 ≡ false
+other_bit = refl
+
+bit_past_the_words : has_bit (4 ∷ []) 66 ≡ false
+bit_past_the_words = refl
+
+-- ---- bytes
+
+no_bytes : masks_of [] ≡ 0 ∷ 0 ∷ 0 ∷ 0 ∷ []
+no_bytes = refl
+
+one_line : masks_of (codes "a \"_\"" ++ (10 ∷ [])) ≡ 32 ∷ 2 ∷ 9 ∷ 20 ∷ []
+one_line = refl
+
+other_spaces : masks_of (9 ∷ 13 ∷ 0 ∷ []) ≡ 0 ∷ 0 ∷ 0 ∷ 0 ∷ []
+other_spaces = refl
+
+-- the bytes beside the first and the last of each part of the class
+ends_of_words : mask_of is_word (codes "/0189:@AZ[^_`az{" ++ (127 ∷ 128 ∷ 255 ∷ [])) ≡ 0x6699e
+ends_of_words = refl
+
+last_bit : mask_of is_word (replicate 63 32 ++ codes "z") ≡ 0x8000_0000_0000_0000
+last_bit = refl

@@ -1,0 +1,4 @@
+pub mod Bits
+pub mod Blocks
+mod Examples
+pub mod Masks

@@ -1,0 +1,7 @@
+//! Kernels over words and bytes, by `std::simd`: each equals its plain definition at every length.
+#![tactic(auto)]
+
+pub mod classes;
+#[cfg(test)]
+mod tests;
+pub mod words;
