@@ -178,8 +178,8 @@ module _ (p : Program) (scope : ℕ) (mode : Mode) where
       let Q : List (Signature TypeRef) → Type 0 = λ l. In h.0 l in
       fault (s, t) h.0 (os, ot) (subst Q er h.1) (find_method h.0.name (methods_of p scope s)) refl c (subst P el h.2)
   is_unfolded s t os ot lefts rights el er (Closed cs) h =
-      let P : List (Signature TypeRef) → List (Signature TypeRef) → Type 0 = λ l r. (cs.items ≡ all_pairs l r) × ((n : Signature TypeRef) → In n r → IsMet mode (find_method n.name l) n) in
+      let P : List (Signature TypeRef) → List (Signature TypeRef) → Type 0 = λ l r. (cs ≡ all_pairs l r) × ((n : Signature TypeRef) → In n r → IsMet mode (find_method n.name l) n) in
       let P1 : List (Signature TypeRef) → Type 0 = λ l. P l rights in
       let P2 : List (Signature TypeRef) → Type 0 = λ r. P (methods_of p scope s) r in
       let g : P (methods_of p scope s) (methods_of p scope t) = subst P2 er (subst P1 el h) in
-      asks (s, t) (os, ot) g.1 cs.items g.0
+      asks (s, t) (os, ot) g.1 cs g.0

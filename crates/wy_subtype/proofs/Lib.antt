@@ -1,4 +1,7 @@
 pub mod Asking
+pub mod Deciding
+pub mod Growing
+pub mod Keeping
 pub mod Meeting
 pub mod Ranging
 pub mod Working

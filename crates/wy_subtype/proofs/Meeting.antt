@@ -1,6 +1,5 @@
 -- A pair is put into the table exactly where its key is new.
-use Rattle.std.proofs.Common.{◌≡◌, List, [], ◌∷◌, ◌++◌, ℕ, map, inl, inr, refl, ap, ◌∙◌, subst, Bool as Truth, true, false}
-use Rattle.std.specs.Prelude.{not}
+use Rattle.std.proofs.Common.{◌≡◌, List, [], ◌∷◌, ◌++◌, ℕ, map, inl, inr, refl, ap, ◌∙◌, subst, true, false}
 use Rattle.std.specs.List.{list_any}
 use Rattle.wy_types.specs.Keys.{pair_key}
 use Rattle.wy_types.specs.contracts.key.KeyPartialEq.TheImpl as E
@@ -18,25 +17,16 @@ keys-pairs : (es : List Entry) → map entry_key es ≡ map key_of (pairs es)
 keys-pairs [] = refl
 keys-pairs (e ∷ es) = ap (λ l. entry_key e ∷ l) (keys-pairs es)
 
-not-true : (a b : Truth) → a ≡ not b → a ≡ true → b ≡ false
-not-true a true e h = absurd (cc)
-not-true a false e h = refl
-
-not-false : (a b : Truth) → a ≡ not b → a ≡ false → b ≡ true
-not-false a true e h = refl
-not-false a false e h = absurd (cc)
-
-module _ (old : List Entry) (c : UnfoldedPair) (parent : ℕ) (keys : List (List ℕ)) (key : List ℕ) (same : keys ≡ map entry_key old) (its : key ≡ pair_key c.left c.right)
-    (fresh : Truth) (answer : fresh ≡ not (list_any ((E.eq-value).it key) keys)) where
+module _ (old : List Entry) (c : UnfoldedPair) (parent : ℕ) (keys : List (List ℕ)) (key : List ℕ) (same : keys ≡ map entry_key old) (its : key ≡ pair_key c.left c.right) where
   of_pairs : keys ≡ map key_of (pairs old)
   of_pairs = same ∙ keys-pairs old
 
-  pub added_last : (new : List Entry) → fresh ≡ true → new ≡ old ++ entry_of c parent ∷ [] → IsAdded old c parent new
+  pub added_last : (new : List Entry) → list_any ((E.eq-value).it key) keys ≡ false → new ≡ old ++ entry_of c parent ∷ [] → IsAdded old c parent new
   added_last new h eq =
       let P : List ℕ → Type 0 = λ k. list_any ((E.eq-value).it k) keys ≡ false in
-      inr (not_met key_of pair_once (sides c) (pairs old) keys of_pairs (subst P its (not-true fresh (list_any ((E.eq-value).it key) keys) answer h)), eq)
+      inr (not_met key_of pair_once (sides c) (pairs old) keys of_pairs (subst P its h), eq)
 
-  pub added_before : (new : List Entry) → fresh ≡ false → new ≡ old → IsAdded old c parent new
-  added_before new h eq =
+  pub added_before : list_any ((E.eq-value).it key) keys ≡ true → IsAdded old c parent old
+  added_before h =
       let P : List ℕ → Type 0 = λ k. list_any ((E.eq-value).it k) keys ≡ true in
-      inl (met key_of pair_once (sides c) (pairs old) keys of_pairs (subst P its (not-false fresh (list_any ((E.eq-value).it key) keys) answer h)), eq)
+      inl (met key_of pair_once (sides c) (pairs old) keys of_pairs (subst P its h), refl)

@@ -1,5 +1,5 @@
 -- The list of pairs: what a step back, an addition and a test keep, and what stands at the end.
-use Rattle.std.proofs.Common.{◌≡◌, ℕ, zero, suc, ◌+◌, ◌<◌, ◌≤◌, List, [], ◌∷◌, ◌++◌, map, reverse, ◌⊎◌, inl, inr, length, refl, sym, ap, ◌∙◌, subst, arith, Option, Some, append_assoc, append-nil}
+use Rattle.std.proofs.Common.{◌≡◌, ℕ, zero, suc, ◌+◌, ◌<◌, ◌≤◌, List, [], ◌∷◌, ◌++◌, map, reverse, ◌⊎◌, inl, inr, length, refl, sym, ap, ◌∙◌, subst, arith, Option, Some, true, append_assoc, append-nil}
 use Rattle.std.specs.Prelude.{slice_get, ◌↔◌}
 use Rattle.std.proofs.lemmas.List.{reverse-append, length-map}
 use Rattle.std.proofs.lemmas.Bool.{cases_lt}
@@ -27,10 +27,10 @@ use Rattle.wy_subtype.specs.declared.verdict.Verdict.TheVariants.{Yes, No}
 use Rattle.wy_subtype.specs.declared.unfolding.UnfoldedPair.{UnfoldedPair}
 use Rattle.wy_subtype.specs.declared.entry.Entry.{Entry}
 use Rattle.wy_types.specs.InRange.{IsInRange}
-use Rattle.wy_subtype.specs.Verdict.{Pair, Includes, IsSubtypeIn, Closes, StepsTo, LeadsTo, AreObjects, FailsBy, FailsAt, IsVerdict, IsYes}
+use Rattle.wy_subtype.specs.Verdict.{Pair, Includes, IsSubtypeIn, Closes, StepsTo, LeadsTo, AreObjects, FailsBy, FailsAt, IsVerdict, IsYes, is_yes}
 use Rattle.wy_subtype.specs.Unfolding.{sides, Asks}
 use Rattle.wy_subtype.specs.Met.{entry_pair, pairs, entry_of, IsAdded, AreAdded}
-use Rattle.wy_subtype.specs.Worklist.{IsLinked, IsSeen, Extends, Advances, EntryFails, BeginsWith, IsWork, Traces, GoesBack}
+use Rattle.wy_subtype.specs.Worklist.{IsLinked, IsSeen, Extends, IsSettled, Advances, EntryFails, BeginsWith, BeginsAlone, IsWork, Traces, IsPathTo, GoesBack}
 
 slice_get-left : {X : Type 0} (xs ys : List X) (k : ℕ) (x : X) → slice_get xs k ≡ Some x → slice_get (xs ++ ys) k ≡ Some x
 slice_get-left [] ys k x e = absurd (cc)
@@ -44,12 +44,12 @@ slice_get-push (z ∷ xs) y zero x e = inl e
 slice_get-push (z ∷ xs) y (suc k) x e =
     elim (slice_get-push xs y k x e) [ inl f ↦ inl f | inr f ↦ inr (ap suc f.0, f.1) ]
 
-slice_get-within : {X : Type 0} (xs : List X) (k : ℕ) → k < length xs → (x : X) × (slice_get xs k ≡ Some x)
+pub slice_get-within : {X : Type 0} (xs : List X) (k : ℕ) → k < length xs → (x : X) × (slice_get xs k ≡ Some x)
 slice_get-within [] k h = absurd (omega arith)
 slice_get-within (x ∷ xs) zero h = (x, refl)
 slice_get-within (x ∷ xs) (suc k) h = slice_get-within xs k (omega arith)
 
-map-append' : {X Y : Type 0} (f : X → Y) (xs ys : List X) → map f (xs ++ ys) ≡ map f xs ++ map f ys
+pub map-append' : {X Y : Type 0} (f : X → Y) (xs ys : List X) → map f (xs ++ ys) ≡ map f xs ++ map f ys
 map-append' f [] ys = refl
 map-append' f (x ∷ xs) ys = ap (λ l. f x ∷ l) (map-append' f xs ys)
 
@@ -60,7 +60,7 @@ traces_step es k at e path new pos is eq inv rest t =
     let P : List Step → Type 0 = λ l. Traces es at l in
     subst P (sym (ap (λ (l : List Step). l ++ rest) eq ∙ append_assoc path (e.step ∷ []) rest)) (inv (e.step ∷ rest) (e, is, pos, refl, t))
 
-Leads-snoc : (program : Program) (scope : ℕ) (mode : Mode) (path : List Step) (p q r : Pair) (s : Step) → LeadsTo program scope mode p path q → StepsTo program scope mode q s r → LeadsTo program scope mode p (path ++ s ∷ []) r
+pub Leads-snoc : (program : Program) (scope : ℕ) (mode : Mode) (path : List Step) (p q r : Pair) (s : Step) → LeadsTo program scope mode p path q → StepsTo program scope mode q s r → LeadsTo program scope mode p (path ++ s ∷ []) r
 Leads-snoc program scope mode [] p q r s l step =
     let P : TypeRef → Type 0 = λ v. StepsTo program scope mode (v, q.1) s r in
     let Q : TypeRef → Type 0 = λ v. StepsTo program scope mode (p.0, v) s r in
@@ -84,11 +84,11 @@ traces_lead program scope mode es p seen b (s ∷ rest) at e is t =
     let R : List Step → Type 0 = λ l. LeadsTo program scope mode p l (entry_pair e) in
     subst R (sym (reverse-append (s ∷ []) rest)) (Leads-snoc program scope mode (reverse rest) p (entry_pair link.parent) (entry_pair e) s ih (subst Q step link.step))
 
-pub fails_at : (program : Program) (scope : ℕ) (mode : Mode) (es : List Entry) (p : Pair) → IsSeen program scope mode es → BeginsWith p es → (steps path : List Step) (at : ℕ) (c : Cause) →
-    EntryFails program scope mode es at c → Traces es at steps → path ≡ reverse steps → FailsAt program scope mode p path c
-fails_at program scope mode es p seen b steps path at c f t e =
+pub fails_at : (program : Program) (scope : ℕ) (mode : Mode) (es : List Entry) (p : Pair) → IsSeen program scope mode es → BeginsWith p es → (path : List Step) (at : ℕ) (c : Cause) →
+    EntryFails program scope mode es at c → IsPathTo es at path → FailsAt program scope mode p path c
+fails_at program scope mode es p seen b path at c f t =
     let P : List Step → Type 0 = λ l. LeadsTo program scope mode p l (entry_pair f.0) in
-    (entry_pair f.0, subst P (sym e) (traces_lead program scope mode es p seen b steps at f.0 f.1 t), f.2)
+    (entry_pair f.0, subst P (sym t.turned) (traces_lead program scope mode es p seen b t.back at f.0 f.1 t.traces), f.2)
 
 -- both sides are in range
 abbrev FitsPair : Program → ℕ → Pair → Type 0
@@ -194,8 +194,27 @@ module _ (program : Program) (core : IsInRange program) (scope : ℕ) (mode : Mo
             let f : Some p ≡ Some e = sym (Extends-get es new at p r.1 is) ∙ g in
             let same : p ≡ e = cc in
             let P : Entry → Type 0 = λ v. Closes program scope mode (pairs new) (entry_pair v) in
-            subst P same (asks.closes (pairs new) r.2);
+            inr (subst P same (asks.closes (pairs new) r.2));
       }
+
+  -- a pair that is known to be one of a type and a subtype asks for nothing
+  pub advances_known : (es new : List Entry) (at : ℕ) (p : Entry) → slice_get es at ≡ Some p → IsSubtypeIn program scope mode p.left p.right → new ≡ es → IsSeen program scope mode es → Advances program scope mode es new at
+  advances_known es new at p is sub same seen =
+      let S : List Entry → Type 0 = λ l. IsSeen program scope mode l in
+      record {
+        seen = subst S (sym same) seen;
+        extends = Extends-none es new same;
+        done = λ e g.
+            let f : Some p ≡ Some e = sym is ∙ ap (λ (l : List Entry). slice_get l at) (sym same) ∙ g in
+            let h : p ≡ e = cc in
+            let P : Entry → Type 0 = λ v. IsSubtypeIn program scope mode v.left v.right in
+            inl (subst P h sub);
+      }
+
+-- what is settled by a list is settled by a longer one
+settled_more : (program : Program) (scope : ℕ) (mode : Mode) (qs rs : List Pair) (q : Pair) → Within qs rs → IsSettled program scope mode qs q → IsSettled program scope mode rs q
+settled_more program scope mode qs rs q w (inl sub) = inl sub
+settled_more program scope mode qs rs q w (inr closed) = inr (IsClosed-more TypeRef (methods_of program scope) IsObject (Includes mode) qs rs q w closed)
 
 -- one more entry is worked off
 pub work_more : (program : Program) (scope : ℕ) (mode : Mode) (first old new : List Entry) (k : ℕ) → k < length old → IsWork program scope mode first old k → Advances program scope mode old new k → IsWork program scope mode first new (k + 1)
@@ -215,13 +234,13 @@ work_more program scope mode first old new k lt work adv = record {
   ];
 }
   where
-    earlier : (j : ℕ) → j < k → (e : Entry) → slice_get new j ≡ Some e → Closes program scope mode (pairs new) (entry_pair e)
+    earlier : (j : ℕ) → j < k → (e : Entry) → slice_get new j ≡ Some e → IsSettled program scope mode (pairs new) (entry_pair e)
     earlier j lt' e g =
         let r = slice_get-within old j (omega arith) in
         let f : Some r.0 ≡ Some e = sym (Extends-get old new j r.0 adv.extends r.1) ∙ g in
         let same : r.0 ≡ e = cc in
-        let P : Entry → Type 0 = λ v. Closes program scope mode (pairs new) (entry_pair v) in
-        subst P same (IsClosed-more TypeRef (methods_of program scope) IsObject (Includes mode) (pairs old) (pairs new) (entry_pair r.0) (Extends-within old new adv.extends) (work.done j lt' r.0 r.1))
+        let P : Entry → Type 0 = λ v. IsSettled program scope mode (pairs new) (entry_pair v) in
+        subst P same (settled_more program scope mode (pairs old) (pairs new) (entry_pair r.0) (Extends-within old new adv.extends) (work.done j lt' r.0 r.1))
 
 -- the work list is no longer than the pairs of types in range, so it ends
 pub work_left : (program : Program) (scope : ℕ) (mode : Mode) (first es : List Entry) (k : ℕ) → k < length es → IsWork program scope mode first es k → k < pair_bound program scope
@@ -251,20 +270,71 @@ of_mode : (program : Program) (scope : ℕ) (mode : Mode) (s t : TypeRef) → Is
 of_mode program scope Annotated s t h = h
 of_mode program scope Plain s t h = h
 
--- once all is worked off, the pairs are closed
-pub work_all : (program : Program) (scope : ℕ) (mode : Mode) (p : Pair) (first es : List Entry) (k : ℕ) → length es ≤ k → IsWork program scope mode first es k → BeginsWith p first → IsSubtypeIn program scope mode p.0 p.1
-work_all program scope mode p first es k le work b =
-    let c = begins_still program scope mode p first es k work b in
-    let P : Pair → Type 0 = λ v. In v (pairs es) in
-    in_mode program scope mode p.0 p.1 (record {
-      pairs = pairs es;
-      first = subst P c.2 (In-map entry_pair c.0 es (In-slice_get es 0 c.0 c.1));
-      closed = λ q i.
-          let r = In-unmap entry_pair q es i in
-          let s = In-at r.0 es r.1 in
-          let Q : Pair → Type 0 = λ v. Closes program scope mode (pairs es) v in
-          subst Q r.2 (work.done s.0 (omega (arith, s.1)) r.0 s.2);
-    })
+-- a closed list has those of the pairs that are known, and the others are closed by the list of all
+module _ (program : Program) (scope : ℕ) (mode : Mode) where
+  more : (qs rs : List Pair) (q : Pair) → Within qs rs → Closes program scope mode qs q → Closes program scope mode rs q
+  more qs rs q w c = IsClosed-more TypeRef (methods_of program scope) IsObject (Includes mode) qs rs q w c
+
+  record Gathers (all qs : List Pair) : Type 0 where
+    known : List Pair
+    closed : (w : Pair) → In w known → Closes program scope mode known w
+    each : (q : Pair) → In q qs → In q known ⊎ Closes program scope mode all q
+
+  gathered : (all qs : List Pair) → ((q : Pair) → In q qs → IsSettled program scope mode all q) → Gathers all qs
+  gathered all [] h = record { known = []; closed = λ w i. absurd i; each = λ q i. absurd i }
+  gathered all (q ∷ qs) h =
+      let r = gathered all qs (λ x i. h x (inr i)) in
+      elim (h q (inl refl)) [
+        | inl sub ↦
+            let s = of_mode program scope mode q.0 q.1 sub in
+            let ws : List Pair = s.pairs ++ r.known in
+            let P : Pair → Type 0 = λ v. In v ws in
+            record {
+              known = ws;
+              closed = λ w i. elim (In-cases w s.pairs r.known i) [
+                | inl j ↦ more s.pairs ws w (λ x k. In-left x s.pairs r.known k) (s.closed w j)
+                | inr j ↦ more r.known ws w (λ x k. In-right x s.pairs r.known k) (r.closed w j)
+              ];
+              each = λ x i. elim i [
+                | inl e ↦ inl (subst P e (In-left q s.pairs r.known s.first))
+                | inr j ↦ elim (r.each x j) [ inl a ↦ inl (In-right x s.pairs r.known a) | inr b ↦ inr b ]
+              ];
+            }
+        | inr c ↦
+            let P : Pair → Type 0 = λ v. Closes program scope mode all v in
+            record { known = r.known; closed = r.closed; each = λ x i. elim i [ inl e ↦ inr (subst P e c) | inr j ↦ r.each x j ] }
+      ]
+
+  -- pairs that are all settled are of types and subtypes
+  settled_all : (all : List Pair) → ((q : Pair) → In q all → IsSettled program scope mode all q) → (q : Pair) → In q all → IsSubtypeIn program scope mode q.0 q.1
+  settled_all all h q i =
+      let r = gathered all all h in
+      let ws : List Pair = all ++ r.known in
+      let known : (w : Pair) → In w r.known → Closes program scope mode ws w = λ w j. more r.known ws w (λ x k. In-right x all r.known k) (r.closed w j) in
+      in_mode program scope mode q.0 q.1 (record {
+        pairs = ws;
+        first = In-left q all r.known i;
+        closed = λ w j. elim (In-cases w all r.known j) [
+          | inl a ↦ elim (r.each w a) [ inl b ↦ known w b | inr c ↦ more all ws w (λ x k. In-left x all r.known k) c ]
+          | inr b ↦ known w b
+        ];
+      })
+
+-- once all is worked off, the pairs are of types and subtypes
+pub work_all : (program : Program) (scope : ℕ) (mode : Mode) (first es : List Entry) (k : ℕ) → length es ≤ k → IsWork program scope mode first es k → (e : Entry) → In e es → IsSubtypeIn program scope mode e.left e.right
+work_all program scope mode first es k le work e i =
+    settled_all program scope mode (pairs es)
+    (λ q j.
+    let r = In-unmap entry_pair q es j in
+    let s = In-at r.0 es r.1 in
+    let Q : Pair → Type 0 = λ v. IsSettled program scope mode (pairs es) v in
+    subst Q r.2 (work.done s.0 (omega (arith, s.1)) r.0 s.2))
+    (entry_pair e) (In-map entry_pair e es i)
+
+pub first_holds : (program : Program) (scope : ℕ) (mode : Mode) (q : Pair) (es : List Entry) → BeginsWith q es → ((e : Entry) → In e es → IsSubtypeIn program scope mode e.left e.right) → IsSubtypeIn program scope mode q.0 q.1
+first_holds program scope mode q es b h =
+    let P : Pair → Type 0 = λ v. IsSubtypeIn program scope mode v.0 v.1 in
+    subst P b.2 (h b.0 (In-slice_get es 0 b.0 b.1))
 
 pub goes_back : (program : Program) (scope : ℕ) (mode : Mode) (es : List Entry) → IsSeen program scope mode es → GoesBack es
 goes_back program scope mode es seen k e pos g = (seen.linked k e pos g).before
@@ -311,8 +381,12 @@ pub exact : (program : Program) (scope : ℕ) (mode : Mode) (p : Pair) (v : Verd
 exact program scope mode p Yes h = (λ _. h, λ _. tt)
 exact program scope mode p (No path c) h = (λ f. absurd f, λ s. refutes program scope mode p path c h s)
 
+pub yes_exact : (v : Verdict) (S : Type 0) → (IsYes v ↔ S) → (is_yes v ≡ true) ↔ S
+yes_exact Yes S h = (λ _. h.0 tt, λ _. refl)
+yes_exact (No path c) S h = (λ e. absurd (cc), λ s. absurd (h.1 s))
+
 -- the list that begins the work
-pub one_seen : (program : Program) (scope : ℕ) (mode : Mode) (e : Entry) (es : List Entry) → es ≡ e ∷ [] → IsTypeOf program scope e.left → IsTypeOf program scope e.right → IsSeen program scope mode es
+one_seen : (program : Program) (scope : ℕ) (mode : Mode) (e : Entry) (es : List Entry) → es ≡ e ∷ [] → IsTypeOf program scope e.left → IsTypeOf program scope e.right → IsSeen program scope mode es
 one_seen program scope mode e es eq l r =
     let P : List Entry → Type 0 = λ v. IsSeen program scope mode v in
     subst P (sym eq) (record {
@@ -329,7 +403,19 @@ pub begins_one : (c : UnfoldedPair) (es : List Entry) → IsAdded [] c 0 es → 
 begins_one c es (inl h) = absurd h.0
 begins_one c es (inr h) = h.1
 
-pub begins_with : (e : Entry) (s t : TypeRef) (es : List Entry) → es ≡ e ∷ [] → e.left ≡ s → e.right ≡ t → BeginsWith (s, t) es
-begins_with e s t es same l r =
-    let P : List Entry → Type 0 = λ v. slice_get v 0 ≡ Some e in
-    (e, subst P (sym same) refl, ap (λ v. (v, e.right)) l ∙ ap (λ v. (s, v)) r)
+pub begins_alone : (c : UnfoldedPair) (s t : TypeRef) (es : List Entry) → IsAdded [] c 0 es → c.left ≡ s → c.right ≡ t → BeginsAlone (s, t) es
+begins_alone c s t es h l r = record { entry = entry_of c 0; alone = begins_one c es h; pair = ap (λ v. (v, c.right)) l ∙ ap (λ v. (s, v)) r }
+
+pub alone_begins : (q : Pair) (es : List Entry) → BeginsAlone q es → BeginsWith q es
+alone_begins q es b =
+    let P : List Entry → Type 0 = λ v. slice_get v 0 ≡ Some b.entry in
+    (b.entry, subst P (sym b.alone) refl, b.pair)
+
+pub alone_seen : (program : Program) (scope : ℕ) (mode : Mode) (q : Pair) (es : List Entry) → BeginsAlone q es → IsTypeOf program scope q.0 → IsTypeOf program scope q.1 → IsSeen program scope mode es
+alone_seen program scope mode q es b l r =
+    let P : Pair → Type 0 = λ v. IsTypeOf program scope v.0 × IsTypeOf program scope v.1 in
+    let f : P (entry_pair b.entry) = subst P (sym b.pair) (l, r) in
+    one_seen program scope mode b.entry es b.alone f.0 f.1
+
+pub alone_some : (q : Pair) (es : List Entry) → BeginsAlone q es → 0 < length es
+alone_some q es b = let P : List Entry → Type 0 = λ v. 0 < length v in subst P (sym b.alone) (omega arith)

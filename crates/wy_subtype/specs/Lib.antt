@@ -1,3 +1,6 @@
+pub mod Codes
+pub mod Decided
+pub mod Kept
 pub mod Met
 pub mod Unfolding
 pub mod Verdict

@@ -25,7 +25,7 @@ pub record Asks (p : Program) (scope : ℕ) (mode : Mode) (q : Pair) (asked : Li
 -- what the pair's own test says
 abbrev pub IsUnfolded : Program → ℕ → Mode → Pair → Unfolding → Type 0
 IsUnfolded p scope mode q (Fails cause) = FailsBy p scope mode q cause
-IsUnfolded p scope mode q (Closed asked) = Asks p scope mode q asked.items
+IsUnfolded p scope mode q (Closed asked) = Asks p scope mode q asked
 
 ------------------------------------------------------------
 -- By the methods of both sides
@@ -76,4 +76,4 @@ FaultOf mode (Some m) n cause = CauseOf mode m n cause
 abbrev pub AreMet : Mode → List (Signature TypeRef) → List (Signature TypeRef) → Unfolding → Type 0
 AreMet mode lefts rights (Fails cause) = (n : Signature TypeRef) × In n rights × FaultOf mode (find_method n.name lefts) n cause
 AreMet mode lefts rights (Closed asked) =
-    (asked.items ≡ all_pairs lefts rights) × ((n : Signature TypeRef) → In n rights → IsMet mode (find_method n.name lefts) n)
+    (asked ≡ all_pairs lefts rights) × ((n : Signature TypeRef) → In n rights → IsMet mode (find_method n.name lefts) n)

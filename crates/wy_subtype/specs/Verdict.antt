@@ -1,5 +1,5 @@
 -- What the test of subtyping answers: yes, or a path to a pair that fails by itself, with the cause.
-use Rattle.std.specs.Prelude.{◌≡◌, ℕ, ◌≤◌, List, Option, Some, None, length}
+use Rattle.std.specs.Prelude.{◌≡◌, ℕ, ◌≤◌, List, Bool, true, false, Option, Some, None, length}
 use Rattle.wy_effects.specs.Members.{In, Within}
 use Rattle.wy_types.specs.declared.types.TypeRef.{TypeRef}
 use Rattle.wy_types.specs.declared.path.Step.{Step}
@@ -86,3 +86,7 @@ IsVerdict p scope mode q (No path cause) = FailsAt p scope mode q path cause
 abbrev pub IsYes : Verdict → Type 0
 IsYes Yes = Unit {0}
 IsYes (No path cause) = ⊥
+
+abbrev pub is_yes : Verdict → Bool
+is_yes Yes = true
+is_yes (No path cause) = false

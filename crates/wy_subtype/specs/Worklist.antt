@@ -1,5 +1,5 @@
--- What the list of pairs keeps while they are tested one by one.
-use Rattle.std.specs.Prelude.{◌≡◌, ℕ, ◌<◌, ◌≤◌, List, [], ◌∷◌, ◌++◌, Some, length, slice_get}
+-- What the list of pairs of one question keeps while they are tested one by one.
+use Rattle.std.specs.Prelude.{◌≡◌, ℕ, ◌<◌, ◌≤◌, List, [], ◌∷◌, ◌++◌, ◌⊎◌, Some, length, reverse, slice_get}
 use Rattle.wy_effects.specs.Members.{In, Apart}
 use Rattle.wy_types.specs.declared.path.Step.{Step}
 use Rattle.wy_types.specs.Program.{Program}
@@ -7,7 +7,7 @@ use Rattle.wy_types.specs.Fitting.{IsTypeOf}
 use Rattle.wy_subtype.specs.declared.verdict.Mode.{Mode}
 use Rattle.wy_subtype.specs.declared.verdict.Cause.{Cause}
 use Rattle.wy_subtype.specs.declared.entry.Entry.{Entry}
-use Rattle.wy_subtype.specs.Verdict.{Pair, Closes, StepsTo, FailsBy}
+use Rattle.wy_subtype.specs.Verdict.{Pair, IsSubtypeIn, Closes, StepsTo, FailsBy}
 use Rattle.wy_subtype.specs.Met.{entry_pair, pairs}
 
 -- an entry comes by a step from an earlier one
@@ -26,9 +26,13 @@ pub record IsSeen (p : Program) (scope : ℕ) (mode : Mode) (es : List Entry) : 
 abbrev pub Extends : List Entry → List Entry → Type 0
 Extends old new = (tail : List Entry) × (new ≡ old ++ tail)
 
--- the list closes the pair at a place
+-- the pair is one of a type and a subtype, or the list closes it
+abbrev pub IsSettled : Program → ℕ → Mode → List Pair → Pair → Type 0
+IsSettled p scope mode qs q = IsSubtypeIn p scope mode q.0 q.1 ⊎ Closes p scope mode qs q
+
+-- the pair at a place is settled by the list
 abbrev pub IsDone : Program → ℕ → Mode → List Entry → ℕ → Type 0
-IsDone p scope mode es k = (e : Entry) → slice_get es k ≡ Some e → Closes p scope mode (pairs es) (entry_pair e)
+IsDone p scope mode es k = (e : Entry) → slice_get es k ≡ Some e → IsSettled p scope mode (pairs es) (entry_pair e)
 
 -- the pair at a place was tested
 pub record Advances (p : Program) (scope : ℕ) (mode : Mode) (old new : List Entry) (k : ℕ) : Type 0 where
@@ -44,6 +48,12 @@ EntryFails p scope mode es k cause = (e : Entry) × (slice_get es k ≡ Some e) 
 abbrev pub BeginsWith : Pair → List Entry → Type 0
 BeginsWith q es = (e : Entry) × (slice_get es 0 ≡ Some e) × (entry_pair e ≡ q)
 
+-- the list is of the pair alone
+pub record BeginsAlone (q : Pair) (es : List Entry) : Type 0 where
+  pub entry : Entry
+  pub alone : es ≡ entry ∷ []
+  pub pair : entry_pair entry ≡ q
+
 -- all pairs before a place were tested
 pub record IsWork (p : Program) (scope : ℕ) (mode : Mode) (first es : List Entry) (next : ℕ) : Type 0 where
   pub seen : IsSeen p scope mode es
@@ -55,6 +65,12 @@ pub record IsWork (p : Program) (scope : ℕ) (mode : Mode) (first es : List Ent
 abbrev pub Traces : List Entry → ℕ → List Step → Type 0
 Traces es at [] = at ≡ 0
 Traces es at (s ∷ rest) = (e : Entry) × (slice_get es at ≡ Some e) × (0 < at) × (e.step ≡ s) × Traces es e.parent rest
+
+-- the path leads from the first to a place
+pub record IsPathTo (es : List Entry) (at : ℕ) (path : List Step) : Type 0 where
+  pub back : List Step
+  pub traces : Traces es at back
+  pub turned : path ≡ reverse back
 
 -- each entry but the first has its parent before it
 abbrev pub GoesBack : List Entry → Type 0

@@ -3,8 +3,12 @@
 #![tactic(auto)]
 
 mod entry;
+mod kept;
+pub mod pair_table;
+mod paths;
 #[cfg(test)]
 mod ranges;
+pub mod steps;
 pub mod subtype;
 mod table;
 #[cfg(test)]

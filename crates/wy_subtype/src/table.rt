@@ -1,15 +1,18 @@
-ghost use Rattle.std.specs.Prelude.{◌≡◌, [], OnOk, length};
-ghost use Rattle.wy_subtype.specs.Met.{IsAdded, AreAdded};
+ghost use Rattle.std.specs.Prelude.{◌≡◌, ◌<◌, [], OnOk, IfOk, length};
+ghost use Rattle.wy_subtype.specs.Met.{entry_of, IsAdded, AreAdded};
+ghost use Rattle.wy_subtype.specs.Worklist.{GoesBack, IsPathTo};
 
 use crate::entry::Entry;
+use crate::paths::{copy_step, path_to};
 use crate::unfolding::UnfoldedPair;
 use indexmap::IndexSet;
 use std::alloc::Global;
 use std::marker::Model;
 use wy_text::text::Memory;
 use wy_types::key::{Key, key_of_pair};
+use wy_types::path::Path;
 
-/// Pairs that were met, each once. Contracts see the list of them.
+/// Pairs that one question met, each once. Contracts see the list of them.
 #[derive(Drop)]
 pub struct Table {
     entries: Vec<Entry>,
@@ -26,6 +29,18 @@ impl Model for Table {
     ghost view = { λ t. t.entries.items };
 
     ghost invariant = { λ t. t.keys.keys ≡ map entry_key t.entries.items };
+}
+
+/// The entry of a pair that the one at an earlier place asks for.
+fn entry_from(alloc: Global, asked: &UnfoldedPair, parent: usize) -> Result<Entry, Memory>
+    ensures { IfOk result (λ e. e ≡ entry_of asked.now parent) }
+{
+    Ok(Entry {
+        left: asked.left.copy(alloc)?,
+        right: asked.right.copy(alloc)?,
+        parent,
+        step: copy_step(&asked.step)?,
+    })
 }
 
 impl Table {
@@ -53,29 +68,34 @@ impl Table {
         self.entries.as_slice()
     }
 
+    /// The path from the first pair to the one at a place.
+    pub fn path_to(&self, at: usize) -> Result<Path, Memory>
+        requires within { at < length self.now }
+        requires back { GoesBack self.now }
+        ensures { IfOk result (IsPathTo self.now at) }
+    {
+        path_to(*self.entries.allocator(), self.entries.as_slice(), at)
+    }
+
     /// Adds a pair that wasn't met.
-    pub fn add(&mut self, asked: UnfoldedPair, parent: usize) -> Result<(), Memory>
-        ensures { OnOk result (IsAdded self.old asked parent self.new) }
+    pub fn add(&mut self, asked: &UnfoldedPair, parent: usize) -> Result<(), Memory>
+        ensures { OnOk result (IsAdded self.old asked.now parent self.new) }
     {
         let alloc = *self.entries.allocator();
         let key = key_of_pair(alloc, &asked.left, &asked.right)?;
-        self.entries.reserve(1)?;
-        if !self.keys.insert(key)? {
+        if self.keys.contains(&key) {
             return Ok(());
         }
-        let UnfoldedPair { step, left, right } = asked;
-        self.entries.push(Entry {
-            left,
-            right,
-            parent,
-            step,
-        })?;
+        let entry = entry_from(alloc, asked, parent)?;
+        self.entries.reserve(1)?;
+        self.keys.insert(key)?;
+        self.entries.push_reserved(entry);
         Ok(())
     }
 
     /// Adds each pair that wasn't met.
-    pub fn add_all(&mut self, asked: Vec<UnfoldedPair>, parent: usize) -> Result<(), Memory>
-        ensures { OnOk result (AreAdded self.old asked.items parent self.new) }
+    pub fn add_all(&mut self, asked: &[UnfoldedPair], parent: usize) -> Result<(), Memory>
+        ensures { OnOk result (AreAdded self.old asked.now parent self.new) }
     {
         for pair in asked {
             self.add(pair, parent)?;

@@ -1,8 +1,14 @@
+ghost use Rattle.std.specs.Prelude.{◌≡◌, ◌<◌};
+
+use crate::pair_table::PairTable;
 use crate::ranges::{is_in_range, type_fits};
+use crate::steps::Steps;
 use crate::subtype::subtype;
 use crate::unfolding::{Unfolding, unfold};
 use crate::verdict::{Cause, Mode, Part, Path, Step, Verdict};
 use std::alloc::Global;
+use std::marker::Brand;
+use std::sync::ledger::{Blank, Ledger};
 use std::test::Fail;
 use wy_effects::atom::{Atom, AtomTable};
 use wy_effects::set::{EffSet, SetList};
@@ -286,14 +292,29 @@ fn parameters_exchange_the_sides(rt: HostRuntime) -> Result<(), Fail> {
 }
 
 /// How many pairs the test of one pair asks for; `None` where it fails.
-fn asked(alloc: Global, core: &Core, s: &TypeRef, t: &TypeRef) -> Result<Option<usize>, Memory> {
+fn asked_from<L: Ledger>(
+    alloc: Global,
+    core: &Core,
+    s: &TypeRef,
+    t: &TypeRef,
+    blank: Blank,
+) -> Result<Option<usize>, Memory>
+    requires name { blank.name ≡ L.name }
+    requires parts { blank.parts ≡ L.parts }
+    requires some { 0 < blank.parts }
+{
     if !is_in_range(core)? {
         return Ok(None);
     }
-    match unfold(alloc, core, 0, s, t, Mode::Annotated)? {
+    let mut steps = Steps::<L>::new(blank);
+    match unfold(alloc, core, 0, s, t, Mode::Annotated, &mut steps)? {
         Unfolding::Closed(pairs) => Ok(Some(pairs.len())),
         Unfolding::Fails(_cause) => Ok(None),
     }
+}
+
+fn asked(alloc: Global, core: &Core, s: &TypeRef, t: &TypeRef) -> Result<Option<usize>, Memory> {
+    asked_from::<Brand>(alloc, core, s, t, Blank::new(1))
 }
 
 #[test]
@@ -306,5 +327,49 @@ fn one_pair_is_tested_by_itself(rt: HostRuntime) -> Result<(), Fail> {
     assert_eq!(rt; asked(alloc, &core, &p, &r)?, None);
     assert_eq!(rt; asked(alloc, &core, &v, &v)?, Some(2));
     assert_eq!(rt; asked(alloc, &core, &TypeRef::Int, &TypeRef::Int)?, Some(0));
+    Ok(())
+}
+
+/// Asks one table for pairs of declared types in turn: each answer, and how many pairs it then has;
+/// `None` where a type is not in range.
+fn answers(
+    alloc: Global,
+    core: &Core,
+    asked: &[(u16, u16)],
+) -> Result<Option<Vec<(bool, usize)>>, Memory> {
+    if !is_in_range(core)? {
+        return Ok(None);
+    }
+    let mut table = PairTable::new(alloc, core, 0, Mode::Annotated);
+    let mut answers = Vec::new(alloc);
+    for pair in asked {
+        let s = named(alloc, pair.0, None)?;
+        let t = named(alloc, pair.1, None)?;
+        if !type_fits(core, 512, &s)? {
+            return Ok(None);
+        }
+        if !type_fits(core, 512, &t)? {
+            return Ok(None);
+        }
+        let holds = table.holds(&s, &t)?;
+        answers.push((holds, table.pairs()))?;
+    }
+    Ok(Some(answers))
+}
+
+#[test]
+fn a_table_unfolds_each_pair_once(rt: HostRuntime) -> Result<(), Fail> {
+    let alloc = rt.alloc();
+    let core = core_of_types(alloc, ScopeKind::Program)?;
+    let asked = [(17, 4), (17, 4), (18, 4), (4, 6), (4, 6), (6, 4)];
+    let yes = vec![in alloc;
+        (true, 2),
+        (true, 2),
+        (true, 2),
+        (false, 3),
+        (false, 3),
+        (true, 4),
+    ]?;
+    assert!(rt; answers(alloc, &core, asked.as_slice())? == Some(yes));
     Ok(())
 }

@@ -1,6 +1,6 @@
 //! The test of one pair of types by itself.
 
-ghost use Rattle.std.specs.Prelude.{◌≡◌, ◌≤◌, ◌++◌, IfOk, OnOk, IfSome, IfNone, map, length};
+ghost use Rattle.std.specs.Prelude.{◌≡◌, ◌≤◌, ◌+◌, ◌++◌, IfOk, OnOk, OnErr, IfSome, IfNone, map, length};
 ghost use Rattle.std.specs.Option.{option_copied, option_map};
 ghost use Rattle.wy_effects.specs.Members.{In, Within};
 ghost use Rattle.wy_types.specs.Program.{program_of};
@@ -10,10 +10,13 @@ ghost use Rattle.wy_types.specs.InRange.{IsInRange};
 ghost use Rattle.wy_subtype.specs.Verdict.{Includes, IsLeastMissing};
 ghost use Rattle.wy_subtype.specs.Unfolding.{param_pairs, method_pairs, found_pairs, CauseOf, FaultOf, IsMet, AreMet, IsUnfolded};
 
+use crate::steps::Steps;
 use crate::verdict::{Cause, Mode};
 use std::alloc::Global;
+use std::sync::ledger::Ledger;
 use wy_effects::atom::Atom;
 use wy_effects::set::EffSet;
+use wy_text::list::Items;
 use wy_text::text::{Memory, Text};
 use wy_types::methods::methods;
 use wy_types::path::{Part, Step};
@@ -28,11 +31,15 @@ pub struct UnfoldedPair {
     pub right: TypeRef,
 }
 
+/// The pairs that another asks for, in the order of the right side's methods.
+pub type PairList = Items<UnfoldedPair>;
+
 /// What a pair's own test says.
 #[derive(Debug, Drop)]
 pub enum Unfolding {
     /// The pair is closed by these.
-    Closed(Vec<UnfoldedPair>),
+    Closed(PairList),
+    /// The pair fails by itself.
     Fails(Cause),
 }
 
@@ -92,14 +99,14 @@ fn method_fault(left: &Method, right: &Method, mode: Mode) -> Result<Option<Caus
 /// Adds the pairs of two methods' parameters, with their sides exchanged.
 fn add_parameters(
     alloc: Global,
-    into: &mut Vec<UnfoldedPair>,
+    into: &mut PairList,
     name: &Text,
     left: &[TypeRef],
     right: &[TypeRef],
 ) -> Result<(), Memory>
     requires same { length left.now ≡ length right.now }
     requires few { length left.now ≤ 16 }
-    ensures { OnOk result (into.new.items ≡ into.old.items ++ param_pairs name.now 0 left.now right.now) }
+    ensures { OnOk result (into.new ≡ into.old ++ param_pairs name.now 0 left.now right.now) }
 {
     for (i, a) in left.iter().enumerate() {
         into.push(UnfoldedPair {
@@ -117,13 +124,13 @@ fn add_parameters(
 /// Adds the pairs that two methods ask for.
 fn add_pairs(
     alloc: Global,
-    into: &mut Vec<UnfoldedPair>,
+    into: &mut PairList,
     left: &Method,
     right: &Method,
 ) -> Result<(), Memory>
     requires same { length left.now.params ≡ length right.now.params }
     requires few { length right.now.params ≤ 16 }
-    ensures { OnOk result (into.new.items ≡ into.old.items ++ method_pairs (signature left.now) (signature right.now)) }
+    ensures { OnOk result (into.new ≡ into.old ++ method_pairs (signature left.now) (signature right.now)) }
 {
     add_parameters(
         alloc,
@@ -146,14 +153,14 @@ fn add_pairs(
 /// Tests one method of the right side, and adds the pairs that it asks for.
 fn meet(
     alloc: Global,
-    into: &mut Vec<UnfoldedPair>,
+    into: &mut PairList,
     lefts: &[Method],
     right: &Method,
     mode: Mode,
 ) -> Result<Option<Cause>, Memory>
     requires few { length right.now.params ≤ 16 }
     ensures met { IfOk result (λ o. IfNone o (IsMet mode (find_method right.now.name (map signature lefts.now)) (signature right.now))) }
-    ensures added { IfOk result (λ o. IfNone o (into.new.items ≡ into.old.items ++ found_pairs (find_method right.now.name (map signature lefts.now)) (signature right.now))) }
+    ensures added { IfOk result (λ o. IfNone o (into.new ≡ into.old ++ found_pairs (find_method right.now.name (map signature lefts.now)) (signature right.now))) }
     ensures fault { IfOk result (λ o. IfSome o (λ c. FaultOf mode (find_method right.now.name (map signature lefts.now)) (signature right.now) c)) }
 {
     match find(lefts, &right.name) {
@@ -178,7 +185,7 @@ fn meet_all(
     requires few { (m : Method) → In m rights.now → length m.params ≤ 16 }
     ensures { IfOk result (λ u. AreMet mode (map signature lefts.now) (map signature rights.now) u) }
 {
-    let mut asked = Vec::new(alloc);
+    let mut asked = Items::new(alloc);
     for right in rights {
         if let Some(cause) = meet(alloc, &mut asked, lefts, right, mode)? {
             return Ok(Unfolding::Fails(cause));
@@ -187,9 +194,8 @@ fn meet_all(
     Ok(Unfolding::Closed(asked))
 }
 
-/// The test of one pair by itself, in a mode: the cause by which it fails, or the pairs that it
-/// asks for, those of parameters with their sides exchanged (docs/LANGUAGE.md, "Subtyping").
-pub fn unfold(
+/// What the test of one pair by itself says.
+fn test_pair(
     alloc: Global,
     core: &Core,
     scope: u16,
@@ -202,7 +208,7 @@ pub fn unfold(
 {
     if !left.is_object() {
         if left.same(right) {
-            return Ok(Unfolding::Closed(Vec::new(alloc)));
+            return Ok(Unfolding::Closed(Items::new(alloc)));
         }
         return Ok(Unfolding::Fails(Cause::Base));
     }
@@ -212,4 +218,26 @@ pub fn unfold(
     let lefts = methods(alloc, core, scope, left)?;
     let rights = methods(alloc, core, scope, right)?;
     meet_all(alloc, lefts.as_slice(), rights.as_slice(), mode)
+}
+
+/// The test of one pair by itself, in a mode: the cause by which it fails, or the pairs that it
+/// asks for, those of parameters with their sides exchanged (docs/LANGUAGE.md, "Subtyping"). It is
+/// one step, or none where memory is wanting.
+pub fn unfold<L: Ledger>(
+    alloc: Global,
+    core: &Core,
+    scope: u16,
+    left: &TypeRef,
+    right: &TypeRef,
+    mode: Mode,
+    steps: &mut Steps<L>,
+) -> Result<Unfolding, Memory>
+    requires core { IsInRange (program_of core.now) }
+    ensures unfolded { IfOk result (λ u. IsUnfolded (program_of core.now) scope mode (left.now, right.now) u) }
+    ensures step { OnOk result (steps.new ≡ steps.old + 1) }
+    ensures none { OnErr result (steps.new ≡ steps.old) }
+{
+    let unfolding = test_pair(alloc, core, scope, left, right, mode)?;
+    steps.tick();
+    Ok(unfolding)
 }

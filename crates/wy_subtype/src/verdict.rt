@@ -1,5 +1,8 @@
+ghost use Rattle.std.specs.Prelude.{◌≡◌, IfOk};
+ghost use Rattle.wy_subtype.specs.Verdict.{is_yes};
+
 use wy_effects::atom::Atom;
-use wy_text::text::Text;
+use wy_text::text::{Memory, Text};
 pub use wy_types::path::{Part, Path, Step};
 
 /// Which subtyping is asked (docs/LANGUAGE.md, "Subtyping").
@@ -25,6 +28,23 @@ pub enum Cause {
     Effect { method: Text, atom: Atom },
 }
 
+impl Cause {
+    /// The same cause.
+    pub(crate) fn copy(&self) -> Result<Cause, Memory>
+        ensures { IfOk result (λ c. c ≡ self.now) }
+    {
+        match self {
+            Cause::MissingMethod(name) => Ok(Cause::MissingMethod(name.copy()?)),
+            Cause::Arity(name) => Ok(Cause::Arity(name.copy()?)),
+            Cause::Base => Ok(Cause::Base),
+            Cause::Effect { method, atom } => Ok(Cause::Effect {
+                method: method.copy()?,
+                atom: *atom,
+            }),
+        }
+    }
+}
+
 /// What the test of subtyping answers.
 #[derive(Debug, Drop, PartialEq, Eq)]
 pub enum Verdict {
@@ -32,4 +52,16 @@ pub enum Verdict {
     /// The path leads from the pair, with the sides exchanged at each parameter, to a pair that
     /// fails by itself by the cause.
     No { path: Path, cause: Cause },
+}
+
+impl Verdict {
+    /// Whether it is `Yes`. It takes no memory.
+    pub(crate) fn is_yes(&self) -> bool
+        ensures { result ≡ is_yes self.now }
+    {
+        match self {
+            Verdict::Yes => true,
+            Verdict::No { .. } => false,
+        }
+    }
 }

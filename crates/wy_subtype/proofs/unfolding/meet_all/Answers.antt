@@ -30,7 +30,7 @@ loop-right-preserved c =
 
 pub returns : goal.returns
 returns c = (
-  all_end (map signature c.args.lefts.now) c.args.rights.now c.loop-right.right-index c.loop-right.asked.items _ c.loop-right-test.false c.loop-right.invariant.0,
+  all_end (map signature c.args.lefts.now) c.args.rights.now c.loop-right.right-index c.loop-right.asked _ c.loop-right-test.false c.loop-right.invariant.0,
   λ n i.
       let r = In-unmap signature n c.args.rights.now i in
       let P : Method → Type 0 = λ m. IsMet c.args.mode (find_method m.name (map signature c.args.lefts.now)) (signature m) in

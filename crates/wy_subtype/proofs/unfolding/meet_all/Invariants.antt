@@ -8,5 +8,5 @@ use Rattle.wy_subtype.proofs.unfolding.meet_all.Given as goal
 
 abbrev pub invariant-loop-right : goal.invariant-loop-right
 invariant-loop-right l =
-    (l.asked.items ++ all_pairs (map signature l.lefts) (map signature (drop l.right-index l.rights)) ≡ all_pairs (map signature l.lefts) (map signature l.rights)) ×
+    (l.asked ++ all_pairs (map signature l.lefts) (map signature (drop l.right-index l.rights)) ≡ all_pairs (map signature l.lefts) (map signature l.rights)) ×
     ((n : Method) → In n (take l.right-index l.rights) → IsMet l.mode (find_method n.name (map signature l.lefts)) (signature n))

@@ -4,7 +4,7 @@ use Rattle.wy_types.specs.Program.{program_of}
 use Rattle.wy_types.specs.Types.{signature}
 use Rattle.wy_types.proofs.Arities.{few_parameters}
 use Rattle.wy_subtype.proofs.Asking.{is_unfolded}
-use Rattle.wy_subtype.proofs.unfolding.unfold.Goals as goal
+use Rattle.wy_subtype.proofs.unfolding.test_pair.Goals as goal
 
 pub meet_all-requires : goal.meet_all-requires
 meet_all-requires c = record {

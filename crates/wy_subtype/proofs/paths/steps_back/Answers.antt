@@ -1,10 +1,10 @@
-use Rattle.std.proofs.Common.{[], ◌∷◌, ◌++◌, ◌≡◌, ◌∙◌, ◌<◌, List, ℕ, Some, arith, refl, ap, append-nil, subst}
+use Rattle.std.proofs.Common.{[], ◌∷◌, ◌++◌, ◌≡◌, ◌∙◌, ◌<◌, List, Some, arith, refl, ap, append-nil, subst}
 use Rattle.std.specs.Prelude.{slice_get}
 use Rattle.std.proofs.lemmas.Option.{slice_get_read}
 use Rattle.wy_types.specs.declared.path.Step.{Step}
 use Rattle.wy_subtype.specs.Worklist.{Traces}
 use Rattle.wy_subtype.proofs.Working.{traces_step}
-use Rattle.wy_subtype.proofs.subtype.steps_back.Goals as goal
+use Rattle.wy_subtype.proofs.paths.steps_back.Goals as goal
 
 pub loop-k-smaller : goal.loop-k-smaller
 loop-k-smaller c =
@@ -15,11 +15,10 @@ pub loop-k-preserved : goal.loop-k-preserved
 loop-k-preserved c =
     let e = c.index-seen-k.result in
     let is : slice_get c.args.seen.now c.loop-k.k ≡ Some e = slice_get_read c.args.seen.now _ c.loop-k.k e refl c.loop-k.invariant.0 c.index-seen-k.is in
-    let less : e.parent < c.loop-k.k = c.requires.back c.loop-k.k e c.loop-k-test.true is in
-    let step : List ℕ → Step = λ name. record { method = name; part = e.step.part } in (
+    let less : e.parent < c.loop-k.k = c.requires.back c.loop-k.k e c.loop-k-test.true is in (
       omega (arith, less, c.loop-k.invariant.0),
       traces_step c.args.seen.now c.loop-k.k c.args.at e c.loop-k.steps.items c.push.new.self.items c.loop-k-test.true is
-          (c.in_ok-push.ensures.items ∙ ap (λ name. c.loop-k.steps.items ++ step name ∷ []) c.in_ok-copy.ensures) c.loop-k.invariant.1,
+          (c.in_ok-push.ensures.items ∙ ap (λ (s : Step). c.loop-k.steps.items ++ s ∷ []) c.in_ok-copy_step.ensures) c.loop-k.invariant.1,
     )
 
 pub returns : goal.returns
