@@ -6,6 +6,7 @@ pub mod ArmsOfNames
 pub mod ArmsOfObjects
 pub mod ArmsOfOperators
 pub mod ArmsOfTexts
+pub mod Asked
 pub mod Bases
 pub mod Blocks
 pub mod BlockWalks

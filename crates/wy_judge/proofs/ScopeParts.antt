@@ -105,11 +105,11 @@ module _ (p : Program) (k : ℕ) (s : Scope) where
   pub not_sealed : s.ascribed ≡ None → IsSealFault p k s None
   not_sealed e = (true, subst (λ z. IsSealed p k s z true) (sym e) tt, ap (λ z. ascribed_fault s.place z true) (sym e))
 
-  pub sealed_as : (c : IsScopeOf p k s) (d : ℕ) (members : List (List ℕ)) (mode : Mode) (below : Truth) (o : Option Fault) → s.ascribed ≡ Some d → members ≡ s.definitions → mode ≡ mode_of (is_plain s.kind) →
-      (below ≡ true) ↔ IsSubtypeIn p k mode (Own 0) (Named d members) → o ≡ seal_fault s.place below → IsSealFault p k s o
-  sealed_as c d members mode below o e m n h r =
+  pub sealed_as : (c : IsScopeOf p k s) (d : ℕ) (members : List (List ℕ)) (below : Truth) (o : Option Fault) → s.ascribed ≡ Some d → members ≡ s.definitions →
+      (below ≡ true) ↔ IsSubtypeIn p k (mode_of (is_plain s.kind)) (Own 0) (Named d members) → o ≡ seal_fault s.place below → IsSealFault p k s o
+  sealed_as c d members below o e m h r =
       let same : (below ≡ true) ↔ IsSubtypeIn p k (mode_of (is_plain s.kind)) (Own 0) (Named d s.definitions) =
-      subst (λ q. (below ≡ true) ↔ IsSubtypeIn p k q (Own 0) (Named d s.definitions)) n (subst (λ q. (below ≡ true) ↔ IsSubtypeIn p k mode (Own 0) (Named d q)) m h) in
+      subst (λ q. (below ≡ true) ↔ IsSubtypeIn p k (mode_of (is_plain s.kind)) (Own 0) (Named d q)) m h in
       let read = below_in_mode p k s c (Own 0) (Named d s.definitions) in (
         below,
         subst (λ z. IsSealed p k s z below) (sym e) (λ t. read.1 (same.0 t), λ q. same.1 (read.0 q)),

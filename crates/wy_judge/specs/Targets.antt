@@ -11,11 +11,12 @@ use Rattle.wy_types.specs.declared.resolved.Field.{Field}
 use Rattle.wy_types.specs.declared.resolved.OwnName.{OwnName}
 use Rattle.wy_types.specs.Program.{Program, Scope}
 use Rattle.wy_types.specs.Signature.{find_method}
-use Rattle.wy_types.specs.Types.{IsObject, methods_of, signature}
+use Rattle.wy_types.specs.Types.{is_plain, IsObject, methods_of, signature}
 use Rattle.wy_types.specs.Fitting.{IsTypeOf}
 use Rattle.wy_subtype.specs.declared.verdict.Mode.{Mode}
 use Rattle.wy_subtype.specs.declared.verdict.Mode.TheVariants.{Annotated, Plain}
 use Rattle.wy_subtype.specs.Verdict.{IsSubtypeIn}
+use Rattle.wy_subtype.specs.Decided.{About}
 use Rattle.wy_rules.specs.Typing.{field_at, parameter_type}
 use Rattle.wy_judge.specs.declared.outcomes.Inference.{Inference}
 use Rattle.wy_judge.specs.declared.outcomes.Inference.TheVariants as inferred
@@ -29,6 +30,13 @@ use Rattle.wy_judge.specs.Tables.{Table}
 abbrev pub mode_of : Truth → Mode
 mode_of true = Plain
 mode_of other = Annotated
+
+-- what pairs are asked about in the scope of a number and a mode, and in the mode of the scope
+abbrev pub about_in : Program → ℕ → Mode → About
+about_in p k mode = record { program = p; scope = k; mode = mode }
+
+abbrev pub about_of : Program → ℕ → Scope → About
+about_of p k s = about_in p k (mode_of (is_plain s.kind))
 
 ------------------------------------------------------------
 -- Names

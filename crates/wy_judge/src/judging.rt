@@ -7,6 +7,7 @@ ghost use Rattle.wy_types.specs.View.{expr_of, value_of, values_of, block_of};
 ghost use Rattle.wy_types.specs.Code.{Assign};
 ghost use Rattle.wy_types.specs.declared.code.Stmt.TheVariants.{Val};
 ghost use Rattle.wy_types.specs.Fitting.{IsTypeOf};
+ghost use Rattle.wy_judge.specs.Targets.{about_of};
 ghost use Rattle.wy_judge.specs.Tables.{IsScopeOf, HasOwner, ExprReady, ValueReady, ValuesReady, BlockReady};
 ghost use Rattle.wy_judge.specs.Judging.{TypesInRange, StmtReady, IsCallable, ArgumentsTo, InfersTo, FitsTo, AllFitTo, BlockFitsTo, ProbesTo, AllProbeTo, BlockProbesTo, StatesTo, StepsTo};
 
@@ -20,9 +21,10 @@ use crate::settling::{
     followed, is_set, known_name, least, push_fit, push_step, settle_least, settle_written, stated,
     this_type, untyped,
 };
-use crate::targets::{Target, field_types, fitted, mark, mode_of, target_of, var_field};
+use crate::targets::{Target, field_types, fitted, mark, target_of, var_field};
 use std::alloc::Global;
 use wy_effects::set::EffSet;
+use wy_subtype::pair_table::PairTable;
 use wy_text::fault::{Fault, Place};
 use wy_text::text::Memory;
 use wy_types::code::{Binding, Block, Expr, Stmt, Value};
@@ -36,14 +38,17 @@ pub fn infer(
     core: &Core,
     number: u16,
     scope: &Scope,
+    pairs: &mut PairTable<'_>,
     owner: Option<u32>,
     table: &mut Vec<Option<TypeRef>>,
     expr: &Expr,
 ) -> Result<Inference, Memory>
     requires context { IsScopeOf (program_of core.now) number (scope_of scope.now) }
+    requires pairs { pairs.old.about ≡ about_of (program_of core.now) number (scope_of scope.now) }
     requires owner { HasOwner (scope_of scope.now) owner }
     requires ready { ExprReady (program_of core.now) number (scope_of scope.now) owner table.old.items (expr_of expr.now) }
-    ensures { IfOk result (λ u. InfersTo (program_of core.now) number (scope_of scope.now) owner table.old.items table.new.items (expr_of expr.now) u) }
+    ensures outcome { IfOk result (λ u. InfersTo (program_of core.now) number (scope_of scope.now) owner table.old.items table.new.items (expr_of expr.now) u) }
+    ensures same { pairs.new.about ≡ pairs.old.about }
 {
     match expr {
         Expr::Int(_, _) => Ok(least(alloc, TypeRef::Int)),
@@ -53,12 +58,12 @@ pub fn infer(
         Expr::This(_) => this_type(alloc, owner),
         Expr::Name(_, binding) => known_name(alloc, scope, owner, table, *binding),
         Expr::Unary(place, operator, x) => {
-            let operand = infer(alloc, core, number, scope, owner, table, x)?;
+            let operand = infer(alloc, core, number, scope, pairs, owner, table, x)?;
             Ok(unary_outcome(*place, *operator, operand))
         }
         Expr::Binary(place, operator, x, y) => {
-            let first = infer(alloc, core, number, scope, owner, table, x)?;
-            let second = infer(alloc, core, number, scope, owner, table, y)?;
+            let first = infer(alloc, core, number, scope, pairs, owner, table, x)?;
+            let second = infer(alloc, core, number, scope, pairs, owner, table, y)?;
             binary_outcome(*place, *operator, first, second)
         }
         Expr::TextCall(place, operator, values) => {
@@ -68,6 +73,7 @@ pub fn infer(
                 core,
                 number,
                 scope,
+                pairs,
                 owner,
                 table,
                 values,
@@ -76,10 +82,10 @@ pub fn infer(
             Ok(text_outcome(*place, *operator, operands))
         }
         Expr::Call(place, receiver, name, values) => {
-            let by_itself = infer(alloc, core, number, scope, owner, table, receiver)?;
+            let by_itself = infer(alloc, core, number, scope, pairs, owner, table, receiver)?;
             let target = target_of(alloc, core, number, by_itself, name, values.len())?;
             infer_arguments(
-                alloc, core, number, scope, owner, table, *place, target, values,
+                alloc, core, number, scope, pairs, owner, table, *place, target, values,
             )
         }
         Expr::New(place, literal, values) => {
@@ -89,6 +95,7 @@ pub fn infer(
                 core,
                 number,
                 scope,
+                pairs,
                 owner,
                 table,
                 values,
@@ -97,12 +104,12 @@ pub fn infer(
             Ok(new_outcome(*place, *literal, initialisers))
         }
         Expr::Ascribe(place, value, typ) => {
-            let at_type = fit(alloc, core, number, scope, owner, table, value, typ)?;
+            let at_type = fit(alloc, core, number, scope, pairs, owner, table, value, typ)?;
             ascribed_outcome(alloc, *place, typ, at_type)
         }
         Expr::Assign(place, binding, value) => {
             infer_assignment(
-                alloc, core, number, scope, owner, table, *place, *binding, value,
+                alloc, core, number, scope, pairs, owner, table, *place, *binding, value,
             )
         }
     }
@@ -115,6 +122,7 @@ fn infer_arguments(
     core: &Core,
     number: u16,
     scope: &Scope,
+    pairs: &mut PairTable<'_>,
     owner: Option<u32>,
     table: &mut Vec<Option<TypeRef>>,
     place: Place,
@@ -122,15 +130,17 @@ fn infer_arguments(
     values: &Vec<Value>,
 ) -> Result<Inference, Memory>
     requires context { IsScopeOf (program_of core.now) number (scope_of scope.now) }
+    requires pairs { pairs.old.about ≡ about_of (program_of core.now) number (scope_of scope.now) }
     requires owner { HasOwner (scope_of scope.now) owner }
     requires target { IsCallable (program_of core.now) number (scope_of scope.now) owner values.now.items target }
     requires ready { ValuesReady (program_of core.now) number (scope_of scope.now) owner table.old.items (values_of values.now.items) }
-    ensures { IfOk result (λ u. ArgumentsTo (program_of core.now) number (scope_of scope.now) owner table.old.items table.new.items place target values.now.items u) }
+    ensures outcome { IfOk result (λ u. ArgumentsTo (program_of core.now) number (scope_of scope.now) owner table.old.items table.new.items place target values.now.items u) }
+    ensures same { pairs.new.about ≡ pairs.old.about }
 {
     match target {
         Target::Failed(fault) => Ok(Inference::Fails(fault)),
         Target::Without(premise) => {
-            let arguments = probe_all(alloc, core, number, scope, owner, table, values)?;
+            let arguments = probe_all(alloc, core, number, scope, pairs, owner, table, values)?;
             Ok(uncalled_outcome(place, premise, arguments))
         }
         Target::Found(effect, method) => {
@@ -139,6 +149,7 @@ fn infer_arguments(
                 core,
                 number,
                 scope,
+                pairs,
                 owner,
                 table,
                 values,
@@ -156,6 +167,7 @@ fn infer_assignment(
     core: &Core,
     number: u16,
     scope: &Scope,
+    pairs: &mut PairTable<'_>,
     owner: Option<u32>,
     table: &mut Vec<Option<TypeRef>>,
     place: Place,
@@ -163,17 +175,21 @@ fn infer_assignment(
     value: &Value,
 ) -> Result<Inference, Memory>
     requires context { IsScopeOf (program_of core.now) number (scope_of scope.now) }
+    requires pairs { pairs.old.about ≡ about_of (program_of core.now) number (scope_of scope.now) }
     requires owner { HasOwner (scope_of scope.now) owner }
     requires ready { ExprReady (program_of core.now) number (scope_of scope.now) owner table.old.items (Assign place binding (value_of value.now)) }
-    ensures { IfOk result (λ u. InfersTo (program_of core.now) number (scope_of scope.now) owner table.old.items table.new.items (Assign place binding (value_of value.now)) u) }
+    ensures outcome { IfOk result (λ u. InfersTo (program_of core.now) number (scope_of scope.now) owner table.old.items table.new.items (Assign place binding (value_of value.now)) u) }
+    ensures same { pairs.new.about ≡ pairs.old.about }
 {
     match var_field(scope, owner, binding) {
         Some(field) => {
-            let at_type = fit(alloc, core, number, scope, owner, table, value, &field.typ)?;
+            let at_type = fit(
+                alloc, core, number, scope, pairs, owner, table, value, &field.typ,
+            )?;
             Ok(assigned_outcome(place, at_type))
         }
         None => {
-            let fault = probe(alloc, core, number, scope, owner, table, value)?;
+            let fault = probe(alloc, core, number, scope, pairs, owner, table, value)?;
             Ok(unassigned_outcome(place, fault))
         }
     }
@@ -186,34 +202,30 @@ pub fn fit(
     core: &Core,
     number: u16,
     scope: &Scope,
+    pairs: &mut PairTable<'_>,
     owner: Option<u32>,
     table: &mut Vec<Option<TypeRef>>,
     value: &Value,
     typ: &TypeRef,
 ) -> Result<Fit, Memory>
     requires context { IsScopeOf (program_of core.now) number (scope_of scope.now) }
+    requires pairs { pairs.old.about ≡ about_of (program_of core.now) number (scope_of scope.now) }
     requires owner { HasOwner (scope_of scope.now) owner }
     requires expected { IsTypeOf (program_of core.now) number typ.now }
     requires ready { ValueReady (program_of core.now) number (scope_of scope.now) owner table.old.items (value_of value.now) }
-    ensures { IfOk result (λ u. FitsTo (program_of core.now) number (scope_of scope.now) owner table.old.items table.new.items (value_of value.now) typ.now u) }
+    ensures outcome { IfOk result (λ u. FitsTo (program_of core.now) number (scope_of scope.now) owner table.old.items table.new.items (value_of value.now) typ.now u) }
+    ensures same { pairs.new.about ≡ pairs.old.about }
 {
     match value {
         Value::Plain(expr) => {
-            let by_itself = infer(alloc, core, number, scope, owner, table, expr)?;
-            fitted(alloc, core, number, mode_of(scope), by_itself, typ)
+            let by_itself = infer(alloc, core, number, scope, pairs, owner, table, expr)?;
+            fitted(pairs, by_itself, typ)
         }
         Value::If(place, test, first, second) => {
-            let by_itself = infer(alloc, core, number, scope, owner, table, test)?;
-            let condition = fitted(
-                alloc,
-                core,
-                number,
-                mode_of(scope),
-                by_itself,
-                &TypeRef::Bool,
-            )?;
-            let first = fit_block(alloc, core, number, scope, owner, table, first, typ)?;
-            let second = fit_block(alloc, core, number, scope, owner, table, second, typ)?;
+            let by_itself = infer(alloc, core, number, scope, pairs, owner, table, test)?;
+            let condition = fitted(pairs, by_itself, &TypeRef::Bool)?;
+            let first = fit_block(alloc, core, number, scope, pairs, owner, table, first, typ)?;
+            let second = fit_block(alloc, core, number, scope, pairs, owner, table, second, typ)?;
             chosen_fit(*place, condition, first, second)
         }
     }
@@ -226,32 +238,28 @@ fn probe(
     core: &Core,
     number: u16,
     scope: &Scope,
+    pairs: &mut PairTable<'_>,
     owner: Option<u32>,
     table: &mut Vec<Option<TypeRef>>,
     value: &Value,
 ) -> Result<Option<Fault>, Memory>
     requires context { IsScopeOf (program_of core.now) number (scope_of scope.now) }
+    requires pairs { pairs.old.about ≡ about_of (program_of core.now) number (scope_of scope.now) }
     requires owner { HasOwner (scope_of scope.now) owner }
     requires ready { ValueReady (program_of core.now) number (scope_of scope.now) owner table.old.items (value_of value.now) }
-    ensures { IfOk result (λ o. ProbesTo (program_of core.now) number (scope_of scope.now) owner table.old.items table.new.items (value_of value.now) o) }
+    ensures outcome { IfOk result (λ o. ProbesTo (program_of core.now) number (scope_of scope.now) owner table.old.items table.new.items (value_of value.now) o) }
+    ensures same { pairs.new.about ≡ pairs.old.about }
 {
     match value {
         Value::Plain(expr) => {
-            let by_itself = infer(alloc, core, number, scope, owner, table, expr)?;
+            let by_itself = infer(alloc, core, number, scope, pairs, owner, table, expr)?;
             Ok(probed_outcome(by_itself))
         }
         Value::If(_, test, first, second) => {
-            let by_itself = infer(alloc, core, number, scope, owner, table, test)?;
-            let condition = fitted(
-                alloc,
-                core,
-                number,
-                mode_of(scope),
-                by_itself,
-                &TypeRef::Bool,
-            )?;
-            let first = probe_block(alloc, core, number, scope, owner, table, first)?;
-            let second = probe_block(alloc, core, number, scope, owner, table, second)?;
+            let by_itself = infer(alloc, core, number, scope, pairs, owner, table, test)?;
+            let condition = fitted(pairs, by_itself, &TypeRef::Bool)?;
+            let first = probe_block(alloc, core, number, scope, pairs, owner, table, first)?;
+            let second = probe_block(alloc, core, number, scope, pairs, owner, table, second)?;
             Ok(chosen_fault(condition, first, second))
         }
     }
@@ -264,22 +272,25 @@ pub fn fit_all(
     core: &Core,
     number: u16,
     scope: &Scope,
+    pairs: &mut PairTable<'_>,
     owner: Option<u32>,
     table: &mut Vec<Option<TypeRef>>,
     values: &Vec<Value>,
     types: &[TypeRef],
 ) -> Result<Fits, Memory>
     requires context { IsScopeOf (program_of core.now) number (scope_of scope.now) }
+    requires pairs { pairs.old.about ≡ about_of (program_of core.now) number (scope_of scope.now) }
     requires owner { HasOwner (scope_of scope.now) owner }
     requires expected { TypesInRange (program_of core.now) number (scope_of scope.now) owner types.now }
     requires as_many { length values.now.items ≡ length types.now }
     requires ready { ValuesReady (program_of core.now) number (scope_of scope.now) owner table.old.items (values_of values.now.items) }
-    ensures { IfOk result (λ u. AllFitTo (program_of core.now) number (scope_of scope.now) owner table.old.items table.new.items values.now.items types.now u) }
+    ensures outcome { IfOk result (λ u. AllFitTo (program_of core.now) number (scope_of scope.now) owner table.old.items table.new.items values.now.items types.now u) }
+    ensures same { pairs.new.about ≡ pairs.old.about }
 {
     let mut sofar = Fits::Have(EffSet::empty(alloc));
     for i in 0..values.len() {
         let next = fit(
-            alloc, core, number, scope, owner, table, &values[i], &types[i],
+            alloc, core, number, scope, pairs, owner, table, &values[i], &types[i],
         )?;
         is_set(&next);
         sofar = push_fit(sofar, i, next)?;
@@ -297,17 +308,20 @@ fn probe_all(
     core: &Core,
     number: u16,
     scope: &Scope,
+    pairs: &mut PairTable<'_>,
     owner: Option<u32>,
     table: &mut Vec<Option<TypeRef>>,
     values: &Vec<Value>,
 ) -> Result<Option<Fault>, Memory>
     requires context { IsScopeOf (program_of core.now) number (scope_of scope.now) }
+    requires pairs { pairs.old.about ≡ about_of (program_of core.now) number (scope_of scope.now) }
     requires owner { HasOwner (scope_of scope.now) owner }
     requires ready { ValuesReady (program_of core.now) number (scope_of scope.now) owner table.old.items (values_of values.now.items) }
-    ensures { IfOk result (λ o. AllProbeTo (program_of core.now) number (scope_of scope.now) owner table.old.items table.new.items values.now.items o) }
+    ensures outcome { IfOk result (λ o. AllProbeTo (program_of core.now) number (scope_of scope.now) owner table.old.items table.new.items values.now.items o) }
+    ensures same { pairs.new.about ≡ pairs.old.about }
 {
     for i in 0..values.len() {
-        let next = probe(alloc, core, number, scope, owner, table, &values[i])?;
+        let next = probe(alloc, core, number, scope, pairs, owner, table, &values[i])?;
         if next.is_some() {
             return Ok(next);
         }
@@ -322,21 +336,24 @@ fn step(
     core: &Core,
     number: u16,
     scope: &Scope,
+    pairs: &mut PairTable<'_>,
     owner: Option<u32>,
     table: &mut Vec<Option<TypeRef>>,
     statement: &Stmt,
 ) -> Result<Step, Memory>
     requires context { IsScopeOf (program_of core.now) number (scope_of scope.now) }
+    requires pairs { pairs.old.about ≡ about_of (program_of core.now) number (scope_of scope.now) }
     requires owner { HasOwner (scope_of scope.now) owner }
     requires ready { StmtReady (program_of core.now) number (scope_of scope.now) owner table.old.items statement.now }
-    ensures { IfOk result (λ u. StatesTo (program_of core.now) number (scope_of scope.now) owner table.old.items table.new.items statement.now u) }
+    ensures outcome { IfOk result (λ u. StatesTo (program_of core.now) number (scope_of scope.now) owner table.old.items table.new.items statement.now u) }
+    ensures same { pairs.new.about ≡ pairs.old.about }
 {
     match statement {
         Stmt::Val(place, val, Some(typ), value) => step_typed(
-            alloc, core, number, scope, owner, table, *place, *val, typ, value,
+            alloc, core, number, scope, pairs, owner, table, *place, *val, typ, value,
         ),
         Stmt::Val(place, val, None, value) => step_untyped(
-            alloc, core, number, scope, owner, table, *place, *val, value,
+            alloc, core, number, scope, pairs, owner, table, *place, *val, value,
         ),
         Stmt::Do(value) => {
             let at_unit = fit(
@@ -344,6 +361,7 @@ fn step(
                 core,
                 number,
                 scope,
+                pairs,
                 owner,
                 table,
                 value,
@@ -361,6 +379,7 @@ fn step_typed(
     core: &Core,
     number: u16,
     scope: &Scope,
+    pairs: &mut PairTable<'_>,
     owner: Option<u32>,
     table: &mut Vec<Option<TypeRef>>,
     place: Place,
@@ -369,11 +388,13 @@ fn step_typed(
     value: &Value,
 ) -> Result<Step, Memory>
     requires context { IsScopeOf (program_of core.now) number (scope_of scope.now) }
+    requires pairs { pairs.old.about ≡ about_of (program_of core.now) number (scope_of scope.now) }
     requires owner { HasOwner (scope_of scope.now) owner }
     requires ready { StmtReady (program_of core.now) number (scope_of scope.now) owner table.old.items (Val place val (Some typ.now) value.now) }
-    ensures { IfOk result (λ u. StatesTo (program_of core.now) number (scope_of scope.now) owner table.old.items table.new.items (Val place val (Some typ.now) value.now) u) }
+    ensures outcome { IfOk result (λ u. StatesTo (program_of core.now) number (scope_of scope.now) owner table.old.items table.new.items (Val place val (Some typ.now) value.now) u) }
+    ensures same { pairs.new.about ≡ pairs.old.about }
 {
-    let at_type = fit(alloc, core, number, scope, owner, table, value, typ)?;
+    let at_type = fit(alloc, core, number, scope, pairs, owner, table, value, typ)?;
     settle_written(alloc, table, place, val, typ, at_type)
 }
 
@@ -384,6 +405,7 @@ fn step_untyped(
     core: &Core,
     number: u16,
     scope: &Scope,
+    pairs: &mut PairTable<'_>,
     owner: Option<u32>,
     table: &mut Vec<Option<TypeRef>>,
     place: Place,
@@ -391,17 +413,19 @@ fn step_untyped(
     value: &Value,
 ) -> Result<Step, Memory>
     requires context { IsScopeOf (program_of core.now) number (scope_of scope.now) }
+    requires pairs { pairs.old.about ≡ about_of (program_of core.now) number (scope_of scope.now) }
     requires owner { HasOwner (scope_of scope.now) owner }
     requires ready { StmtReady (program_of core.now) number (scope_of scope.now) owner table.old.items (Val place val None value.now) }
-    ensures { IfOk result (λ u. StatesTo (program_of core.now) number (scope_of scope.now) owner table.old.items table.new.items (Val place val None value.now) u) }
+    ensures outcome { IfOk result (λ u. StatesTo (program_of core.now) number (scope_of scope.now) owner table.old.items table.new.items (Val place val None value.now) u) }
+    ensures same { pairs.new.about ≡ pairs.old.about }
 {
     match value {
         Value::Plain(expr) => {
-            let by_itself = infer(alloc, core, number, scope, owner, table, expr)?;
+            let by_itself = infer(alloc, core, number, scope, pairs, owner, table, expr)?;
             settle_least(table, val, by_itself)
         }
         Value::If(_, _, _, _) => {
-            let fault = probe(alloc, core, number, scope, owner, table, value)?;
+            let fault = probe(alloc, core, number, scope, pairs, owner, table, value)?;
             Ok(untyped(place, fault))
         }
     }
@@ -414,14 +438,17 @@ fn steps(
     core: &Core,
     number: u16,
     scope: &Scope,
+    pairs: &mut PairTable<'_>,
     owner: Option<u32>,
     table: &mut Vec<Option<TypeRef>>,
     block: &Block,
 ) -> Result<Step, Memory>
     requires context { IsScopeOf (program_of core.now) number (scope_of scope.now) }
+    requires pairs { pairs.old.about ≡ about_of (program_of core.now) number (scope_of scope.now) }
     requires owner { HasOwner (scope_of scope.now) owner }
     requires ready { BlockReady (program_of core.now) number (scope_of scope.now) owner table.old.items (block_of block.now) }
-    ensures { IfOk result (λ u. StepsTo (program_of core.now) number (scope_of scope.now) owner table.old.items table.new.items block.now.statements.items (value_of block.now.last.value) u) }
+    ensures outcome { IfOk result (λ u. StepsTo (program_of core.now) number (scope_of scope.now) owner table.old.items table.new.items block.now.statements.items (value_of block.now.last.value) u) }
+    ensures same { pairs.new.about ≡ pairs.old.about }
 {
     let mut sofar = Step::Done(EffSet::empty(alloc));
     for i in 0..block.statements.len() {
@@ -430,6 +457,7 @@ fn steps(
             core,
             number,
             scope,
+            pairs,
             owner,
             table,
             &block.statements[i],
@@ -449,21 +477,34 @@ pub fn fit_block(
     core: &Core,
     number: u16,
     scope: &Scope,
+    pairs: &mut PairTable<'_>,
     owner: Option<u32>,
     table: &mut Vec<Option<TypeRef>>,
     block: &Block,
     typ: &TypeRef,
 ) -> Result<Fit, Memory>
     requires context { IsScopeOf (program_of core.now) number (scope_of scope.now) }
+    requires pairs { pairs.old.about ≡ about_of (program_of core.now) number (scope_of scope.now) }
     requires owner { HasOwner (scope_of scope.now) owner }
     requires expected { IsTypeOf (program_of core.now) number typ.now }
     requires ready { BlockReady (program_of core.now) number (scope_of scope.now) owner table.old.items (block_of block.now) }
-    ensures { IfOk result (λ u. BlockFitsTo (program_of core.now) number (scope_of scope.now) owner table.old.items table.new.items (block_of block.now) typ.now u) }
+    ensures outcome { IfOk result (λ u. BlockFitsTo (program_of core.now) number (scope_of scope.now) owner table.old.items table.new.items (block_of block.now) typ.now u) }
+    ensures same { pairs.new.about ≡ pairs.old.about }
 {
-    let before = steps(alloc, core, number, scope, owner, table, block)?;
+    let before = steps(alloc, core, number, scope, pairs, owner, table, block)?;
     match before {
         Step::Done(effect) => {
-            let last = fit(alloc, core, number, scope, owner, table, &block.last, typ)?;
+            let last = fit(
+                alloc,
+                core,
+                number,
+                scope,
+                pairs,
+                owner,
+                table,
+                &block.last,
+                typ,
+            )?;
             followed(effect, last)
         }
         Step::Fails(fault) => Ok(Fit::Fails(fault)),
@@ -477,18 +518,21 @@ fn probe_block(
     core: &Core,
     number: u16,
     scope: &Scope,
+    pairs: &mut PairTable<'_>,
     owner: Option<u32>,
     table: &mut Vec<Option<TypeRef>>,
     block: &Block,
 ) -> Result<Option<Fault>, Memory>
     requires context { IsScopeOf (program_of core.now) number (scope_of scope.now) }
+    requires pairs { pairs.old.about ≡ about_of (program_of core.now) number (scope_of scope.now) }
     requires owner { HasOwner (scope_of scope.now) owner }
     requires ready { BlockReady (program_of core.now) number (scope_of scope.now) owner table.old.items (block_of block.now) }
-    ensures { IfOk result (λ o. BlockProbesTo (program_of core.now) number (scope_of scope.now) owner table.old.items table.new.items (block_of block.now) o) }
+    ensures outcome { IfOk result (λ o. BlockProbesTo (program_of core.now) number (scope_of scope.now) owner table.old.items table.new.items (block_of block.now) o) }
+    ensures same { pairs.new.about ≡ pairs.old.about }
 {
-    let before = steps(alloc, core, number, scope, owner, table, block)?;
+    let before = steps(alloc, core, number, scope, pairs, owner, table, block)?;
     match before {
-        Step::Done(_) => probe(alloc, core, number, scope, owner, table, &block.last),
+        Step::Done(_) => probe(alloc, core, number, scope, pairs, owner, table, &block.last),
         Step::Fails(fault) => Ok(Some(fault)),
     }
 }

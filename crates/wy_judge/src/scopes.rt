@@ -3,17 +3,20 @@
 ghost use Rattle.std.specs.Prelude.{◌≡◌, ◌<◌, [], IfOk, Some, length};
 ghost use Rattle.wy_effects.specs.Members.{In};
 ghost use Rattle.wy_types.specs.Program.{program_of, scope_of, body_of};
+ghost use Rattle.wy_types.specs.Types.{is_plain};
 ghost use Rattle.wy_types.specs.Core.{IsCore};
 ghost use Rattle.wy_judge.specs.Outcomes.{seal_fault};
 ghost use Rattle.wy_judge.specs.Tables.{IsScopeOf, BlockReady};
+ghost use Rattle.wy_judge.specs.Targets.{mode_of, about_of};
 ghost use Rattle.wy_judge.specs.Walking.{Walked, StartsTo, BodyTo, BodiesTo, RestTo, settled, settled_types, IsSealFault, IsJudgedAt};
 
 use crate::combining::fault_at;
 use crate::faults::{body_fault, init_fault, pure_fault};
 use crate::judging::{fit_all, fit_block};
-use crate::targets::{field_types, is_below, mode_of};
+use crate::targets::{field_types, mode_of};
 use std::alloc::Global;
 use wy_effects::set::copy_sets;
+use wy_subtype::pair_table::PairTable;
 use wy_text::fault::{Fault, Place, RuleName};
 use wy_text::list::Items;
 use wy_text::text::Memory;
@@ -35,11 +38,14 @@ fn judge_start(
     core: &Core,
     number: u16,
     scope: &Scope,
+    pairs: &mut PairTable<'_>,
     table: &mut Vec<Option<TypeRef>>,
 ) -> Result<Option<Fault>, Memory>
     requires context { IsScopeOf (program_of core.now) number (scope_of scope.now) }
+    requires pairs { pairs.old.about ≡ about_of (program_of core.now) number (scope_of scope.now) }
     requires empty { table.old.items ≡ [] }
-    ensures { IfOk result (λ o. StartsTo (program_of core.now) number (scope_of scope.now) [] table.new.items o) }
+    ensures outcome { IfOk result (λ o. StartsTo (program_of core.now) number (scope_of scope.now) [] table.new.items o) }
+    ensures same { pairs.new.about ≡ pairs.old.about }
 {
     match &scope.start {
         Start::Init(values) => {
@@ -49,6 +55,7 @@ fn judge_start(
                 core,
                 number,
                 scope,
+                pairs,
                 None,
                 table,
                 values,
@@ -68,6 +75,7 @@ fn judge_start(
                 core,
                 number,
                 scope,
+                pairs,
                 None,
                 table,
                 block,
@@ -90,19 +98,23 @@ fn judge_body(
     core: &Core,
     number: u16,
     scope: &Scope,
+    pairs: &mut PairTable<'_>,
     table: &mut Vec<Option<TypeRef>>,
     body: &Body,
 ) -> Result<Option<Fault>, Memory>
     requires context { IsScopeOf (program_of core.now) number (scope_of scope.now) }
+    requires pairs { pairs.old.about ≡ about_of (program_of core.now) number (scope_of scope.now) }
     requires in_scope { In (body_of body.now) (scope_of scope.now).bodies }
     requires ready { BlockReady (program_of core.now) number (scope_of scope.now) (Some body.now.owner) table.old.items (body_of body.now).block }
-    ensures { IfOk result (λ o. BodyTo (program_of core.now) number (scope_of scope.now) table.old.items table.new.items (body_of body.now) o) }
+    ensures outcome { IfOk result (λ o. BodyTo (program_of core.now) number (scope_of scope.now) table.old.items table.new.items (body_of body.now) o) }
+    ensures same { pairs.new.about ≡ pairs.old.about }
 {
     let block = fit_block(
         alloc,
         core,
         number,
         scope,
+        pairs,
         Some(body.owner),
         table,
         &body.block,
@@ -123,15 +135,18 @@ fn judge_bodies(
     core: &Core,
     number: u16,
     scope: &Scope,
+    pairs: &mut PairTable<'_>,
     table: &mut Vec<Option<TypeRef>>,
 ) -> Result<Option<Fault>, Memory>
     requires context { IsScopeOf (program_of core.now) number (scope_of scope.now) }
+    requires pairs { pairs.old.about ≡ about_of (program_of core.now) number (scope_of scope.now) }
     requires walked { Walked (program_of core.now) number (scope_of scope.now) table.old.items 0 }
-    ensures { IfOk result (λ o. BodiesTo (program_of core.now) number (scope_of scope.now) table.old.items table.new.items o) }
+    ensures outcome { IfOk result (λ o. BodiesTo (program_of core.now) number (scope_of scope.now) table.old.items table.new.items o) }
+    ensures same { pairs.new.about ≡ pairs.old.about }
 {
     let bodies = scope.bodies.as_slice();
     for i in 0..bodies.len() {
-        let next = judge_body(alloc, core, number, scope, table, &bodies[i])?;
+        let next = judge_body(alloc, core, number, scope, pairs, table, &bodies[i])?;
         if next.is_some() {
             return Ok(next);
         }
@@ -153,12 +168,13 @@ fn unless_below(place: Place, below: bool) -> Option<Fault>
 /// M-Ascribe: whether the module's own type is a subtype of the type that it is sealed at, with what it defines.
 fn seal_fault(
     alloc: Global,
-    core: &Core,
-    number: u16,
     scope: &Scope,
+    pairs: &mut PairTable<'_>,
 ) -> Result<Option<Fault>, Memory>
-    requires context { IsScopeOf (program_of core.now) number (scope_of scope.now) }
-    ensures { IfOk result (λ o. IsSealFault (program_of core.now) number (scope_of scope.now) o) }
+    requires context { IsScopeOf pairs.old.about.program pairs.old.about.scope (scope_of scope.now) }
+    requires mode { pairs.old.about.mode ≡ mode_of (is_plain scope.now.kind) }
+    ensures outcome { IfOk result (λ o. IsSealFault pairs.old.about.program pairs.old.about.scope (scope_of scope.now) o) }
+    ensures same { pairs.new.about ≡ pairs.old.about }
 {
     let Some(decl) = scope.ascribed else {
         return Ok(None);
@@ -168,7 +184,7 @@ fn seal_fault(
         decl,
         members: copy_sets(alloc, scope.definitions.as_slice())?,
     };
-    let below = is_below(alloc, core, number, mode_of(scope), &own, &sealed)?;
+    let below = pairs.holds(&own, &sealed)?;
     Ok(unless_below(scope.place, below))
 }
 
@@ -178,16 +194,19 @@ fn judge_rest(
     core: &Core,
     number: u16,
     scope: &Scope,
+    pairs: &mut PairTable<'_>,
     table: &mut Vec<Option<TypeRef>>,
 ) -> Result<Option<Fault>, Memory>
     requires context { IsScopeOf (program_of core.now) number (scope_of scope.now) }
+    requires pairs { pairs.old.about ≡ about_of (program_of core.now) number (scope_of scope.now) }
     requires walked { Walked (program_of core.now) number (scope_of scope.now) table.old.items 0 }
-    ensures { IfOk result (λ o. RestTo (program_of core.now) number (scope_of scope.now) table.old.items table.new.items o) }
+    ensures outcome { IfOk result (λ o. RestTo (program_of core.now) number (scope_of scope.now) table.old.items table.new.items o) }
+    ensures same { pairs.new.about ≡ pairs.old.about }
 {
-    let bodies = judge_bodies(alloc, core, number, scope, table)?;
+    let bodies = judge_bodies(alloc, core, number, scope, pairs, table)?;
     match bodies {
         Some(fault) => Ok(Some(fault)),
-        None => seal_fault(alloc, core, number, scope),
+        None => seal_fault(alloc, scope, pairs),
     }
 }
 
@@ -225,12 +244,13 @@ pub fn judge_scope(alloc: Global, core: &Core, number: u16) -> Result<Judged, Me
     if let Some(fault) = pure_fault(scope) {
         return Ok(Judged::Fails(fault));
     }
+    let mut pairs = PairTable::new(alloc, core, number, mode_of(scope));
     let mut table = Vec::new(alloc);
-    let start = judge_start(alloc, core, number, scope, &mut table)?;
+    let start = judge_start(alloc, core, number, scope, &mut pairs, &mut table)?;
     if let Some(fault) = start {
         return Ok(Judged::Fails(fault));
     }
-    let rest = judge_rest(alloc, core, number, scope, &mut table)?;
+    let rest = judge_rest(alloc, core, number, scope, &mut pairs, &mut table)?;
     if let Some(fault) = rest {
         return Ok(Judged::Fails(fault));
     }

@@ -1,22 +1,20 @@
 //! What is looked up where a part of a body is judged: types of names and fields, and the methods that calls name.
 
-ghost use Rattle.std.specs.Prelude.{◌≡◌, ◌↔◌, IfOk, true, slice_get};
+ghost use Rattle.std.specs.Prelude.{◌≡◌, IfOk, slice_get};
 ghost use Rattle.std.specs.Option.{option_copied};
 ghost use Rattle.wy_types.specs.Program.{program_of, scope_of};
 ghost use Rattle.wy_types.specs.Types.{is_plain};
-ghost use Rattle.wy_types.specs.InRange.{IsInRange};
 ghost use Rattle.wy_types.specs.Fitting.{IsTypeOf};
 ghost use Rattle.wy_rules.specs.Typing.{field_types, field_at, var_field, parameter_type, fields_of};
 ghost use Rattle.wy_rules.specs.Derivations.{mark, expr_mark};
 ghost use Rattle.wy_types.specs.View.{value_of, expr_of};
-ghost use Rattle.wy_subtype.specs.Verdict.{IsSubtypeIn, IsYes};
 ghost use Rattle.wy_judge.specs.Targets.{mode_of, known, type_of_binding, IsTargetOf, IsInRangeOf, IsFittedIn};
 
 use crate::outcomes::{Fit, Inference};
 use std::alloc::Global;
 use wy_effects::set::EffSet;
-use wy_subtype::subtype::subtype;
-use wy_subtype::verdict::{Mode, Verdict};
+use wy_subtype::pair_table::PairTable;
+use wy_subtype::verdict::Mode;
 use wy_text::fault::{Fault, Place};
 use wy_text::list::Items;
 use wy_text::text::{Memory, Text};
@@ -192,50 +190,16 @@ pub fn target_of(
 // ----------------------------------------------------------------------------
 // Types at a place
 
-fn is_yes(verdict: Verdict) -> bool
-    ensures { (result ≡ true) ↔ IsYes verdict }
-{
-    match verdict {
-        Verdict::Yes => true,
-        Verdict::No { .. } => false,
-    }
-}
-
-/// Whether a type is a subtype of another.
-pub fn is_below(
-    alloc: Global,
-    core: &Core,
-    number: u16,
-    mode: Mode,
-    least: &TypeRef,
-    typ: &TypeRef,
-) -> Result<bool, Memory>
-    requires core { IsInRange (program_of core.now) }
-    requires least { IsTypeOf (program_of core.now) number least.now }
-    requires expected { IsTypeOf (program_of core.now) number typ.now }
-    ensures { IfOk result (λ b. (b ≡ true) ↔ IsSubtypeIn (program_of core.now) number mode least.now typ.now) }
-{
-    let verdict = subtype(alloc, core, number, least, typ, mode)?;
-    Ok(is_yes(verdict))
-}
-
-/// An expression at a type: whether its least type is a subtype.
-pub fn fitted(
-    alloc: Global,
-    core: &Core,
-    number: u16,
-    mode: Mode,
-    expr: Inference,
-    typ: &TypeRef,
-) -> Result<Fit, Memory>
-    requires core { IsInRange (program_of core.now) }
-    requires least { IsInRangeOf (program_of core.now) number expr }
-    requires expected { IsTypeOf (program_of core.now) number typ.now }
-    ensures { IfOk result (λ u. IsFittedIn (program_of core.now) number mode expr typ.now u) }
+/// An expression at a type: whether its least type is a subtype, in the scope and the mode of a table of pairs.
+pub fn fitted(pairs: &mut PairTable<'_>, expr: Inference, typ: &TypeRef) -> Result<Fit, Memory>
+    requires least { IsInRangeOf pairs.old.about.program pairs.old.about.scope expr }
+    requires expected { IsTypeOf pairs.old.about.program pairs.old.about.scope typ.now }
+    ensures outcome { IfOk result (λ u. IsFittedIn pairs.old.about.program pairs.old.about.scope pairs.old.about.mode expr typ.now u) }
+    ensures same { pairs.new.about ≡ pairs.old.about }
 {
     match expr {
         Inference::Least(least, effect) => {
-            if is_below(alloc, core, number, mode, &least, typ)? {
+            if pairs.holds(&least, typ)? {
                 return Ok(Fit::Has(effect));
             }
             Ok(Fit::Misfit)

@@ -1,4 +1,4 @@
-use Rattle.std.proofs.Common.{◌≡◌, ◌<◌, ◌≤◌, Some, length, map, refl, sym, ap, rules}
+use Rattle.std.proofs.Common.{◌≡◌, ◌<◌, ◌≤◌, Some, length, map, refl, sym, ap, ◌∙◌, rules}
 use Rattle.std.specs.Prelude.{slice_get}
 use Rattle.std.proofs.lemmas.Option.{slice_get_read}
 use Rattle.wy_types.specs.Program.{program_of, scope_of, body_of}
@@ -14,7 +14,7 @@ loop-i-init c =
     let old = c.args.table.now.items in
     let h = c.requires.context in
     let bodies = c.as_slice-bodies.result.now in
-    bodies_walked_start p k s h bodies (ap (map body_of) (sym c.as_slice-bodies.ensures)) old c.requires.walked
+    record { walked = bodies_walked_start p k s h bodies (ap (map body_of) (sym c.as_slice-bodies.ensures)) old c.requires.walked; same = refl }
 
 pub judge_body-requires-clause-in_scope : goal.judge_body-requires-clause-in_scope
 judge_body-requires-clause-in_scope c =
@@ -42,10 +42,10 @@ judge_body-requires-clause-ready c =
     let mid = c.loop-i.table.items in
     let lt : i < length bodies = search rules in
     let there : slice_get bodies i ≡ Some c.index-bodies-i.result = slice_get_read bodies _ i c.index-bodies-i.result refl lt c.index-bodies-i.is in
-    next_ready p k s h bodies same old mid i c.index-bodies-i.result there c.loop-i.invariant
+    next_ready p k s h bodies same old mid i c.index-bodies-i.result there c.loop-i.invariant.walked
 
-pub returns-then-is_some : goal.returns-then-is_some
-returns-then-is_some c =
+pub returns-then-is_some-clause-outcome : goal.returns-then-is_some-clause-outcome
+returns-then-is_some-clause-outcome c =
     let p = program_of c.args.core.now in
     let k = c.args.number in
     let s = scope_of c.args.scope.now in
@@ -57,7 +57,7 @@ returns-then-is_some c =
     let mid = c.loop-i.table.items in
     let lt : i < length bodies = search rules in
     let there : slice_get bodies i ≡ Some c.index-bodies-i.result = slice_get_read bodies _ i c.index-bodies-i.result refl lt c.index-bodies-i.is in
-    bodies_stop p k s h bodies same old mid c.judge_body.new.table.items i c.index-bodies-i.result c.in_ok-next.next there c.loop-i.invariant c.in_ok-next.ensures (search rules)
+    bodies_stop p k s h bodies same old mid c.judge_body.new.table.items i c.index-bodies-i.result c.in_ok-next.next there c.loop-i.invariant.walked c.in_ok-next.ensures.outcome (search rules)
 
 pub loop-i-preserved : goal.loop-i-preserved
 loop-i-preserved c =
@@ -72,10 +72,10 @@ loop-i-preserved c =
     let mid = c.loop-i.table.items in
     let lt : i < length bodies = search rules in
     let there : slice_get bodies i ≡ Some c.index-bodies-i.result = slice_get_read bodies _ i c.index-bodies-i.result refl lt c.index-bodies-i.is in
-    bodies_go_on p k s h bodies same old mid c.judge_body.new.table.items i c.index-bodies-i.result c.in_ok-next.next there c.loop-i.invariant c.in_ok-next.ensures (search rules)
+    record { walked = bodies_go_on p k s h bodies same old mid c.judge_body.new.table.items i c.index-bodies-i.result c.in_ok-next.next there c.loop-i.invariant.walked c.in_ok-next.ensures.outcome (search rules); same = c.judge_body.ensures.same ∙ c.loop-i.invariant.same }
 
-pub returns : goal.returns
-returns c =
+pub returns-clause-outcome : goal.returns-clause-outcome
+returns-clause-outcome c =
     let p = program_of c.args.core.now in
     let k = c.args.number in
     let s = scope_of c.args.scope.now in
@@ -86,4 +86,4 @@ returns c =
     let i = c.loop-i.i in
     let mid = c.loop-i.table.items in
     let short : length bodies ≤ i = search rules in
-    bodies_walked_end p k s h bodies same old mid i short c.loop-i.invariant
+    bodies_walked_end p k s h bodies same old mid i short c.loop-i.invariant.walked

@@ -12,8 +12,8 @@ fit_block-requires-clause-owner c = owner_there (program_of c.args.core.now) c.a
 pub fit_block-requires-clause-expected : goal.fit_block-requires-clause-expected
 fit_block-requires-clause-expected c = result_in_range (program_of c.args.core.now) c.args.number (scope_of c.args.scope.now) c.requires.context (body_of c.args.body.now) c.requires.in_scope
 
-pub returns : goal.returns
-returns c =
+pub returns-clause-outcome : goal.returns-clause-outcome
+returns-clause-outcome c =
     let p = program_of c.args.core.now in
     let k = c.args.number in
     let s = scope_of c.args.scope.now in
@@ -22,5 +22,5 @@ returns c =
     let new = c.fit_block.new.table.items in
     let u = c.in_ok-block.block in
     IfOk-weaker c.body_fault.result (λ o. IsBodyFault c.mode_of.result x.place s.atoms x.signature.effect u o) (λ o. BodyTo p k s old new x o)
-    (λ o r. body_by_block p k s x old new u c.mode_of.result o c.mode_of.ensures c.in_ok-block.ensures r)
+    (λ o r. body_by_block p k s x old new u c.mode_of.result o c.mode_of.ensures c.in_ok-block.ensures.outcome r)
     c.body_fault.ensures

@@ -45,8 +45,8 @@ fit_block-requires-clause-ready c =
     let h = c.requires.context in
     subst (λ t. BlockReady p k s None t (block_of c.in-Run.block)) (sym c.requires.empty) (block_start p k s h (block_of c.in-Run.block) (ap start_of c.in-Run.is))
 
-pub returns-in_ok-initialisers-in-Init : goal.returns-in_ok-initialisers-in-Init
-returns-in_ok-initialisers-in-Init c =
+pub returns-in_ok-initialisers-in-Init-clause-outcome : goal.returns-in_ok-initialisers-in-Init-clause-outcome
+returns-in_ok-initialisers-in-Init-clause-outcome c =
     let p = program_of c.args.core.now in
     let k = c.args.number in
     let s = scope_of c.args.scope.now in
@@ -54,13 +54,13 @@ returns-in_ok-initialisers-in-Init c =
     let new = c.fit_all.new.table.items in
     let u = c.in_ok-initialisers-in-Init.initialisers in
     let types = c.as_slice.ensures ∙ c.in_ok-types-in-Init.ensures in
-    let all = subst (λ ts. AllFitTo p k s None old new c.in-Init.values.items ts u) types c.in_ok-initialisers-in-Init.ensures in
+    let all = subst (λ ts. AllFitTo p k s None old new c.in-Init.values.items ts u) types c.in_ok-initialisers-in-Init.ensures.outcome in
     IfOk-weaker c.init_fault.result (λ o. IsInitFault c.mode_of.result s.start_place s.atoms s.start_effect u o) (λ o. StartsTo p k s [] new o)
     (λ o r. starts_by_fields p k s c.in-Init.values.items old new u c.mode_of.result o (ap start_of c.in-Init.is) c.requires.empty c.mode_of.ensures all r)
     c.init_fault.ensures
 
-pub returns-in_ok-at_unit-in-Run : goal.returns-in_ok-at_unit-in-Run
-returns-in_ok-at_unit-in-Run c =
+pub returns-in_ok-at_unit-in-Run-clause-outcome : goal.returns-in_ok-at_unit-in-Run-clause-outcome
+returns-in_ok-at_unit-in-Run-clause-outcome c =
     let p = program_of c.args.core.now in
     let k = c.args.number in
     let s = scope_of c.args.scope.now in
@@ -68,5 +68,5 @@ returns-in_ok-at_unit-in-Run c =
     let new = c.fit_block.new.table.items in
     let u = c.in_ok-at_unit-in-Run.at_unit in
     IfOk-weaker c.body_fault.result (λ o. IsBodyFault c.mode_of-in-Run.result s.start_place s.atoms s.start_effect u o) (λ o. StartsTo p k s [] new o)
-    (λ o r. starts_by_block p k s (block_of c.in-Run.block) old new u c.mode_of-in-Run.result o (ap start_of c.in-Run.is) c.requires.empty c.mode_of-in-Run.ensures c.in_ok-at_unit-in-Run.ensures r)
+    (λ o r. starts_by_block p k s (block_of c.in-Run.block) old new u c.mode_of-in-Run.result o (ap start_of c.in-Run.is) c.requires.empty c.mode_of-in-Run.ensures c.in_ok-at_unit-in-Run.ensures.outcome r)
     c.body_fault.ensures
