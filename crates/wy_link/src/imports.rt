@@ -4,7 +4,9 @@ ghost use Rattle.std.specs.Prelude.{◌≡◌, ◌↔◌, IfOk, true, length};
 ghost use Rattle.wy_types.specs.Program.{program_of, scope_of};
 ghost use Rattle.wy_types.specs.Fitting.{FitsType};
 ghost use Rattle.wy_rules.specs.Acceptance.{handed_to, IsPlainArgument, NumbersAgree, PlainHolds};
+ghost use Rattle.wy_subtype.specs.declared.verdict.Mode.{Mode};
 ghost use Rattle.wy_judge.specs.Tables.{IsScopeOf};
+ghost use Rattle.wy_judge.specs.Targets.{about_in};
 ghost use Rattle.wy_link.specs.Tried.{handed_pair, OfEach, AreWritten, OrLacks, FirstLack, missing_atom, Bounded, Exceeds, Safe, Unsafe, BoundComesTo};
 
 use crate::members::{argument_type, parameters_of};
@@ -14,8 +16,7 @@ use wy_bounds::safety::{Safety, ho_safe};
 use wy_effects::atom::Atom;
 use wy_effects::set::EffSet;
 use wy_judge::faults::least_missing;
-use wy_judge::targets::is_below;
-use wy_subtype::verdict::Mode;
+use wy_subtype::pair_table::PairTable;
 use wy_text::text::Memory;
 use wy_types::reading::erase;
 use wy_types::resolved::{Core, OwnName, Scope};
@@ -114,38 +115,40 @@ fn first_unsafety(
 /// Whether the argument's type is a subtype of the parameter's without effects.
 fn is_plain_argument(
     alloc: Global,
-    core: &Core,
-    number: u16,
     scope: &Scope,
+    pairs: &mut PairTable<'_>,
     parameter: &OwnName,
     argument: u32,
 ) -> Result<bool, Memory>
-    requires context { IsScopeOf (program_of core.now) number (scope_of scope.now) }
-    requires written { FitsType (program_of core.now) 512 0 parameter.now.typ }
-    ensures { IfOk result (λ b. (b ≡ true) ↔ IsPlainArgument (program_of core.now) number scope.now.names (handed_pair parameter.now argument)) }
+    requires context { IsScopeOf pairs.old.about.program pairs.old.about.scope (scope_of scope.now) }
+    requires mode { pairs.old.about.mode ≡ Mode.Plain }
+    requires written { FitsType pairs.old.about.program 512 0 parameter.now.typ }
+    ensures outcome { IfOk result (λ b. (b ≡ true) ↔ IsPlainArgument pairs.old.about.program pairs.old.about.scope scope.now.names (handed_pair parameter.now argument)) }
+    ensures same { pairs.new.about ≡ pairs.old.about }
 {
     let typ = argument_type(alloc, scope.names.as_slice(), argument)?;
     let left = erase(alloc, &typ)?;
     let right = erase(alloc, &parameter.typ)?;
-    is_below(alloc, core, number, Mode::Plain, &left, &right)
+    pairs.holds(&left, &right)
 }
 
 /// Whether each argument's type is a subtype of its parameter's without effects.
 fn all_are_plain(
     alloc: Global,
-    core: &Core,
-    number: u16,
     scope: &Scope,
+    pairs: &mut PairTable<'_>,
     parameters: &[OwnName],
     arguments: &[u32],
 ) -> Result<bool, Memory>
-    requires context { IsScopeOf (program_of core.now) number (scope_of scope.now) }
-    requires written { AreWritten (program_of core.now) parameters.now }
+    requires context { IsScopeOf pairs.old.about.program pairs.old.about.scope (scope_of scope.now) }
+    requires mode { pairs.old.about.mode ≡ Mode.Plain }
+    requires written { AreWritten pairs.old.about.program parameters.now }
     requires numbers { length arguments.now ≡ length parameters.now }
-    ensures { IfOk result (λ b. (b ≡ true) ↔ OfEach (IsPlainArgument (program_of core.now) number scope.now.names) (handed_to parameters.now arguments.now)) }
+    ensures outcome { IfOk result (λ b. (b ≡ true) ↔ OfEach (IsPlainArgument pairs.old.about.program pairs.old.about.scope scope.now.names) (handed_to parameters.now arguments.now)) }
+    ensures same { pairs.new.about ≡ pairs.old.about }
 {
     for (i, parameter) in parameters.iter().enumerate() {
-        if !is_plain_argument(alloc, core, number, scope, parameter, arguments[i])? {
+        if !is_plain_argument(alloc, scope, pairs, parameter, arguments[i])? {
             return Ok(false);
         }
     }
@@ -159,14 +162,17 @@ pub fn bound_misfit(
     core: &Core,
     number: u16,
     scope: &Scope,
+    pairs: &mut PairTable<'_>,
     target: u16,
     arguments: &[u32],
     bound: &EffSet,
 ) -> Result<Option<Misfit>, Memory>
     requires context { IsScopeOf (program_of core.now) number (scope_of scope.now) }
+    requires pairs { pairs.old.about ≡ about_in (program_of core.now) number Mode.Plain }
     requires numbers { NumbersAgree (program_of core.now) number scope.now.names target arguments.now }
     requires holds { PlainHolds (program_of core.now) number scope.now.names target }
-    ensures { IfOk result (λ o. BoundComesTo (program_of core.now) number scope.now.names target arguments.now bound.now o) }
+    ensures outcome { IfOk result (λ o. BoundComesTo (program_of core.now) number scope.now.names target arguments.now bound.now o) }
+    ensures same { pairs.new.about ≡ pairs.old.about }
 {
     let above = first_excess(alloc, core, number, scope, bound, arguments)?;
     if above.is_some() {
@@ -183,7 +189,7 @@ pub fn bound_misfit(
         }));
     }
     let parameters = parameters_of(core, target);
-    if !all_are_plain(alloc, core, number, scope, parameters, arguments)? {
+    if !all_are_plain(alloc, scope, pairs, parameters, arguments)? {
         return Ok(Some(Misfit {
             premise: 3,
             missing: None,

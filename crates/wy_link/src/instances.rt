@@ -5,14 +5,15 @@ ghost use Rattle.wy_effects.specs.EffSet.{AreSets};
 ghost use Rattle.wy_types.specs.Program.{program_of, scope_of};
 ghost use Rattle.wy_types.specs.Fitting.{FitsType};
 ghost use Rattle.wy_rules.specs.Acceptance.{handed_to, IsOfKind, IsArgument};
+ghost use Rattle.wy_subtype.specs.declared.verdict.Mode.{Mode};
 ghost use Rattle.wy_judge.specs.Tables.{IsScopeOf};
+ghost use Rattle.wy_judge.specs.Targets.{about_in};
 ghost use Rattle.wy_link.specs.Tried.{handed_pair, OfEach, AreWritten, HasAll, HasOpened, OrFails, Agrees, Disagrees, InstanceComesTo};
 
 use crate::members::{argument_type, arguments_sets, member_set, names_of, opened, parameters_of};
 use std::alloc::Global;
 use wy_effects::set::EffSet;
-use wy_judge::targets::is_below;
-use wy_subtype::verdict::Mode;
+use wy_subtype::pair_table::PairTable;
 use wy_text::text::{Memory, Text};
 use wy_types::reading::substitute;
 use wy_types::resolved::{Core, OwnName, Scope, ScopeKind};
@@ -99,41 +100,43 @@ fn all_have_opened(
 /// Whether the argument's type is a subtype of the parameter's, with the sets put in.
 fn is_argument(
     alloc: Global,
-    core: &Core,
-    number: u16,
     scope: &Scope,
+    pairs: &mut PairTable<'_>,
     sets: &[EffSet],
     parameter: &OwnName,
     argument: u32,
 ) -> Result<bool, Memory>
-    requires context { IsScopeOf (program_of core.now) number (scope_of scope.now) }
-    requires written { FitsType (program_of core.now) 512 0 parameter.now.typ }
+    requires context { IsScopeOf pairs.old.about.program pairs.old.about.scope (scope_of scope.now) }
+    requires mode { pairs.old.about.mode ≡ Mode.Annotated }
+    requires written { FitsType pairs.old.about.program 512 0 parameter.now.typ }
     requires sets { AreSets 512 sets.now }
-    ensures { IfOk result (λ b. (b ≡ true) ↔ IsArgument (program_of core.now) number scope.now.names sets.now (handed_pair parameter.now argument)) }
+    ensures outcome { IfOk result (λ b. (b ≡ true) ↔ IsArgument pairs.old.about.program pairs.old.about.scope scope.now.names sets.now (handed_pair parameter.now argument)) }
+    ensures same { pairs.new.about ≡ pairs.old.about }
 {
     let typ = argument_type(alloc, scope.names.as_slice(), argument)?;
     let expected = substitute(alloc, &parameter.typ, sets)?;
-    is_below(alloc, core, number, Mode::Annotated, &typ, &expected)
+    pairs.holds(&typ, &expected)
 }
 
 /// Whether each argument's type is a subtype of its parameter's, with the sets put in.
 fn all_are_arguments(
     alloc: Global,
-    core: &Core,
-    number: u16,
     scope: &Scope,
+    pairs: &mut PairTable<'_>,
     sets: &[EffSet],
     parameters: &[OwnName],
     arguments: &[u32],
 ) -> Result<bool, Memory>
-    requires context { IsScopeOf (program_of core.now) number (scope_of scope.now) }
-    requires written { AreWritten (program_of core.now) parameters.now }
+    requires context { IsScopeOf pairs.old.about.program pairs.old.about.scope (scope_of scope.now) }
+    requires mode { pairs.old.about.mode ≡ Mode.Annotated }
+    requires written { AreWritten pairs.old.about.program parameters.now }
     requires sets { AreSets 512 sets.now }
     requires numbers { length arguments.now ≡ length parameters.now }
-    ensures { IfOk result (λ b. (b ≡ true) ↔ OfEach (IsArgument (program_of core.now) number scope.now.names sets.now) (handed_to parameters.now arguments.now)) }
+    ensures outcome { IfOk result (λ b. (b ≡ true) ↔ OfEach (IsArgument pairs.old.about.program pairs.old.about.scope scope.now.names sets.now) (handed_to parameters.now arguments.now)) }
+    ensures same { pairs.new.about ≡ pairs.old.about }
 {
     for (i, parameter) in parameters.iter().enumerate() {
-        if !is_argument(alloc, core, number, scope, sets, parameter, arguments[i])? {
+        if !is_argument(alloc, scope, pairs, sets, parameter, arguments[i])? {
             return Ok(false);
         }
     }
@@ -144,13 +147,15 @@ fn all_are_arguments(
 pub fn instance_premise(
     alloc: Global,
     core: &Core,
-    number: u16,
     scope: &Scope,
+    pairs: &mut PairTable<'_>,
     target: u16,
     arguments: &[u32],
 ) -> Result<Option<u8>, Memory>
-    requires context { IsScopeOf (program_of core.now) number (scope_of scope.now) }
-    ensures { IfOk result (λ o. InstanceComesTo (program_of core.now) number scope.now.names target arguments.now o) }
+    requires context { IsScopeOf (program_of core.now) pairs.old.about.scope (scope_of scope.now) }
+    requires pairs { pairs.old.about ≡ about_in (program_of core.now) pairs.old.about.scope Mode.Annotated }
+    ensures outcome { IfOk result (λ o. InstanceComesTo (program_of core.now) pairs.old.about.scope scope.now.names target arguments.now o) }
+    ensures same { pairs.new.about ≡ pairs.old.about }
 {
     let start = disagreement(core, ScopeKind::Resource, target, arguments);
     if start.is_some() {
@@ -162,15 +167,7 @@ pub fn instance_premise(
         return Ok(Some(3));
     }
     let sets = arguments_sets(alloc, core, outer, names_of(core, target), arguments)?;
-    let below = all_are_arguments(
-        alloc,
-        core,
-        number,
-        scope,
-        sets.as_slice(),
-        parameters,
-        arguments,
-    )?;
+    let below = all_are_arguments(alloc, scope, pairs, sets.as_slice(), parameters, arguments)?;
     if !below {
         return Ok(Some(4));
     }

@@ -6,6 +6,7 @@ ghost use Rattle.wy_types.specs.Core.{IsCore};
 ghost use Rattle.wy_rules.specs.Refusals.{plain_modules, scopes_of};
 ghost use Rattle.wy_rules.specs.Ends.{AllGoOn};
 ghost use Rattle.wy_judge.specs.Tables.{IsScopeOf};
+ghost use Rattle.wy_judge.specs.Targets.{about_in};
 ghost use Rattle.wy_link.specs.Tried.{missing_atom};
 ghost use Rattle.wy_link.specs.Lines.{missing_name, bound_fault, UseTo, InstanceTo, ImportTo, NameComesTo, ScopeComesTo, LinesComeTo};
 
@@ -16,6 +17,8 @@ use wy_effects::atom::{Atom, AtomTable};
 use wy_effects::set::EffSet;
 use wy_judge::combining::fault_at;
 use wy_judge::faults::atom_name;
+use wy_subtype::pair_table::PairTable;
+use wy_subtype::verdict::Mode;
 use wy_text::fault::{AtomName, Fault, Place, RuleName};
 use wy_text::text::Memory;
 use wy_types::resolved::{Core, Origin, OwnName, Scope, ScopeKind};
@@ -62,16 +65,18 @@ fn use_fault(core: &Core, name: &OwnName, target: u16) -> Option<Fault>
 fn instance_fault(
     alloc: Global,
     core: &Core,
-    number: u16,
     scope: &Scope,
+    annotated: &mut PairTable<'_>,
     name: &OwnName,
     target: u16,
     arguments: &[u32],
 ) -> Result<Option<Fault>, Memory>
-    requires context { IsScopeOf (program_of core.now) number (scope_of scope.now) }
-    ensures { IfOk result (λ o. InstanceTo (program_of core.now) number (scope_of scope.now) name.now target arguments.now o) }
+    requires context { IsScopeOf (program_of core.now) annotated.old.about.scope (scope_of scope.now) }
+    requires pairs { annotated.old.about ≡ about_in (program_of core.now) annotated.old.about.scope Mode.Annotated }
+    ensures outcome { IfOk result (λ o. InstanceTo (program_of core.now) annotated.old.about.scope (scope_of scope.now) name.now target arguments.now o) }
+    ensures same { annotated.new.about ≡ annotated.old.about }
 {
-    match instance_premise(alloc, core, number, scope, target, arguments)? {
+    match instance_premise(alloc, core, scope, annotated, target, arguments)? {
         None => Ok(None),
         Some(premise) => Ok(Some(fault_at(name.place, RuleName::MInst, premise))),
     }
@@ -83,19 +88,22 @@ fn import_fault(
     core: &Core,
     number: u16,
     scope: &Scope,
+    plain: &mut PairTable<'_>,
     name: &OwnName,
     target: u16,
     arguments: &[u32],
     bound: &EffSet,
 ) -> Result<Option<Fault>, Memory>
     requires context { IsScopeOf (program_of core.now) number (scope_of scope.now) }
+    requires pairs { plain.old.about ≡ about_in (program_of core.now) number Mode.Plain }
     requires plain { AllGoOn (program_of core.now) (scopes_of plain_modules 0 (program_of core.now).scopes) }
-    ensures { IfOk result (λ o. ImportTo (program_of core.now) number (scope_of scope.now) name.now target arguments.now bound.now o) }
+    ensures outcome { IfOk result (λ o. ImportTo (program_of core.now) number (scope_of scope.now) name.now target arguments.now bound.now o) }
+    ensures same { plain.new.about ≡ plain.old.about }
 {
     if let Some(premise) = disagreement(core, ScopeKind::Plain, target, arguments) {
         return Ok(Some(fault_at(name.place, RuleName::MImport, premise)));
     }
-    match bound_misfit(alloc, core, number, scope, target, arguments, bound)? {
+    match bound_misfit(alloc, core, number, scope, plain, target, arguments, bound)? {
         None => Ok(None),
         Some(misfit) => Ok(Some(bound_fault(name.place, &scope.atoms, misfit)?)),
     }
@@ -107,11 +115,17 @@ fn name_fault(
     core: &Core,
     number: u16,
     scope: &Scope,
+    annotated: &mut PairTable<'_>,
+    plain: &mut PairTable<'_>,
     name: &OwnName,
 ) -> Result<Option<Fault>, Memory>
     requires context { IsScopeOf (program_of core.now) number (scope_of scope.now) }
+    requires annotated_pairs { annotated.old.about ≡ about_in (program_of core.now) number Mode.Annotated }
+    requires plain_pairs { plain.old.about ≡ about_in (program_of core.now) number Mode.Plain }
     requires plain { AllGoOn (program_of core.now) (scopes_of plain_modules 0 (program_of core.now).scopes) }
-    ensures { IfOk result (λ o. NameComesTo (program_of core.now) number (scope_of scope.now) name.now o) }
+    ensures outcome { IfOk result (λ o. NameComesTo (program_of core.now) number (scope_of scope.now) name.now o) }
+    ensures same_annotated { annotated.new.about ≡ annotated.old.about }
+    ensures same_plain { plain.new.about ≡ plain.old.about }
 {
     match &name.origin {
         Origin::Parameter { .. } | Origin::Grant => Ok(None),
@@ -119,8 +133,8 @@ fn name_fault(
         Origin::Instance { module, arguments } => instance_fault(
             alloc,
             core,
-            number,
             scope,
+            annotated,
             name,
             *module,
             arguments.as_slice(),
@@ -134,6 +148,7 @@ fn name_fault(
             core,
             number,
             scope,
+            plain,
             name,
             *module,
             arguments.as_slice(),
@@ -145,7 +160,8 @@ fn name_fault(
 // ----------------------------------------------------------------------------
 // Scopes and programs
 
-/// The first fault of a scope's lines.
+/// The first fault of a scope's lines. M-Inst asks annotated subtyping, and I-Import plain subtyping: each pair of types
+/// is unfolded once in the scope and in each of the two.
 fn scope_fault(
     alloc: Global,
     core: &Core,
@@ -156,9 +172,11 @@ fn scope_fault(
     requires plain { AllGoOn (program_of core.now) (scopes_of plain_modules 0 (program_of core.now).scopes) }
     ensures { IfOk result (λ o. ScopeComesTo (program_of core.now) number (scope_of scope.now) o) }
 {
+    let mut annotated = PairTable::new(alloc, core, number, Mode::Annotated);
+    let mut plain = PairTable::new(alloc, core, number, Mode::Plain);
     let names = scope.names.as_slice();
     for name in names {
-        let next = name_fault(alloc, core, number, scope, name)?;
+        let next = name_fault(alloc, core, number, scope, &mut annotated, &mut plain, name)?;
         if next.is_some() {
             return Ok(next);
         }

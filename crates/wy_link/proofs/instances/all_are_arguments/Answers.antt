@@ -1,35 +1,54 @@
-use Rattle.std.proofs.Common.{get_or}
+use Rattle.std.proofs.Common.{◌≡◌, ◌↔◌, get_or, sym, ap, subst, ◌∙◌, true}
 use Rattle.wy_effects.proofs.Lists.{In-read}
-use Rattle.wy_types.specs.Program.{program_of}
+use Rattle.wy_types.specs.Program.{scope_of}
+use Rattle.wy_types.specs.Fitting.{FitsType}
 use Rattle.wy_rules.specs.Acceptance.{handed_to, IsArgument}
+use Rattle.wy_subtype.specs.Decided.{About}
+use Rattle.wy_judge.specs.Tables.{IsScopeOf}
 use Rattle.wy_link.specs.Tried.{handed_pair, OfEach}
 use Rattle.wy_link.proofs.Trying.{handed_at, one_more, one_fails, told_false, false_tells, true_tells}
 use Rattle.wy_link.proofs.instances.all_are_arguments.Goals as goal
 
+pub is_argument-requires-clause-context : goal.is_argument-requires-clause-context
+is_argument-requires-clause-context c =
+    subst (λ (a : About). IsScopeOf a.program a.scope (scope_of c.args.scope.now)) (sym c.loop-i.invariant.same) c.requires.context
+
+pub is_argument-requires-clause-mode : goal.is_argument-requires-clause-mode
+is_argument-requires-clause-mode c = ap (λ (a : About). a.mode) c.loop-i.invariant.same ∙ c.requires.mode
+
 pub is_argument-requires-clause-written : goal.is_argument-requires-clause-written
 is_argument-requires-clause-written c =
-    c.requires.written c.index-parameters-i.result (In-read c.args.parameters.now c.loop-i.i c.index-parameters-i.result c.index-parameters-i.result c.loop-i-test.true c.index-parameters-i.is)
+    let n = c.index-parameters-i.result in
+    subst (λ (a : About). FitsType a.program 512 0 n.typ) (sym c.loop-i.invariant.same) (c.requires.written n (In-read c.args.parameters.now c.loop-i.i n n c.loop-i-test.true c.index-parameters-i.is))
 
-pub returns-then-not-branch : goal.returns-then-not-branch
-returns-then-not-branch c =
-    let Holds = IsArgument (program_of c.args.core.now) c.args.number c.args.scope.now.names c.args.sets.now in
+pub returns-then-not-branch-clause-outcome : goal.returns-then-not-branch-clause-outcome
+returns-then-not-branch-clause-outcome c =
+    let a = c.args.pairs.now.about in
+    let Holds = IsArgument a.program a.scope c.args.scope.now.names c.args.sets.now in
     let ns = c.args.parameters.now in
     let arguments = c.args.arguments.now in
     let i = c.loop-i.i in
     let n = c.index-parameters-i.result in
     let h = handed_pair n (get_or arguments i 0) in
+    let told = subst (λ (b : About). (c.in_ok-is_argument.field-0 ≡ true) ↔ IsArgument b.program b.scope c.args.scope.now.names c.args.sets.now h) c.loop-i.invariant.same c.in_ok-is_argument.ensures.outcome in
     let W = OfEach Holds (handed_to ns arguments) in
     told_false W (one_fails Holds W _ _ h (handed_at ns arguments i n c.loop-i-test.true c.requires.numbers c.index-parameters-i.is)
-    (false_tells (Holds h) c.in_ok-is_argument.field-0 c.in_ok-is_argument.ensures c.if-not-branch.true) c.loop-i.invariant)
+    (false_tells (Holds h) c.in_ok-is_argument.field-0 told c.if-not-branch.true) c.loop-i.invariant.tried)
 
 pub loop-i-preserved : goal.loop-i-preserved
 loop-i-preserved c =
-    let Holds = IsArgument (program_of c.args.core.now) c.args.number c.args.scope.now.names c.args.sets.now in
+    let a = c.args.pairs.now.about in
+    let Holds = IsArgument a.program a.scope c.args.scope.now.names c.args.sets.now in
     let ns = c.args.parameters.now in
     let arguments = c.args.arguments.now in
     let i = c.loop-i.i in
     let n = c.index-parameters-i.result in
     let h = handed_pair n (get_or arguments i 0) in
+    let told = subst (λ (b : About). (c.in_ok-is_argument.field-0 ≡ true) ↔ IsArgument b.program b.scope c.args.scope.now.names c.args.sets.now h) c.loop-i.invariant.same c.in_ok-is_argument.ensures.outcome in
     let W = OfEach Holds (handed_to ns arguments) in
-    one_more Holds W _ _ h (handed_at ns arguments i n c.loop-i-test.true c.requires.numbers c.index-parameters-i.is)
-    (true_tells (Holds h) c.in_ok-is_argument.field-0 c.in_ok-is_argument.ensures c.if-not-branch.false) c.loop-i.invariant
+    record {
+      tried =
+          one_more Holds W _ _ h (handed_at ns arguments i n c.loop-i-test.true c.requires.numbers c.index-parameters-i.is)
+          (true_tells (Holds h) c.in_ok-is_argument.field-0 told c.if-not-branch.false) c.loop-i.invariant.tried;
+      same = c.is_argument.ensures.same ∙ c.loop-i.invariant.same;
+    }

@@ -1,17 +1,20 @@
-use Rattle.std.proofs.Common.{◌≡◌, false, sym, subst}
+use Rattle.std.proofs.Common.{◌≡◌, ◌↔◌, false, true, sym, ap, subst}
 use Rattle.std.specs.Option.{is_some}
 use Rattle.wy_effects.specs.EffSet.{AreSets}
 use Rattle.wy_types.specs.declared.resolved.ScopeKind.TheVariants.{Resource}
 use Rattle.wy_types.specs.Program.{program_of, scope_of}
-use Rattle.wy_link.specs.Tried.{AreWritten, Agrees, Disagrees}
+use Rattle.wy_rules.specs.Acceptance.{handed_to, IsArgument}
+use Rattle.wy_subtype.specs.Decided.{About}
+use Rattle.wy_judge.specs.Tables.{IsScopeOf}
+use Rattle.wy_link.specs.Tried.{OfEach, AreWritten, Agrees, Disagrees}
 use Rattle.wy_link.proofs.Premises.{agreed, members_as, types_as, lacks_members, other_types, instance_holds, sets_as}
 use Rattle.wy_link.proofs.Ranges.{parameters_written, arguments_are_sets}
 use Rattle.wy_link.proofs.instances.instance_premise.Goals as goal
 
-pub returns-then-not-branch : goal.returns-then-not-branch
-returns-then-not-branch c =
+pub returns-then-not-branch-clause-outcome : goal.returns-then-not-branch-clause-outcome
+returns-then-not-branch-clause-outcome c =
     let p = program_of c.args.core.now in
-    let k = c.args.number in
+    let k = c.args.pairs.now.about.scope in
     let names = c.args.scope.now.names in
     let m = c.args.target in
     let arguments = c.args.arguments.now in
@@ -21,46 +24,55 @@ returns-then-not-branch c =
     (members_as p k names m arguments c.parameters_of-parameters.result.now c.as_slice-outer.result.now c.in_ok-all_have_opened.field-0 c.parameters_of-parameters.ensures c.as_slice-outer.ensures c.in_ok-all_have_opened.ensures)
     c.if-not-branch.true
 
+pub all_are_arguments-requires-clause-context : goal.all_are_arguments-requires-clause-context
+all_are_arguments-requires-clause-context c = subst (λ (a : About). IsScopeOf a.program c.args.pairs.now.about.scope (scope_of c.args.scope.now)) (sym c.requires.pairs) c.requires.context
+
+pub all_are_arguments-requires-clause-mode : goal.all_are_arguments-requires-clause-mode
+all_are_arguments-requires-clause-mode c = ap (λ (a : About). a.mode) c.requires.pairs
+
 pub all_are_arguments-requires-clause-written : goal.all_are_arguments-requires-clause-written
 all_are_arguments-requires-clause-written c =
     let p = program_of c.args.core.now in
-    subst (AreWritten p) (sym c.parameters_of-parameters.ensures) (parameters_written p c.requires.context.core c.args.target)
+    let written = subst (AreWritten p) (sym c.parameters_of-parameters.ensures) (parameters_written p c.requires.context.core c.args.target) in
+    subst (λ (a : About). AreWritten a.program c.parameters_of-parameters.result.now) (sym c.requires.pairs) written
 
 pub all_are_arguments-requires-clause-sets : goal.all_are_arguments-requires-clause-sets
 all_are_arguments-requires-clause-sets c =
     let p = program_of c.args.core.now in
     let names = c.args.scope.now.names in
-    let same = sets_as p c.args.number names c.args.target c.args.arguments.now c.names_of.result.now c.as_slice-outer.result.now c.in_ok-sets.sets c.as_slice.result.now c.names_of.ensures c.as_slice-outer.ensures c.in_ok-sets.ensures c.as_slice.ensures in
-    subst (AreSets 512) (sym same) (arguments_are_sets p c.args.number (scope_of c.args.scope.now) c.requires.context _ c.args.arguments.now)
+    let same = sets_as p c.args.pairs.now.about.scope names c.args.target c.args.arguments.now c.names_of.result.now c.as_slice-outer.result.now c.in_ok-sets.sets c.as_slice.result.now c.names_of.ensures c.as_slice-outer.ensures c.in_ok-sets.ensures c.as_slice.ensures in
+    subst (AreSets 512) (sym same) (arguments_are_sets p c.args.pairs.now.about.scope (scope_of c.args.scope.now) c.requires.context _ c.args.arguments.now)
 
-pub returns-then-not-below : goal.returns-then-not-below
-returns-then-not-below c =
+pub returns-then-not-below-clause-outcome : goal.returns-then-not-below-clause-outcome
+returns-then-not-below-clause-outcome c =
     let p = program_of c.args.core.now in
-    let k = c.args.number in
+    let k = c.args.pairs.now.about.scope in
     let names = c.args.scope.now.names in
     let m = c.args.target in
     let arguments = c.args.arguments.now in
     let open_start : is_some c.disagreement-start.result ≡ false = cc in
     let start = agreed (Agrees p Resource m arguments) (Disagrees p Resource m arguments) c.disagreement-start.result c.disagreement-start.ensures open_start in
     let same = sets_as p k names m arguments c.names_of.result.now c.as_slice-outer.result.now c.in_ok-sets.sets c.as_slice.result.now c.names_of.ensures c.as_slice-outer.ensures c.in_ok-sets.ensures c.as_slice.ensures in
+    let below = subst (λ (a : About). (c.in_ok-below.below ≡ true) ↔ OfEach (IsArgument a.program a.scope names c.as_slice.result.now) (handed_to c.parameters_of-parameters.result.now arguments)) c.requires.pairs c.in_ok-below.ensures.outcome in
     other_types p k names m arguments c.in_ok-all_have_opened.field-0 c.in_ok-below.below start
     (members_as p k names m arguments c.parameters_of-parameters.result.now c.as_slice-outer.result.now c.in_ok-all_have_opened.field-0 c.parameters_of-parameters.ensures c.as_slice-outer.ensures c.in_ok-all_have_opened.ensures)
     c.if-not-branch.false
-    (types_as p k names m arguments c.parameters_of-parameters.result.now c.as_slice.result.now c.in_ok-below.below c.parameters_of-parameters.ensures same c.in_ok-below.ensures)
+    (types_as p k names m arguments c.parameters_of-parameters.result.now c.as_slice.result.now c.in_ok-below.below c.parameters_of-parameters.ensures same below)
     c.if-not-below.true
 
-pub returns : goal.returns
-returns c =
+pub returns-clause-outcome : goal.returns-clause-outcome
+returns-clause-outcome c =
     let p = program_of c.args.core.now in
-    let k = c.args.number in
+    let k = c.args.pairs.now.about.scope in
     let names = c.args.scope.now.names in
     let m = c.args.target in
     let arguments = c.args.arguments.now in
     let open_start : is_some c.disagreement-start.result ≡ false = cc in
     let start = agreed (Agrees p Resource m arguments) (Disagrees p Resource m arguments) c.disagreement-start.result c.disagreement-start.ensures open_start in
     let same = sets_as p k names m arguments c.names_of.result.now c.as_slice-outer.result.now c.in_ok-sets.sets c.as_slice.result.now c.names_of.ensures c.as_slice-outer.ensures c.in_ok-sets.ensures c.as_slice.ensures in
+    let below = subst (λ (a : About). (c.in_ok-below.below ≡ true) ↔ OfEach (IsArgument a.program a.scope names c.as_slice.result.now) (handed_to c.parameters_of-parameters.result.now arguments)) c.requires.pairs c.in_ok-below.ensures.outcome in
     instance_holds p k names m arguments c.in_ok-all_have_opened.field-0 c.in_ok-below.below start
     (members_as p k names m arguments c.parameters_of-parameters.result.now c.as_slice-outer.result.now c.in_ok-all_have_opened.field-0 c.parameters_of-parameters.ensures c.as_slice-outer.ensures c.in_ok-all_have_opened.ensures)
     c.if-not-branch.false
-    (types_as p k names m arguments c.parameters_of-parameters.result.now c.as_slice.result.now c.in_ok-below.below c.parameters_of-parameters.ensures same c.in_ok-below.ensures)
+    (types_as p k names m arguments c.parameters_of-parameters.result.now c.as_slice.result.now c.in_ok-below.below c.parameters_of-parameters.ensures same below)
     c.if-not-below.false

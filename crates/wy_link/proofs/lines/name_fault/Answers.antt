@@ -5,8 +5,8 @@ use Rattle.wy_rules.specs.Nodes.{line_nodes}
 use Rattle.wy_link.specs.Lines.{NodesComeTo}
 use Rattle.wy_link.proofs.lines.name_fault.Goals as goal
 
-pub returns-in-Use : goal.returns-in-Use
-returns-in-Use c =
+pub returns-in-Use-clause-outcome : goal.returns-in-Use-clause-outcome
+returns-in-Use-clause-outcome c =
     let p = program_of c.args.core.now in
     let k = c.args.number in
     let s = scope_of c.args.scope.now in
