@@ -1,8 +1,12 @@
 #!/usr/bin/env python3
 """Writes a program whose one module asks the same question of subtyping at each of many calls.
 
-asked_again.py TYPES CALLS: two rings of so many types, and so many calls that hand an object of the first type of one
-ring where the first of the other is expected. Each question unfolds as many pairs as a ring has types."""
+    python3 bench/asked_again.py 500 30000 > /tmp/asked.wy
+    time wyvern check /tmp/asked.wy
+
+The numbers are those of the types in each of two rings, and of the calls, which hand an object of the first type of one ring where the
+first of the other is expected. The first question unfolds as many pairs as a ring has types, and the others none.
+"""
 
 import sys
 
