@@ -1,6 +1,7 @@
 -- The definitions of specs/, tried on examples.
-use Rattle.std.proofs.Common.{codes, ◌≡◌, [], ◌∷◌, ◌++◌, replicate, refl, arith, true, false}
+use Rattle.std.proofs.Common.{codes, ◌≡◌, [], ◌∷◌, ◌++◌, replicate, refl, arith, true, false, Some, None}
 use Rattle.wy_lanes.specs.Classes.{is_word, mask_of, masks_of}
+use Rattle.wy_lanes.specs.Numbers.{first_from, numbers_of, union_numbers, with_number, without_numbers}
 use Rattle.wy_lanes.specs.Words.{AllInside, has_bit, row_of, union_of}
 
 -- ---- words
@@ -55,3 +56,35 @@ ends_of_words = refl
 
 last_bit : mask_of is_word (replicate 63 32 ++ codes "z") ≡ 0x8000_0000_0000_0000
 last_bit = refl
+
+-- ---- numbers
+
+no_numbers : numbers_of (replicate 8 0) ≡ []
+unfolding numbers_of
+no_numbers = refl
+
+-- 0, 63, 64 and 127, and the last number of eight words
+ends_of_each_word : numbers_of (0x8000_0000_0000_0001 ∷ 0x8000_0000_0000_0001 ∷ 0 ∷ 0 ∷ 0 ∷ 0 ∷ 0 ∷ 0x8000_0000_0000_0000 ∷ []) ≡ 0 ∷ 63 ∷ 64 ∷ 127 ∷ 511 ∷ []
+unfolding numbers_of
+ends_of_each_word = refl
+
+put_between : with_number 5 (3 ∷ 7 ∷ []) ≡ 3 ∷ 5 ∷ 7 ∷ []
+put_between = refl
+
+put_again : with_number 7 (3 ∷ 7 ∷ []) ≡ 3 ∷ 7 ∷ []
+put_again = refl
+
+either_list : union_numbers (1 ∷ 4 ∷ 9 ∷ []) (0 ∷ 4 ∷ 8 ∷ []) ≡ 0 ∷ 1 ∷ 4 ∷ 8 ∷ 9 ∷ []
+either_list = refl
+
+left_over : without_numbers (1 ∷ 4 ∷ 9 ∷ []) (0 ∷ 4 ∷ 8 ∷ []) ≡ 1 ∷ 9 ∷ []
+left_over = refl
+
+first_at_four : first_from 4 (1 ∷ 4 ∷ 9 ∷ []) ≡ Some 4
+first_at_four = refl
+
+first_past_four : first_from 5 (1 ∷ 4 ∷ 9 ∷ []) ≡ Some 9
+first_past_four = refl
+
+none_past_nine : first_from 10 (1 ∷ 4 ∷ 9 ∷ []) ≡ None
+none_past_nine = refl

@@ -2,3 +2,5 @@ pub mod Bits
 pub mod Blocks
 mod Examples
 pub mod Masks
+pub mod NumberLaws
+pub mod NumbersOf
