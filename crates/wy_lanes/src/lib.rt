@@ -2,6 +2,7 @@
 #![tactic(auto)]
 
 pub mod classes;
+pub mod number_set;
 #[cfg(test)]
 mod tests;
 pub mod words;
