@@ -25,6 +25,28 @@ impl Model for NumberSet {
     ghost view = { λ s. numbers_of s.words };
 }
 
+impl PartialEq for NumberSet {
+    ghost use Rattle.std.specs.Prelude.{◌==◌};
+    ghost use Rattle.std.specs.Cmp.Lexicographic.{pointwise};
+    ghost use Rattle.std.proofs.Common.{rules};
+    ghost use Rattle.std.specs.Cmp.Rules.{comparing};
+
+    ghost eq = { pointwise ◌==◌ };
+
+    ghost laws = { Prim.search (comparing, rules) };
+
+    fn eq(&self, other: &NumberSet) -> bool {
+        self.same(other)
+    }
+}
+
+impl Eq for NumberSet {
+    ghost use Rattle.std.proofs.Common.{rules};
+    ghost use Rattle.std.specs.Cmp.Rules.{comparing};
+
+    ghost laws = { Prim.search (comparing, rules) };
+}
+
 /// Whether each bit that is set in the inner words is set in the outer.
 #[inline(always)]
 fn has_all(outer: u64x8, inner: u64x8) -> bool
