@@ -1,4 +1,5 @@
 use crate::classes::class_masks;
+use crate::number_set::NumberSet;
 use crate::words::{any_outside, includes_words, union_words};
 use std::alloc::{AllocError, Global};
 use std::test::Fail;
@@ -150,5 +151,51 @@ fn each_byte_is_of_its_class(rt: HostRuntime) -> Result<(), Fail> {
     let mut masks = [u64::MAX; 4];
     class_masks(b"a_1 \"-\"\n\xc3\xa9", &mut masks);
     assert_eq!(rt; masks, [0x80, 0x08, 0x307, 0x50]);
+    Ok(())
+}
+
+/// The set of these numbers, each below 512.
+fn set_of(numbers: &[u16]) -> NumberSet {
+    let mut set = NumberSet::empty();
+    for number in numbers {
+        set.insert(*number % 512);
+    }
+    set
+}
+
+#[test]
+fn numbers_at_the_ends_of_words_are_found(rt: HostRuntime) -> Result<(), Fail> {
+    let set = set_of(&[511, 64, 0, 127, 63, 64]);
+    for number in [0, 63, 64, 127, 511] {
+        assert!(rt; set.has(number), "{number}");
+        assert_eq!(rt; set.next(number), Some(number), "{number}");
+    }
+    for number in [1, 62, 65, 126, 128, 510, 512, 575, u16::MAX] {
+        assert!(rt; !set.has(number), "{number}");
+    }
+    assert_eq!(rt; set.next(1), Some(63));
+    assert_eq!(rt; set.next(65), Some(127));
+    assert_eq!(rt; set.next(128), Some(511));
+    assert_eq!(rt; set.next(512), None);
+    assert_eq!(rt; set.next(u16::MAX), None);
+    assert_eq!(rt; set.len(), 5);
+    Ok(())
+}
+
+#[test]
+fn sets_are_united_subtracted_and_compared(rt: HostRuntime) -> Result<(), Fail> {
+    let left = set_of(&[0, 63, 64]);
+    let right = set_of(&[63, 127, 511]);
+    let mut both = left.copy();
+    both.unite(&right);
+    assert_eq!(rt; both, set_of(&[0, 63, 64, 127, 511]));
+    assert!(rt; both.includes(&left));
+    assert!(rt; both.includes(&right));
+    assert!(rt; !left.includes(&both));
+    assert_eq!(rt; left.without(&right), set_of(&[0, 64]));
+    assert_eq!(rt; right.without(&left), set_of(&[127, 511]));
+    assert_eq!(rt; both.without(&both), NumberSet::empty());
+    assert_eq!(rt; NumberSet::empty().next(0), None);
+    assert_eq!(rt; NumberSet::empty().len(), 0);
     Ok(())
 }
