@@ -37,10 +37,15 @@ use wy_engine::handing_in::devices;
 use wy_engine::status::Status;
 use wy_engine::top::wyvern;
 
-/// The words after the program's name; none where one of them is not text.
+/// The words after the program's name; none where one of them is not text. The error is want of memory.
 fn words(rt: &HostRuntime) -> io::Result<Vec<String>> {
     let mut words = Vec::new(rt.alloc());
-    for word in env::args(rt)?.skip(1) {
+    let all = match env::args(rt) {
+        Ok(all) => all,
+        Err(error) if error.kind() == io::ErrorKind::InvalidData => return Ok(words),
+        Err(error) => return Err(error),
+    };
+    for word in all.skip(1) {
         words.push(word)?;
     }
     Ok(words)
@@ -73,7 +78,9 @@ fn call(rt: HostRuntime, handed: Devices<Handed>) -> Status
 {
     let mut handed = handed;
     let alloc: Global = rt.alloc();
-    let words = words(&rt).unwrap_or(Vec::new(alloc));
+    let Ok(words) = words(&rt) else {
+        return Status::Memory;
+    };
     let mut out = Stream::new(rt.stdout());
     let mut report = Stream::new(rt.stderr());
     let mut shelf = RealFiles::new(alloc, rt);
