@@ -1,0 +1,10 @@
+pub mod Cuts
+pub mod Entries
+mod Examples
+pub mod JudgingLaws
+pub mod LineTurns
+pub mod NameBytes
+pub mod NameLaws
+pub mod PolicyLaws
+pub mod RowLaws
+pub mod SetLaws

@@ -1,0 +1,5 @@
+pub mod Allowed
+pub mod Judging
+pub mod Laws
+pub mod Policy
+pub mod Reading
