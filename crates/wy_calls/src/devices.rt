@@ -166,6 +166,18 @@ fn random_of(alloc: Global, row: &Row) -> Result<Handed, Fail>
     Ok(Handed::new(random))
 }
 
+/// The four devices of a row.
+fn devices_of(alloc: Global, row: &Row) -> Result<Devices<Handed>, Fail>
+    ensures { IfOk result (λ all. IsInOrder (states (⟦<Handed as Device>⟧.state) all)) }
+{
+    Ok(devices(
+        console_of(alloc, row)?,
+        folder_of(alloc, row)?,
+        clock_of(alloc, row)?,
+        random_of(alloc, row)?,
+    ))
+}
+
 fn copied(deed: &Deed) -> Result<Deed, Memory> {
     match &deed.answer {
         Some(answer) => Deed::done(&deed.grant, &deed.op, answer),
@@ -291,13 +303,7 @@ fn comes_over<D: Device>(alloc: Global, row: &Row, devices: Devices<D>) -> Resul
 
 /// Whether what the row says comes of its call.
 fn comes_so(alloc: Global, row: &Row) -> Result<bool, Fail> {
-    let all = devices(
-        console_of(alloc, row)?,
-        folder_of(alloc, row)?,
-        clock_of(alloc, row)?,
-        random_of(alloc, row)?,
-    );
-    comes_over(alloc, row, all)
+    comes_over(alloc, row, devices_of(alloc, row)?)
 }
 
 /// The number of the first row of which something else comes.
@@ -326,12 +332,7 @@ fn stops_over<D: Device>(alloc: Global, row: &Row, devices: &mut Devices<D>) -> 
 
 /// Whether the row's call has its status, and did and wrote the first of what the row says.
 pub fn stops_so(alloc: Global, row: &Row) -> Result<bool, Fail> {
-    let mut all = devices(
-        console_of(alloc, row)?,
-        folder_of(alloc, row)?,
-        clock_of(alloc, row)?,
-        random_of(alloc, row)?,
-    );
+    let mut all = devices_of(alloc, row)?;
     stops_over(alloc, row, &mut all)
 }
 
@@ -356,11 +357,6 @@ fn is_quiet_over<D: Device>(
 
 /// Whether the call of the row's words with these files ends well, or is refused and does nothing.
 pub fn is_quiet(alloc: Global, row: &Row, files: &[(&str, &[u8])]) -> Result<bool, Fail> {
-    let mut all = devices(
-        console_of(alloc, row)?,
-        folder_of(alloc, row)?,
-        clock_of(alloc, row)?,
-        random_of(alloc, row)?,
-    );
+    let mut all = devices_of(alloc, row)?;
     is_quiet_over(alloc, row, files, &mut all)
 }

@@ -79,7 +79,7 @@ fn the_program_may_be_laid_out_in_any_way(rt: HostRuntime) -> Result<(), Fail> {
     let alloc = rt.alloc();
     let text: &[u8] =
         b"// says hello\nprogram\n grant g:Console\n\n run:{ g.Out } // here\n   g . write ( \"hello\" )";
-    let mut all = devices_with!(alloc, Items::new(alloc));
+    let mut all = devices_with(alloc, Items::new(alloc))?;
     let mut out = MemSink::new(alloc, Items::new(alloc))?;
     let mut report = MemSink::new(alloc, Items::new(alloc))?;
     let files: [(&str, &[u8]); 1] = [("b.wy", text)];
@@ -103,7 +103,7 @@ fn the_program_may_be_laid_out_in_any_way(rt: HostRuntime) -> Result<(), Fail> {
 
 /// Whether `format`, where `out` has room for so many bytes, writes these first ones and ends so.
 fn is_cut(alloc: Global, room: usize, number: u8, line: &str) -> Result<bool, Fail> {
-    let mut all = devices_with!(alloc, failing_at(alloc, 1)?);
+    let mut all = devices_with(alloc, failing_at(alloc, 1)?)?;
     let mut out = Trickle {
         taken: Vec::new(alloc),
         room,

@@ -48,7 +48,7 @@ impl Sink for Trickle {
 #[test]
 fn a_write_that_fails_is_the_last_deed(rt: HostRuntime) -> Result<(), Fail> {
     let alloc = rt.alloc();
-    let mut all = devices_with!(alloc, failing_at(alloc, 3)?);
+    let mut all = devices_with(alloc, failing_at(alloc, 3)?)?;
     let mut report = MemSink::new(alloc, Items::new(alloc))?;
     let status = call(alloc, &["run", "b.wy"], FOUR_WRITES, &mut report, &mut all)?;
     assert_eq!(rt; status.number(), 9);
@@ -66,7 +66,7 @@ fn a_write_that_fails_is_the_last_deed(rt: HostRuntime) -> Result<(), Fail> {
 #[test]
 fn a_report_that_is_not_written_runs_nothing(rt: HostRuntime) -> Result<(), Fail> {
     let alloc = rt.alloc();
-    let mut all = devices_with!(alloc, Items::new(alloc));
+    let mut all = devices_with(alloc, Items::new(alloc))?;
     let mut report = MemSink::new(alloc, failing_at(alloc, 1)?)?;
     let status = call(alloc, &["run", "b.wy"], FOUR_WRITES, &mut report, &mut all)?;
     assert_eq!(rt; status.number(), 10);
@@ -77,7 +77,7 @@ fn a_report_that_is_not_written_runs_nothing(rt: HostRuntime) -> Result<(), Fail
 
 /// Whether a call of `run`, where the report has room for so many bytes, ends so after so many operations.
 fn is_cut(alloc: Global, room: usize, number: u8, deeds: usize) -> Result<bool, Fail> {
-    let mut all = devices_with!(alloc, Items::new(alloc));
+    let mut all = devices_with(alloc, Items::new(alloc))?;
     let mut report = Trickle {
         taken: Vec::new(alloc),
         room,

@@ -58,7 +58,7 @@ fn what_is_refused_does_nothing(rt: HostRuntime) -> Result<(), Fail> {
 #[test]
 fn an_accepted_program_does_its_write(rt: HostRuntime) -> Result<(), Fail> {
     let alloc = rt.alloc();
-    let mut all = devices_with!(alloc, Items::new(alloc));
+    let mut all = devices_with(alloc, Items::new(alloc))?;
     let mut report = MemSink::new(alloc, Items::new(alloc))?;
     let status = call(alloc, &["run", "b.wy"], HELLO, &mut report, &mut all)?;
     assert_eq!(rt; status, Status::Ended);

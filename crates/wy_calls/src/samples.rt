@@ -35,7 +35,7 @@ fn the_greatest_sample_is_run_though_its_summary_is_not_written(
     rt: HostRuntime,
 ) -> Result<(), Fail> {
     let alloc = rt.alloc();
-    let mut all = devices_with!(alloc, Items::new(alloc));
+    let mut all = devices_with(alloc, Items::new(alloc))?;
     let mut out = MemSink::new(alloc, failing_at(alloc, 1)?)?;
     let mut report = MemSink::new(alloc, Items::new(alloc))?;
     let status = call_with(

@@ -1,3 +1,4 @@
+ghost use Rattle.std.specs.Prelude.{◌≡◌, IfOk};
 ghost use Rattle.wy_device.specs.Devices.{IsInOrder};
 ghost use Rattle.wy_machine.specs.Devices.{states};
 
@@ -12,31 +13,41 @@ use wy_engine::handing_in::devices;
 use wy_engine::status::Status;
 use wy_engine::top::wyvern;
 use wy_machine::devices::Devices;
-use wy_text::list::Items;
+use wy_text::list::{CallList, Items};
 use wy_text::mem_shelf::MemShelf;
 use wy_text::mem_sink::MemSink;
 use wy_text::shelf::NamedText;
 use wy_text::sink::Sink;
 use wy_text::text::{Memory, from_bytes};
 
-/// The four devices of a test: a console in memory that fails at the listed calls, and three that are shut.
-macro_rules! devices_with {
-    ($alloc:expr, $fails:expr) => {{
-        let console = MemConsole::new($alloc, from_bytes($alloc, b"")?, $fails)?;
-        let console: Box<dyn Device> = Box::new($alloc, console)?;
-        let folder: Box<dyn Device> = Box::new($alloc, Shut::new(Kind::Folder))?;
-        let clock: Box<dyn Device> = Box::new($alloc, Shut::new(Kind::Clock))?;
-        let random: Box<dyn Device> = Box::new($alloc, Shut::new(Kind::Random))?;
-        devices(
-            Handed::new(console),
-            Handed::new(folder),
-            Handed::new(clock),
-            Handed::new(random),
-        )
-    }};
+/// A console in memory that fails at the listed calls.
+fn console_with(alloc: Global, fails: CallList) -> Result<Handed, Fail>
+    ensures { IfOk result (λ device. (⟦<Handed as Device>⟧.state device).kind ≡ Kind.Console) }
+{
+    let console = MemConsole::new(alloc, from_bytes(alloc, b"")?, fails)?;
+    let console: Box<dyn Device> = Box::new(alloc, console)?;
+    Ok(Handed::new(console))
 }
 
-pub(crate) use devices_with;
+/// A shut device.
+fn shut(alloc: Global, kind: Kind) -> Result<Handed, Fail>
+    ensures { IfOk result (λ device. (⟦<Handed as Device>⟧.state device).kind ≡ kind) }
+{
+    let device: Box<dyn Device> = Box::new(alloc, Shut::new(kind))?;
+    Ok(Handed::new(device))
+}
+
+/// The four devices of a test: a console in memory that fails at the listed calls, and three that are shut.
+pub fn devices_with(alloc: Global, fails: CallList) -> Result<Devices<Handed>, Fail>
+    ensures { IfOk result (λ all. IsInOrder (states (⟦<Handed as Device>⟧.state) all)) }
+{
+    Ok(devices(
+        console_with(alloc, fails)?,
+        shut(alloc, Kind::Folder)?,
+        shut(alloc, Kind::Clock)?,
+        shut(alloc, Kind::Random)?,
+    ))
+}
 
 /// A shelf with these files.
 fn shelf(alloc: Global, files: &[(&str, &[u8])]) -> Result<MemShelf, Memory> {
@@ -112,7 +123,7 @@ pub struct Outcome {
 
 /// Calls with these words and files, a console in memory, and other devices that are shut.
 pub fn outcome_of(alloc: Global, words: &[&str], files: &[(&str, &[u8])]) -> Result<Outcome, Fail> {
-    let mut all = devices_with!(alloc, Items::new(alloc));
+    let mut all = devices_with(alloc, Items::new(alloc))?;
     let mut out = MemSink::new(alloc, Items::new(alloc))?;
     let mut report = MemSink::new(alloc, Items::new(alloc))?;
     let status = call_with(alloc, words, files, &mut out, &mut report, &mut all)?;
