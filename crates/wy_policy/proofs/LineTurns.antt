@@ -11,9 +11,6 @@ use Rattle.wy_policy.proofs.Cuts.{cut_room}
 
 -- ---- a line, cut off
 
-joined : (c : ℕ) (b : ℕ) (front : List ℕ) → without_return (c ∷ b ∷ front) ≡ c ∷ without_return (b ∷ front)
-joined c b front = refl
-
 -- the content of the first line
 pub content_cut : (text : List ℕ) → content_of text ≡ content_in (cut 10 text).front (cut 10 text).behind
 content_cut [] = refl
@@ -57,9 +54,6 @@ content_cut (c ∷ b ∷ bs) = go (c == 10) (b == 10) refl (content_cut (b ∷ b
         goes false = ap (λ (z : List ℕ). c ∷ z) ih ∙ sym (longer (cut 10 bs))
 
 -- the lines behind the first
-abbrev row_at : Row → ℕ → Row
-row_at row start = next_row row start
-
 pub record LaterLines (row : Row) (at : ℕ) (text : List ℕ) : Type 0 where
   pub start : ℕ
   pub lines_are : later_lines row at text ≡ lines_in (next_row row start) (cut 10 text).behind
