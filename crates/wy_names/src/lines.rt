@@ -6,7 +6,8 @@ ghost use Rattle.wy_syntax.specs.declared.items.Line.TheVariants as line;
 ghost use Rattle.wy_names.specs.Least.{noted};
 ghost use Rattle.wy_names.specs.Declarations.{first_from, texts, module_names, module_number};
 ghost use Rattle.wy_names.specs.Atoms.{head_names, module_opening, use_owner, line_owner, set_of};
-ghost use Rattle.wy_names.specs.Lines.{number_or_zero, owner_names, at_bound, argument_numbers, line_scope, line_name, line_names, unless_number, uses_refusals, argument_refusals, line_refusals, lines_refusals};
+ghost use Rattle.wy_names.specs.Lines.{number_or_zero, owner_names, at_bound, argument_numbers, line_name, line_names, unless_number, uses_refusals, argument_refusals, line_refusals, lines_refusals};
+ghost use Rattle.wy_names.specs.Scopes.{atom_scope};
 ghost use Rattle.wy_names.specs.Lent.{module_tree};
 
 use crate::atom_scope::{AtomScope, Owners};
@@ -62,6 +63,15 @@ fn argument_numbers(
     Ok(numbers)
 }
 
+/// The bound of an import line that is the owner of a number.
+fn bound_set(alloc: Global, owners: &Owners, number: usize, set: &SetUse) -> Result<EffSet, Memory>
+    ensures { IfOk result (λ e. e ≡ set_of (atom_scope owners.now.heads owners.now.atoms (take number owners.now.owners) []) set.now) }
+{
+    let nothing = Meanings::new(alloc);
+    let scope = AtomScope::new(owners, number, &nothing);
+    set_of(alloc, &scope, set.as_slice())
+}
+
 /// The type of an import: the type that its module is sealed at, at the bound.
 fn bound_type(
     owners: &Owners,
@@ -96,13 +106,16 @@ fn instance(
     requires there { slice_get owners.now.owners number ≡ Some (line_owner (head_names owners.now.heads) (map module_tree modules.now) (line.Instance name.now named.now arguments.now)) }
     ensures { IfOk result (λ n. n ≡ line_name owners.now.heads (map module_tree modules.now) owners.now.atoms (take number owners.now.owners) (line.Instance name.now named.now arguments.now)) }
 {
+    let written = name.text.copy()?;
+    let arguments = argument_numbers(alloc, owners, modules, number, arguments.as_slice())?;
+    let typ = own_type(alloc, owners, number)?;
     Ok(OwnName {
-        name: name.text.copy()?,
+        name: written,
         place: name.place,
-        typ: own_type(alloc, owners, number)?,
+        typ,
         origin: Origin::Instance {
             module: numbered(numbers, modules, &named.text),
-            arguments: argument_numbers(alloc, owners, modules, number, arguments.as_slice())?,
+            arguments,
         },
     })
 }
@@ -123,17 +136,18 @@ fn import(
     requires numbered { numbers.now ≡ texts (module_names (map module_tree modules.now)) }
     ensures { IfOk result (λ n. n ≡ line_name owners.now.heads (map module_tree modules.now) owners.now.atoms (take number owners.now.owners) (line.Import name.now named.now arguments.now set.now)) }
 {
-    let nothing = Meanings::new(alloc);
-    let scope = AtomScope::new(owners, number, &nothing);
-    let bound = set_of(alloc, &scope, set.as_slice())?;
+    let written = name.text.copy()?;
+    let arguments = argument_numbers(alloc, owners, modules, number, arguments.as_slice())?;
+    let bound = bound_set(alloc, owners, number, set)?;
     let opening = module_opening(owners.heads().names(), numbers, modules, &named.text);
+    let typ = bound_type(owners, modules, opening, &bound)?;
     Ok(OwnName {
-        name: name.text.copy()?,
+        name: written,
         place: name.place,
-        typ: bound_type(owners, modules, opening, &bound)?,
+        typ,
         origin: Origin::Import {
             module: numbered(numbers, modules, &named.text),
-            arguments: argument_numbers(alloc, owners, modules, number, arguments.as_slice())?,
+            arguments,
             bound,
         },
     })

@@ -87,12 +87,11 @@ fn field_of(
 ) -> Result<Field, Memory>
     ensures { IfOk result (λ f. f ≡ record { name = name.now.text; place = name.now.place; mutable = is_var (lent_within within.now) kind; typ = typed (lent_within within.now) type_use.now }) }
 {
-    let typ = type_ref(alloc, within.atoms, within.plain, type_use)?;
     Ok(Field {
         name: name.text.copy()?,
         place: name.place,
         mutable: is_var(kind),
-        typ,
+        typ: type_ref(alloc, within.atoms, within.plain, type_use)?,
     })
 }
 

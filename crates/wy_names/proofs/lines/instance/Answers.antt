@@ -18,8 +18,8 @@ returns c =
     let modules = map module_tree c.args.modules.now in
     let opened = opened_type o.heads o.atoms c.args.name.now.text (module_opening (head_names o.heads) modules c.args.named.now.text) in
     let written = line.Instance c.args.name.now c.args.named.now c.args.arguments.now in
-    ap (λ n. N n c.in_ok-own_type.field-0 c.numbered.result c.in_ok-argument_numbers.field-0) c.in_ok-copy.ensures
-    ∙ ap (λ t. N c.args.name.now.text t c.numbered.result c.in_ok-argument_numbers.field-0)
-    (c.in_ok-own_type.ensures (line_owner (head_names o.heads) modules written) c.requires.there)
-    ∙ ap (λ m. N c.args.name.now.text opened m c.in_ok-argument_numbers.field-0) c.numbered.ensures
+    ap (λ n. N n c.in_ok-typ.typ c.numbered.result c.in_ok-arguments.arguments) c.in_ok-written.ensures
+    ∙ ap (λ t. N c.args.name.now.text t c.numbered.result c.in_ok-arguments.arguments)
+    (c.in_ok-typ.ensures (line_owner (head_names o.heads) modules written) c.requires.there)
+    ∙ ap (λ m. N c.args.name.now.text opened m c.in_ok-arguments.arguments) c.numbered.ensures
     ∙ ap (N c.args.name.now.text opened (number_or_zero (module_number modules c.args.named.now.text))) (search rules)

@@ -11,5 +11,5 @@ made name place mutable typ = record { name = name; place = place; mutable = mut
 pub returns : goal.returns
 unfolding made
 returns c =
-    ap (λ n. made n c.args.name.now.place c.is_var.result c.in_ok-typ.typ) c.in_ok-copy.ensures
-    ∙ ap₂ (λ m t. made c.args.name.now.text c.args.name.now.place m t) (c.is_var.ensures (lent_within c.args.within.now)) c.in_ok-typ.ensures
+    ap (λ n. made n c.args.name.now.place c.is_var.result c.in_ok-type_ref.field-0) c.in_ok-copy.ensures
+    ∙ ap₂ (λ m t. made c.args.name.now.text c.args.name.now.place m t) (c.is_var.ensures (lent_within c.args.within.now)) c.in_ok-type_ref.ensures
