@@ -73,6 +73,23 @@ fn declared_methods(
     Ok(methods)
 }
 
+/// A type declaration with these members, whose methods see this scope.
+fn declared(
+    alloc: Global,
+    scope: &AtomScope,
+    members: &[Meaning],
+    decl: &TypeDecl,
+) -> Result<resolved::TypeDecl, Memory>
+    ensures { IfOk result (λ d. d ≡ record { name = decl.now.name.text; members = abstract_names members.now; defined = defined_members members.now; methods = declared_methods scope.now decl.now.members }) }
+{
+    Ok(resolved::TypeDecl {
+        name: decl.name.text.copy()?,
+        members: abstract_names(alloc, members)?,
+        defined: defined_members(alloc, members)?,
+        methods: declared_methods(alloc, scope, decl.members.as_slice())?,
+    })
+}
+
 /// A type declaration with its names resolved. `nothing` and `types` have no owners; these see the types.
 fn declaration(
     alloc: Global,
@@ -86,12 +103,7 @@ fn declaration(
 {
     let members = members_after(alloc, nothing, decl.members.as_slice())?;
     let scope = AtomScope::new(types, 0, &members);
-    Ok(resolved::TypeDecl {
-        name: decl.name.text.copy()?,
-        members: abstract_names(alloc, members.as_slice())?,
-        defined: defined_members(alloc, members.as_slice())?,
-        methods: declared_methods(alloc, &scope, decl.members.as_slice())?,
-    })
+    declared(alloc, &scope, members.as_slice(), decl)
 }
 
 /// Adds the declared types to the primitive ones.

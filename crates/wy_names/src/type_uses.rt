@@ -244,6 +244,21 @@ fn note_bare(
     Ok(())
 }
 
+/// Notes what is refused of the names that are written for members.
+#[tactic(auto, using(crate::proofs::Leasts::noted_append))]
+pub fn note_written(
+    name: &Name,
+    members: &Meanings,
+    written: &Table,
+    names: &[&Name],
+    least: &mut Option<Refusal>,
+)
+    ensures { least.new ≡ noted least.old (lacking name.now members.now written.now ++ not_abstract members.now (map lent_name names.now)) }
+{
+    note_lacking(name, members, written, least);
+    note_not_abstract(members, names, least);
+}
+
 /// Notes the refusals of a type with sets for its members, but for those inside the sets.
 fn note_with(
     alloc: Global,
@@ -259,16 +274,10 @@ fn note_with(
         return Ok(());
     };
     let names = set_names(alloc, sets)?;
+    let written = set_table(alloc, sets)?;
     match scope.heads().head(decl) {
-        None => {
-            let members = Meanings::new(alloc);
-            note_not_abstract(&members, &names, least);
-        }
-        Some(head) => {
-            let written = set_table(alloc, sets)?;
-            note_lacking(name, &head.members, &written, least);
-            note_not_abstract(&head.members, &names, least);
-        }
+        None => note_written(name, &Meanings::new(alloc), &written, &names, least),
+        Some(head) => note_written(name, &head.members, &written, &names, least),
     }
     Ok(())
 }
