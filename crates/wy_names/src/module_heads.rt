@@ -28,7 +28,7 @@ use crate::owners::module_owners;
 use crate::refusal::{Cause, Refusal};
 use crate::signatures::param_names;
 use crate::tables::{Table, note_repeated};
-use crate::type_uses::{note_lacking, note_not_abstract};
+use crate::type_uses::note_written;
 use std::alloc::Global;
 use wy_effects::set::SetList;
 use wy_syntax::items::Line;
@@ -141,7 +141,6 @@ pub fn definitions_at(
 }
 
 /// Notes what is refused of the members that a module defines.
-#[tactic(auto, using(crate::proofs::Leasts::noted_append))]
 fn note_members(
     alloc: Global,
     members: &Meanings,
@@ -152,8 +151,7 @@ fn note_members(
 {
     let names = define_names(alloc, view.defines)?;
     let written = name_table(alloc, &names)?;
-    note_lacking(view.name, members, &written, least);
-    note_not_abstract(members, &names, least);
+    note_written(view.name, members, &written, &names, least);
     Ok(())
 }
 
