@@ -5,5 +5,3 @@
 pub mod authority;
 pub mod report;
 pub mod rows;
-#[cfg(test)]
-mod tests;

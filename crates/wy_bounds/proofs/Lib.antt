@@ -1,5 +1,4 @@
 pub mod Lacks
 pub mod Meeting
-pub mod Ranging
 pub mod Unions
 pub mod Working

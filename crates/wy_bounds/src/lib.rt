@@ -5,10 +5,6 @@
 pub mod effects;
 mod entry;
 mod least;
-#[cfg(test)]
-mod ranges;
 mod reaching;
 pub mod safety;
 mod table;
-#[cfg(test)]
-mod tests;

@@ -17,7 +17,7 @@ use wy_types::resolved::Core;
 use wy_types::types::TypeRef;
 
 /// What the tests of safety answer.
-#[derive(Debug, Drop, PartialEq, Eq)]
+#[derive(Drop, PartialEq, Eq)]
 pub enum Safety {
     Yes,
     /// The path leads from the type to one that has a method whose effect lacks the atom, the least

@@ -139,3 +139,6 @@ lexed_within file bs ts h = record { short = h.short; none = none }
     none limit.Instances l = l
     none limit.Bodies l = l
     none limit.Slots l = l
+    none limit.ImageBytes l = l
+    none limit.CertificateBytes l = l
+    none limit.PolicyRows l = l

@@ -4,21 +4,21 @@ use wy_text::list::Items;
 use wy_text::text::Text;
 
 /// A grant of the program.
-#[derive(Debug, Drop)]
+#[derive(Drop)]
 pub struct Grant {
     pub name: Text,
     pub kind: Kind,
 }
 
 /// What an instance is handed: the grant or the instance of a number.
-#[derive(Clone, Copy, Debug, PartialEq, Eq)]
+#[derive(Clone, Copy, PartialEq, Eq)]
 pub enum Argument {
     Grant(u16),
     Instance(u16),
 }
 
 /// The code of a body.
-#[derive(Debug, Drop)]
+#[derive(Drop)]
 pub struct Body {
     /// The name that events print.
     pub name: Text,
@@ -32,7 +32,7 @@ pub struct Body {
 }
 
 /// Where `New` finds a value that an object captures.
-#[derive(Clone, Copy, Debug, PartialEq, Eq)]
+#[derive(Clone, Copy, PartialEq, Eq)]
 pub enum Source {
     /// In a slot.
     Slot(u32),
@@ -41,7 +41,7 @@ pub enum Source {
 }
 
 /// A method of a kind of objects: its number among the method names, and its body's number.
-#[derive(Clone, Copy, Debug, PartialEq, Eq)]
+#[derive(Clone, Copy, PartialEq, Eq)]
 pub struct Method {
     pub method: u32,
     pub body: u32,
@@ -49,7 +49,7 @@ pub struct Method {
 
 /// A kind of objects: a module's own, or those of an object literal. An object's values are what it
 /// captured, or was handed, and then its fields.
-#[derive(Debug, Drop)]
+#[derive(Drop)]
 pub struct Literal {
     pub captures: Items<Source>,
     pub fields: u32,
@@ -57,7 +57,7 @@ pub struct Literal {
 }
 
 /// The code of a module or of the program.
-#[derive(Debug, Drop)]
+#[derive(Drop)]
 pub struct Scope {
     /// How many arguments its instances are handed.
     pub arguments: u32,
@@ -68,7 +68,7 @@ pub struct Scope {
 }
 
 /// An instance, or the program itself.
-#[derive(Debug, Drop)]
+#[derive(Drop)]
 pub struct Instance {
     pub name: Text,
     pub scope: u32,
@@ -76,7 +76,7 @@ pub struct Instance {
 }
 
 /// A program's code.
-#[derive(Debug, Drop)]
+#[derive(Drop)]
 pub struct Code {
     pub grants: Items<Grant>,
     /// The names of methods, each once.

@@ -7,7 +7,7 @@ use wy_text::text::{Memory, Text};
 
 /// An operation that was asked of a device, through the grant of that name, and what it answered.
 /// One with no answer failed.
-#[derive(Debug, Drop)]
+#[derive(Drop)]
 pub struct Deed {
     pub grant: Text,
     pub op: Op,
@@ -19,7 +19,7 @@ pub type DeedList = Items<Deed>;
 
 /// What happens in a run: a body of an instance is entered, an operation is done, or the body that was
 /// entered last is left.
-#[derive(Debug, Drop)]
+#[derive(Drop)]
 pub enum Event {
     Enter { instance: Text, body: Text },
     Deed(Deed),

@@ -8,7 +8,7 @@ use wy_text::list::Items;
 use wy_text::text::{Memory, Text, from_vec};
 
 /// A file of a folder in memory: the grant whose folder it is in, its name and its text.
-#[derive(Debug, Drop)]
+#[derive(Drop)]
 pub struct FolderFile {
     pub grant: Text,
     pub name: Text,

@@ -11,5 +11,3 @@ pub mod mem_folder;
 pub mod mem_random;
 pub mod operation;
 pub mod shut;
-#[cfg(test)]
-mod tests;

@@ -14,7 +14,7 @@ use wy_text::list::{CallList, Items};
 use wy_text::text::{Memory, Text};
 
 /// A clock in memory: a second passes at each call that succeeds. It fails at the calls that it was told to fail.
-#[derive(Debug, Drop)]
+#[derive(Drop)]
 pub struct MemClock {
     start: i64,
     given: u64,

@@ -16,7 +16,7 @@ use wy_text::text::{Memory, Text, from_bytes};
 pub const LONGEST_LINE: usize = 65_536;
 
 /// A console in memory. It fails at the calls that it was told to fail.
-#[derive(Debug, Drop)]
+#[derive(Drop)]
 pub struct MemConsole {
     alloc: Global,
     input: Text,

@@ -19,7 +19,7 @@ pub const LONGEST_TEXT: usize = 1_048_576;
 
 /// A folder in memory. It fails at the calls that it was told to fail, and where a text is longer than an answer may be.
 /// Of two files of one grant and name the first counts.
-#[derive(Debug, Drop)]
+#[derive(Drop)]
 pub struct MemFolder {
     alloc: Global,
     files: Vec<FolderFile>,

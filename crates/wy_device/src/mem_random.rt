@@ -18,7 +18,7 @@ pub type NumberList = Items<i64>;
 
 /// A random source in memory, which gives the numbers of its list round and round, and 0 where the list is empty.
 /// It fails at the calls that it was told to fail.
-#[derive(Debug, Drop)]
+#[derive(Drop)]
 pub struct MemRandom {
     numbers: NumberList,
     at: usize,

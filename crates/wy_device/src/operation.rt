@@ -4,7 +4,7 @@ ghost use Rattle.wy_device.specs.Operation.{method_text, name_of};
 use wy_text::text::{Memory, Text};
 
 /// The four kinds of device, one for each primitive type (docs/LANGUAGE.md, "Primitive types").
-#[derive(Clone, Copy, Debug, PartialEq, Eq)]
+#[derive(Clone, Copy, PartialEq, Eq)]
 pub enum Kind {
     Console,
     Folder,
@@ -13,7 +13,7 @@ pub enum Kind {
 }
 
 /// An operation with its arguments. A folder's have the file's name first, and then the text.
-#[derive(Debug, Drop)]
+#[derive(Drop)]
 pub enum Op {
     ConsoleRead,
     ConsoleWrite(Text),
@@ -41,7 +41,7 @@ pub enum OpName {
 }
 
 /// What a device answers: bytes, a truth value, a number, or that it is done.
-#[derive(Debug, Drop)]
+#[derive(Drop)]
 pub enum Answer {
     Bytes(Text),
     Truth(bool),

@@ -9,7 +9,7 @@ use crate::operation::{Answer, Kind, Op};
 use wy_text::text::Text;
 
 /// A device that is shut: every operation on it fails and counts a fault, and it tells no deeds.
-#[derive(Debug, Drop)]
+#[derive(Drop)]
 pub struct Shut {
     kind: Kind,
     faults: u64,

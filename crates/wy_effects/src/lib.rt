@@ -4,5 +4,3 @@
 pub mod atom;
 pub mod merging;
 pub mod set;
-#[cfg(test)]
-mod tests;

@@ -13,7 +13,7 @@ use wy_text::text::Memory;
 pub type SetList = Items<EffSet>;
 
 /// A finite set of atoms below 512. Contracts see the ascending list of its atoms.
-#[derive(Debug, Drop)]
+#[derive(Drop)]
 pub struct EffSet {
     atoms: Vec<u16>,
 }

@@ -12,7 +12,7 @@ use wy_text::limit::LimitName;
 use wy_text::text::Memory;
 
 /// What the last line of a call needs of its words: the file words, and the bounds of a run.
-#[derive(Clone, Copy, Debug)]
+#[derive(Clone, Copy)]
 pub struct LineWords<'a> {
     pub names: &'a [String],
     pub steps: u64,

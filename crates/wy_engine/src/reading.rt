@@ -10,7 +10,7 @@ use wy_text::text::{Text, from_vec};
 const MOST: usize = 1_048_577;
 
 /// Why not all files were read: the one of this number, which counts from 1, was not, or memory was wanting.
-#[derive(Debug, Drop)]
+#[derive(Drop)]
 pub enum Stop {
     Unread(u16),
     Memory,

@@ -28,7 +28,7 @@ use wy_text::text::{Memory, Text, from_bytes};
 use wy_text::writing::write_all;
 
 /// In which way a program is run.
-#[derive(Clone, Copy, Debug)]
+#[derive(Clone, Copy)]
 pub enum Mode {
     /// Nothing is written to `out`.
     Silent,
@@ -40,7 +40,7 @@ pub enum Mode {
 
 /// How a program is run: in which way, how many steps the run may take, and how many calls on objects may be open in it at
 /// once.
-#[derive(Clone, Copy, Debug)]
+#[derive(Clone, Copy)]
 pub struct Manner {
     pub way: Mode,
     pub steps: u64,

@@ -17,7 +17,7 @@ use wy_types::resolved::{Core, ScopeKind};
 use wy_types::types::TypeList;
 
 /// A scope every node of which has a derivation.
-#[derive(Debug, Drop)]
+#[derive(Drop)]
 pub struct Checked {
     /// The scope's number among the scopes of the program.
     pub scope: u16,
@@ -26,7 +26,7 @@ pub struct Checked {
 }
 
 /// Why a scope, or a program, is not accepted.
-#[derive(Debug, Drop)]
+#[derive(Drop)]
 pub enum CheckRefusal {
     /// The first failing node.
     Fails(Fault),

@@ -5,7 +5,7 @@ use wy_text::fault::Fault;
 use wy_types::types::TypeRef;
 
 /// An expression by itself: its least type and effect, or the first failing node in it.
-#[derive(Debug, Drop)]
+#[derive(Drop)]
 pub enum Inference {
     Least(TypeRef, EffSet),
     Fails(Fault),
@@ -13,7 +13,7 @@ pub enum Inference {
 
 /// A value at a type that its place expects: its least effect at the type; that it has not the type, though no node
 /// in it fails; or the first failing node in it.
-#[derive(Debug, Drop)]
+#[derive(Drop)]
 pub enum Fit {
     Has(EffSet),
     Misfit,
@@ -22,7 +22,7 @@ pub enum Fit {
 
 /// Several values, each at its type: the effect of all; the number of the first that has not its type, though no node
 /// in any of them fails; or the first failing node in them.
-#[derive(Debug, Drop)]
+#[derive(Drop)]
 pub enum Fits {
     Have(EffSet),
     Misfit(usize),
@@ -30,7 +30,7 @@ pub enum Fits {
 }
 
 /// A statement before the rest of a block, or several: their effect, or the first failing node.
-#[derive(Debug, Drop)]
+#[derive(Drop)]
 pub enum Step {
     Done(EffSet),
     Fails(Fault),

@@ -24,7 +24,7 @@ use wy_types::resolved::{Body, Core, Scope, Start};
 use wy_types::types::{TypeList, TypeRef};
 
 /// What judging a scope comes to.
-#[derive(Debug, Drop)]
+#[derive(Drop)]
 pub enum Judged {
     /// No node fails. The types of its `val`s, by their numbers.
     Passes(TypeList),

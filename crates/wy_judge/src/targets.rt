@@ -24,7 +24,7 @@ use wy_types::resolved::{Core, Field, Scope, ScopeKind};
 use wy_types::types::{Method, TypeList, TypeRef};
 
 /// What a receiver offers by a name.
-#[derive(Debug, Drop)]
+#[derive(Drop)]
 pub enum Target {
     /// The first failing node in the receiver.
     Failed(Fault),

@@ -3,6 +3,4 @@
 
 pub mod classes;
 pub mod number_set;
-#[cfg(test)]
-mod tests;
 pub mod words;

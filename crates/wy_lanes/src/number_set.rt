@@ -11,7 +11,7 @@ use std::simd::prelude::*;
 
 /// A finite set of numbers below 512, as eight words of 64 bits: a number n is there exactly where
 /// bit n % 64 of word n / 64 is set. Contracts see the ascending list of its numbers.
-#[derive(Debug, Drop)]
+#[derive(Drop)]
 pub struct NumberSet {
     words: [u64; 8],
 }

@@ -16,7 +16,7 @@ pub const MOST_INDENTS: usize = 64;
 pub const MOST_MARKS: usize = 128;
 
 /// The tokens of the file so far, and the marks and the open braces of the line.
-#[derive(Clone, Copy, Debug)]
+#[derive(Clone, Copy)]
 pub struct Count {
     pub tokens: usize,
     pub marks: usize,

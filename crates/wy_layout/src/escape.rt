@@ -8,7 +8,7 @@ ghost use Rattle.wy_layout.specs.Texts as spec;
 use crate::refusal::Fault;
 
 /// How far an escape inside a text is read.
-#[derive(Clone, Copy, Debug)]
+#[derive(Clone, Copy)]
 pub enum State {
     /// No escape is begun.
     Plain,
@@ -21,7 +21,7 @@ pub enum State {
 }
 
 /// What a byte does inside a text.
-#[derive(Clone, Copy, Debug)]
+#[derive(Clone, Copy)]
 pub enum Move {
     /// An escape goes on.
     Go(State),

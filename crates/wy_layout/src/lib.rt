@@ -12,8 +12,6 @@ mod lines;
 mod names;
 pub mod refusal;
 pub mod row;
-#[cfg(test)]
-mod tests;
 mod widths;
 mod words;
 

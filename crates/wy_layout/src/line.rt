@@ -13,7 +13,7 @@ use std::alloc::Global;
 use wy_text::token::{Token, TokenKind};
 
 /// What is wrong, and at which offset; or want of memory.
-#[derive(Clone, Copy, Debug)]
+#[derive(Clone, Copy)]
 pub enum Halt {
     At(Fault, usize),
     Memory,

@@ -25,7 +25,7 @@ pub enum LexRefusal {
 }
 
 /// What can be wrong at a place, in the order in which it comes where several things are.
-#[derive(Clone, Copy, Debug)]
+#[derive(Clone, Copy)]
 pub enum Fault {
     NameBytes,
     Tokens,

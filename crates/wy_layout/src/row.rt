@@ -4,7 +4,7 @@ ghost use Rattle.wy_layout.specs.Lines as spec;
 use wy_text::fault::Place;
 
 /// A line of a file: the file's number, the line's own number, counted from 1, and the offset where it begins.
-#[derive(Clone, Copy, Debug)]
+#[derive(Clone, Copy)]
 pub struct Row {
     pub file: u16,
     pub number: u32,

@@ -10,7 +10,7 @@ use crate::refusal::Fault;
 use wy_text::text::Memory;
 
 /// What stands before a line: an In, so many Outs, or so many Outs behind which the width is not open.
-#[derive(Clone, Copy, Debug)]
+#[derive(Clone, Copy)]
 pub enum Before {
     In,
     Out(usize),

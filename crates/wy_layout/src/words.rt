@@ -18,7 +18,7 @@ use wy_text::token::TokenKind;
 const MOST_NAME_BYTES: usize = 64;
 
 /// Why there is no word: what is wrong, and the text from there on; or want of memory.
-#[derive(Debug, Drop)]
+#[derive(Drop)]
 pub enum Stop<'a> {
     At(Fault, &'a [u8]),
     Memory,

@@ -22,7 +22,7 @@ use wy_types::reading::erase;
 use wy_types::resolved::{Core, OwnName, Scope};
 
 /// A premise that is false, with the atom that is missing where it is about effects.
-#[derive(Clone, Copy, Debug)]
+#[derive(Clone, Copy)]
 pub struct Misfit {
     pub premise: u8,
     pub missing: Option<Atom>,

@@ -21,7 +21,7 @@ use wy_types::linked::{Actual, ActualList, Instance, Linked};
 use wy_types::resolved::{Core, Origin, OwnName};
 
 /// What linking a program gives.
-#[derive(Debug, Drop)]
+#[derive(Drop)]
 pub struct Links {
     /// The instances in start order.
     pub instances: Linked,
@@ -30,7 +30,7 @@ pub struct Links {
 }
 
 /// Why a program is not linked.
-#[derive(Debug, Drop)]
+#[derive(Drop)]
 pub enum LinkRefusal {
     /// There are more than 1,024 instances.
     Limit(LimitName),

@@ -25,7 +25,7 @@ use wy_types::linked::{Actual, Linked};
 use wy_types::resolved::{self, Core};
 
 /// Why a program is not lowered.
-#[derive(Debug, Drop)]
+#[derive(Drop)]
 pub enum LowerRefusal {
     /// It passes this limit: it has more than 16,384 bodies, or a body with more than 256 slots.
     Limit(LimitName),

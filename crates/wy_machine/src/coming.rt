@@ -18,7 +18,7 @@ use wy_text::text::Memory;
 
 /// What the next step does that a trace shows: nothing, a body is entered or left, one is left where an
 /// instance is done with its own, or a deed, which has no answer yet.
-#[derive(Debug, Drop)]
+#[derive(Drop)]
 pub enum Coming {
     Nothing,
     Enter,

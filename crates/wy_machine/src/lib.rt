@@ -23,8 +23,6 @@ mod stack;
 mod starting;
 mod step;
 mod store;
-#[cfg(test)]
-mod tests;
 mod texts;
 mod traced_run;
 mod tracing;

@@ -14,7 +14,7 @@ pub enum TrapKind {
 }
 
 /// How a run ends (docs/LANGUAGE.md, "How a run ends").
-#[derive(Debug, Drop)]
+#[derive(Drop)]
 pub enum RunEnd {
     /// It came to its end.
     Ended,

@@ -19,7 +19,7 @@ use wy_device::operation::Answer;
 use wy_text::text::{Memory, Text, from_bytes};
 
 /// The events of a step.
-#[derive(Debug, Drop)]
+#[derive(Drop)]
 pub enum Seen {
     Nothing,
     One(Event),

@@ -11,7 +11,7 @@ use wy_text::text::Memory;
 
 /// Where a body that is open stands: its number and its instance's, the address of the instruction that
 /// comes next, and where its slots and its operands begin.
-#[derive(Clone, Copy, Debug)]
+#[derive(Clone, Copy)]
 pub struct Frame {
     pub instance: u32,
     pub body: u32,

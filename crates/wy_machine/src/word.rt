@@ -4,7 +4,7 @@ ghost use Rattle.wy_machine.specs.Words.{word_of, int_of, truth_of, text_of, obj
 use std::marker::Model;
 
 /// What a word is: a number, a truth value, the unit, or the number of a text, an object or a grant.
-#[derive(Clone, Copy, Debug)]
+#[derive(Clone, Copy)]
 pub enum WordKind {
     Int(i64),
     Truth(bool),

@@ -5,5 +5,3 @@
 
 pub mod event_lines;
 pub mod laws;
-#[cfg(test)]
-mod tests;

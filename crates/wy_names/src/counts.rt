@@ -9,7 +9,7 @@ use wy_syntax::statements::{Part, Rhs, Stmt, Tail};
 
 /// The greatest numbers so far: methods of one type, module or literal, fields of one module or literal,
 /// and parameters of one method or module.
-#[derive(Clone, Copy, Debug)]
+#[derive(Clone, Copy)]
 pub struct Most {
     pub methods: usize,
     pub fields: usize,

@@ -2,7 +2,7 @@ use wy_text::fault::Place;
 use wy_text::limit::LimitName;
 
 /// The causes of a refusal that stands at a place (docs/LANGUAGE.md, "Names").
-#[derive(Clone, Copy, Debug, PartialEq, Eq)]
+#[derive(Clone, Copy, PartialEq, Eq)]
 pub enum Cause {
     Unknown,
     Twice,
@@ -13,7 +13,7 @@ pub enum Cause {
 }
 
 /// A refusal that stands at a place.
-#[derive(Clone, Copy, Debug, PartialEq, Eq)]
+#[derive(Clone, Copy, PartialEq, Eq)]
 pub struct Refusal {
     pub place: Place,
     pub cause: Cause,
@@ -22,7 +22,7 @@ pub struct Refusal {
 /// Why names are not resolved. A limit comes before the others; of the others comes the one with the
 /// least place, and at one place the one that stands first here; `NoProgram` comes only where there is
 /// no other.
-#[derive(Debug, Drop, PartialEq, Eq)]
+#[derive(Drop, PartialEq, Eq)]
 pub enum NameRefusal {
     Unknown(Place),
     Twice(Place),

@@ -4,7 +4,7 @@ use wy_text::text::Text;
 use wy_types::code::Binding;
 
 /// A name that stands for a set of atoms: a member of a type, or what a module defines for one.
-#[derive(Debug, Drop)]
+#[derive(Drop)]
 pub struct Meaning {
     pub name: Text,
     /// Whether it is an abstract member, which stands for itself alone.
@@ -21,7 +21,7 @@ pub struct Head {
 
 /// What a scope's own name opens for effects: the members of the type of this number, nothing, or what
 /// is not known, where its type or its module is not declared.
-#[derive(Clone, Copy, Debug, PartialEq, Eq)]
+#[derive(Clone, Copy, PartialEq, Eq)]
 pub enum Opening {
     Members { decl: u16 },
     Nothing,
@@ -29,14 +29,14 @@ pub enum Opening {
 }
 
 /// One of a scope's own names, as the owner of effects.
-#[derive(Debug, Drop)]
+#[derive(Drop)]
 pub struct Owner {
     pub name: Text,
     pub opening: Opening,
 }
 
 /// A name in sight in a body, and what it stands for.
-#[derive(Debug, Drop)]
+#[derive(Drop)]
 pub struct Entry {
     pub name: Text,
     pub bound: Binding,

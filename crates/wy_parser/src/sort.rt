@@ -6,7 +6,7 @@ ghost use Rattle.wy_parser.specs.Sorts.{number_of};
 use wy_text::token::TokenKind;
 
 /// The kind of a token, without the text or value that it carries.
-#[derive(Clone, Copy, Debug)]
+#[derive(Clone, Copy)]
 pub enum Sort {
     /// What fits nowhere: a Number below 0, which no file has.
     Nothing,

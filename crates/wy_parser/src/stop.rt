@@ -7,7 +7,7 @@ use wy_text::text::Memory;
 use wy_text::token::Token;
 
 /// Why there is no value.
-#[derive(Debug, Drop)]
+#[derive(Drop)]
 pub enum Stop<'a> {
     /// The first of these tokens fits nothing.
     At(&'a [Token]),

@@ -110,7 +110,7 @@ abbrev pub most_bytes : ℕ
 most_bytes = limit_number limit.FileBytes
 
 abbrev pub most_rows : ℕ
-most_rows = 4096
+most_rows = limit_number limit.PolicyRows
 
 -- text that is short enough, with its rows, which are few enough
 pub record HasRows (bytes : List ℕ) (rows : List PolicyRow) : Type 0 where
@@ -138,7 +138,6 @@ pub record HasTooMany (bytes : List ℕ) : Type 0 where
 
 -- why bytes are refused: the limits come first; want of memory says nothing of the bytes
 abbrev pub IsRefused : List ℕ → PolicyRefusal → Type 0
-IsRefused bytes (refusal.Limit name) = (name ≡ limit.FileBytes) × (most_bytes < length bytes)
-IsRefused bytes refusal.TooManyRows = HasTooMany bytes
+IsRefused bytes (refusal.Limit name) = ((name ≡ limit.FileBytes) × (most_bytes < length bytes)) ⊎ ((name ≡ limit.PolicyRows) × HasTooMany bytes)
 IsRefused bytes (refusal.BadPolicy n) = IsBad bytes n
 IsRefused bytes refusal.Memory = Unit {0}

@@ -9,5 +9,3 @@ mod names;
 pub mod policy;
 pub mod reading;
 mod rows;
-#[cfg(test)]
-mod tests;

@@ -4,7 +4,7 @@ use wy_text::list::Items;
 use wy_text::text::Text;
 
 /// The names of instances that a row is for: one name, or all that begin so.
-#[derive(Debug, Drop)]
+#[derive(Drop)]
 pub enum Pattern {
     /// This name.
     Whole(Text),
@@ -13,21 +13,21 @@ pub enum Pattern {
 }
 
 /// Which members of a grant an entry allows: all of them, which is written as a star, or one.
-#[derive(Debug, Drop)]
+#[derive(Drop)]
 pub enum Member {
     Every,
     Named(Text),
 }
 
 /// What a row allows of one grant. A grant or a member that a program has not got means nothing.
-#[derive(Debug, Drop)]
+#[derive(Drop)]
 pub struct Entry {
     pub grant: Text,
     pub member: Member,
 }
 
 /// A row of a policy, with the number of its line, which counts from 1.
-#[derive(Debug, Drop)]
+#[derive(Drop)]
 pub struct PolicyRow {
     pub line: u32,
     pub pattern: Pattern,
@@ -35,18 +35,16 @@ pub struct PolicyRow {
 }
 
 /// A policy: its rows in the order of their lines.
-#[derive(Debug, Drop)]
+#[derive(Drop)]
 pub struct Policy {
     pub rows: Items<PolicyRow>,
 }
 
 /// Why text is not taken for a policy (docs/LANGUAGE.md, "Policies").
-#[derive(Clone, Copy, Debug, PartialEq, Eq)]
+#[derive(Clone, Copy, PartialEq, Eq)]
 pub enum PolicyRefusal {
-    /// A limit is passed. It comes before all others.
+    /// A limit is passed, `FileBytes` or `PolicyRows`, whatever the lines are. It comes before all others.
     Limit(LimitName),
-    /// More than 4,096 lines are rows, whatever the others are.
-    TooManyRows,
     /// The line of this number, which counts from 1, is neither blank nor a comment nor a row. It is the first such line.
     BadPolicy(u32),
     /// Memory was wanting.
@@ -54,7 +52,7 @@ pub enum PolicyRefusal {
 }
 
 /// What a policy says of a program's authority.
-#[derive(Debug, Drop)]
+#[derive(Drop)]
 pub enum Judgement {
     /// Each instance, and the program itself, may do no more than its row allows.
     Allowed,

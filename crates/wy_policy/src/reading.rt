@@ -94,7 +94,7 @@ fn read_lines(alloc: Global, bytes: &[u8]) -> Result<Said, Memory>
 }
 
 /// The policy that the bytes of a file are (docs/LANGUAGE.md, "Policies"). Of what is refused the limits come first:
-/// `Limit` exactly where there are more than 1,048,576 bytes, `TooManyRows` exactly where more than 4,096 lines are rows.
+/// `FileBytes` exactly where there are more than 1,048,576 bytes, else `PolicyRows` exactly where more than 4,096 lines are rows.
 /// `BadPolicy` comes exactly where a line is neither blank nor a comment nor a row, and has the number of the first such line.
 pub fn read_policy(alloc: Global, bytes: &[u8]) -> Result<Policy, PolicyRefusal>
     ensures read { IfOk result (λ policy. IsPolicy bytes.now policy.rows) }
@@ -107,7 +107,7 @@ pub fn read_policy(alloc: Global, bytes: &[u8]) -> Result<Policy, PolicyRefusal>
         return Err(PolicyRefusal::Memory);
     };
     if said.rows.len() > MOST_ROWS {
-        return Err(PolicyRefusal::TooManyRows);
+        return Err(PolicyRefusal::Limit(LimitName::PolicyRows));
     }
     match said.bad {
         Some(line) => Err(PolicyRefusal::BadPolicy(line)),

@@ -2,7 +2,7 @@ ghost use Rattle.std.specs.Prelude.{◌≡◌, map, string_bytes};
 ghost use Rattle.wy_settings.specs.Settings.{settings_kept};
 
 /// What the program is to do with its files (docs/LANGUAGE.md, "The command line").
-#[derive(Clone, Copy, Debug, PartialEq, Eq)]
+#[derive(Clone, Copy, PartialEq, Eq)]
 pub enum Command {
     /// Judge the files, and say whether they are accepted.
     Check,
@@ -19,7 +19,7 @@ pub enum Command {
 }
 
 /// A command, how many steps a run may take, how many calls on objects may be open in it at once, and the file words.
-#[derive(Clone, Copy, Debug)]
+#[derive(Clone, Copy)]
 pub struct CommandLine<'a> {
     pub command: Command,
     pub steps: u64,
@@ -28,7 +28,7 @@ pub struct CommandLine<'a> {
 }
 
 /// The settings that the words of a call give: a command line that keeps its own file words.
-#[derive(Debug, Drop)]
+#[derive(Drop)]
 pub struct Settings {
     pub command: Command,
     pub steps: u64,
@@ -37,7 +37,7 @@ pub struct Settings {
 }
 
 /// Why words give no settings.
-#[derive(Clone, Copy, Debug, PartialEq, Eq)]
+#[derive(Clone, Copy, PartialEq, Eq)]
 pub enum SettingsRefusal {
     /// They are no command line.
     Usage,

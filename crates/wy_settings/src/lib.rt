@@ -5,5 +5,3 @@ pub mod command_line;
 mod matching;
 mod numerals;
 pub mod settings;
-#[cfg(test)]
-mod tests;

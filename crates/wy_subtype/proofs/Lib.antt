@@ -3,5 +3,4 @@ pub mod Deciding
 pub mod Growing
 pub mod Keeping
 pub mod Meeting
-pub mod Ranging
 pub mod Working

@@ -6,12 +6,8 @@ mod entry;
 mod kept;
 pub mod pair_table;
 mod paths;
-#[cfg(test)]
-mod ranges;
 pub mod steps;
 pub mod subtype;
 mod table;
-#[cfg(test)]
-mod tests;
 pub mod unfolding;
 pub mod verdict;

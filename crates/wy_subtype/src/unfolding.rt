@@ -24,7 +24,7 @@ use wy_types::resolved::Core;
 use wy_types::types::{Method, TypeRef};
 
 /// A pair that another asks for, one step away.
-#[derive(Debug, Drop)]
+#[derive(Drop)]
 pub struct UnfoldedPair {
     pub step: Step,
     pub left: TypeRef,
@@ -35,7 +35,7 @@ pub struct UnfoldedPair {
 pub type PairList = Items<UnfoldedPair>;
 
 /// What a pair's own test says.
-#[derive(Debug, Drop)]
+#[derive(Drop)]
 pub enum Unfolding {
     /// The pair is closed by these.
     Closed(PairList),

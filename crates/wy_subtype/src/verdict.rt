@@ -6,7 +6,7 @@ use wy_text::text::{Memory, Text};
 pub use wy_types::path::{Part, Path, Step};
 
 /// Which subtyping is asked (docs/LANGUAGE.md, "Subtyping").
-#[derive(Clone, Copy, Debug, PartialEq, Eq)]
+#[derive(Clone, Copy, PartialEq, Eq)]
 pub enum Mode {
     /// With effects: the left method's effect is within the right one's.
     Annotated,
@@ -15,7 +15,7 @@ pub enum Mode {
 }
 
 /// Why a pair of types fails by itself. The methods are those of the right side.
-#[derive(Debug, Drop, PartialEq, Eq)]
+#[derive(Drop, PartialEq, Eq)]
 pub enum Cause {
     /// The left side has no method of this name.
     MissingMethod(Text),
@@ -46,7 +46,7 @@ impl Cause {
 }
 
 /// What the test of subtyping answers.
-#[derive(Debug, Drop, PartialEq, Eq)]
+#[derive(Drop, PartialEq, Eq)]
 pub enum Verdict {
     Yes,
     /// The path leads from the pair, with the sides exchanged at each parameter, to a pair that

@@ -4,7 +4,7 @@ use wy_text::text::Text;
 
 /// The operators that stand between two operands, from the loosest level to the tightest
 /// (docs/LANGUAGE.md, "Grammar").
-#[derive(Clone, Copy, Debug, PartialEq, Eq)]
+#[derive(Clone, Copy, PartialEq, Eq)]
 pub enum Operator {
     Or,
     And,
@@ -25,7 +25,7 @@ pub enum Operator {
 /// An expression. Each has its mark (docs/LANGUAGE.md, "Marks"): the place of an operator's symbol, of
 /// a call's method name (which is the `Name`'s), and of the first token of every other form.
 /// Parentheses without a type are no form of their own.
-#[derive(Debug, Drop)]
+#[derive(Drop)]
 pub enum Expr {
     /// A number, with its sign: `-` directly before a number belongs to it.
     Number(i64, Place),

@@ -4,7 +4,7 @@ use wy_text::fault::Place;
 use wy_text::list::Items;
 
 /// A member of a type declaration: an abstract effect, a defined one, or a method.
-#[derive(Debug, Drop)]
+#[derive(Drop)]
 pub enum Member {
     Abstract(Name),
     Defined(Name, SetUse),
@@ -13,35 +13,35 @@ pub enum Member {
 
 /// A line: the name that it gives, the module that it names and its arguments; behind an import stands
 /// its bound.
-#[derive(Debug, Drop)]
+#[derive(Drop)]
 pub enum Line {
     Instance(Name, Name, NameList),
     Import(Name, Name, NameList, SetUse),
 }
 
 /// The definition of an abstract member of the type that a module is sealed at.
-#[derive(Debug, Drop)]
+#[derive(Drop)]
 pub struct Define {
     pub name: Name,
     pub effect: SetUse,
 }
 
 /// The line that declares the effect of a module's field initialisers, with the place of its `init`.
-#[derive(Debug, Drop)]
+#[derive(Drop)]
 pub struct Init {
     pub place: Place,
     pub effect: SetUse,
 }
 
 /// A grant and its primitive type.
-#[derive(Debug, Drop)]
+#[derive(Drop)]
 pub struct Grant {
     pub name: Name,
     pub kind: Name,
 }
 
 /// What stands inside a pure or a resource module.
-#[derive(Debug, Drop)]
+#[derive(Drop)]
 pub struct Inside {
     pub uses: NameList,
     pub lines: Items<Line>,
@@ -51,7 +51,7 @@ pub struct Inside {
 }
 
 /// `type`, with the place of that word.
-#[derive(Debug, Drop)]
+#[derive(Drop)]
 pub struct TypeDecl {
     pub place: Place,
     pub name: Name,
@@ -59,7 +59,7 @@ pub struct TypeDecl {
 }
 
 /// `module`, with the place of that word.
-#[derive(Debug, Drop)]
+#[derive(Drop)]
 pub struct PureModule {
     pub place: Place,
     pub name: Name,
@@ -68,7 +68,7 @@ pub struct PureModule {
 }
 
 /// `resource module`, with the place of `resource`.
-#[derive(Debug, Drop)]
+#[derive(Drop)]
 pub struct ResourceModule {
     pub place: Place,
     pub name: Name,
@@ -78,7 +78,7 @@ pub struct ResourceModule {
 }
 
 /// `plain module`, with the place of `plain`.
-#[derive(Debug, Drop)]
+#[derive(Drop)]
 pub struct PlainModule {
     pub place: Place,
     pub name: Name,
@@ -88,7 +88,7 @@ pub struct PlainModule {
 }
 
 /// `program`, with the place of that word, and that of its `run`.
-#[derive(Debug, Drop)]
+#[derive(Drop)]
 pub struct Program {
     pub place: Place,
     pub grants: Items<Grant>,
@@ -100,7 +100,7 @@ pub struct Program {
 }
 
 /// An item of a file. Its place is that of its first token.
-#[derive(Debug, Drop)]
+#[derive(Drop)]
 pub enum Item {
     Type(TypeDecl),
     Pure(PureModule),
@@ -110,7 +110,7 @@ pub enum Item {
 }
 
 /// A file's items, in order (docs/LANGUAGE.md, "Grammar").
-#[derive(Debug, Drop)]
+#[derive(Drop)]
 pub struct Tree {
     pub items: Vec<Item>,
 }

@@ -6,6 +6,4 @@ pub mod expressions;
 pub mod items;
 pub mod printing;
 pub mod statements;
-#[cfg(test)]
-mod tests;
 pub mod types;

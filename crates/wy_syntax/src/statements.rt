@@ -3,14 +3,14 @@ use crate::types::{Name, Signature, TypeUse};
 use wy_text::fault::Place;
 
 /// Whether a field is fixed once it is set, by the word that begins it.
-#[derive(Clone, Copy, Debug, PartialEq, Eq)]
+#[derive(Clone, Copy, PartialEq, Eq)]
 pub enum FieldKind {
     Val,
     Var,
 }
 
 /// What stands behind an equals sign, or alone as a statement.
-#[derive(Debug, Drop)]
+#[derive(Drop)]
 #[cycle(statements)]
 pub enum Rhs {
     /// `new` with its fields and methods; the place is that of `new`.
@@ -22,7 +22,7 @@ pub enum Rhs {
 }
 
 /// A statement. The mark of a `val` and of an assignment is its name's place.
-#[derive(Debug, Drop)]
+#[derive(Drop)]
 #[cycle(statements)]
 pub enum Stmt {
     Val(Name, Option<TypeUse>, Rhs),
@@ -31,7 +31,7 @@ pub enum Stmt {
 }
 
 /// A field or a method, of a module or of a literal.
-#[derive(Debug, Drop)]
+#[derive(Drop)]
 #[cycle(statements)]
 pub enum Part {
     Field(FieldKind, Name, TypeUse, Rhs),
@@ -39,7 +39,7 @@ pub enum Part {
 }
 
 /// A body: behind an equals sign in the same line, or a block of its own.
-#[derive(Debug, Drop)]
+#[derive(Drop)]
 #[cycle(statements)]
 pub enum Tail {
     Short(Rhs),

@@ -3,7 +3,7 @@ use wy_text::list::Items;
 use wy_text::text::Text;
 
 /// A name where it is written, with the place of its word.
-#[derive(Debug, Drop)]
+#[derive(Drop)]
 pub struct Name {
     pub text: Text,
     pub place: Place,
@@ -13,7 +13,7 @@ pub struct Name {
 pub type NameList = Items<Name>;
 
 /// An atom in a set: a member by itself, or an owner and its member, as `E` and `x.E`.
-#[derive(Debug, Drop)]
+#[derive(Drop)]
 pub struct AtomUse {
     pub owner: Option<Name>,
     pub member: Name,
@@ -23,7 +23,7 @@ pub struct AtomUse {
 pub type SetUse = Items<AtomUse>;
 
 /// A member and the set that is put in its place, as `E = {x.F}` in `N[E = {x.F}]`.
-#[derive(Debug, Drop)]
+#[derive(Drop)]
 pub struct MemberSet {
     pub name: Name,
     pub effect: SetUse,
@@ -32,7 +32,7 @@ pub struct MemberSet {
 /// A type where it is written: a base type with the place of its word, a declared type by itself, one
 /// with sets for its members, or one with a set for all of them (docs/LANGUAGE.md, "Grammar"). In a
 /// plain module only base types and bare names are written.
-#[derive(Debug, Drop)]
+#[derive(Drop)]
 pub enum TypeUse {
     Int(Place),
     Bool(Place),
@@ -44,7 +44,7 @@ pub enum TypeUse {
 }
 
 /// A parameter and its type.
-#[derive(Debug, Drop)]
+#[derive(Drop)]
 pub struct Param {
     pub name: Name,
     pub type_use: TypeUse,
@@ -56,7 +56,7 @@ pub type ParamList = Items<Param>;
 /// What stands before a method's body, or alone in a type declaration: the place of its `def`, the
 /// method's name, its parameters, its effect and its result. In a plain module, and there alone, no
 /// effect is written.
-#[derive(Debug, Drop)]
+#[derive(Drop)]
 pub struct Signature {
     pub place: Place,
     pub name: Name,

@@ -21,6 +21,9 @@ limit_text limit.ReachedTypes = codes "reached types"
 limit_text limit.Instances = codes "instances"
 limit_text limit.Bodies = codes "bodies"
 limit_text limit.Slots = codes "slots"
+limit_text limit.ImageBytes = codes "image bytes"
+limit_text limit.CertificateBytes = codes "certificate bytes"
+limit_text limit.PolicyRows = codes "policy rows"
 
 abbrev pub limit_number : LimitName → ℕ
 limit_number limit.Files = 64
@@ -40,3 +43,6 @@ limit_number limit.ReachedTypes = 1024
 limit_number limit.Instances = 1024
 limit_number limit.Bodies = 16384
 limit_number limit.Slots = 256
+limit_number limit.ImageBytes = 16777216
+limit_number limit.CertificateBytes = 67108864
+limit_number limit.PolicyRows = 4096

@@ -11,8 +11,6 @@ pub mod mem_sink;
 pub mod quoting;
 pub mod shelf;
 pub mod sink;
-#[cfg(test)]
-mod tests;
 pub mod text;
 pub mod token;
 pub mod writing;

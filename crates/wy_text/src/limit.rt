@@ -21,6 +21,9 @@ pub enum LimitName {
     Instances,
     Bodies,
     Slots,
+    ImageBytes,
+    CertificateBytes,
+    PolicyRows,
 }
 
 impl LimitName {
@@ -46,6 +49,9 @@ impl LimitName {
             LimitName::Instances => "instances",
             LimitName::Bodies => "bodies",
             LimitName::Slots => "slots",
+            LimitName::ImageBytes => "image bytes",
+            LimitName::CertificateBytes => "certificate bytes",
+            LimitName::PolicyRows => "policy rows",
         }
     }
 
@@ -71,6 +77,9 @@ impl LimitName {
             LimitName::Instances => 1_024,
             LimitName::Bodies => 16_384,
             LimitName::Slots => 256,
+            LimitName::ImageBytes => 16_777_216,
+            LimitName::CertificateBytes => 67_108_864,
+            LimitName::PolicyRows => 4_096,
         }
     }
 }

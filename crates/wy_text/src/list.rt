@@ -6,7 +6,7 @@ use std::alloc::Global;
 use std::marker::Model;
 
 /// A list, which grows at its end. The lists of the public types are all of this type.
-#[derive(Debug, Drop)]
+#[derive(Drop)]
 pub struct Items<X> {
     items: Vec<X>,
 }

@@ -11,7 +11,7 @@ use std::marker::Model;
 
 /// A shelf in memory. It fails where the name is not there, and at the calls that it was told to fail.
 /// Of two files with one name it gives the first.
-#[derive(Debug, Drop)]
+#[derive(Drop)]
 pub struct MemShelf {
     alloc: Global,
     files: FileList,

@@ -7,7 +7,7 @@ use crate::text::{Memory, Text};
 use thiserror::Error;
 
 /// A name and the text that goes by it.
-#[derive(Debug, Drop)]
+#[derive(Drop)]
 pub struct NamedText {
     pub name: Text,
     pub text: Text,
@@ -17,7 +17,7 @@ pub struct NamedText {
 pub type FileList = Items<NamedText>;
 
 /// One read of a shelf: the name that was asked for, and whether the read failed.
-#[derive(Debug, Drop)]
+#[derive(Drop)]
 pub struct ReadDone {
     pub name: Text,
     pub failed: bool,

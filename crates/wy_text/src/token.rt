@@ -76,7 +76,7 @@ pub enum TokenKind {
 
 /// A token, the place of its first byte, and where its bytes lie in the file: from `start` up to
 /// before `end`. The tokens of the layout have no bytes.
-#[derive(Debug, Drop)]
+#[derive(Drop)]
 pub struct Token {
     pub kind: TokenKind,
     pub place: Place,

@@ -4,7 +4,7 @@ use wy_text::text::Text;
 
 /// A variable of a scope's bodies. Variables have their numbers in the scope as a whole, so one
 /// that an object literal captures keeps its number inside the literal.
-#[derive(Clone, Copy, Debug, PartialEq, Eq)]
+#[derive(Clone, Copy, PartialEq, Eq)]
 pub enum Variable {
     /// A parameter of the scope's body of this number.
     Parameter { body: u32, index: u16 },
@@ -13,7 +13,7 @@ pub enum Variable {
 }
 
 /// What a name stands for.
-#[derive(Clone, Copy, Debug, PartialEq, Eq)]
+#[derive(Clone, Copy, PartialEq, Eq)]
 pub enum Binding {
     Variable(Variable),
     /// A field of the current object, by its number there.
@@ -23,14 +23,14 @@ pub enum Binding {
 }
 
 /// The operators of one operand.
-#[derive(Clone, Copy, Debug, PartialEq, Eq)]
+#[derive(Clone, Copy, PartialEq, Eq)]
 pub enum UnaryOperator {
     Negate,
     Not,
 }
 
 /// The operators of two operands.
-#[derive(Clone, Copy, Debug, PartialEq, Eq)]
+#[derive(Clone, Copy, PartialEq, Eq)]
 pub enum BinaryOperator {
     Add,
     Subtract,
@@ -49,7 +49,7 @@ pub enum BinaryOperator {
 }
 
 /// The operations on texts that are written as calls.
-#[derive(Clone, Copy, Debug, PartialEq, Eq)]
+#[derive(Clone, Copy, PartialEq, Eq)]
 pub enum TextOperator {
     Size,
     Part,
@@ -60,7 +60,7 @@ pub enum TextOperator {
 
 /// An expression that is no `if`. Each form has its mark, the place that faults and traps name
 /// (docs/LANGUAGE.md, "Marks").
-#[derive(Debug, Drop)]
+#[derive(Drop)]
 #[cycle(code)]
 pub enum Expr {
     Int(Place, i64),
@@ -81,7 +81,7 @@ pub enum Expr {
 }
 
 /// An expression, or an `if`, which is judged at the type that its place expects.
-#[derive(Debug, Drop)]
+#[derive(Drop)]
 #[cycle(code)]
 pub enum Value {
     Plain(Expr),
@@ -89,7 +89,7 @@ pub enum Value {
 }
 
 /// A statement of a block, but for its last one.
-#[derive(Debug, Drop)]
+#[derive(Drop)]
 #[cycle(code)]
 pub enum Stmt {
     /// The `val` of this number among those of the scope, with its type where one is written.
@@ -98,7 +98,7 @@ pub enum Stmt {
 }
 
 /// Statements, the last of which is no `val`.
-#[derive(Debug, Drop)]
+#[derive(Drop)]
 #[cycle(code)]
 pub struct Block {
     pub statements: Vec<Stmt>,

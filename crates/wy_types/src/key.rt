@@ -11,7 +11,7 @@ use wy_effects::set::EffSet;
 use wy_text::text::Memory;
 
 /// Numbers that stand for types. Keys that are made by one call are equal exactly where their types are.
-#[derive(Debug, Drop)]
+#[derive(Drop)]
 pub struct Key {
     numbers: Vec<u32>,
 }

@@ -12,7 +12,5 @@ pub mod primitive;
 pub mod reach;
 pub mod reading;
 pub mod resolved;
-#[cfg(test)]
-mod tests;
 pub mod types;
 pub mod written;

@@ -4,7 +4,7 @@ use wy_text::list::Items;
 use wy_text::text::Text;
 
 /// What an instance is handed.
-#[derive(Clone, Copy, Debug, PartialEq, Eq)]
+#[derive(Clone, Copy, PartialEq, Eq)]
 pub enum Actual {
     /// The grant of this number.
     Grant(u16),
@@ -19,7 +19,7 @@ pub type ActualList = Items<Actual>;
 pub type LocalsList = Items<TypeList>;
 
 /// An instance in start order.
-#[derive(Debug, Drop)]
+#[derive(Drop)]
 pub struct Instance {
     pub name: Text,
     pub scope: u16,

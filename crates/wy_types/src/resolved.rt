@@ -7,14 +7,14 @@ use wy_text::list::Items;
 use wy_text::text::Text;
 
 /// A member that a type declaration defines, with its set of the declaration's abstract members.
-#[derive(Debug, Drop)]
+#[derive(Drop)]
 pub struct DefinedMember {
     pub name: Text,
     pub effects: EffSet,
 }
 
 /// A type declaration. The sets in its signatures are of its abstract members, by their numbers.
-#[derive(Debug, Drop)]
+#[derive(Drop)]
 pub struct TypeDecl {
     pub name: Text,
     /// The names of its abstract members.
@@ -24,7 +24,7 @@ pub struct TypeDecl {
 }
 
 /// The kinds of modules, and the program (docs/LANGUAGE.md, "Modules").
-#[derive(Clone, Copy, Debug, PartialEq, Eq)]
+#[derive(Clone, Copy, PartialEq, Eq)]
 pub enum ScopeKind {
     Pure,
     Resource,
@@ -33,7 +33,7 @@ pub enum ScopeKind {
 }
 
 /// How a scope comes by one of its own names. Arguments are numbers of earlier own names.
-#[derive(Debug, Drop)]
+#[derive(Drop)]
 pub enum Origin {
     /// A parameter of a module; a bare one opens an atom for each abstract member of its type.
     Parameter {
@@ -56,7 +56,7 @@ pub enum Origin {
 }
 
 /// One of a scope's own names, with its type in the scope.
-#[derive(Debug, Drop)]
+#[derive(Drop)]
 pub struct OwnName {
     pub name: Text,
     pub place: Place,
@@ -65,7 +65,7 @@ pub struct OwnName {
 }
 
 /// A field of a module or of an object literal.
-#[derive(Debug, Drop)]
+#[derive(Drop)]
 pub struct Field {
     pub name: Text,
     pub place: Place,
@@ -75,7 +75,7 @@ pub struct Field {
 }
 
 /// A kind of objects: the module's own, or those of an object literal.
-#[derive(Debug, Drop)]
+#[derive(Drop)]
 pub struct Literal {
     /// The variables of the bodies round the literal that its methods use.
     pub captures: Items<Variable>,
@@ -83,7 +83,7 @@ pub struct Literal {
 }
 
 /// A method of a module or of an object literal.
-#[derive(Debug, Drop)]
+#[derive(Drop)]
 pub struct Body {
     /// Whose method it is: 0 for the module, else the literal's number.
     pub owner: u32,
@@ -93,7 +93,7 @@ pub struct Body {
 }
 
 /// What a scope does when it starts.
-#[derive(Debug, Drop)]
+#[derive(Drop)]
 pub enum Start {
     /// The initialisers of a module's fields.
     Init(Vec<Value>),

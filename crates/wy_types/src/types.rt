@@ -8,7 +8,7 @@ use wy_text::text::{Memory, Text};
 
 /// A type in a scope (docs/LANGUAGE.md, "Effects and types"). A declared type goes by its number among the
 /// declarations; the sets are of the scope's atoms.
-#[derive(Debug, Drop, PartialEq, Eq)]
+#[derive(Drop, PartialEq, Eq)]
 pub enum TypeRef {
     Int,
     Bool,
@@ -27,7 +27,7 @@ pub enum TypeRef {
 pub type TypeList = Items<TypeRef>;
 
 /// A method's signature.
-#[derive(Debug, Drop, PartialEq, Eq)]
+#[derive(Drop, PartialEq, Eq)]
 pub struct Method {
     pub name: Text,
     pub params: TypeList,

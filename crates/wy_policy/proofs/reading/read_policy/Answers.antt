@@ -1,4 +1,4 @@
-use Rattle.std.proofs.Common.{◌<◌, ◌≤◌, length, arith}
+use Rattle.std.proofs.Common.{◌<◌, ◌≤◌, length, arith, inr, refl}
 use Rattle.wy_policy.specs.Policy.{most_bytes, most_rows}
 use Rattle.wy_policy.proofs.PolicyLaws.{read_badly, read_well, too_many}
 use Rattle.wy_policy.proofs.reading.read_policy.Goals as goal
@@ -7,7 +7,7 @@ pub returns-then-len-gt-MOST_ROWS-clause-refused : goal.returns-then-len-gt-MOST
 returns-then-len-gt-MOST_ROWS-clause-refused c =
     let short : length c.args.bytes.now ≤ most_bytes = omega (arith, c.if-bytes-gt-MOST_BYTES.false) in
     let many : most_rows < length c.in-Ok.said.rows = omega (arith, c.if-len-gt-MOST_ROWS.true, c.len.ensures) in
-    too_many c.args.bytes.now c.in-Ok.said.rows short c.in-Ok.ensures.0 many
+    inr (refl, too_many c.args.bytes.now c.in-Ok.said.rows short c.in-Ok.ensures.0 many)
 
 pub returns-in-Some-clause-refused : goal.returns-in-Some-clause-refused
 returns-in-Some-clause-refused c =

@@ -1,0 +1,201 @@
+use std::alloc::{AllocError, Global};
+use std::test::Fail;
+use wy_lanes::classes::class_masks;
+use wy_lanes::number_set::NumberSet;
+use wy_lanes::words::{any_outside, includes_words, union_words};
+
+/// Lengths round the ends of blocks of 8 and of 64.
+const LENGTHS: [u16; 9] = [0, 1, 7, 8, 9, 63, 64, 65, 512];
+
+const BOUND: [u64; 8] = [0, 1, u64::MAX, 0xf0f0, 1 << 63, 7, 0x5555_5555, 12];
+
+/// So many words in no order; another seed gives others.
+fn mixed_words(alloc: Global, count: u16, seed: u64) -> Result<Vec<u64>, AllocError> {
+    let mut words = Vec::new(alloc);
+    let mut word = seed;
+    for _ in 0..count {
+        word = word
+            .wrapping_mul(6_364_136_223_846_793_005)
+            .wrapping_add(1_442_695_040_888_963_407);
+        words.push(word)?;
+    }
+    Ok(words)
+}
+
+fn both(alloc: Global, left: &[u64], right: &[u64]) -> Result<Vec<u64>, AllocError> {
+    let mut words = Vec::new(alloc);
+    for (a, b) in left.iter().zip(right) {
+        words.push(*a & *b)?;
+    }
+    Ok(words)
+}
+
+fn either(alloc: Global, left: &[u64], right: &[u64]) -> Result<Vec<u64>, AllocError> {
+    let mut words = Vec::new(alloc);
+    for (a, b) in left.iter().zip(right) {
+        words.push(*a | *b)?;
+    }
+    Ok(words)
+}
+
+#[test]
+fn words_are_united_at_each_length(rt: HostRuntime) -> Result<(), Fail> {
+    let alloc = rt.alloc();
+    for length in LENGTHS {
+        let mut into = mixed_words(alloc, length, 3)?;
+        let from = mixed_words(alloc, length, 5)?;
+        let want = either(alloc, into.as_slice(), from.as_slice())?;
+        assert_eq!(rt; into.len(), from.len());
+        union_words(into.as_mut_slice(), from.as_slice());
+        assert_eq!(rt; into.as_slice(), want.as_slice(), "at {length}");
+    }
+    Ok(())
+}
+
+#[test]
+fn a_bit_outside_the_last_word_is_found(rt: HostRuntime) -> Result<(), Fail> {
+    let alloc = rt.alloc();
+    for length in LENGTHS {
+        let mut outer = mixed_words(alloc, length, 7)?;
+        let others = mixed_words(alloc, length, 9)?;
+        let inner = both(alloc, outer.as_slice(), others.as_slice())?;
+        assert_eq!(rt; outer.len(), inner.len());
+        assert!(rt;
+            includes_words(outer.as_slice(), inner.as_slice()),
+            "at {length}"
+        );
+        assert_eq!(rt;
+            includes_words(inner.as_slice(), outer.as_slice()),
+            length == 0,
+            "at {length}"
+        );
+        if let Some(last) = outer.last_mut() {
+            *last = 0;
+        }
+        assert_eq!(rt; outer.len(), inner.len());
+        assert_eq!(rt;
+            includes_words(outer.as_slice(), inner.as_slice()),
+            length == 0,
+            "at {length}"
+        );
+    }
+    Ok(())
+}
+
+/// So many rows whose words are those of the bound.
+fn rows_inside(alloc: Global, count: u16) -> Result<Vec<u64>, AllocError> {
+    let mut rows = Vec::new(alloc);
+    for _ in 0..count {
+        rows.extend_from_slice(&BOUND)?;
+    }
+    Ok(rows)
+}
+
+#[test]
+fn the_first_row_outside_is_found(rt: HostRuntime) -> Result<(), Fail> {
+    let alloc = rt.alloc();
+    for count in LENGTHS {
+        let mut rows = rows_inside(alloc, count)?;
+        assert_eq!(rt; rows.len() % 8, 0);
+        assert_eq!(rt; any_outside(rows.as_slice(), &BOUND), None, "at {count}");
+        if let Some(last) = rows.last_mut() {
+            *last = 13;
+        }
+        assert_eq!(rt; rows.len() % 8, 0);
+        let want = (count as usize).checked_sub(1);
+        assert_eq!(rt; any_outside(rows.as_slice(), &BOUND), want, "at {count}");
+        let middle = count as usize / 2;
+        if let Some(first) = rows.get_mut(8 * middle) {
+            *first = 1;
+        }
+        assert_eq!(rt; rows.len() % 8, 0);
+        let want = want.map(|_| middle);
+        assert_eq!(rt; any_outside(rows.as_slice(), &BOUND), want, "at {count}");
+    }
+    Ok(())
+}
+
+/// The masks, a byte at a time.
+fn masks_by_byte(bytes: &[u8]) -> [u64; 4] {
+    let mut masks = [0; 4];
+    let mut bit = 1u64;
+    for byte in bytes {
+        match *byte {
+            b'\n' => masks[0] |= bit,
+            b' ' => masks[1] |= bit,
+            b'a'..=b'z' | b'A'..=b'Z' | b'0'..=b'9' | b'_' | 128..=255 => masks[2] |= bit,
+            b'"' => masks[3] |= bit,
+            _ => {}
+        }
+        bit = bit.wrapping_mul(2);
+    }
+    masks
+}
+
+#[test]
+fn each_byte_is_of_its_class(rt: HostRuntime) -> Result<(), Fail> {
+    let alloc = rt.alloc();
+    let mut bytes = Vec::new(alloc);
+    for byte in 0..=255u8 {
+        bytes.push(byte)?;
+    }
+    for (i, block) in bytes.as_slice().chunks(64).enumerate() {
+        for length in [0, 1, 63, 64] {
+            let mut masks = [u64::MAX; 4];
+            let part = block.get(..length).unwrap_or(&[]);
+            assert!(rt; part.len() <= 64);
+            class_masks(part, &mut masks);
+            assert_eq!(rt; masks, masks_by_byte(part), "at {i}, {length}");
+        }
+    }
+    let mut masks = [u64::MAX; 4];
+    class_masks(b"a_1 \"-\"\n\xc3\xa9", &mut masks);
+    assert_eq!(rt; masks, [0x80, 0x08, 0x307, 0x50]);
+    Ok(())
+}
+
+/// The set of these numbers, each below 512.
+fn set_of(numbers: &[u16]) -> NumberSet {
+    let mut set = NumberSet::empty();
+    for number in numbers {
+        set.insert(*number % 512);
+    }
+    set
+}
+
+#[test]
+fn numbers_at_the_ends_of_words_are_found(rt: HostRuntime) -> Result<(), Fail> {
+    let set = set_of(&[511, 64, 0, 127, 63, 64]);
+    for number in [0, 63, 64, 127, 511] {
+        assert!(rt; set.has(number), "{number}");
+        assert_eq!(rt; set.next(number), Some(number), "{number}");
+    }
+    for number in [1, 62, 65, 126, 128, 510, 512, 575, u16::MAX] {
+        assert!(rt; !set.has(number), "{number}");
+    }
+    assert_eq!(rt; set.next(1), Some(63));
+    assert_eq!(rt; set.next(65), Some(127));
+    assert_eq!(rt; set.next(128), Some(511));
+    assert_eq!(rt; set.next(512), None);
+    assert_eq!(rt; set.next(u16::MAX), None);
+    assert_eq!(rt; set.len(), 5);
+    Ok(())
+}
+
+#[test]
+fn sets_are_united_subtracted_and_compared(rt: HostRuntime) -> Result<(), Fail> {
+    let left = set_of(&[0, 63, 64]);
+    let right = set_of(&[63, 127, 511]);
+    let mut both = left.copy();
+    both.unite(&right);
+    assert!(rt; both == set_of(&[0, 63, 64, 127, 511]));
+    assert!(rt; both.includes(&left));
+    assert!(rt; both.includes(&right));
+    assert!(rt; !left.includes(&both));
+    assert!(rt; left.without(&right) == set_of(&[0, 64]));
+    assert!(rt; right.without(&left) == set_of(&[127, 511]));
+    assert!(rt; both.without(&both) == NumberSet::empty());
+    assert_eq!(rt; NumberSet::empty().next(0), None);
+    assert_eq!(rt; NumberSet::empty().len(), 0);
+    Ok(())
+}

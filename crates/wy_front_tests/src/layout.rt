@@ -1,0 +1,365 @@
+use std::alloc::Global;
+use std::test::Fail;
+use wy_layout::lex;
+use wy_layout::refusal::LexRefusal;
+use wy_text::token::{Token, TokenKind};
+
+/// Each token as its bytes, or as the name of a token of the layout, and its place.
+fn shown(alloc: Global, bytes: &[u8], tokens: &[Token]) -> Result<String, Fail> {
+    let mut out = String::new(alloc);
+    for token in tokens {
+        let word = match token.kind {
+            TokenKind::In => b"In".as_slice(),
+            TokenKind::Out => b"Out".as_slice(),
+            TokenKind::Nl => b"Nl".as_slice(),
+            TokenKind::End => b"End".as_slice(),
+            _ => bytes
+                .get(token.start as usize..token.end as usize)
+                .unwrap_or(b"?"),
+        };
+        let word = std::str::from_utf8(word)?;
+        let line = token.place.line;
+        let column = token.place.column;
+        let piece = format!(in alloc; "{word}@{line}:{column} ")?;
+        out.push_str(piece.as_str())?;
+    }
+    Ok(out)
+}
+
+fn tokens_shown(alloc: Global, bytes: &[u8]) -> Result<String, Fail> {
+    match lex(alloc, 7, bytes) {
+        Ok(tokens) => shown(alloc, bytes, tokens.as_slice()),
+        Err(refusal) => Ok(format!(in alloc; "{refusal:?}")?),
+    }
+}
+
+#[test]
+fn files_have_these_tokens(rt: HostRuntime) -> Result<(), Fail> {
+    let alloc = rt.alloc();
+    let cases: [(&[u8], &str); 15] = [
+        (b"", "End@1:1 "),
+        (b"   ", "End@1:4 "),
+        (b"\n", "End@2:1 "),
+        (b"a", "a@1:1 Nl@1:2 End@1:2 "),
+        (b"a\r\n", "a@1:1 Nl@1:2 End@2:1 "),
+        (b"  a\n", "In@1:3 a@1:3 Nl@1:4 Out@2:1 End@2:1 "),
+        (
+            b"a // \"\r\n  b\t1\r\n",
+            "a@1:1 Nl@1:7 In@2:3 b@2:3 1@2:5 Nl@2:6 Out@3:1 End@3:1 ",
+        ),
+        (
+            b"a\n  b\n    c\nd",
+            "a@1:1 Nl@1:2 In@2:3 b@2:3 Nl@2:4 In@3:5 c@3:5 Nl@3:6 Out@4:1 Out@4:1 d@4:1 Nl@4:2 End@4:2 ",
+        ),
+        (
+            b"a\n  b\n    c",
+            "a@1:1 Nl@1:2 In@2:3 b@2:3 Nl@2:4 In@3:5 c@3:5 Nl@3:6 Out@3:6 Out@3:6 End@3:6 ",
+        ),
+        (
+            b"a\n\n    // x\n  b\n   \nc\n",
+            "a@1:1 Nl@1:2 In@4:3 b@4:3 Nl@4:4 Out@6:1 c@6:1 Nl@6:2 End@7:1 ",
+        ),
+        (
+            b"a==b!=!c//d\n",
+            "a@1:1 ==@1:2 b@1:4 !=@1:5 !@1:7 c@1:8 Nl@1:12 End@2:1 ",
+        ),
+        (
+            b"1a+++ -/ /",
+            "1@1:1 a@1:2 ++@1:3 +@1:5 -@1:7 /@1:8 /@1:10 Nl@1:11 End@1:11 ",
+        ),
+        (
+            b"typex type_ type \xc3\xa9_1\n",
+            "typex@1:1 type_@1:7 type@1:13 \u{e9}_1@1:18 Nl@1:22 End@2:1 ",
+        ),
+        (b"\"//\"// \"\n", "\"//\"@1:1 Nl@1:9 End@2:1 "),
+        (
+            b"=== <=> >=&&&& ||",
+            "==@1:1 =@1:3 <=@1:5 >@1:7 >=@1:9 &&@1:11 &&@1:13 ||@1:16 Nl@1:18 End@1:18 ",
+        ),
+    ];
+    for (bytes, wanted) in cases {
+        let found = tokens_shown(alloc, bytes)?;
+        assert_eq!(rt; found.as_str(), wanted);
+    }
+    Ok(())
+}
+
+/// What a file gives: the number of its tokens, or its refusal's name and place, or the limit's name.
+fn said(alloc: Global, bytes: &[u8]) -> Result<String, Fail> {
+    let (name, place) = match lex(alloc, 7, bytes) {
+        Ok(tokens) => {
+            let count = tokens.len();
+            return Ok(format!(in alloc; "{count}")?);
+        }
+        Err(LexRefusal::NotUtf8(place)) => ("NotUtf8", place),
+        Err(LexRefusal::TabIndent(place)) => ("TabIndent", place),
+        Err(LexRefusal::BadDedent(place)) => ("BadDedent", place),
+        Err(LexRefusal::BadCharacter(place)) => ("BadCharacter", place),
+        Err(LexRefusal::OpenText(place)) => ("OpenText", place),
+        Err(LexRefusal::BadEscape(place)) => ("BadEscape", place),
+        Err(LexRefusal::NumberTooLarge(place)) => ("NumberTooLarge", place),
+        Err(LexRefusal::Limit(limit)) => {
+            let name = limit.name();
+            return Ok(format!(in alloc; "{name}")?);
+        }
+        Err(LexRefusal::Memory) => return Ok(format!(in alloc; "Memory")?),
+    };
+    let file = place.file;
+    let line = place.line;
+    let column = place.column;
+    Ok(format!(in alloc; "{name} {file}:{line}:{column}")?)
+}
+
+#[test]
+fn files_are_refused_at_these_places(rt: HostRuntime) -> Result<(), Fail> {
+    let alloc = rt.alloc();
+    let cases: [(&[u8], &str); 49] = [
+        (b"program\xff", "NotUtf8 7:1:8"),
+        (b"\xff\n\t", "NotUtf8 7:1:1"),
+        (b"a // \xc3\n", "NotUtf8 7:1:6"),
+        (b"a\n\xe2\x82", "NotUtf8 7:2:1"),
+        (b"\"\xff\"", "NotUtf8 7:1:2"),
+        (b"\"a\xff", "NotUtf8 7:1:3"),
+        (b"  \xff", "NotUtf8 7:1:3"),
+        (b"a # \xff", "BadCharacter 7:1:3"),
+        (b"program\n\trun: {}\n", "TabIndent 7:2:1"),
+        (b"  \t", "TabIndent 7:1:3"),
+        (b" \t// x\n", "TabIndent 7:1:2"),
+        (b"a\n    \t\tb", "TabIndent 7:2:5"),
+        (
+            b"program\n    run: {}\n        ()\n  ()\n",
+            "BadDedent 7:4:3",
+        ),
+        (b"  a\n b\n", "BadDedent 7:2:2"),
+        (b"a\n  b\n #\n", "BadDedent 7:3:2"),
+        (b"a\n  b\n c #\n", "BadDedent 7:3:2"),
+        (b"#", "BadCharacter 7:1:1"),
+        (b"a #", "BadCharacter 7:1:3"),
+        (b"a\n  b #\n c\n", "BadCharacter 7:2:5"),
+        (b"a\rb\n", "BadCharacter 7:1:2"),
+        (b"a\r", "BadCharacter 7:1:2"),
+        (b"a\r\r\n", "BadCharacter 7:1:2"),
+        (b"\"a\rb\"", "BadCharacter 7:1:3"),
+        (b"\"\x01\"", "BadCharacter 7:1:2"),
+        (b"\"\x7f\"", "BadCharacter 7:1:2"),
+        (b"\"\\\x01\"", "BadCharacter 7:1:3"),
+        (b"\"\\x\x01\"", "BadCharacter 7:1:4"),
+        (b"a & b", "BadCharacter 7:1:3"),
+        (b"a |", "BadCharacter 7:1:3"),
+        (b"\xef\xbb\xbfa", "BadCharacter 7:1:1"),
+        (b"a\x00", "BadCharacter 7:1:2"),
+        (b"\xcc\x81", "BadCharacter 7:1:1"),
+        (
+            b"program\n  grant console: Console\n  run: {console.Out}\n    console.write(\"a\n",
+            "OpenText 7:4:21",
+        ),
+        (b"\"", "OpenText 7:1:2"),
+        (b"a \"b\r\nc\"", "OpenText 7:1:5"),
+        (b"\"\\", "OpenText 7:1:3"),
+        (b"\"\\\n", "OpenText 7:1:3"),
+        (b"\"\\x4\n", "OpenText 7:1:5"),
+        (b"\"\\q\"", "BadEscape 7:1:3"),
+        (b"\"\\x\"", "BadEscape 7:1:4"),
+        (b"\"\\x4g\"", "BadEscape 7:1:5"),
+        (b"\"\\\t\"", "BadEscape 7:1:3"),
+        (b"\"\\x\t\"", "BadEscape 7:1:4"),
+        (b"\"\\\xc3\xa9\"", "BadEscape 7:1:3"),
+        (b"\"\t\\n\\t\\\\\\\"\\x0a\\xFf\"", "3"),
+        (b"9223372036854775809", "NumberTooLarge 7:1:1"),
+        (b"a 00099999999999999999999", "NumberTooLarge 7:1:3"),
+        (b"9223372036854775808 007 0", "5"),
+        (b"a\n  \"b\n c\n", "OpenText 7:2:5"),
+    ];
+    for (bytes, wanted) in cases {
+        let found = said(alloc, bytes)?;
+        assert_eq!(rt; found.as_str(), wanted);
+    }
+    Ok(())
+}
+
+/// A first piece, so many of another, and a last one.
+fn built(
+    alloc: Global,
+    first: &[u8],
+    piece: &[u8],
+    count: u32,
+    last: &[u8],
+) -> Result<Vec<u8>, Fail> {
+    let mut bytes = Vec::from_slice(alloc, first)?;
+    for _ in 0..count {
+        bytes.extend_from_slice(piece)?;
+    }
+    bytes.extend_from_slice(last)?;
+    Ok(bytes)
+}
+
+#[test]
+fn limits_hold_up_to_their_numbers(rt: HostRuntime) -> Result<(), Fail> {
+    let alloc = rt.alloc();
+    let cases: [(&[u8], &[u8], u32, &[u8], &str); 22] = [
+        (b"a ", b"n", 64, b" b", "5"),
+        (b"a ", b"n", 65, b" b", "name bytes"),
+        (b"  a\n ", b"n", 65, b"", "name bytes"),
+        (b"\"", b"n", 65, b"\"", "3"),
+        (b"# ", b"n", 65, b"", "BadCharacter 7:1:1"),
+        (b"a", b".", 128, b"", "131"),
+        (b"a", b".", 129, b"", "marks"),
+        (b"a ", b"(", 129, b"", "marks"),
+        (b"a ", b"if ", 129, b"", "marks"),
+        (b"a ", b"!", 129, b"", "marks"),
+        (b"a ", b"== ", 128, b"- #", "marks"),
+        (b"a ", b"= , : ) [ ] ", 200, b"", "1203"),
+        (b"{{}", b".", 200, b"}", "206"),
+        (b"{}} ", b".", 129, b"", "marks"),
+        (b"{\n", b".", 129, b"", "marks"),
+        (b"", b"..\n", 100, b"", "301"),
+        (b"a a\n", b"b\n", 131_070, b"", "262144"),
+        (b"a a a\n", b"b\n", 131_070, b"", "tokens"),
+        (b"a\n", b"b\n", 131_071, b"b #", "tokens"),
+        (b"a\n", b"b\n", 131_071, b"# b", "BadCharacter 7:131073:1"),
+        (b"", b" ", 1_048_576, b"", "1"),
+        (b"\xff", b" ", 1_048_576, b"", "file bytes"),
+    ];
+    for (first, piece, count, last, wanted) in cases {
+        let bytes = built(alloc, first, piece, count, last)?;
+        let found = said(alloc, bytes.as_slice())?;
+        assert_eq!(rt; found.as_str(), wanted);
+    }
+    Ok(())
+}
+
+/// So many lines, each one wider than the one before it, the first one of a width.
+fn stairs(alloc: Global, from: u32, to: u32, last: &[u8]) -> Result<Vec<u8>, Fail> {
+    let mut bytes = Vec::new(alloc);
+    for width in from..to {
+        for _ in 0..width {
+            bytes.push(b' ')?;
+        }
+        bytes.extend_from_slice(b"a\n")?;
+    }
+    bytes.extend_from_slice(last)?;
+    Ok(bytes)
+}
+
+#[test]
+fn indents_hold_up_to_their_number(rt: HostRuntime) -> Result<(), Fail> {
+    let alloc = rt.alloc();
+    let cases: [(u32, u32, &[u8], &str); 4] = [
+        (0, 65, b"", "259"),
+        (1, 65, b"a\n", "259"),
+        (0, 66, b"", "indents"),
+        (1, 66, b"#", "indents"),
+    ];
+    for (from, to, last, wanted) in cases {
+        let bytes = stairs(alloc, from, to, last)?;
+        let found = said(alloc, bytes.as_slice())?;
+        assert_eq!(rt; found.as_str(), wanted);
+    }
+    Ok(())
+}
+
+#[test]
+fn each_word_is_its_kind(rt: HostRuntime) -> Result<(), Fail> {
+    let alloc = rt.alloc();
+    let cases: [(&str, &str); 62] = [
+        ("type", "KwType"),
+        ("effect", "KwEffect"),
+        ("def", "KwDef"),
+        ("module", "KwModule"),
+        ("resource", "KwResource"),
+        ("plain", "KwPlain"),
+        ("program", "KwProgram"),
+        ("grant", "KwGrant"),
+        ("use", "KwUse"),
+        ("instance", "KwInstance"),
+        ("import", "KwImport"),
+        ("at", "KwAt"),
+        ("init", "KwInit"),
+        ("val", "KwVal"),
+        ("var", "KwVar"),
+        ("run", "KwRun"),
+        ("new", "KwNew"),
+        ("if", "KwIf"),
+        ("then", "KwThen"),
+        ("else", "KwElse"),
+        ("this", "KwThis"),
+        ("true", "KwTrue"),
+        ("false", "KwFalse"),
+        ("main", "KwMain"),
+        ("Int", "KwInt"),
+        ("Bool", "KwBool"),
+        ("String", "KwString"),
+        ("Unit", "KwUnit"),
+        ("text_size", "KwTextSize"),
+        ("text_part", "KwTextPart"),
+        ("text_code", "KwTextCode"),
+        ("text_byte", "KwTextByte"),
+        ("text_show", "KwTextShow"),
+        ("(", "SymOpenParen"),
+        (")", "SymCloseParen"),
+        ("[", "SymOpenBracket"),
+        ("]", "SymCloseBracket"),
+        ("{", "SymOpenBrace"),
+        ("}", "SymCloseBrace"),
+        (",", "SymComma"),
+        (":", "SymColon"),
+        (".", "SymDot"),
+        ("=", "SymEqual"),
+        ("==", "SymEqualEqual"),
+        ("!=", "SymNotEqual"),
+        ("<", "SymLess"),
+        ("<=", "SymLessEqual"),
+        (">", "SymGreater"),
+        (">=", "SymGreaterEqual"),
+        ("+", "SymPlus"),
+        ("-", "SymMinus"),
+        ("*", "SymStar"),
+        ("/", "SymSlash"),
+        ("%", "SymPercent"),
+        ("++", "SymPlusPlus"),
+        ("&&", "SymAndAnd"),
+        ("||", "SymOrOr"),
+        ("!", "SymNot"),
+        ("9223372036854775807", "Number(9223372036854775807)"),
+        ("007", "Number(7)"),
+        ("0", "Number(0)"),
+        ("9223372036854775808", "Edge"),
+    ];
+    for (word, wanted) in cases {
+        let tokens = lex_ok(alloc, word.as_bytes())?;
+        assert_eq!(rt; tokens.len(), 3);
+        let kind = &tokens[0].kind;
+        let found = format!(in alloc; "{kind:?}")?;
+        assert_eq!(rt; found.as_str(), wanted);
+    }
+    Ok(())
+}
+
+fn lex_ok(alloc: Global, bytes: &[u8]) -> Result<Vec<Token>, Fail> {
+    Ok(lex(alloc, 7, bytes)?)
+}
+
+#[test]
+fn names_and_texts_have_their_bytes(rt: HostRuntime) -> Result<(), Fail> {
+    let alloc = rt.alloc();
+    let cases: [(&[u8], &[u8]); 4] = [
+        (b"text_sizes", b"text_sizes"),
+        (b"_", b"_"),
+        (b"\"\"", b""),
+        (
+            b"\"\t\xc3\xa9//\\n\\t\\\\\\\"\\x0a\\xFf\"",
+            b"\t\xc3\xa9//\n\t\\\"\n\xff",
+        ),
+    ];
+    for (word, wanted) in cases {
+        let tokens = lex_ok(alloc, word)?;
+        assert_eq!(rt; tokens.len(), 3);
+        let found = match &tokens[0].kind {
+            TokenKind::Name(name) => name.as_bytes(),
+            TokenKind::Text(text) => text.as_bytes(),
+            _ => b"?".as_slice(),
+        };
+        assert_eq!(rt; found, wanted);
+    }
+    Ok(())
+}

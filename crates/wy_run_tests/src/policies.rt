@@ -1,0 +1,239 @@
+use std::alloc::Global;
+use std::test::Fail;
+use wy_authority::rows::{Authority, BodyRow, InstanceRow};
+use wy_effects::atom::Atom;
+use wy_effects::set::EffSet;
+use wy_policy::judging::judge;
+use wy_policy::policy::{Entry, Judgement, Member, Pattern, Policy, PolicyRefusal, PolicyRow};
+use wy_policy::reading::read_policy;
+use wy_text::fault::AtomName;
+use wy_text::list::Items;
+use wy_text::text::{Memory, from_bytes};
+
+/// Adds an entry, as `[grant]member` or `[grant]`.
+fn push_entry(out: &mut String, alloc: Global, entry: &Entry) -> Result<(), Fail> {
+    let grant = std::str::from_utf8(entry.grant.as_bytes())?;
+    let member = match &entry.member {
+        Member::Every => "",
+        Member::Named(name) => std::str::from_utf8(name.as_bytes())?,
+    };
+    let piece = format!(in alloc; " [{grant}]{member}")?;
+    out.push_str(piece.as_str())?;
+    Ok(())
+}
+
+/// Adds a row: its line, `is` or `begins` with its pattern's name, and its entries.
+fn push_row(out: &mut String, alloc: Global, row: &PolicyRow) -> Result<(), Fail> {
+    let (word, name) = match &row.pattern {
+        Pattern::Whole(name) => ("is", name),
+        Pattern::Front(front) => ("begins", front),
+    };
+    let name = std::str::from_utf8(name.as_bytes())?;
+    let line = row.line;
+    let piece = format!(in alloc; "{line} {word} <{name}>")?;
+    out.push_str(piece.as_str())?;
+    for entry in row.allowed.as_slice() {
+        push_entry(out, alloc, entry)?;
+    }
+    out.push_str(";")?;
+    Ok(())
+}
+
+/// What is read: a policy's rows, or why there is none.
+fn shown(alloc: Global, bytes: &[u8]) -> Result<String, Fail> {
+    let policy = match read_policy(alloc, bytes) {
+        Ok(policy) => policy,
+        Err(PolicyRefusal::Limit(name)) => {
+            let name = name.name();
+            return Ok(format!(in alloc; "limit {name}")?);
+        }
+        Err(PolicyRefusal::BadPolicy(line)) => return Ok(format!(in alloc; "bad {line}")?),
+        Err(PolicyRefusal::Memory) => return Ok(format!(in alloc; "memory")?),
+    };
+    let mut out = String::new(alloc);
+    for row in policy.rows.as_slice() {
+        push_row(&mut out, alloc, row)?;
+    }
+    Ok(out)
+}
+
+#[test]
+fn a_line_is_blank_a_comment_or_a_row(rt: HostRuntime) -> Result<(), Fail> {
+    let alloc = rt.alloc();
+    let cases: [(&[u8], &str); 32] = [
+        (b"", ""),
+        (b"\n   \n// x: -\r\n//", ""),
+        (b"a: -", "1 is <a>;"),
+        (b"a: -\r\n\nb*: -\n", "1 is <a>;3 begins <b>;"),
+        (b"*: d.*", "1 begins <> [d];"),
+        (b"pure a: d.Read", "1 is <pure a> [d]Read;"),
+        (b" a : d.R, e.*, d.R", "1 is < a > [d]R [e] [d]R;"),
+        (
+            b"\xc3\xa9*: \xc3\xa9.\xc3\xa9",
+            "1 begins <\u{e9}> [\u{e9}]\u{e9};",
+        ),
+        (b"/ x: -", "1 is </ x>;"),
+        (b"a: mains.atom", "1 is <a> [mains]atom;"),
+        (b" // x", "bad 1"),
+        (b"a: -\n\t\nb", "bad 2"),
+        (b": -", "bad 1"),
+        (b"a", "bad 1"),
+        (b"a:", "bad 1"),
+        (b"a:-", "bad 1"),
+        (b"a:  -", "bad 1"),
+        (b"a: ", "bad 1"),
+        (b"a: - ", "bad 1"),
+        (b"a: -\r", "bad 1"),
+        (b"a: -, d.R", "bad 1"),
+        (b"a: d.R,e.R", "bad 1"),
+        (b"a: d.R, ", "bad 1"),
+        (b"a: d", "bad 1"),
+        (b"a: .R", "bad 1"),
+        (b"a: d.", "bad 1"),
+        (b"a: d.R.S", "bad 1"),
+        (b"a: *.R", "bad 1"),
+        (b"a: 1.R", "bad 1"),
+        (b"a: main.R", "bad 1"),
+        (b"a: d.text_size", "bad 1"),
+        (b"a**: -", "bad 1"),
+    ];
+    for (bytes, wanted) in cases {
+        let found = shown(alloc, bytes)?;
+        assert_eq!(rt; found.as_str(), wanted);
+    }
+    Ok(())
+}
+
+/// A first piece, so many of another, and a last one.
+fn built(
+    alloc: Global,
+    first: &[u8],
+    piece: &[u8],
+    count: u32,
+    last: &[u8],
+) -> Result<Vec<u8>, Fail> {
+    let mut bytes = Vec::from_slice(alloc, first)?;
+    for _ in 0..count {
+        bytes.extend_from_slice(piece)?;
+    }
+    bytes.extend_from_slice(last)?;
+    Ok(bytes)
+}
+
+#[test]
+fn limits_come_before_bad_lines(rt: HostRuntime) -> Result<(), Fail> {
+    let alloc = rt.alloc();
+    let cases: [(&[u8], &[u8], u32, &[u8], &str); 5] = [
+        (b"x\n", b"a: -\n", 4_096, b"", "bad 1"),
+        (b"x\n", b"a: -\n", 4_096, b"//: -", "bad 1"),
+        (b"x\n", b"a: -\n", 4_096, b"a: -", "limit policy rows"),
+        (b"//", b"..", 524_287, b"", ""),
+        (b"//", b"..", 524_287, b"x", "limit file bytes"),
+    ];
+    for (first, piece, count, last, wanted) in cases {
+        let bytes = built(alloc, first, piece, count, last)?;
+        let found = shown(alloc, bytes.as_slice())?;
+        assert_eq!(rt; found.as_str(), wanted);
+    }
+    Ok(())
+}
+
+fn atom(alloc: Global, owner: &[u8], member: &[u8]) -> Result<AtomName, Memory> {
+    Ok(AtomName {
+        owner: from_bytes(alloc, owner)?,
+        member: from_bytes(alloc, member)?,
+    })
+}
+
+/// An instance with an `init` that does nothing and a method that may do what has these numbers.
+fn instance(alloc: Global, name: &[u8], numbers: &[u16]) -> Result<InstanceRow, Memory> {
+    let mut set = EffSet::empty(alloc);
+    for number in numbers {
+        if *number < 512 {
+            set.insert(Atom(*number))?;
+        }
+    }
+    let mut bodies = Items::new(alloc);
+    bodies.push(BodyRow {
+        name: from_bytes(alloc, b"init")?,
+        set: EffSet::empty(alloc),
+    })?;
+    bodies.push(BodyRow {
+        name: from_bytes(alloc, b"put")?,
+        set,
+    })?;
+    Ok(InstanceRow {
+        name: from_bytes(alloc, name)?,
+        bodies,
+    })
+}
+
+/// A pure instance, a logger, a reporter and the program, over a console and two folders.
+fn reporting(alloc: Global) -> Result<Authority, Memory> {
+    let mut atoms = Items::new(alloc);
+    atoms.push(atom(alloc, b"console", b"Out")?)?;
+    atoms.push(atom(alloc, b"data", b"Read")?)?;
+    atoms.push(atom(alloc, b"logs", b"Append")?)?;
+    let mut rows = Items::new(alloc);
+    rows.push(instance(alloc, b"pure clean", &[])?)?;
+    rows.push(instance(alloc, b"lg", &[2])?)?;
+    rows.push(instance(alloc, b"rep", &[0, 1, 2])?)?;
+    rows.push(instance(alloc, b"main", &[0, 1, 2])?)?;
+    Ok(Authority { atoms, rows })
+}
+
+/// What a policy says of that authority: nothing, or the line, the instance and the atom of a denial.
+fn said(alloc: Global, bytes: &[u8]) -> Result<String, Fail> {
+    let Ok(policy) = read_policy(alloc, bytes) else {
+        return Ok(format!(in alloc; "no policy")?);
+    };
+    match judge(alloc, &policy, &reporting(alloc)?)? {
+        Judgement::Allowed => Ok(format!(in alloc; "allowed")?),
+        Judgement::Denied {
+            line,
+            instance,
+            atom,
+        } => {
+            let name = std::str::from_utf8(instance.as_bytes())?;
+            let owner = std::str::from_utf8(atom.owner.as_bytes())?;
+            let member = std::str::from_utf8(atom.member.as_bytes())?;
+            Ok(format!(in alloc; "{line} {name} {owner}.{member}")?)
+        }
+    }
+}
+
+#[test]
+fn each_instance_goes_by_its_first_row(rt: HostRuntime) -> Result<(), Fail> {
+    let alloc = rt.alloc();
+    let cases: [(&[u8], &str); 12] = [
+        (
+            b"pure *: -\nlg: logs.Append\nrep: data.*, console.Out, logs.Append\nmain: data.*, console.Out, logs.Append",
+            "allowed",
+        ),
+        (
+            b"pure *: -\nlg: logs.Append\nrep: data.*, logs.Append\nmain: data.*, console.Out, logs.Append",
+            "3 rep console.Out",
+        ),
+        (b"", "0 lg logs.Append"),
+        (b"lg: -", "1 lg logs.Append"),
+        (b"*: console.*, data.*, logs.*, clock.Now", "allowed"),
+        (b"l*: logs.Append\nlg: -\n*: -", "3 rep console.Out"),
+        (b"lg*: logs.Append\nrep: console.*", "2 rep data.Read"),
+        (b"lgs*: logs.Append", "0 lg logs.Append"),
+        (b"lg: logs.append, log.Append", "1 lg logs.Append"),
+        (
+            b"lg: logs.*\nrep: logs.*, data.*, console.*",
+            "0 main console.Out",
+        ),
+        (b"re*: console.*\n*: logs.*", "1 rep data.Read"),
+        (
+            b"*: logs.Append\nrep: console.*, data.*, logs.*",
+            "1 rep console.Out",
+        ),
+    ];
+    for (bytes, wanted) in cases {
+        let found = said(alloc, bytes)?;
+        assert_eq!(rt; found.as_str(), wanted);
+    }
+    Ok(())
+}
