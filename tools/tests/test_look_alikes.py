@@ -12,6 +12,7 @@ class LookAlikes(ToolTest):
     def test_plain_sources_and_names_of_one_script(self):
         self.assertEqual(self.look(HELLO), (0, ""))
         self.assertEqual(self.look("type L\u00e4nge\n// \u0430 comment \u043f\u043e-\u0440\u0443\u0441\u0441\u043a\u0438\n"), (0, ""))
+        self.assertEqual(self.look("type \u65e5\u672c\u306e\u30fc\n"), (0, ""))
 
     def test_a_name_of_two_scripts(self):
         status, said = self.look("  grant c\u043ensole: Console\n")
