@@ -14,6 +14,9 @@ case $1 in
 esac
 """
 BUILT = "crates/wy_cli/out/wy_cli"
+# What the scripts call, so that no other rt is found beside it.
+COMMANDS = """awk bash cat chmod cp cut dirname env find grep gzip head mkdir mv readlink rm sed sh sha256sum sleep sort tail touch tr
+uname xargs""".split()
 
 
 class Dist(ToolTest):
@@ -27,9 +30,12 @@ class Dist(ToolTest):
         self.write("crates/other/src/lib.rt", "one")
         self.write("crates/wy_cli/src/main.rt", '#!/bin/sh\necho "first $1"\nexit 3\n')
         os.chmod(self.write("bin/rt", RT), 0o755)
+        os.mkdir(os.path.join(self.room, "plain"))
+        for name in COMMANDS:
+            os.symlink(shutil.which(name), os.path.join(self.room, "plain", name))
 
     def call(self, name, *words, rt=True, **env):
-        path = f"{self.room}/bin:/usr/bin:/bin" if rt else "/usr/bin:/bin"
+        path = f"{self.room}/bin:{self.room}/plain" if rt else f"{self.room}/plain"
         how = {"capture_output": True, "text": True, "env": {"PATH": path, **env}}
         return subprocess.run([os.path.join(self.room, name), *words], **how)
 
