@@ -82,6 +82,22 @@ class Dist(ToolTest):
         self.edit("crates/low/proofs/New.antt", "")
         self.assertEqual(self.call("wyvern", rt=False).returncode, 70)
 
+    def test_a_file_that_went_is_noticed(self):
+        self.write("crates/low/proofs/Old.antt", "")
+        self.renewed()
+        self.assertEqual(self.call("wyvern", rt=False).returncode, 3)
+        time.sleep(0.05)
+        os.remove(os.path.join(self.room, "crates/low/proofs/Old.antt"))
+        self.assertEqual(self.call("wyvern", rt=False).returncode, 70)
+
+    def test_what_was_built_stands_though_folders_are_newer(self):
+        self.call("wyvern")
+        time.sleep(0.05)
+        os.mkdir(os.path.join(self.room, "crates/other/out"))
+        self.assertEqual((self.call("wyvern").returncode, self.builds()), (3, 1))
+        self.edit("crates/low/src/lib.rt", "two")
+        self.assertEqual((self.call("wyvern").returncode, self.builds()), (3, 2))
+
     def test_a_build_may_be_asked_for(self):
         self.renewed()
         self.assertEqual(self.call("wyvern", WYVERN_BUILD="1").returncode, 3)
