@@ -1,3 +1,5 @@
+//! Which names are a file's.
+
 ghost use Rattle.std.specs.Prelude.{◌≡◌};
 ghost use Rattle.wy_device.specs.Requests as requests;
 
