@@ -5,7 +5,6 @@ ghost use Rattle.wy_device.specs.Requests as requests;
 ghost use Rattle.wy_cli.specs.FolderNames.{ListsFileNames};
 
 use crate::fault::count_fault;
-use crate::file_name::is_file_name;
 use crate::listing::listing;
 use crate::plain_file::{append_file, file_names, is_folder, is_plain_file, read_file, write_file};
 use std::alloc::Global;
@@ -14,6 +13,7 @@ use std::rt::Files;
 use std::str;
 use wy_device::deed::DeedList;
 use wy_device::device::{Device, DeviceError};
+use wy_device::file_name::is_file_name;
 use wy_device::mem_folder::LONGEST_TEXT;
 use wy_device::operation::{Answer, Kind, Op};
 use wy_text::text::{Memory, Text, from_vec};

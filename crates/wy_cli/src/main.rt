@@ -10,7 +10,6 @@ ghost use Rattle.wy_device.specs.declared.operation.Kind.{Kind};
 mod clock;
 mod console;
 mod fault;
-mod file_name;
 mod files;
 mod folder;
 mod listing;

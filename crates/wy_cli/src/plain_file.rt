@@ -4,7 +4,6 @@
 ghost use Rattle.std.specs.Prelude.{IfOk};
 ghost use Rattle.wy_cli.specs.FolderNames.{HoldsFileNames};
 
-use crate::file_name::is_file_name;
 use crate::listing::put_name;
 use std::alloc::Global;
 use std::collections::BTreeSet;
@@ -12,6 +11,7 @@ use std::fs::{self, File, Metadata, OpenFile, OpenOptions};
 use std::io::{self, ErrorKind, Read, Write};
 use std::os::unix::fs::MetadataExt;
 use std::rt::Files;
+use wy_device::file_name::is_file_name;
 
 /// What stands by a name itself, and not behind a link there; `None` where nothing does.
 fn seen_at<R: Files>(rt: &R, path: &str) -> io::Result<Option<Metadata>> {

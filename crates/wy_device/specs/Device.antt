@@ -1,5 +1,5 @@
 -- What a device means.
-use Rattle.std.specs.Prelude.{◌≡◌, ℕ, ◌≤◌, List, [], ◌∷◌, Option, Some, None, length, ⊤}
+use Rattle.std.specs.Prelude.{◌≡◌, ℕ, ◌≤◌, List, [], ◌∷◌, Option, Some, None, Result, Ok, Err, length, ⊤}
 use Rattle.wy_device.specs.declared.operation.Kind.{Kind}
 use Rattle.wy_device.specs.declared.operation.Op.{Op}
 use Rattle.wy_device.specs.declared.operation.OpName.{OpName}
@@ -7,7 +7,10 @@ use Rattle.wy_device.specs.declared.operation.OpName.TheVariants.{ConsoleRead, C
 use Rattle.wy_device.specs.declared.operation.Answer.{Answer}
 use Rattle.wy_device.specs.declared.operation.Answer.TheVariants.{Bytes, Truth, Number, Unit as Done}
 use Rattle.wy_device.specs.declared.deed.Deed.{Deed}
+use Rattle.wy_device.specs.declared.device.DeviceError.{DeviceError}
+use Rattle.wy_device.specs.declared.device.DeviceError.TheVariants.{Failed, Memory}
 use Rattle.wy_device.specs.Operation.{name_of}
+use Rattle.wy_text.specs.Outside.{next_count}
 
 -- a device's kind, its deeds, where it tells them, and its count of faults
 pub record DeviceState : Type 0 where
@@ -60,3 +63,9 @@ deed_done grant op answer = record { grant = grant; op = op; answer = Some answe
 
 abbrev pub deed_failed : List ℕ → Op → List Deed
 deed_failed grant op = record { grant = grant; op = op; answer = None } ∷ []
+
+-- the count of faults after an answer of a device in memory: one more exactly where it failed
+abbrev pub faults_after : Result Answer DeviceError → ℕ → ℕ
+faults_after (Ok answer) faults = faults
+faults_after (Err Failed) faults = next_count faults
+faults_after (Err Memory) faults = faults

@@ -1,3 +1,5 @@
+//! Deeds, and the events of a run.
+
 ghost use Rattle.std.specs.Prelude.{◌≡◌, ◌∷◌, [], IfOk, Some, None};
 ghost use Rattle.wy_device.specs.Device.{deed_done, deed_failed};
 

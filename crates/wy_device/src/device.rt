@@ -1,3 +1,5 @@
+//! What operations are asked of.
+
 ghost use Rattle.std.specs.Prelude.{◌≡◌, ◌≤◌, IfOk, Err};
 ghost use Rattle.std.specs.Option.{option_copied};
 ghost use Rattle.wy_text.specs.Outside.{gained, Rose};

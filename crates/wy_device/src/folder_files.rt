@@ -1,3 +1,5 @@
+//! The files of a folder in memory.
+
 ghost use Rattle.std.specs.Prelude.{◌≡◌, ◌<◌, IfOk, bytes_eq, map, position, vec_len, vec_capacity};
 ghost use Rattle.std.specs.Option.{option_copied};
 ghost use Rattle.wy_device.specs.FolderFiles.{is_file, text_in, Puts, AreNames, in_lines, Lists};

@@ -1,3 +1,5 @@
+//! A device in a box.
+
 ghost use Rattle.std.specs.Prelude.{◌≡◌};
 ghost use Rattle.wy_device.specs.Device.{DeviceState};
 

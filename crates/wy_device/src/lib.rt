@@ -3,6 +3,7 @@
 
 pub mod deed;
 pub mod device;
+pub mod file_name;
 pub mod folder_files;
 pub mod handed;
 pub mod mem_clock;

@@ -1,7 +1,9 @@
+//! A clock in memory.
+
 ghost use Rattle.std.specs.Prelude.{◌≡◌, ◌≤◌, ◌++◌, [], Some, IfOk, OnOk, OnErr, Err, Contains};
 ghost use Rattle.wy_text.specs.Outside.{gained, next_count, Rose};
 ghost use Rattle.wy_device.specs.Deeds.{answered};
-ghost use Rattle.wy_device.specs.Device.{DeviceState, IsAnswerOf, deed_done, deed_failed};
+ghost use Rattle.wy_device.specs.Device.{DeviceState, IsAnswerOf, deed_done, deed_failed, faults_after};
 ghost use Rattle.wy_device.specs.MemClock.{time_after};
 ghost use Rattle.wy_device.specs.Operation.{kind_of};
 
@@ -87,11 +89,12 @@ impl Device for MemClock {
         ensures counted { self.old.faults ≤ self.new.faults }
         ensures failed { result ≡ Err DeviceError.Failed → Rose self.old.faults self.new.faults }
 
-        // It fails exactly at the calls that it was told.
+        // It fails exactly at the calls that it was told, and counts a fault exactly where it fails.
         ensures call { self.new.calls ≡ next_count self.old.calls }
         ensures listed { result ≡ Err DeviceError.Failed → Contains self.old.fails (next_count self.old.calls) }
         ensures served { OnOk result (¬ Contains self.old.fails (next_count self.old.calls)) }
         ensures same_list { self.new.fails ≡ self.old.fails }
+        ensures faults { self.new.faults ≡ faults_after result self.old.faults }
 
         // It gives its start and a second for each earlier call that succeeded.
         ensures time { IfOk result (λ a. a ≡ Answer.Number (time_after (answered self.old.deeds) self.old.start)) }

@@ -1,6 +1,8 @@
+//! A folder in memory.
+
 ghost use Rattle.std.specs.Prelude.{◌≡◌, ◌≤◌, ◌<◌, ◌++◌, ◌⊎◌, [], length, is_some, Some, IfOk, OnOk, OnErr, Err, Contains};
 ghost use Rattle.wy_text.specs.Outside.{gained, next_count, Rose};
-ghost use Rattle.wy_device.specs.Device.{DeviceState, IsAnswerOf, deed_done, deed_failed};
+ghost use Rattle.wy_device.specs.Device.{DeviceState, IsAnswerOf, deed_done, deed_failed, faults_after};
 ghost use Rattle.wy_device.specs.FolderFiles.{text_in, text_or_empty, Puts};
 ghost use Rattle.wy_device.specs.MemFolder.{Answers, Leaves, AnswersTooMuch};
 ghost use Rattle.wy_device.specs.Operation.{kind_of};
@@ -14,7 +16,7 @@ use std::marker::Model;
 use wy_text::list::{CallList, Items};
 use wy_text::text::{Memory, Text, from_bytes};
 
-/// The greatest number of bytes that one `read` or `names` of a folder gives.
+/// How many bytes a text has at most, and so an answer of a folder.
 pub const LONGEST_TEXT: usize = 1_048_576;
 
 /// A folder in memory. It fails at the calls that it was told to fail, and where a text is longer than an answer may be.
@@ -161,12 +163,14 @@ impl Device for MemFolder {
         ensures counted { self.old.faults ≤ self.new.faults }
         ensures failed { result ≡ Err DeviceError.Failed → Rose self.old.faults self.new.faults }
 
-        // It fails exactly at the calls that it was told, and where the text is longer than an answer may be.
+        // It fails exactly at the calls that it was told, and where the text is longer than an answer may be; and
+        // it counts a fault exactly where it fails.
         ensures call { self.new.calls ≡ next_count self.old.calls }
         ensures listed { result ≡ Err DeviceError.Failed
             → Contains self.old.fails (next_count self.old.calls) ⊎ AnswersTooMuch self.old.files grant.now op.now }
         ensures served { OnOk result (¬ Contains self.old.fails (next_count self.old.calls)) }
         ensures same_list { self.new.fails ≡ self.old.fails }
+        ensures faults { self.new.faults ≡ faults_after result self.old.faults }
 
         // It answers what it holds, and changes what the operation says and nothing else.
         ensures answers { IfOk result (Answers self.old.files grant.now op.now) }

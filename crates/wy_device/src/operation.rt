@@ -1,3 +1,5 @@
+//! The kinds of devices, their operations, and the answers.
+
 ghost use Rattle.std.specs.Prelude.{◌≡◌, IfOk};
 ghost use Rattle.wy_device.specs.Operation.{method_text, name_of};
 

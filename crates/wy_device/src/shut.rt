@@ -1,3 +1,5 @@
+//! A device that is shut.
+
 ghost use Rattle.std.specs.Prelude.{◌≡◌, ◌≤◌, IfOk, Err};
 ghost use Rattle.wy_text.specs.Outside.{gained, next_count, Rose};
 ghost use Rattle.wy_device.specs.Device.{DeviceState, IsAnswerOf, deed_done, deed_failed, untold};

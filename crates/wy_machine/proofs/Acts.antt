@@ -65,6 +65,10 @@ module _ (code : Code) where
       goes_quietly code (pushed v s) w next d [] no_events
       (λ t. e t ∙ either (has_room (frame_of code s.running)) (Go [] (state_of code (pushed v s) w t)) (λ wrong. h.holds t (e t ∙ wrong)))
 
+  -- where a step pushes a word there is room for it
+  pub room_to_push : (s : StackState) (w : StoreState) (v : Word) (next : Tapes → Next) → ((t : Tapes) → next t ≡ machine.push v [] (state_of code s w t)) → IsNotStuck next → has_room (frame_of code s.running) ≡ true
+  room_to_push s w v next e h = passed (has_room (frame_of code s.running)) _ (λ wrong. h.holds no_tapes (e no_tapes ∙ wrong))
+
   -- a value of an object is found by the object's number
   pub value_at_is : (w : StoreState) (v : Word) (i : ℕ) (t : Tapes) → value_at (store_of code w t) v i ≡ value_of w v i
   value_at_is w (Int n) i t = refl
@@ -132,6 +136,9 @@ module _ (code : Code) where
     pub push_step : (c : Constant) → IsNotStuck (acting (Push c)) → (d : DevicesState) → IsStep code (pushed (word_of c) s) w (acting (Push c)) d d (Ok tt)
     push_step c = pushes s w (word_of c) (acting (Push c)) (λ t. refl)
 
+    pub push_room : (c : Constant) → IsNotStuck (acting (Push c)) → has_room (frame_of code s.running) ≡ true
+    push_room c = room_to_push s w (word_of c) (acting (Push c)) (λ t. refl)
+
     ------------------------------------------------------------
     -- Slots
 
@@ -143,6 +150,9 @@ module _ (code : Code) where
 
     pub load_step : (i : ℕ) (v : Word) → slice_get s.running.slots i ≡ Some v → IsNotStuck (acting (Load i)) → (d : DevicesState) → IsStep code (pushed v s) w (acting (Load i)) d d (Ok tt)
     load_step i v e = pushes s w v (acting (Load i)) (λ t. ap (λ o. push_reply (found o (store_of code w t)) (state_of code s w t)) e)
+
+    pub load_room : (i : ℕ) (v : Word) → slice_get s.running.slots i ≡ Some v → IsNotStuck (acting (Load i)) → has_room (frame_of code s.running) ≡ true
+    load_room i v e = room_to_push s w v (acting (Load i)) (λ t. ap (λ o. push_reply (found o (store_of code w t)) (state_of code s w t)) e)
 
     pub store_operand : (i : ℕ) → IsNotStuck (acting (StoreIn i)) → 0 < length s.running.operands
     store_operand i = operand_there s w (λ t v s. store_slot i v s)
@@ -179,6 +189,9 @@ module _ (code : Code) where
 
     pub get_step : (i : ℕ) (v : Word) → value_of w this i ≡ Some v → IsNotStuck (acting (Get i)) → (d : DevicesState) → IsStep code (pushed v s) w (acting (Get i)) d d (Ok tt)
     get_step i v e = pushes s w v (acting (Get i)) (λ t. getting i t ∙ ap (λ o. push_reply (found o (store_of code w t)) (state_of code s w t)) e)
+
+    pub get_room : (i : ℕ) (v : Word) → value_of w this i ≡ Some v → IsNotStuck (acting (Get i)) → has_room (frame_of code s.running) ≡ true
+    get_room i v e = room_to_push s w v (acting (Get i)) (λ t. getting i t ∙ ap (λ o. push_reply (found o (store_of code w t)) (state_of code s w t)) e)
 
     ------------------------------------------------------------
     -- Jumps
@@ -237,14 +250,14 @@ module _ (code : Code) where
     pub caller_there : IsNotStuck (acting Return) → 0 < length s.callers
     caller_there h = caller_in s.callers (unstuck (acting Return) _ (λ t. returning t (return_operand h)) h)
 
-    left_by : (fs : List OpenBody) (new : StackState) → left_to top fs ≡ Some new → (t : Tapes) → return_to top (map (frame_of code) fs) (store_of code w t) ≡ Go (Leave ∷ []) (state_of code new w t)
+    left_by : (fs : List OpenBody) (new : StackState) → left_to top s.limits fs ≡ Some new → (t : Tapes) → return_to top (map (frame_of code) fs) (store_of code w t) ≡ Go (Leave ∷ []) (state_of code new w t)
     left_by [] new e t = cc
     left_by (f ∷ fs) new e t = ap (λ (s : StackState). Go (Leave ∷ []) (state_of code s w t)) (same_Some _ _ e)
 
     leave_quiet : AreQuiet (Leave ∷ [])
     leave_quiet = record { none = λ kind. refl }
 
-    pub return_step : (new : StackState) → left_to top s.callers ≡ Some new → IsNotStuck (acting Return) → (d : DevicesState) → IsStep code new w (acting Return) d d (Ok tt)
+    pub return_step : (new : StackState) → left_to top s.limits s.callers ≡ Some new → IsNotStuck (acting Return) → (d : DevicesState) → IsStep code new w (acting Return) d d (Ok tt)
     return_step new e h d = goes_quietly code new w (acting Return) d (Leave ∷ []) leave_quiet (λ t. returning t (return_operand h) ∙ left_by s.callers new e t)
 
     ------------------------------------------------------------

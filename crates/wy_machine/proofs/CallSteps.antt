@@ -1,7 +1,7 @@
 -- What a call does.
-use Rattle.std.proofs.Common.{◌≡◌, ◌≢◌, ℕ, ◌+◌, ◌<◌, ◌≤◌, List, [], ◌∷◌, ◌++◌, length, take, drop, reverse, replicate, map, Option, Some, None, Ok, Err, refl, sym, ap, ap₂, ◌∙◌, nat_eq, arith}
+use Rattle.std.proofs.Common.{◌≡◌, ◌≢◌, ℕ, ◌+◌, ◌<◌, ◌≤◌, List, [], ◌∷◌, ◌++◌, length, take, drop, reverse, replicate, map, Option, Some, None, Ok, Err, refl, sym, ap, ap₂, ◌∙◌, nat_eq, true, arith}
 use Rattle.std.specs.Prelude.{slice_get, if◌then◌else◌}
-use Rattle.std.proofs.lemmas.List.{drop_more, take_more, reverse-append, length-drop, length-map}
+use Rattle.std.proofs.lemmas.List.{drop_more, take_more, reverse-append, length-drop, length-map, length-reverse, length-take}
 use Rattle.std.proofs.lemmas.Option.{slice_get_within, get_or_from_slice_get}
 use Rattle.wy_text.specs.declared.fault.Place.{Place}
 use Rattle.wy_device.specs.declared.deed.Event.{Event}
@@ -22,9 +22,12 @@ use Rattle.wy_machine.specs.Stacks.{StackState, with_operands, entered}
 use Rattle.wy_machine.specs.States.{body_or_none, frame_of, store_of, state_of}
 use Rattle.wy_machine.specs.Steps.{acting, AreQuiet, IsNotStuck, IsStep}
 use Rattle.wy_machine.specs.StoreStates.{StoreState}
-use Rattle.wy_machine.proofs.Acts.{no_tapes, either, operands_there, operands_taken, operand_there}
+use Rattle.wy_machine.proofs.Acts.{no_tapes, either, passed, operands_there, operands_taken, operand_there}
 use Rattle.wy_machine.proofs.OperatorSteps.{below, not_below}
 use Rattle.wy_machine.proofs.Quiet.{goes_quietly, is_too_deep, unstuck}
+
+are_same : (m n : ℕ) → nat_eq m n ≡ true → m ≡ n
+are_same m n e = grind arith
 
 number_is : (code : Code) (l : Option Literal) (m : ℕ) → method_of_literal code l m ≡ body_numbered code (number_called l m)
 number_is code None m = refl
@@ -129,6 +132,19 @@ module _ (code : Code) (depth : ℕ) (place : Place) (s : StackState) (w : Store
               ∙ ap (λ b. enter_body code a thing.instance (reverse (take k ops)) (state_of code called_from w no_tapes) (body_numbered code b)) numbered
               ∙ ap (enter_body code a thing.instance (reverse (take k ops)) (state_of code called_from w no_tapes)) e)
 
+          at_body : (body : Body) → slice_get code.bodies b ≡ Some body → (t : Tapes) → calling t ≡ enter_body code a thing.instance (reverse (take k ops)) (state_of code called_from w t) (Some body)
+          at_body body e t =
+              bodies t
+              ∙ ap (λ b. enter_body code a thing.instance (reverse (take k ops)) (state_of code called_from w t) (body_numbered code b)) numbered
+              ∙ ap (enter_body code a thing.instance (reverse (take k ops)) (state_of code called_from w t)) e
+
+          -- the method has as many parameters as there are arguments
+          pub as_many : (body : Body) → slice_get code.bodies b ≡ Some body → IsNotStuck calling → k ≡ body.parameters
+          as_many body e h =
+              let few = arguments_there h in
+              let size : length (reverse (take k ops)) ≡ k = omega (arith, few, length-reverse (take k ops), length-take k ops) in
+              sym size ∙ are_same _ _ (passed (nat_eq (length (reverse (take k ops))) body.parameters) _ (λ wrong. h.holds no_tapes (at_body body e no_tapes ∙ wrong)))
+
           abbrev event : Body → Event
           event body = Enter (name_in (slice_get (all_instances code) thing.instance)) body.name
 
@@ -147,10 +163,5 @@ module _ (code : Code) (depth : ℕ) (place : Place) (s : StackState) (w : Store
 
           pub enter_step : (body : Body) → slice_get code.bodies b ≡ Some body → IsNotStuck calling → (d : DevicesState) → IsStep code (entered thing.instance b k body.vals s) w calling d d (Ok tt)
           enter_step body e h d =
-              let at : (t : Tapes) → calling t ≡ enter_body code a thing.instance (reverse (take k ops)) (state_of code called_from w t) (Some body) =
-              λ t. bodies t
-              ∙ ap (λ b. enter_body code a thing.instance (reverse (take k ops)) (state_of code called_from w t) (body_numbered code b)) numbered
-              ∙ ap (enter_body code a thing.instance (reverse (take k ops)) (state_of code called_from w t)) e
-              in
               goes_quietly code (entered thing.instance b k body.vals s) w calling d (event body ∷ []) (entered_quiet body)
-              (λ t. at t ∙ either (nat_eq (length (reverse (take k ops))) body.parameters) _ (λ wrong. h.holds t (at t ∙ wrong)) ∙ entering body e t)
+              (λ t. at_body body e t ∙ either (nat_eq (length (reverse (take k ops))) body.parameters) _ (λ wrong. h.holds t (at_body body e t ∙ wrong)) ∙ entering body e t)

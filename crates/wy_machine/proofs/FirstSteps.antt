@@ -1,5 +1,5 @@
 -- How a run starts.
-use Rattle.std.proofs.Common.{◌≡◌, ◌≤◌, ℕ, ◌+◌, List, [], ◌∷◌, ◌++◌, Option, Some, None, Ok, Err, refl, sym, ap, ◌∙◌, arith, append-nil}
+use Rattle.std.proofs.Common.{◌≡◌, ℕ, ◌+◌, false, List, [], ◌∷◌, ◌++◌, Option, Some, None, Ok, Err, refl, sym, ap, ◌∙◌, arith, append-nil}
 use Rattle.std.specs.Prelude.{slice_get}
 use Rattle.wy_device.specs.declared.deed.Event.{Event}
 use Rattle.wy_device.specs.declared.deed.Event.TheVariants.{Enter}
@@ -18,14 +18,14 @@ use Rattle.wy_machine.specs.Runs.{tapes_of, RunsTo, Runs}
 use Rattle.wy_machine.specs.Stacks.{StackState}
 use Rattle.wy_machine.specs.States.{store_of, state_of}
 use Rattle.wy_machine.specs.Steps.{beginning, starting, AreQuiet, IsNotStuck, Halts, IsStep}
-use Rattle.wy_machine.specs.StoreStates.{StoreState, no_store}
+use Rattle.wy_machine.specs.StoreStates.{StoreState, store_with}
+use Rattle.wy_machine.specs.Wanting.{WantsOnly, goes_to, state_after, state_reached}
 use Rattle.wy_machine.proofs.Acts.{no_tapes}
 use Rattle.wy_machine.proofs.Leading.{Leads, later}
-use Rattle.wy_machine.proofs.Quiet.{did_quietly, same_devices}
 
 -- the store with the instances' objects
 abbrev pub first_store : Code → StoreState
-first_store code = record no_store { objects = objects_at_first code 0 code.instances }
+first_store code = store_with (objects_at_first code 0 code.instances)
 
 first_is : (code : Code) (t : Tapes) → store_at_first code t ≡ store_of code (first_store code) t
 first_is code t = ap (λ texts. let w : Store = record (store_at_first code t) { texts = texts } in w) (sym (append-nil code.texts))
@@ -49,8 +49,15 @@ module _ (code : Code) (depth : ℕ) where
       ∙ ap (λ x. enter_first x (steps code depth k)) (h.comes.goes more)
       ∙ ap (λ n. let r' : Ran = record { end = r.end; events = h.events ++ r.events; taken = n } in r') n
 
+  pub reaches_first : (s : StackState) (w : StoreState) (a b : DevicesState) (h : IsStep code s w (starting code) a b (Ok tt)) (k : ℕ) (more : Tapes) →
+      state_reached code depth (0 + k) (spliced (tapes_of h.events) more) ≡ state_after code depth k (state_of code s w more)
+  reaches_first s w a b h k more =
+      let e : 0 + k ≡ k = omega arith in
+      ap (λ k. state_reached code depth k (spliced (tapes_of h.events) more)) e
+      ∙ ap (λ x. goes_to x (state_after code depth k)) (h.comes.goes more)
+
   abbrev pub leads_first : (s : StackState) (w : StoreState) (a b : DevicesState) → IsStep code s w (starting code) a b (Ok tt) → Leads code depth 0 s w a b
-  leads_first s w a b h = record { events = h.events; did = h.did; same = h.same; leads = leads_so_first s w a b h }
+  leads_first s w a b h = record { events = h.events; did = h.did; same = h.same; leads = leads_so_first s w a b h; reaches = reaches_first s w a b h }
 
   first_there : (is : List Instance) (m : Instance) → (i : Instance) × (slice_get (is ++ m ∷ []) 0 ≡ Some i)
   first_there [] m = (m, refl)
@@ -87,14 +94,11 @@ module _ (code : Code) (depth : ℕ) where
     tells = λ more. ap (λ x. (enter_first x (steps code depth k)).events) (h.halts more);
   }
 
-  pub start_stops : (k : ℕ) (s : StackState) (w : StoreState) (d : DevicesState) (end : RunEnd) → IsNotStuck (starting code) → IsStep code s w (starting code) d d (Err end) → Runs code depth k d d end
-  start_stops k s w d Memory sound h =
-      let e = enters_first sound in
-      let le : 0 ≤ k = omega arith in
-      record { events = e.event ∷ []; did = did_quietly d (e.event ∷ []) e.quiet; ends = (0, le, none_taken e); same = same_devices d; failed = tt }
-  start_stops k s w d Ended sound h = record { events = h.events; did = h.did; ends = halts_first k h.events _ h.comes; same = h.same; failed = h.failed }
-  start_stops k s w d (Trap kind place) sound h = record { events = h.events; did = h.did; ends = halts_first k h.events _ h.comes; same = h.same; failed = h.failed }
-  start_stops k s w d TooDeep sound h = record { events = h.events; did = h.did; ends = halts_first k h.events _ h.comes; same = h.same; failed = h.failed }
-  start_stops k s w d Spent sound h = absurd h.comes
-  start_stops k s w d (DeviceFailed grant op) sound h = record { events = h.events; did = h.did; ends = halts_first k h.events _ h.comes; same = h.same; failed = h.failed }
-  start_stops k s w d SinkFailed sound h = absurd h.comes
+  pub start_stops : (k : ℕ) (s : StackState) (w : StoreState) (d : DevicesState) (end : RunEnd) → IsStep code s w (starting code) d d (Err end) → WantsOnly false (Err end) → Runs code depth k d d end
+  start_stops k s w d Memory h wants = cc
+  start_stops k s w d Ended h wants = record { events = h.events; did = h.did; ends = halts_first k h.events _ h.comes; same = h.same; failed = h.failed }
+  start_stops k s w d (Trap kind place) h wants = record { events = h.events; did = h.did; ends = halts_first k h.events _ h.comes; same = h.same; failed = h.failed }
+  start_stops k s w d TooDeep h wants = record { events = h.events; did = h.did; ends = halts_first k h.events _ h.comes; same = h.same; failed = h.failed }
+  start_stops k s w d Spent h wants = absurd h.comes
+  start_stops k s w d (DeviceFailed grant op) h wants = record { events = h.events; did = h.did; ends = halts_first k h.events _ h.comes; same = h.same; failed = h.failed }
+  start_stops k s w d SinkFailed h wants = absurd h.comes

@@ -1,5 +1,5 @@
 -- Many steps.
-use Rattle.std.proofs.Common.{◌≡◌, ◌≤◌, ◌<◌, ℕ, suc, ◌+◌, ◌-◌, Bool, true, false, List, [], ◌∷◌, ◌++◌, Option, Ok, Err, refl, sym, ap, ap₂, ◌∙◌, subst, arith, append_assoc, append-nil}
+use Rattle.std.proofs.Common.{◌≡◌, ◌≤◌, ◌<◌, ℕ, suc, ◌+◌, ◌-◌, Bool, true, false, List, [], ◌∷◌, ◌++◌, Option, Some, Ok, Err, refl, sym, ap, ap₂, ◌∙◌, subst, arith, append_assoc, append-nil}
 use Rattle.std.proofs.lemmas.List.{map-append}
 use Rattle.std.specs.Prelude.{if◌then◌else◌}
 use Rattle.wy_text.proofs.Gains.{gained-gained, rose_later}
@@ -25,6 +25,7 @@ use Rattle.wy_machine.specs.Stacks.{StackState}
 use Rattle.wy_machine.specs.States.{state_of}
 use Rattle.wy_machine.specs.Steps.{stepping, IsNotStuck, Halts, StopsIn, IsStep}
 use Rattle.wy_machine.specs.StoreStates.{StoreState}
+use Rattle.wy_machine.specs.Wanting.{next_takes, WantsOnly, goes_to, state_after, state_reached, IsTaking, TakesMemory}
 
 ------------------------------------------------------------
 -- Events after events
@@ -111,6 +112,7 @@ pub record Leads (code : Code) (depth q : ℕ) (s : StackState) (w : StoreState)
   pub did : DidExactly old new events
   pub same : AreSameDevices old new
   pub leads : (k : ℕ) (more : Tapes) → machine code depth (q + k) (spliced (tapes_of events) more) ≡ later events q (steps code depth k (state_of code s w more))
+  pub reaches : (k : ℕ) (more : Tapes) → state_reached code depth (q + k) (spliced (tapes_of events) more) ≡ state_after code depth k (state_of code s w more)
 
 module _ (code : Code) (depth : ℕ) (a : DevicesState) where
   -- one more step, from a state that the run came to
@@ -130,12 +132,23 @@ module _ (code : Code) (depth : ℕ) (a : DevicesState) where
       ∙ ap (λ x. later l.events q (and_then x (steps code depth k))) (h.comes.goes more)
       ∙ ap₂ (λ es n. let r' : Ran = record { end = r.end; events = es; taken = n } in r') (sym (append_assoc l.events h.events r.events)) n
 
+  pub reaches_so : (q : ℕ) (s s' : StackState) (w w' : StoreState) (b c : DevicesState) (l : Leads code depth q s w a b) (h : IsStep code s' w' (stepping code depth s w) b c (Ok tt)) (k : ℕ) (more : Tapes) →
+      state_reached code depth (q + 1 + k) (spliced (tapes_of (l.events ++ h.events)) more) ≡ state_after code depth k (state_of code s' w' more)
+  unfolding state_after
+  reaches_so q s s' w w' b c l h k more =
+      let e : q + 1 + k ≡ q + suc k = omega arith in
+      ap (λ n. state_reached code depth n (spliced (tapes_of (l.events ++ h.events)) more)) e
+      ∙ ap (state_reached code depth (q + suc k)) (tapes_after l.events h.events more)
+      ∙ l.reaches (suc k) (spliced (tapes_of h.events) more)
+      ∙ ap (λ x. goes_to x (state_after code depth k)) (h.comes.goes more)
+
   abbrev pub leads_more : (q : ℕ) (s s' : StackState) (w w' : StoreState) (b c : DevicesState) → Leads code depth q s w a b → IsStep code s' w' (stepping code depth s w) b c (Ok tt) → Leads code depth (q + 1) s' w' a c
   leads_more q s s' w w' b c l h = record {
     events = l.events ++ h.events;
     did = did_after a b c l.events h.events l.did h.did;
     same = same_after a b c l.same h.same;
     leads = leads_so q s s' w w' b c l h;
+    reaches = reaches_so q s s' w w' b c l h;
   }
 
   pub halts_to : (q k : ℕ) (s : StackState) (w : StoreState) (b : DevicesState) (l : Leads code depth q s w a b) (fs : List Event) (end : ends.RunEnd) → q < k → Halts fs (stepping code depth s w) end → RunsTo code depth k (l.events ++ fs) end
@@ -161,20 +174,33 @@ module _ (code : Code) (depth : ℕ) (a : DevicesState) where
           ∙ ap (λ n. machine code depth n (spliced (tapes_of l.events) more)) e
           ∙ l.leads 0 more
 
-  pub ends_to : (q k : ℕ) (s : StackState) (w : StoreState) (b : DevicesState) (l : Leads code depth q s w a b) (fs : List Event) (end : RunEnd) → q < k → StopsIn fs (stepping code depth s w) end → EndsIn code depth k (l.events ++ fs) end
-  ends_to q k s w b l fs Ended lt p = halts_to q k s w b l fs _ lt p
-  ends_to q k s w b l fs (Trap kind place) lt p = halts_to q k s w b l fs _ lt p
-  ends_to q k s w b l fs TooDeep lt p = halts_to q k s w b l fs _ lt p
-  ends_to q k s w b l fs Spent lt p = absurd p
-  ends_to q k s w b l fs (DeviceFailed grant op) lt p = halts_to q k s w b l fs _ lt p
-  ends_to q k s w b l fs SinkFailed lt p = p
-  ends_to q k s w b l fs Memory lt p = let le : q ≤ k = omega arith in (q, le, spent_to q s w b l fs p)
+  -- the instruction that comes next takes memory
+  taking : (q : ℕ) (s : StackState) (w : StoreState) (b : DevicesState) (l : Leads code depth q s w a b) (fs : List Event) → fs ≡ [] → next_takes code s ≡ true → TakesMemory code depth q (spliced (tapes_of (l.events ++ fs)))
+  unfolding state_after
+  taking q s w b l fs none takes = record { takes = λ more. subst IsTaking (sym (reached more)) takes }
+    where
+      reached : (more : Tapes) → state_reached code depth q (spliced (tapes_of (l.events ++ fs)) more) ≡ Some (state_of code s w more)
+      reached more =
+          let e : q ≡ q + 0 = omega arith in
+          ap (λ fs. state_reached code depth q (spliced (tapes_of (l.events ++ fs)) more)) none
+          ∙ ap (λ es. state_reached code depth q (spliced (tapes_of es) more)) (append-nil l.events)
+          ∙ ap (λ n. state_reached code depth n (spliced (tapes_of l.events) more)) e
+          ∙ l.reaches 0 more
 
-  pub run_stops : (q k : ℕ) (s s' : StackState) (w w' : StoreState) (b c : DevicesState) (end : RunEnd) → q < k → Leads code depth q s w a b → IsStep code s' w' (stepping code depth s w) b c (Err end) → Runs code depth k a c end
-  run_stops q k s s' w w' b c end lt l h = record {
+  pub ends_to : (q k : ℕ) (s : StackState) (w : StoreState) (b : DevicesState) (l : Leads code depth q s w a b) (fs : List Event) (end : RunEnd) → q < k → StopsIn fs (stepping code depth s w) end → WantsOnly (next_takes code s) (Err end) → EndsIn code depth k (l.events ++ fs) end
+  ends_to q k s w b l fs Ended lt p m = halts_to q k s w b l fs _ lt p
+  ends_to q k s w b l fs (Trap kind place) lt p m = halts_to q k s w b l fs _ lt p
+  ends_to q k s w b l fs TooDeep lt p m = halts_to q k s w b l fs _ lt p
+  ends_to q k s w b l fs Spent lt p m = absurd p
+  ends_to q k s w b l fs (DeviceFailed grant op) lt p m = halts_to q k s w b l fs _ lt p
+  ends_to q k s w b l fs SinkFailed lt p m = p
+  ends_to q k s w b l fs Memory lt p m = let le : q ≤ k = omega arith in (q, le, spent_to q s w b l fs p, taking q s w b l fs p m)
+
+  pub run_stops : (q k : ℕ) (s s' : StackState) (w w' : StoreState) (b c : DevicesState) (end : RunEnd) → q < k → Leads code depth q s w a b → IsStep code s' w' (stepping code depth s w) b c (Err end) → WantsOnly (next_takes code s) (Err end) → Runs code depth k a c end
+  run_stops q k s s' w w' b c end lt l h m = record {
     events = l.events ++ h.events;
     did = did_after a b c l.events h.events l.did h.did;
-    ends = ends_to q k s w b l h.events end lt h.comes;
+    ends = ends_to q k s w b l h.events end lt h.comes m;
     same = same_after a b c l.same h.same;
     failed = fault_after a b c l.same h.same end h.failed;
   }

@@ -7,12 +7,16 @@ pub mod Fetching
 pub mod FirstSteps
 pub mod Leading
 pub mod Lines
+pub mod Loads
 pub mod Lookups
 pub mod ObjectSteps
 pub mod Operating
 pub mod OperatorSteps
 pub mod Quiet
+pub mod Refilling
+pub mod Rooms
 pub mod Showings
 pub mod StartSteps
+pub mod TextBuilders
 pub mod TracedRuns
 pub mod TracedSteps

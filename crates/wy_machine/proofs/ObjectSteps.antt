@@ -1,5 +1,5 @@
 -- What `New` does.
-use Rattle.std.proofs.Common.{◌≡◌, ◌≢◌, ℕ, ◌+◌, ◌<◌, ◌≤◌, List, [], ◌∷◌, ◌++◌, length, take, drop, reverse, Option, Some, None, Ok, Err, refl, ap, ap₂, ◌∙◌, nat_lt, append_assoc}
+use Rattle.std.proofs.Common.{◌≡◌, ◌≢◌, ℕ, true, ◌+◌, ◌<◌, ◌≤◌, List, [], ◌∷◌, ◌++◌, length, take, drop, reverse, Option, Some, None, Ok, Err, refl, ap, ap₂, ◌∙◌, nat_lt, append_assoc}
 use Rattle.std.specs.Prelude.{slice_get, if◌then◌else◌, IsSome}
 use Rattle.wy_text.specs.declared.fault.Place.{Place}
 use Rattle.wy_device.specs.Devices.{DevicesState}
@@ -13,7 +13,7 @@ use Rattle.wy_code.specs.declared.code.Source.TheVariants.{Slot, Value}
 use Rattle.wy_code.specs.declared.instruction.Instruction.TheVariants.{New}
 use Rattle.wy_code.specs.Stores.{Word, Object, Thing, object_made, replied, ended}
 use Rattle.wy_code.specs.Machine as machine
-use Rattle.wy_code.specs.Machine.{State, Next, Go, stuck, push_reply, literal_of, words_from, with_word, make_with, first_of}
+use Rattle.wy_code.specs.Machine.{State, Next, Go, stuck, has_room, push_reply, literal_of, words_from, with_word, make_with, first_of}
 use Rattle.wy_machine.specs.declared.run_end.RunEnd.TheVariants.{Trap}
 use Rattle.wy_machine.specs.declared.run_end.TrapKind.TheVariants.{Crowded}
 use Rattle.wy_machine.specs.Captures.{word_found, words_found, after_words, with_fields, values_found}
@@ -21,7 +21,7 @@ use Rattle.wy_machine.specs.Stacks.{StackState, pushed, with_operands}
 use Rattle.wy_machine.specs.States.{frame_of, store_of, state_of}
 use Rattle.wy_machine.specs.Steps.{acting, IsNotStuck, IsStep}
 use Rattle.wy_machine.specs.StoreStates.{StoreState, with_object}
-use Rattle.wy_machine.proofs.Acts.{no_tapes, operands_there, operands_taken, pushes, value_at_is}
+use Rattle.wy_machine.proofs.Acts.{no_tapes, operands_there, operands_taken, pushes, room_to_push, value_at_is}
 use Rattle.wy_machine.proofs.OperatorSteps.{below, not_below}
 use Rattle.wy_machine.proofs.Quiet.{traps}
 
@@ -111,6 +111,12 @@ module _ (code : Code) (place : Place) (s : StackState) (w : StoreState) (l : �
           pushes code after with_thing (Object (length w.objects)) making
           (λ t. makes t ∙ ap (λ b. push_reply (if b then replied (Object (length w.objects)) (store_of code with_thing t) else ended (ends.Trap TrapCrowded place)) (state_of code after w t)) (below w.made most_objects few))
           h d
+
+      pub make_room : w.made < most_objects → has_room (frame_of code after.running) ≡ true
+      make_room few =
+          room_to_push code after with_thing (Object (length w.objects)) making
+          (λ t. makes t ∙ ap (λ b. push_reply (if b then replied (Object (length w.objects)) (store_of code with_thing t) else ended (ends.Trap TrapCrowded place)) (state_of code after w t)) (below w.made most_objects few))
+          h
 
       pub crowd_step : most_objects ≤ w.made → (s' : StackState) (w' : StoreState) (d : DevicesState) → IsStep code s' w' making d d (Err (Trap Crowded place))
       crowd_step many s' w' d =

@@ -1,5 +1,5 @@
 -- Steps that ask no device.
-use Rattle.std.proofs.Common.{◌≡◌, List, [], ◌++◌, Result, Ok, Err, refl, sym, ap, ◌∙◌, subst, arith}
+use Rattle.std.proofs.Common.{◌≡◌, Bool, true, List, [], ◌++◌, Result, Ok, Err, refl, sym, ap, ◌∙◌, subst, arith}
 use Rattle.std.specs.Prelude.{IsErrAnd}
 use Rattle.wy_text.specs.declared.fault.Place.{Place}
 use Rattle.wy_text.proofs.Gains.{gained-nil}
@@ -22,6 +22,7 @@ use Rattle.wy_machine.specs.States.{state_of}
 use Rattle.wy_machine.specs.Steps.{AreQuiet, IsNotStuck, Halts, Comes, IsStep}
 use Rattle.wy_machine.specs.StoreStates.{StoreState}
 use Rattle.wy_machine.specs.TrapKinds.{trap_meant}
+use Rattle.wy_machine.specs.Wanting.{WantsOnly}
 
 pub no_events : AreQuiet []
 no_events = record { none = λ kind. refl }
@@ -106,3 +107,17 @@ module _ (code : Code) (s : StackState) (w : StoreState) (next : Tapes → Next)
   pub wants_when : (r : Result (Unit {0}) RunEnd) → IsErrAnd r (λ e. e ≡ Memory) → IsStep code s w next d d r
   wants_when (Ok u) h = absurd h
   wants_when (Err e) h = subst (λ e. IsStep code s w next d d (Err e)) (sym h) wants_memory
+
+-- memory may be wanting where it is taken
+pub wants_any : (r : Result (Unit {0}) RunEnd) → WantsOnly true r
+wants_any (Ok u) = tt
+wants_any (Err Ended) = tt
+wants_any (Err (Trap kind place)) = tt
+wants_any (Err TooDeep) = tt
+wants_any (Err Spent) = tt
+wants_any (Err (DeviceFailed grant op)) = tt
+wants_any (Err SinkFailed) = tt
+wants_any (Err Memory) = refl
+
+pub wants_taken : (taken : Bool) (r : Result (Unit {0}) RunEnd) → taken ≡ true → WantsOnly taken r
+wants_taken taken r e = subst (λ b. WantsOnly b r) (sym e) (wants_any r)

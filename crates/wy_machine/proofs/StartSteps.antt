@@ -19,6 +19,7 @@ use Rattle.wy_code.specs.Machine as machine
 use Rattle.wy_code.specs.Machine.{Next, Go, Halt, stuck, all_instances, begin_next, begin_instance, begin_body, start_in, this_at_start}
 use Rattle.wy_machine.specs.declared.run_end.RunEnd.TheVariants.{Ended}
 use Rattle.wy_machine.specs.Stacks.{OpenBody, StackState, begun}
+use Rattle.wy_machine.specs.declared.stack.Limits.{Limits}
 use Rattle.wy_machine.specs.States.{body_or_none, frame_of, store_of}
 use Rattle.wy_machine.specs.Steps.{acting, beginning, AreQuiet, IsNotStuck, IsStep}
 use Rattle.wy_machine.specs.StoreStates.{StoreState}
@@ -58,10 +59,10 @@ module _ (code : Code) (w : StoreState) where
       counted = record w { next = w.next + 1 }
 
       pub begin_step : (body : Body) → slice_get code.bodies scope.start ≡ Some body → (es : List Event) → AreQuiet es → (d : DevicesState) →
-          IsStep code (begun w.next scope.start (this_at_start code w.next) body.vals) counted (beginning code es w) d d (Ok tt)
-      begin_step body e es q d =
+          (limits : Limits) → IsStep code (begun limits w.next scope.start (this_at_start code w.next) body.vals) counted (beginning code es w) d d (Ok tt)
+      begin_step body e es q d limits =
           let later : suc w.next ≡ w.next + 1 = omega arith in
-          goes_quietly code (begun w.next scope.start (this_at_start code w.next) body.vals) counted (beginning code es w) d (es ++ Enter instance.name body.name ∷ [])
+          goes_quietly code (begun limits w.next scope.start (this_at_start code w.next) body.vals) counted (beginning code es w) d (es ++ Enter instance.name body.name ∷ [])
           (record { none = λ kind. enter_later kind es instance.name body.name (q.none kind) })
           (λ t.
           bodies es t

@@ -158,11 +158,11 @@ module _ (code : Code) (depth : ℕ) where
       starved_more own (inr h) = ran Memory own h.step tt (happened_more own h.step, inr (wrote_some own h))
 
       pub traced_stops : (end : RunEnd) → IsTraced code s' w' (stepping code depth s w) b c mid out' (Err end) → RunsTraced code depth k a c out out' end
-      traced_stops Ended h = told_stops Ended h (ends_to code depth a q k s w b l.leads h.step.events Ended lt h.step.comes, wrote (Err Ended) h)
-      traced_stops (Trap kind place) h = told_stops (Trap kind place) h (ends_to code depth a q k s w b l.leads h.step.events (Trap kind place) lt h.step.comes, wrote (Err (Trap kind place)) h)
-      traced_stops TooDeep h = told_stops TooDeep h (ends_to code depth a q k s w b l.leads h.step.events TooDeep lt h.step.comes, wrote (Err TooDeep) h)
+      traced_stops Ended h = told_stops Ended h (ends_to code depth a q k s w b l.leads h.step.events Ended lt h.step.comes tt, wrote (Err Ended) h)
+      traced_stops (Trap kind place) h = told_stops (Trap kind place) h (ends_to code depth a q k s w b l.leads h.step.events (Trap kind place) lt h.step.comes tt, wrote (Err (Trap kind place)) h)
+      traced_stops TooDeep h = told_stops TooDeep h (ends_to code depth a q k s w b l.leads h.step.events TooDeep lt h.step.comes tt, wrote (Err TooDeep) h)
       traced_stops Spent h = absurd h.step.comes
-      traced_stops (DeviceFailed grant op) h = told_stops (DeviceFailed grant op) h (ends_to code depth a q k s w b l.leads h.step.events (DeviceFailed grant op) lt h.step.comes, wrote (Err (DeviceFailed grant op)) h)
+      traced_stops (DeviceFailed grant op) h = told_stops (DeviceFailed grant op) h (ends_to code depth a q k s w b l.leads h.step.events (DeviceFailed grant op) lt h.step.comes tt, wrote (Err (DeviceFailed grant op)) h)
       traced_stops SinkFailed h = ran SinkFailed h.0 h.1.step tt (happened_more h.0 h.1.step, wrote_some h.0 h.1, rose_later out.faults mid.faults out'.faults l.counted h.2 m)
       traced_stops Memory h = starved_more h.0 h.1
 

@@ -3,6 +3,7 @@ pub mod Captures
 pub mod Computing
 pub mod Requesting
 pub mod Devices
+pub mod Loading
 pub mod Runs
 pub mod Showing
 pub mod Stacks
@@ -12,3 +13,4 @@ pub mod StoreStates
 pub mod Traces
 pub mod TrapKinds
 pub mod Words
+pub mod Wanting

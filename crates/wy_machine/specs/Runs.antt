@@ -14,6 +14,7 @@ use Rattle.wy_code.specs.Running.{machine}
 use Rattle.wy_machine.specs.declared.run_end.RunEnd.{RunEnd}
 use Rattle.wy_machine.specs.declared.run_end.RunEnd.TheVariants.{Ended, Trap, TooDeep, Spent, DeviceFailed, SinkFailed, Memory}
 use Rattle.wy_machine.specs.TrapKinds.{trap_meant}
+use Rattle.wy_machine.specs.Wanting.{TakesMemory}
 
 -- the code that runs, and how many calls on objects may be open at once
 pub record ImageState : Type 0 where
@@ -34,7 +35,8 @@ pub record RunsTo (code : Code) (depth k : ℕ) (events : List Event) (end : end
   pub ends : (more : Tapes) → (machine code depth k (spliced (tapes_of events) more)).end ≡ end
   pub tells : (more : Tapes) → (machine code depth k (spliced (tapes_of events) more)).events ≡ events
 
--- a run that memory was wanting for did what fewer steps of the code do, and no sink is written to
+-- a run that memory was wanting for did what fewer steps of the code do, and came to an instruction that takes memory:
+-- a run that comes to none is never without it; and no sink is written to
 abbrev pub EndsIn : Code → ℕ → ℕ → List Event → RunEnd → Type 0
 EndsIn code depth k events Ended = RunsTo code depth k events ends.Ended
 EndsIn code depth k events (Trap kind place) = RunsTo code depth k events (ends.Trap (trap_meant kind) place)
@@ -42,7 +44,7 @@ EndsIn code depth k events TooDeep = RunsTo code depth k events ends.TooDeep
 EndsIn code depth k events Spent = RunsTo code depth k events ends.Spent
 EndsIn code depth k events (DeviceFailed grant op) = RunsTo code depth k events (ends.DeviceFailed grant op)
 EndsIn code depth k events SinkFailed = ⊥
-EndsIn code depth k events Memory = (j : ℕ) × (j ≤ k) × RunsTo code depth j events ends.Spent
+EndsIn code depth k events Memory = (j : ℕ) × (j ≤ k) × RunsTo code depth j events ends.Spent × TakesMemory code depth j (spliced (tapes_of events))
 
 -- a device is of the same kind, and its count of faults did not fall
 pub record IsSameDevice (old new : DeviceState) : Type 0 where

@@ -1,17 +1,26 @@
 -- What the machine's store means.
-use Rattle.std.specs.Prelude.{ℕ, List, [], ◌∷◌, ◌++◌, Option, Some, None, slice_get, slice_set}
+use Rattle.std.specs.Prelude.{◌≡◌, ℕ, ⊤, List, [], ◌∷◌, ◌++◌, length, Option, Some, None, slice_get, slice_set}
 use Rattle.wy_code.specs.Stores.{Thing, Word, value_in}
 use Rattle.wy_machine.specs.Words.{object_of}
 
--- the objects, how many of them `New` made, the texts that were built, and the number of the instance that starts next
+-- the objects, how many of them `New` made, the texts that were built, the number of the instance that starts next, and
+-- the instances' objects as they are before any has started
 pub record StoreState : Type 0 where
   pub objects : List Thing
   pub made : ℕ
   pub texts : List (List ℕ)
   pub next : ℕ
+  pub first : List Thing
 
-abbrev pub no_store : StoreState
-no_store = record { objects = []; made = 0; texts = []; next = 0 }
+-- the store of a run that starts
+abbrev pub store_with : List Thing → StoreState
+store_with first = record { objects = first; made = 0; texts = []; next = 0; first = first }
+
+-- each of these objects still stands, with as many values
+abbrev pub AreKept : List Thing → List Thing → Type 0
+AreKept [] things = ⊤
+AreKept (x ∷ xs) [] = ⊥
+AreKept (x ∷ xs) (y ∷ ys) = (y.instance ≡ x.instance) × (y.literal ≡ x.literal) × (length y.values ≡ length x.values) × AreKept xs ys
 
 abbrev pub with_object : Thing → StoreState → StoreState
 with_object thing w = record w { objects = w.objects ++ thing ∷ [] }

@@ -1,3 +1,5 @@
+//! Operators on numbers and truth values, and the texts that are made of numbers.
+
 ghost use Rattle.std.specs.Prelude.{◌≡◌, ◌∷◌, [], ◌+ℤ◌, ◌-ℤ◌, ◌*ℤ◌, neg_ℤ, not, int_lt, int_le, IfOk};
 ghost use Rattle.wy_code.specs.Stores.{Store, operand};
 ghost use Rattle.wy_device.specs.Operators.{within_range, quotient_of, remainder_of, one_byte, on_numbers, on_number, on_truth, GivesTruth, Builds};

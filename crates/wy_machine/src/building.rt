@@ -1,8 +1,11 @@
+//! Operators: what they give is pushed, and the texts that they build are kept.
+
 ghost use Rattle.std.specs.Prelude.{◌≡◌, ◌<◌, ◌≤◌, ◌++◌, ◌∷◌, [], length, IfOk, OnOk};
 ghost use Rattle.wy_code.specs.Stores as words;
 ghost use Rattle.wy_code.specs.declared.instruction.Instruction.TheVariants.{Op as Operate};
 ghost use Rattle.wy_device.specs.Devices.{DevicesState};
 ghost use Rattle.wy_machine.specs.Steps.{acting, IsNotStuck, IsStep};
+ghost use Rattle.wy_machine.specs.Wanting.{builds_text, WantsOnly};
 
 use crate::computed::Computed;
 use crate::machine::Machine;
@@ -35,6 +38,7 @@ pub fn next_text(code: &Code, store: &Store) -> Result<u32, Memory>
 fn build(code: &Code, store: &mut Store, text: Text) -> Result<Word, Memory>
     ensures word { IfOk result (λ v. v ≡ words.Text (length (code.now.texts ++ store.old.texts))) }
     ensures added { OnOk result (store.new ≡ record store.old { texts = store.old.texts ++ text ∷ [] }) }
+    ensures first { store.new.first ≡ store.old.first }
 {
     let number = next_text(code, store)?;
     store.add_text(text)?;
@@ -49,8 +53,11 @@ pub fn operate(
     operator: Operator,
 ) -> Result<(), RunEnd>
     requires { IsNotStuck (acting code.now 0 place machine.old.stack machine.old.store (Operate operator)) }
-    ensures { (d : DevicesState) → IsStep code.now machine.new.stack machine.new.store
+    ensures step { (d : DevicesState) → IsStep code.now machine.new.stack machine.new.store
         (acting code.now 0 place machine.old.stack machine.old.store (Operate operator)) d d result }
+    ensures wants { WantsOnly (builds_text operator) result }
+    ensures limits { machine.new.stack.limits ≡ machine.old.stack.limits }
+    ensures first { machine.new.store.first ≡ machine.old.store.first }
 {
     let count = operand_count(operator);
     let alloc = machine.store.alloc();

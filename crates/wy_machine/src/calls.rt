@@ -1,10 +1,14 @@
-ghost use Rattle.std.specs.Prelude.{◌≡◌, ◌+◌, ◌<◌, length, slice_get, Some};
+//! Calls on objects: the body of a method is entered.
+
+ghost use Rattle.std.specs.Prelude.{◌≡◌, ◌+◌, ◌<◌, ◌≤◌, length, slice_get, Some, false};
 ghost use Rattle.wy_code.specs.Machine.{call_on, literal_of};
 ghost use Rattle.wy_code.specs.Stores.{Object as ObjectWord};
 ghost use Rattle.wy_code.specs.declared.instruction.Instruction.TheVariants.{Call, Finish};
 ghost use Rattle.wy_device.specs.Devices.{DevicesState};
 ghost use Rattle.wy_machine.specs.Calls.{number_called};
+ghost use Rattle.wy_machine.specs.Loading.{IsLoaded};
 ghost use Rattle.wy_machine.specs.Steps.{acting, IsNotStuck, IsStep};
+ghost use Rattle.wy_machine.specs.Wanting.{WantsOnly};
 
 use crate::lookup::{body_called, literal_at};
 use crate::machine::Machine;
@@ -36,9 +40,14 @@ pub fn enter(
 ) -> Result<(), RunEnd>
     requires receiver { slice_get machine.old.stack.running.operands count ≡ Some (ObjectWord object) }
     requires few { length machine.old.stack.callers < depth }
+    requires loaded { IsLoaded code.now machine.old.stack.limits machine.old.store.first }
+    requires deep { depth ≤ machine.old.stack.limits.depth }
     requires sound { IsNotStuck (acting code.now depth place machine.old.stack machine.old.store (Call method count)) }
-    ensures { (d : DevicesState) → IsStep code.now machine.new.stack machine.new.store
+    ensures step { (d : DevicesState) → IsStep code.now machine.new.stack machine.new.store
         (acting code.now depth place machine.old.stack machine.old.store (Call method count)) d d result }
+    ensures ready { WantsOnly false result }
+    ensures limits { machine.new.stack.limits ≡ machine.old.stack.limits }
+    ensures first { machine.new.store.first ≡ machine.old.store.first }
 {
     match machine.store.object(object as usize) {
         Some(thing) => {
@@ -46,7 +55,7 @@ pub fn enter(
             match method_body(code, thing, method) {
                 Some(number) => match code.bodies.get(number as usize) {
                     Some(body) => {
-                        machine.stack.enter(instance, number, count, body.vals)?;
+                        machine.stack.enter(instance, number, count, body.vals);
                         Ok(())
                     }
                     None => unreachable!(),

@@ -1,3 +1,5 @@
+//! What the next step will show, looked at before it is taken.
+
 ghost use Rattle.std.specs.Prelude.{◌≡◌, ℕ, IfOk, slice_get, Some};
 ghost use Rattle.wy_code.specs.Stores.{Grant as GrantWord};
 ghost use Rattle.wy_code.specs.declared.instruction.Instruction.TheVariants.{Call};

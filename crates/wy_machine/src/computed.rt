@@ -1,3 +1,5 @@
+//! What an operator gives.
+
 use crate::run_end::TrapKind;
 use wy_text::text::Text;
 

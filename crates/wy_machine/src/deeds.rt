@@ -1,3 +1,5 @@
+//! The operation that a call on a grant asks for, and the word of its answer.
+
 ghost use Rattle.std.specs.Prelude.{◌≡◌, ◌<◌, ◌≤◌, length, reverse, take, slice_get, IfOk, Some};
 ghost use Rattle.wy_code.specs.Operations.{texts_named};
 ghost use Rattle.wy_device.specs.Tapes.{Tapes};

@@ -1,3 +1,5 @@
+//! The four devices that a run asks.
+
 ghost use Rattle.std.specs.Prelude.{◌≡◌, [], IfOk, Err, Some, None};
 ghost use Rattle.std.specs.Option.{option_copied};
 ghost use Rattle.wy_code.specs.Operations.{deed_event};

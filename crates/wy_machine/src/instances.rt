@@ -1,11 +1,11 @@
-ghost use Rattle.std.specs.Prelude.{◌≡◌, map, IfOk, OnOk, Some};
+//! The instances' objects as they are before any has started.
+
+ghost use Rattle.std.specs.Prelude.{◌≡◌, map, IfOk, Some};
 ghost use Rattle.wy_code.specs.Machine.{scope_in, literal_of_scope};
 ghost use Rattle.wy_code.specs.Running as running;
 ghost use Rattle.wy_code.specs.Running.{field_count, object_at_first, objects_at_first};
-ghost use Rattle.wy_machine.specs.StoreStates.{no_store};
 
 use crate::object::Object;
-use crate::store::Store;
 use crate::word::{Word, WordKind};
 use std::alloc::Global;
 use wy_code::code::{Argument, Code, Instance};
@@ -60,19 +60,16 @@ fn first_object(
     Ok(Object::new(number, 0, values))
 }
 
-/// Adds the instances' objects.
-pub fn add_instances(code: &Code, store: &mut Store) -> Result<(), Memory>
-    requires { store.old ≡ no_store }
-    ensures { OnOk result (store.new ≡ record no_store { objects = objects_at_first code.now 0 code.now.instances }) }
+/// The instances' objects, whose fields are not set yet.
+pub fn first_objects(alloc: Global, code: &Code) -> Result<Vec<Object>, Memory>
+    ensures { IfOk result (λ objects. objects.items ≡ objects_at_first code.now 0 code.now.instances) }
 {
+    let mut objects = Vec::new(alloc);
     for (number, instance) in code.instances.as_slice().iter().enumerate() {
         match u32::try_from(number) {
-            Ok(number) => {
-                let object = first_object(store.alloc(), code, number, instance)?;
-                store.add_object(object)?;
-            }
+            Ok(number) => objects.push(first_object(alloc, code, number, instance)?)?,
             Err(_) => return Err(Memory),
         }
     }
-    Ok(())
+    Ok(objects)
 }

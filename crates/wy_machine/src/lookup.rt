@@ -1,3 +1,5 @@
+//! Instances, scopes, literals and bodies by their numbers.
+
 ghost use Rattle.std.specs.Prelude.{◌≡◌, slice_get};
 ghost use Rattle.std.specs.Option.{option_copied};
 ghost use Rattle.wy_code.specs.Machine.{all_instances, scope_in, literal_of, start_in};

@@ -1,14 +1,15 @@
-ghost use Rattle.std.specs.Prelude.{◌≡◌, ◌<◌, drop, length, Some, OnOk, IsSome, unwrap_or};
+//! The state of a run: its stack and its store.
+
+ghost use Rattle.std.specs.Prelude.{◌≡◌, ◌<◌, drop, length, Some, IsSome, unwrap_or};
 ghost use Rattle.wy_code.specs.Machine.{first_of};
 ghost use Rattle.wy_code.specs.Stores.{Nothing};
-ghost use Rattle.wy_machine.specs.Stacks.{pushed, with_operands};
+ghost use Rattle.wy_machine.specs.Stacks.{words_in, pushed, with_operands};
 ghost use Rattle.wy_machine.specs.StoreStates.{value_of, value_written};
 ghost use Rattle.wy_machine.specs.Words.{object_of};
 
 use crate::stack::Stack;
 use crate::store::Store;
 use crate::word::Word;
-use wy_text::text::Memory;
 
 /// The state of a run.
 #[derive(Drop)]
@@ -32,11 +33,12 @@ pub fn value(store: &Store, this: Word, at: usize) -> Option<Word>
 
 impl Machine {
     /// Pushes a value of the current object.
-    pub fn get(&mut self, at: usize) -> Result<(), Memory>
-        requires { IsSome (value_of self.old.store (first_of self.old.stack.running.slots) at) }
-        ensures pushed { OnOk result (self.new.stack
-            ≡ pushed (unwrap_or (value_of self.old.store (first_of self.old.stack.running.slots) at) Nothing) self.old.stack) }
-        ensures same { OnOk result (self.new.store ≡ self.old.store) }
+    pub fn get(&mut self, at: usize)
+        requires value { IsSome (value_of self.old.store (first_of self.old.stack.running.slots) at) }
+        requires room { words_in self.old.stack < self.old.stack.limits.words }
+        ensures pushed { self.new.stack
+            ≡ pushed (unwrap_or (value_of self.old.store (first_of self.old.stack.running.slots) at) Nothing) self.old.stack }
+        ensures same { self.new.store ≡ self.old.store }
     {
         match value(&self.store, self.stack.this(), at) {
             Some(word) => self.stack.push(word),

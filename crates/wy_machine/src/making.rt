@@ -1,8 +1,11 @@
+//! `New`: an object of a literal, with what it captures.
+
 ghost use Rattle.std.specs.Prelude.{◌≡◌, ◌<◌, ◌≤◌, length, IsSome, IfOk, Some};
 ghost use Rattle.wy_code.specs.Machine.{literal_of};
 ghost use Rattle.wy_code.specs.declared.instruction.Instruction.TheVariants.{New};
 ghost use Rattle.wy_device.specs.Devices.{DevicesState};
 ghost use Rattle.wy_machine.specs.Captures.{word_found, words_found, values_found};
+ghost use Rattle.wy_machine.specs.Loading.{IsLoaded};
 ghost use Rattle.wy_machine.specs.Steps.{acting, IsNotStuck, IsStep};
 
 use crate::lookup::literal_at;
@@ -73,9 +76,12 @@ fn make_object(
     kind: &Literal,
 ) -> Result<(), RunEnd>
     requires here { literal_of code.now machine.old.stack.running.instance literal ≡ Some kind.now }
+    requires loaded { IsLoaded code.now machine.old.stack.limits machine.old.store.first }
     requires sound { IsNotStuck (acting code.now 0 place machine.old.stack machine.old.store (New literal)) }
-    ensures { (d : DevicesState) → IsStep code.now machine.new.stack machine.new.store
+    ensures step { (d : DevicesState) → IsStep code.now machine.new.stack machine.new.store
         (acting code.now 0 place machine.old.stack machine.old.store (New literal)) d d result }
+    ensures limits { machine.new.stack.limits ≡ machine.old.stack.limits }
+    ensures first { machine.new.store.first ≡ machine.old.store.first }
 {
     let count = kind.fields as usize;
     let values = values_of(machine, kind)?;
@@ -84,7 +90,7 @@ fn make_object(
         let object = Object::new(machine.stack.instance(), literal, values);
         machine.store.make_object(object)?;
         machine.stack.drop_operands(count);
-        machine.stack.push(Word::new(WordKind::Object(number)))?;
+        machine.stack.push(Word::new(WordKind::Object(number)));
         Ok(())
     } else {
         Err(RunEnd::Trap {
@@ -96,9 +102,12 @@ fn make_object(
 
 /// Makes an object of the literal of a number.
 pub fn make(code: &Code, machine: &mut Machine, place: Place, literal: u32) -> Result<(), RunEnd>
-    requires { IsNotStuck (acting code.now 0 place machine.old.stack machine.old.store (New literal)) }
-    ensures { (d : DevicesState) → IsStep code.now machine.new.stack machine.new.store
+    requires loaded { IsLoaded code.now machine.old.stack.limits machine.old.store.first }
+    requires sound { IsNotStuck (acting code.now 0 place machine.old.stack machine.old.store (New literal)) }
+    ensures step { (d : DevicesState) → IsStep code.now machine.new.stack machine.new.store
         (acting code.now 0 place machine.old.stack machine.old.store (New literal)) d d result }
+    ensures limits { machine.new.stack.limits ≡ machine.old.stack.limits }
+    ensures first { machine.new.store.first ≡ machine.old.store.first }
 {
     match literal_at(code, machine.stack.instance() as usize, literal as usize) {
         Some(kind) => make_object(code, machine, place, literal, kind),

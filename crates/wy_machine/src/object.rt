@@ -1,3 +1,5 @@
+//! Objects: an instance's own, or one of its object literals.
+
 ghost use Rattle.std.specs.Prelude.{◌≡◌, ◌<◌, length, slice_get, slice_set};
 
 use crate::word::Word;
@@ -58,5 +60,13 @@ impl Object {
         ensures { self.new ≡ record self.old { values = slice_set self.old.values at word } }
     {
         self.values[at] = word;
+    }
+
+    /// Writes each of its values, as another object with as many has it. It takes no memory.
+    pub fn refill(&mut self, from: &Object)
+        requires { length self.old.values ≡ length from.now.values }
+        ensures { self.new ≡ record self.old { values = from.now.values } }
+    {
+        self.values.copy_from_slice(from.values.as_slice());
     }
 }

@@ -1,4 +1,6 @@
-ghost use Rattle.std.specs.Prelude.{◌≡◌, ◌≤◌, ◌∷◌, [], length, map, reverse, take, IfOk};
+//! What each operator gives for the topmost operands.
+
+ghost use Rattle.std.specs.Prelude.{◌≡◌, ◌≤◌, ◌∷◌, [], length, map, reverse, take, true, IfOk, OnErr};
 ghost use Rattle.wy_code.specs.Operations.{operator_meant, operand_count};
 ghost use Rattle.wy_code.specs.Stores.{operand};
 ghost use Rattle.wy_device.specs.Operators.{operate};
@@ -6,6 +8,7 @@ ghost use Rattle.wy_device.specs.Operators as meant;
 ghost use Rattle.wy_device.specs.Tapes.{Tapes};
 ghost use Rattle.wy_machine.specs.Computing.{computed_meant, not_if};
 ghost use Rattle.wy_machine.specs.States.{store_of};
+ghost use Rattle.wy_machine.specs.Wanting.{builds_text};
 
 use crate::arithmetic::{
     byte, difference, greater, greater_or_equal, less, less_or_equal, negated, negation, product,
@@ -64,8 +67,9 @@ pub fn computed(
     operator: Operator,
 ) -> Result<Computed, Memory>
     requires { operand_count operator ≤ length stack.now.running.operands }
-    ensures { IfOk result (λ c. (tapes : Tapes) →
+    ensures gives { IfOk result (λ c. (tapes : Tapes) →
         computed_meant c ≡ operate (operator_meant operator) (map (operand (store_of code.now store.now tapes)) (reverse (take (operand_count operator) stack.now.running.operands)))) }
+    ensures wants { OnErr result (builds_text operator ≡ true) }
 {
     match operator {
         Operator::Negate => Ok(negated(stack.operand(0))),

@@ -1,3 +1,5 @@
+//! Calls on grants: their traps, and then the device.
+
 ghost use Rattle.std.specs.Prelude.{◌≡◌, ◌<◌, length, slice_get, true, false, Some};
 ghost use Rattle.wy_code.specs.Stores.{Grant as GrantWord};
 ghost use Rattle.wy_code.specs.declared.instruction.Instruction.TheVariants.{Call};
@@ -37,8 +39,10 @@ fn ask_for_text<D: Device>(
     requires text { requests.answers_text op.now ≡ true }
     requires room { length machine.old.store.texts < 4194304 }
     requires sound { IsNotStuck (acting code.now depth place machine.old.stack machine.old.store (Call method count)) }
-    ensures { IsStep code.now machine.new.stack machine.new.store
+    ensures step { IsStep code.now machine.new.stack machine.new.store
         (acting code.now depth place machine.old.stack machine.old.store (Call method count)) (states D.state devices.old) (states D.state devices.new) result }
+    ensures limits { machine.new.stack.limits ≡ machine.old.stack.limits }
+    ensures first { machine.new.store.first ≡ machine.old.store.first }
 {
     let number = next_text(code, &machine.store)?;
     let name = grant.name.copy()?;
@@ -79,8 +83,10 @@ fn ask_for_word<D: Device>(
     requires good { requests.has_good_name op.now ≡ true }
     requires no_text { requests.answers_text op.now ≡ false }
     requires sound { IsNotStuck (acting code.now depth place machine.old.stack machine.old.store (Call method count)) }
-    ensures { IsStep code.now machine.new.stack machine.new.store
+    ensures step { IsStep code.now machine.new.stack machine.new.store
         (acting code.now depth place machine.old.stack machine.old.store (Call method count)) (states D.state devices.old) (states D.state devices.new) result }
+    ensures limits { machine.new.stack.limits ≡ machine.old.stack.limits }
+    ensures first { machine.new.store.first ≡ machine.old.store.first }
 {
     let name = grant.name.copy()?;
     match devices.ask(&grant.name, op) {
@@ -114,8 +120,10 @@ fn request<D: Device>(
     requires order { IsInOrder (states D.state devices.old) }
     requires request { IsRequest code.now machine.old.stack machine.old.store method count grant.now op.now }
     requires sound { IsNotStuck (acting code.now depth place machine.old.stack machine.old.store (Call method count)) }
-    ensures { IsStep code.now machine.new.stack machine.new.store
+    ensures step { IsStep code.now machine.new.stack machine.new.store
         (acting code.now depth place machine.old.stack machine.old.store (Call method count)) (states D.state devices.old) (states D.state devices.new) result }
+    ensures limits { machine.new.stack.limits ≡ machine.old.stack.limits }
+    ensures first { machine.new.store.first ≡ machine.old.store.first }
 {
     if !has_good_name(op) {
         return Err(RunEnd::Trap {
@@ -154,8 +162,10 @@ pub fn perform<D: Device>(
     requires order { IsInOrder (states D.state devices.old) }
     requires receiver { slice_get machine.old.stack.running.operands count ≡ Some (GrantWord number) }
     requires sound { IsNotStuck (acting code.now depth place machine.old.stack machine.old.store (Call method count)) }
-    ensures { IsStep code.now machine.new.stack machine.new.store
+    ensures step { IsStep code.now machine.new.stack machine.new.store
         (acting code.now depth place machine.old.stack machine.old.store (Call method count)) (states D.state devices.old) (states D.state devices.new) result }
+    ensures limits { machine.new.stack.limits ≡ machine.old.stack.limits }
+    ensures first { machine.new.store.first ≡ machine.old.store.first }
 {
     match code.grants.get(number as usize) {
         Some(grant) => match code.methods.get(method as usize) {

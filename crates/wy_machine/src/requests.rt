@@ -1,3 +1,5 @@
+//! The operation that a method of a device asks for, and which names are a file's.
+
 ghost use Rattle.std.specs.Prelude.{◌≡◌, ◌≢◌, ◌∷◌, [], length, IfOk, MatchOption, Some, None};
 ghost use Rattle.wy_code.specs.Operations.{texts_named};
 ghost use Rattle.wy_device.specs.Requests as requests;
@@ -8,38 +10,9 @@ use crate::store::Store;
 use crate::texts::text_named;
 use crate::word::Word;
 use wy_code::code::Code;
+use wy_device::file_name::is_file_name;
 use wy_device::operation::{Kind, Op, OpName};
 use wy_text::text::{Memory, Text};
-
-/// How many bytes a file's name has at most.
-const LONGEST_NAME: usize = 64;
-
-fn is_name_byte(byte: u8) -> bool
-    ensures { result ≡ requests.is_name_byte byte }
-{
-    matches!(byte, b'a'..=b'z' | b'0'..=b'9' | b'.' | b'_' | b'-')
-}
-
-fn are_name_bytes(bytes: &[u8]) -> bool
-    ensures { result ≡ requests.are_name_bytes bytes.now }
-{
-    for byte in bytes {
-        if !is_name_byte(*byte) {
-            return false;
-        }
-    }
-    true
-}
-
-/// Whether bytes are a file's name.
-fn is_file_name(name: &[u8]) -> bool
-    ensures { result ≡ requests.is_file_name name.now }
-{
-    match name {
-        [] => false,
-        [first, ..] => *first != b'.' && are_name_bytes(name) && name.len() <= LONGEST_NAME,
-    }
-}
 
 /// Whether each name that an operation has is a file's.
 pub fn has_good_name(op: &Op) -> bool

@@ -1,23 +1,28 @@
-ghost use Rattle.std.specs.Prelude.{◌≡◌, IfOk};
+//! Loading, and whole runs.
+
+ghost use Rattle.std.specs.Prelude.{◌≡◌, ◌≤◌, false, IfOk};
 ghost use Rattle.wy_code.specs.Running.{NeverStuck};
 ghost use Rattle.wy_device.specs.Devices.{DevicesState, IsInOrder};
 ghost use Rattle.wy_machine.specs.Devices.{states};
+ghost use Rattle.wy_machine.specs.Loading as loading;
+ghost use Rattle.wy_machine.specs.Loading.{IsLoaded};
 ghost use Rattle.wy_machine.specs.Runs.{Runs};
 ghost use Rattle.wy_machine.specs.Steps.{starting, IsNotStuck, IsStep};
 ghost use Rattle.wy_machine.specs.Traces.{RunsTraced};
+ghost use Rattle.wy_machine.specs.Wanting.{WantsOnly};
 
 use crate::devices::Devices;
-use crate::instances::add_instances;
+use crate::instances::first_objects;
 use crate::machine::Machine;
 use crate::run_end::RunEnd;
-use crate::stack::Stack;
+use crate::stack::{Limits, Stack};
 use crate::starting::begin;
 use crate::step::step;
 use crate::store::Store;
 use crate::traced_run::run_code_traced;
 use std::alloc::Global;
 use std::marker::Model;
-use wy_code::code::Code;
+use wy_code::code::{Body, Code};
 use wy_device::device::Device;
 use wy_text::sink::Sink;
 use wy_text::text::Memory;
@@ -31,20 +36,47 @@ pub struct Image<'a> {
 }
 
 impl<'a> Model for Image<'a> {
+    ghost use Rattle.std.specs.Prelude.{◌≤◌};
+    ghost use Rattle.wy_machine.specs.Loading.{IsLoaded};
     ghost use Rattle.wy_machine.specs.Runs.{ImageState};
 
     ghost Value = { ImageState };
 
     ghost view = { λ i. record { code = i.code.now; depth = i.depth } };
+
+    ghost invariant = { λ i. IsLoaded i.code.now i.machine.stack.limits i.machine.store.first × (i.depth ≤ i.machine.stack.limits.depth) };
 }
 
-/// Takes code to run.
+/// How many slots and operands a body has at most.
+fn most_words(bodies: &[Body]) -> usize
+    ensures { result ≡ loading.most_words bodies.now }
+{
+    let mut most = 1;
+    for body in bodies {
+        let begun = 1 + body.parameters as usize + body.vals as usize;
+        most = most.max(begun).max(body.slots as usize);
+    }
+    most
+}
+
+/// Takes code to run, and the space of all bodies that may be open and of the instances' objects: after it a
+/// run takes memory only for `New`, for a text that it builds, and for a call on a grant.
 pub fn load<'a>(alloc: Global, code: &'a Code, depth: u32) -> Result<Image<'a>, Memory>
     ensures { IfOk result (λ image. image ≡ record { code = code.now; depth = depth }) }
 {
+    if u32::try_from(code.instances.len()).is_err() {
+        return Err(Memory);
+    }
+    let limits = Limits {
+        words: most_words(code.bodies.as_slice()),
+        depth,
+    };
+    let stack = Stack::new(alloc, limits)?;
+    let objects = first_objects(alloc, code)?;
+    let first = first_objects(alloc, code)?;
     let machine = Machine {
-        stack: Stack::new(alloc)?,
-        store: Store::new(alloc),
+        stack,
+        store: Store::new(alloc, objects, first),
     };
     Ok(Image {
         code,
@@ -53,13 +85,16 @@ pub fn load<'a>(alloc: Global, code: &'a Code, depth: u32) -> Result<Image<'a>, 
     })
 }
 
-/// Begins a run; nothing of an earlier one is left.
+/// Begins a run; nothing of an earlier one is left. It takes no memory.
 pub(crate) fn start(code: &Code, machine: &mut Machine) -> Result<(), RunEnd>
-    requires { IsNotStuck (starting code.now) }
-    ensures { (d : DevicesState) → IsStep code.now machine.new.stack machine.new.store (starting code.now) d d result }
+    requires loaded { IsLoaded code.now machine.old.stack.limits machine.old.store.first }
+    requires sound { IsNotStuck (starting code.now) }
+    ensures step { (d : DevicesState) → IsStep code.now machine.new.stack machine.new.store (starting code.now) d d result }
+    ensures ready { WantsOnly false result }
+    ensures limits { machine.new.stack.limits ≡ machine.old.stack.limits }
+    ensures first { machine.new.store.first ≡ machine.old.store.first }
 {
-    machine.store.clear();
-    add_instances(code, &mut machine.store)?;
+    machine.store.restart();
     begin(code, machine)
 }
 
@@ -71,8 +106,12 @@ fn run_code<D: Device>(
     steps: u64,
 ) -> RunEnd
     requires order { IsInOrder (states D.state devices.old) }
+    requires loaded { IsLoaded code.now machine.old.stack.limits machine.old.store.first }
+    requires deep { depth ≤ machine.old.stack.limits.depth }
     requires sound { NeverStuck code.now }
-    ensures { Runs code.now depth steps (states D.state devices.old) (states D.state devices.new) result }
+    ensures runs { Runs code.now depth steps (states D.state devices.old) (states D.state devices.new) result }
+    ensures limits { machine.new.stack.limits ≡ machine.old.stack.limits }
+    ensures first { machine.new.store.first ≡ machine.old.store.first }
 {
     match start(code, machine) {
         Ok(()) => {}

@@ -1,3 +1,5 @@
+//! How a run ends.
+
 use wy_device::operation::OpName;
 use wy_text::fault::Place;
 use wy_text::text::{Memory, Text};

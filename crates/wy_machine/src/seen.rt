@@ -1,3 +1,5 @@
+//! The events of a step when it has been taken.
+
 ghost use Rattle.std.specs.Prelude.{◌≡◌, IfOk, slice_get};
 ghost use Rattle.wy_code.specs.Machine.{all_instances, name_in, first_of};
 ghost use Rattle.wy_code.specs.Stores.{operand};

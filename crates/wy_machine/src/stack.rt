@@ -1,7 +1,9 @@
-ghost use Rattle.std.specs.Prelude.{◌≡◌, ◌∷◌, [], ◌≤◌, ◌<◌, ◌+◌, ◌-◌, length, take, drop, reverse, OnOk, slice_set, slice_get, Some, IsSome, unwrap_or};
+//! The bodies that are open, in space that is reserved from the start.
+
+ghost use Rattle.std.specs.Prelude.{◌≡◌, ◌∷◌, [], ◌≤◌, ◌<◌, ◌+◌, ◌-◌, length, take, drop, reverse, IfOk, slice_set, slice_get, Some, IsSome, unwrap_or};
 ghost use Rattle.wy_code.specs.Machine.{first_of};
 ghost use Rattle.wy_code.specs.Stores as words;
-ghost use Rattle.wy_machine.specs.Stacks.{pushed, with_operands, stored_in, at_address, jumped_unless, begun, entered, left};
+ghost use Rattle.wy_machine.specs.Stacks.{words_in, pushed, with_operands, stored_in, at_address, jumped_unless, begun, entered, left};
 ghost use Rattle.wy_machine.specs.Words.{truth_of};
 
 use crate::word::{Word, WordKind};
@@ -20,32 +22,42 @@ pub struct Frame {
     pub top: usize,
 }
 
-/// The bodies that are open, with the slots and operands of all of them in one list.
+/// The room of a stack: how many slots and operands a body has at most, and how many bodies may wait for
+/// calls at once.
+#[derive(Clone, Copy)]
+pub struct Limits {
+    pub words: usize,
+    pub depth: u32,
+}
+
+/// The bodies that are open, with the slots and operands of all of them in one list, whose space is
+/// reserved from the start: no call takes memory.
 #[derive(Drop)]
 pub struct Stack {
     words: Vec<Word>,
     running: Frame,
     callers: Vec<Frame>,
+    limits: Limits,
 }
 
 impl Model for Stack {
-    ghost use Rattle.std.specs.Prelude.{◌∷◌, reverse, take, length};
+    ghost use Rattle.std.specs.Prelude.{reverse, take, length, vec_capacity};
     ghost use Rattle.wy_machine.specs.Stacks.{StackState, open_body, open_bodies, IsStacked};
 
     ghost Value = { StackState };
 
-    ghost view = { λ s. record { running = open_body s.running s.words.items; callers = open_bodies (reverse s.callers.items) (take s.running.base s.words.items) } };
+    ghost view = { λ s. record { running = open_body s.running s.words.items; callers = open_bodies (reverse s.callers.items) (take s.running.base s.words.items); limits = s.limits } };
 
-    ghost invariant = { λ s. IsStacked (s.running ∷ reverse s.callers.items) (length s.words.items) };
+    ghost invariant = { λ s. IsStacked s.limits s.running (reverse s.callers.items) (length s.words.items) (vec_capacity s.words) (vec_capacity s.callers) };
 }
 
 impl Stack {
     /// One more operand.
-    pub fn push(&mut self, word: Word) -> Result<(), Memory>
-        ensures ok { OnOk result (self.new ≡ pushed word self.old) }
+    pub fn push(&mut self, word: Word)
+        requires { words_in self.old < self.old.limits.words }
+        ensures { self.new ≡ pushed word self.old }
     {
-        self.words.push(word)?;
-        Ok(())
+        self.words.push_reserved(word);
     }
 
     /// The slots of the body that runs.
@@ -87,10 +99,15 @@ impl Stack {
         self.running.at = to;
     }
 
-    /// A stack for runs, with the body of no instance on it.
-    pub fn new(alloc: Global) -> Result<Stack, Memory> {
-        let mut words = Vec::new(alloc);
-        words.push(Word::new(WordKind::Unit))?;
+    /// A stack for runs, with the body of no instance on it, and with all the space that it will need.
+    pub fn new(alloc: Global, limits: Limits) -> Result<Stack, Memory>
+        requires { 0 < limits.words }
+        ensures { IfOk result (λ stack. stack.limits ≡ limits) }
+    {
+        let frames = limits.depth as usize + 1;
+        let room = limits.words.checked_mul(frames).ok_or(Memory)?;
+        let mut words = Vec::with_capacity(alloc, room)?;
+        words.push_reserved(Word::new(WordKind::Unit));
         let running = Frame {
             instance: 0,
             body: 0,
@@ -98,31 +115,32 @@ impl Stack {
             base: 0,
             top: 1,
         };
+        let callers = Vec::with_capacity(alloc, limits.depth as usize)?;
         Ok(Stack {
             words,
             running,
-            callers: Vec::new(alloc),
+            callers,
+            limits,
         })
     }
 
     /// The body that runs first in a run of an instance, with no other open.
-    pub fn begin(&mut self, instance: u32, body: u32, this: Word, vals: u32) -> Result<(), Memory>
-        ensures { OnOk result (self.new ≡ begun instance body this vals) }
+    pub fn begin(&mut self, instance: u32, body: u32, this: Word, vals: u32)
+        requires { 1 + vals ≤ self.old.limits.words }
+        ensures { self.new ≡ begun self.old.limits instance body this vals }
     {
         self.callers.clear();
         self.words.truncate(1);
         self.words[0] = this;
+        let top = 1 + vals as usize;
+        self.words.resize(top, Word::new(WordKind::Unit)).unwrap();
         self.running = Frame {
             instance,
             body,
             at: 0,
             base: 0,
-            top: 1,
+            top,
         };
-        let top = 1 + vals as usize;
-        self.words.resize(top, Word::new(WordKind::Unit))?;
-        self.running.top = top;
-        Ok(())
     }
 
     /// How many bodies wait for a call.
@@ -195,12 +213,13 @@ impl Stack {
     }
 
     /// Pushes a slot.
-    pub fn load(&mut self, slot: usize) -> Result<(), Memory>
-        requires { slot < length self.old.running.slots }
-        ensures { OnOk result (self.new ≡ pushed (unwrap_or (slice_get self.old.running.slots slot) words.Nothing) self.old) }
+    pub fn load(&mut self, slot: usize)
+        requires slot { slot < length self.old.running.slots }
+        requires room { words_in self.old < self.old.limits.words }
+        ensures { self.new ≡ pushed (unwrap_or (slice_get self.old.running.slots slot) words.Nothing) self.old }
     {
         let word = self.slot(slot);
-        self.push(word)
+        self.push(word);
     }
 
     /// Takes the topmost operand into a slot.
@@ -248,20 +267,16 @@ impl Stack {
     }
 
     /// Begins a body, whose first slots are the topmost operands: the current object and the arguments.
-    pub fn enter(
-        &mut self,
-        instance: u32,
-        body: u32,
-        arguments: u32,
-        vals: u32,
-    ) -> Result<(), Memory>
-        requires { arguments < length self.old.running.operands }
-        ensures { OnOk result (self.new ≡ entered instance body arguments vals self.old) }
+    pub fn enter(&mut self, instance: u32, body: u32, arguments: u32, vals: u32)
+        requires there { arguments < length self.old.running.operands }
+        requires room { 1 + arguments + vals ≤ self.old.limits.words }
+        requires few { length self.old.callers < self.old.limits.depth }
+        ensures { self.new ≡ entered instance body arguments vals self.old }
     {
         let base = self.words.len() - 1 - arguments as usize;
         let top = self.words.len() + vals as usize;
-        self.words.resize(top, Word::new(WordKind::Unit))?;
-        self.callers.push(self.running)?;
+        self.words.resize(top, Word::new(WordKind::Unit)).unwrap();
+        self.callers.push_reserved(self.running);
         self.running = Frame {
             instance,
             body,
@@ -269,7 +284,6 @@ impl Stack {
             base,
             top,
         };
-        Ok(())
     }
 
     /// Ends the body that runs, and pushes a word in the one that called it.

@@ -1,11 +1,15 @@
-ghost use Rattle.std.specs.Prelude.{◌≡◌, ◌+◌, ◌<◌, length, slice_get, Some};
+//! One step: the instruction that comes next.
+
+ghost use Rattle.std.specs.Prelude.{◌≡◌, ◌+◌, ◌<◌, ◌≤◌, length, slice_get, Some};
 ghost use Rattle.wy_code.specs.Machine as machine;
 ghost use Rattle.wy_code.specs.declared.instruction.Instruction.TheVariants.{Call};
 ghost use Rattle.wy_device.specs.Devices.{IsInOrder};
 ghost use Rattle.wy_machine.specs.Devices.{states};
+ghost use Rattle.wy_machine.specs.Loading.{IsLoaded};
 ghost use Rattle.wy_machine.specs.Stacks.{at_address};
 ghost use Rattle.wy_machine.specs.States.{body_at};
 ghost use Rattle.wy_machine.specs.Steps.{acting, stepping, IsNotStuck, IsStep};
+ghost use Rattle.wy_machine.specs.Wanting.{is_grant, takes_memory, next_takes, WantsOnly};
 
 use crate::building::operate;
 use crate::calls::enter;
@@ -67,9 +71,14 @@ fn call<D: Device>(
     count: u32,
 ) -> Result<(), RunEnd>
     requires order { IsInOrder (states D.state devices.old) }
+    requires loaded { IsLoaded code.now machine.old.stack.limits machine.old.store.first }
+    requires deep { depth ≤ machine.old.stack.limits.depth }
     requires sound { IsNotStuck (acting code.now depth place machine.old.stack machine.old.store (Call method count)) }
-    ensures { IsStep code.now machine.new.stack machine.new.store
+    ensures step { IsStep code.now machine.new.stack machine.new.store
         (acting code.now depth place machine.old.stack machine.old.store (Call method count)) (states D.state devices.old) (states D.state devices.new) result }
+    ensures wants { WantsOnly (is_grant (slice_get machine.old.stack.running.operands count)) result }
+    ensures limits { machine.new.stack.limits ≡ machine.old.stack.limits }
+    ensures first { machine.new.store.first ≡ machine.old.store.first }
 {
     match machine.stack.operand(count as usize).kind() {
         WordKind::Object(object) => {
@@ -99,17 +108,22 @@ fn act<D: Device>(
     instruction: Instruction,
 ) -> Result<(), RunEnd>
     requires order { IsInOrder (states D.state devices.old) }
+    requires loaded { IsLoaded code.now machine.old.stack.limits machine.old.store.first }
+    requires deep { depth ≤ machine.old.stack.limits.depth }
     requires sound { IsNotStuck (acting code.now depth place machine.old.stack machine.old.store instruction) }
-    ensures { IsStep code.now machine.new.stack machine.new.store
+    ensures step { IsStep code.now machine.new.stack machine.new.store
         (acting code.now depth place machine.old.stack machine.old.store instruction) (states D.state devices.old) (states D.state devices.new) result }
+    ensures wants { WantsOnly (takes_memory instruction machine.old.stack.running.operands) result }
+    ensures limits { machine.new.stack.limits ≡ machine.old.stack.limits }
+    ensures first { machine.new.store.first ≡ machine.old.store.first }
 {
     match instruction {
         Instruction::Push(constant) => {
-            machine.stack.push(constant_word(constant))?;
+            machine.stack.push(constant_word(constant));
             Ok(())
         }
         Instruction::Load(slot) => {
-            machine.stack.load(slot as usize)?;
+            machine.stack.load(slot as usize);
             Ok(())
         }
         Instruction::Store(slot) => {
@@ -117,7 +131,7 @@ fn act<D: Device>(
             Ok(())
         }
         Instruction::Get(at) => {
-            machine.get(at as usize)?;
+            machine.get(at as usize);
             Ok(())
         }
         Instruction::Set(at) => {
@@ -158,9 +172,14 @@ pub fn step<D: Device>(
     devices: &mut Devices<D>,
 ) -> Result<(), RunEnd>
     requires order { IsInOrder (states D.state devices.old) }
+    requires loaded { IsLoaded code.now machine.old.stack.limits machine.old.store.first }
+    requires deep { depth ≤ machine.old.stack.limits.depth }
     requires sound { IsNotStuck (stepping code.now depth machine.old.stack machine.old.store) }
-    ensures { IsStep code.now machine.new.stack machine.new.store
+    ensures step { IsStep code.now machine.new.stack machine.new.store
         (stepping code.now depth machine.old.stack machine.old.store) (states D.state devices.old) (states D.state devices.new) result }
+    ensures wants { WantsOnly (next_takes code.now machine.old.stack) result }
+    ensures limits { machine.new.stack.limits ≡ machine.old.stack.limits }
+    ensures first { machine.new.store.first ≡ machine.old.store.first }
 {
     let placed = fetch(code, &mut machine.stack);
     act(

@@ -1,7 +1,9 @@
-ghost use Rattle.std.specs.Prelude.{◌≡◌, ◌^◌, ◌<◌, ◌+◌, ◌-◌, ◌++◌, ◌∷◌, [], length, take, slice_get, OnOk, IfOk, IsSome, Some};
+//! The objects and the texts of a run.
+
+ghost use Rattle.std.specs.Prelude.{◌≡◌, ◌^◌, ◌<◌, ◌≤◌, ◌+◌, ◌-◌, ◌++◌, ◌∷◌, [], length, take, slice_get, OnOk, IfOk, IsSome, Some};
 ghost use Rattle.std.specs.Option.{option_copied};
 ghost use Rattle.wy_code.specs.Stores.{value_in};
-ghost use Rattle.wy_machine.specs.StoreStates.{no_store, with_object, object_set};
+ghost use Rattle.wy_machine.specs.StoreStates.{store_with, with_object, object_set, AreKept};
 
 use crate::object::Object;
 use crate::word::Word;
@@ -13,37 +15,54 @@ use wy_text::text::{Memory, Text, from_bytes};
 #[derive(Drop)]
 pub struct Store {
     objects: Vec<Object>,
+    first: Vec<Object>,
     made: u64,
     texts: Vec<Text>,
-    next: u32,
+    next: usize,
 }
 
 impl Model for Store {
-    ghost use Rattle.wy_machine.specs.StoreStates.{StoreState};
+    ghost use Rattle.wy_machine.specs.StoreStates.{StoreState, AreKept};
 
     ghost Value = { StoreState };
 
-    ghost view = { λ s. record { objects = s.objects.items; made = s.made; texts = s.texts.items; next = s.next } };
+    ghost view = { λ s. record { objects = s.objects.items; made = s.made; texts = s.texts.items; next = s.next; first = s.first.items } };
+
+    ghost invariant = { λ s. AreKept s.first.items s.objects.items };
+}
+
+/// Gives each of some objects the values that it had at first. It takes no memory.
+fn refill(objects: &mut Vec<Object>, first: &[Object])
+    requires kept { AreKept first.now objects.old.items }
+    requires all { length objects.old.items ≤ length first.now }
+    ensures { objects.new.items ≡ first.now }
+{
+    for at in 0..first.len() {
+        objects[at].refill(&first[at]);
+    }
 }
 
 impl Store {
-    /// The empty store. It takes no memory.
-    pub fn new(alloc: Global) -> Store
-        ensures { result ≡ no_store }
+    /// The store of runs that have these objects at first, which stand there twice. It takes no memory.
+    pub fn new(alloc: Global, objects: Vec<Object>, first: Vec<Object>) -> Store
+        requires { objects.items ≡ first.items }
+        ensures { result ≡ store_with first.items }
     {
         Store {
-            objects: Vec::new(alloc),
+            objects,
+            first,
             made: 0,
             texts: Vec::new(alloc),
             next: 0,
         }
     }
 
-    /// Drops what an earlier run left. It takes no memory.
-    pub fn clear(&mut self)
-        ensures { self.new ≡ no_store }
+    /// Makes ready for a run, with nothing left of an earlier one. It takes no memory.
+    pub fn restart(&mut self)
+        ensures { self.new ≡ store_with self.old.first }
     {
-        self.objects.clear();
+        self.objects.truncate(self.first.len());
+        refill(&mut self.objects, self.first.as_slice());
         self.made = 0;
         self.texts.clear();
         self.next = 0;
@@ -68,14 +87,6 @@ impl Store {
         self.objects.len()
     }
 
-    /// One more object.
-    pub fn add_object(&mut self, object: Object) -> Result<(), Memory>
-        ensures { OnOk result (self.new ≡ with_object object self.old) }
-    {
-        self.objects.push(object)?;
-        Ok(())
-    }
-
     /// How many objects `New` made.
     pub fn made(&self) -> u64
         ensures { result ≡ self.now.made }
@@ -86,7 +97,8 @@ impl Store {
     /// One more object that `New` made.
     pub fn make_object(&mut self, object: Object) -> Result<(), Memory>
         requires { self.old.made < 2 ^ 63 }
-        ensures { OnOk result (self.new ≡ record (with_object object self.old) { made = self.old.made + 1 }) }
+        ensures made { OnOk result (self.new ≡ record (with_object object self.old) { made = self.old.made + 1 }) }
+        ensures first { self.new.first ≡ self.old.first }
     {
         self.objects.push(object)?;
         self.made += 1;
@@ -117,7 +129,8 @@ impl Store {
 
     /// One more text.
     pub fn add_text(&mut self, text: Text) -> Result<(), Memory>
-        ensures { OnOk result (self.new ≡ record self.old { texts = self.old.texts ++ text ∷ [] }) }
+        ensures added { OnOk result (self.new ≡ record self.old { texts = self.old.texts ++ text ∷ [] }) }
+        ensures first { self.new.first ≡ self.old.first }
     {
         self.texts.push(text)?;
         Ok(())
@@ -125,7 +138,8 @@ impl Store {
 
     /// The place of one more text, which is still to come.
     pub fn make_room(&mut self) -> Result<(), Memory>
-        ensures { IfOk result (λ _. self.new ≡ record self.old { texts = self.old.texts ++ [] ∷ [] }) }
+        ensures made { IfOk result (λ _. self.new ≡ record self.old { texts = self.old.texts ++ [] ∷ [] }) }
+        ensures first { self.new.first ≡ self.old.first }
     {
         let text = from_bytes(*self.texts.allocator(), b"")?;
         self.texts.push(text)?;
@@ -142,17 +156,17 @@ impl Store {
     }
 
     /// The number of the instance that starts next.
-    pub fn next(&self) -> u32
+    pub fn next(&self) -> usize
         ensures { result ≡ self.now.next }
     {
         self.next
     }
 
     /// The instance after that starts next.
-    pub fn count_next(&mut self) -> Result<(), Memory>
-        ensures { OnOk result (self.new ≡ record self.old { next = self.old.next + 1 }) }
+    pub fn count_next(&mut self)
+        requires { self.old.next < 2 ^ 32 }
+        ensures { self.new ≡ record self.old { next = self.old.next + 1 } }
     {
-        self.next = self.next.checked_add(1).ok_or(Memory)?;
-        Ok(())
+        self.next += 1;
     }
 }

@@ -1,3 +1,5 @@
+//! Texts by their words, and the operators on them.
+
 ghost use Rattle.std.specs.Prelude.{◌≡◌, ◌∷◌, [], ◌++◌, ◌<◌, ◌≤◌, ◌^◌, pos, length, slice_get, IfOk};
 ghost use Rattle.std.specs.Option.{option_copied};
 ghost use Rattle.wy_code.specs.Operations.{operand_text};
@@ -15,10 +17,8 @@ use crate::store::Store;
 use crate::word::Word;
 use std::alloc::Global;
 use wy_code::code::Code;
+use wy_device::mem_folder::LONGEST_TEXT;
 use wy_text::text::{Memory, Text, from_bytes};
-
-/// How many bytes a text has at most.
-const MOST_BYTES: usize = 1_048_576;
 
 /// The text of a number; `None` exactly where there is none.
 fn text_at<'t>(code: &'t Code, store: &'t Store, at: usize) -> Option<&'t Text>
@@ -62,7 +62,7 @@ pub fn size(code: &Code, store: &Store, x: Word) -> Computed
 fn join_texts(s: &Text, t: &Text) -> Result<Computed, Memory>
     ensures { IfOk result (λ c. computed_meant c ≡ meant.joined s.now t.now) }
 {
-    if s.as_bytes().len() + t.as_bytes().len() <= MOST_BYTES {
+    if s.as_bytes().len() + t.as_bytes().len() <= LONGEST_TEXT {
         let text = s.joined(t)?;
         Ok(Computed::Text(text))
     } else {

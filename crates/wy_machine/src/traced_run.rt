@@ -1,6 +1,10 @@
+//! Whole runs that write the lines of their events.
+
+ghost use Rattle.std.specs.Prelude.{◌≡◌, ◌≤◌};
 ghost use Rattle.wy_code.specs.Running.{NeverStuck};
 ghost use Rattle.wy_device.specs.Devices.{IsInOrder};
 ghost use Rattle.wy_machine.specs.Devices.{states};
+ghost use Rattle.wy_machine.specs.Loading.{IsLoaded};
 ghost use Rattle.wy_machine.specs.Traces.{RunsTraced};
 
 use crate::coming::Coming;
@@ -25,8 +29,12 @@ pub fn run_code_traced<D: Device, O: Sink>(
     out: &mut O,
 ) -> RunEnd
     requires order { IsInOrder (states D.state devices.old) }
+    requires loaded { IsLoaded code.now machine.old.stack.limits machine.old.store.first }
+    requires deep { depth ≤ machine.old.stack.limits.depth }
     requires sound { NeverStuck code.now }
-    ensures { RunsTraced code.now depth steps (states D.state devices.old) (states D.state devices.new) (O.state out.old) (O.state out.new) result }
+    ensures runs { RunsTraced code.now depth steps (states D.state devices.old) (states D.state devices.new) (O.state out.old) (O.state out.new) result }
+    ensures limits { machine.new.stack.limits ≡ machine.old.stack.limits }
+    ensures first { machine.new.store.first ≡ machine.old.store.first }
 {
     let own = start(code, machine);
     match trace(alloc, code, machine, Coming::Enter, own, out) {

@@ -1,8 +1,11 @@
+//! One step, and the lines of its events.
+
 ghost use Rattle.std.specs.Prelude.{◌≡◌, ◌∷◌, [], ◌≤◌};
 ghost use Rattle.wy_device.specs.Devices.{DevicesState, IsInOrder};
 ghost use Rattle.wy_machine.specs.Devices.{states};
 ghost use Rattle.wy_device.specs.Tapes.{Tapes};
 ghost use Rattle.wy_code.specs.Machine.{Next};
+ghost use Rattle.wy_machine.specs.Loading.{IsLoaded};
 ghost use Rattle.wy_machine.specs.Showing.{Shows, events_seen};
 ghost use Rattle.wy_machine.specs.Steps.{stepping, IsNotStuck, IsStep};
 ghost use Rattle.wy_machine.specs.Traces.{IsQuietAfterFirst, Wrote, IsTraced};
@@ -82,10 +85,14 @@ pub fn step_traced<D: Device, O: Sink>(
     out: &mut O,
 ) -> Result<(), RunEnd>
     requires order { IsInOrder (states D.state devices.old) }
+    requires loaded { IsLoaded code.now machine.old.stack.limits machine.old.store.first }
+    requires deep { depth ≤ machine.old.stack.limits.depth }
     requires sound { IsNotStuck (stepping code.now depth machine.old.stack machine.old.store) }
     ensures traced { IsTraced code.now machine.new.stack machine.new.store (stepping code.now depth machine.old.stack machine.old.store)
         (states D.state devices.old) (states D.state devices.new) (O.state out.old) (O.state out.new) result }
     ensures counted { (O.state out.old).faults ≤ (O.state out.new).faults }
+    ensures limits { machine.new.stack.limits ≡ machine.old.stack.limits }
+    ensures first { machine.new.store.first ≡ machine.old.store.first }
 {
     let coming = coming_next(code, machine)?;
     let own = step(code, depth, machine, devices);

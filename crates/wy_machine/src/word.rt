@@ -1,3 +1,5 @@
+//! Values as the machine has them.
+
 ghost use Rattle.std.specs.Prelude.{◌≡◌};
 ghost use Rattle.wy_machine.specs.Words.{word_of, int_of, truth_of, text_of, object_of};
 

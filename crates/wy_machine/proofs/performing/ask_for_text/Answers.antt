@@ -10,14 +10,14 @@ use Rattle.wy_machine.proofs.DeedSteps.{room_for_text, failed_step, reply_step, 
 use Rattle.wy_machine.proofs.Quiet.{step_to, wants_when}
 use Rattle.wy_machine.proofs.performing.ask_for_text.Goals as goal
 
-pub returns-in_err-number : goal.returns-in_err-number
-returns-in_err-number g c = wants_when c.args.code.now _ _ _ (states g.D.Device.state c.args.devices.now) _ c.from_residual.ensures.1
+pub returns-in_err-number-clause-step : goal.returns-in_err-number-clause-step
+returns-in_err-number-clause-step g c = wants_when c.args.code.now _ _ _ (states g.D.Device.state c.args.devices.now) _ c.from_residual.ensures.1
 
-pub returns-in_err-name : goal.returns-in_err-name
-returns-in_err-name g c = wants_when c.args.code.now _ _ _ (states g.D.Device.state c.args.devices.now) _ c.from_residual-in_err-name.ensures.1
+pub returns-in_err-name-clause-step : goal.returns-in_err-name-clause-step
+returns-in_err-name-clause-step g c = wants_when c.args.code.now _ _ _ (states g.D.Device.state c.args.devices.now) _ c.from_residual-in_err-name.ensures.1
 
-pub returns-in_err-make_room : goal.returns-in_err-make_room
-returns-in_err-make_room g c = wants_when c.args.code.now _ _ _ (states g.D.Device.state c.args.devices.now) _ c.from_residual-in_err-make_room.ensures.1
+pub returns-in_err-make_room-clause-step : goal.returns-in_err-make_room-clause-step
+returns-in_err-make_room-clause-step g c = wants_when c.args.code.now _ _ _ (states g.D.Device.state c.args.devices.now) _ c.from_residual-in_err-make_room.ensures.1
 
 pub give-requires-clause-there : goal.give-requires-clause-there
 give-requires-clause-there g c =
@@ -25,20 +25,20 @@ give-requires-clause-there g c =
     let lt = slice_get_within c.args.machine.now.stack.running.operands c.args.count (Grant r.number) r.receiver in
     omega arith
 
-pub returns-in-Some : goal.returns-in-Some
-returns-in-Some g c =
+pub returns-in-Some-clause-step : goal.returns-in-Some-clause-step
+returns-in-Some-clause-step g c =
     let m = c.args.machine.now in
     let r = c.requires.request in
     let old = states g.D.Device.state c.args.devices.now in
     let new = states g.D.Device.state c.ask.new.self in
     let stack = c.give.ensures ∙ ap (λ v. pushed v (called_from c.args.code.now c.args.depth c.args.place m.stack m.store c.args.method c.args.count)) (c.new.ensures ∙ ap Text c.in_ok-number.ensures) in
     let es = deed_event c.args.grant.now.name c.args.op.now (Some c.in-Ok.answer) in
-    step_to c.args.code.now _ _ _ _ _ old new _ stack (room_filled m.store _ _ c.in-Some.text c.in_ok-make_room.ensures c.fill_room.ensures)
+    step_to c.args.code.now _ _ _ _ _ old new _ stack (room_filled m.store _ _ c.in-Some.text c.in_ok-make_room.ensures.made c.fill_room.ensures)
     (reply_step c.args.code.now c.args.depth c.args.place m.stack m.store c.args.method c.args.count r.number r.receiver c.args.grant.now r.granted r.method r.named c.args.op.now r.asked c.requires.good (room_for_text c.args.code.now c.args.depth c.args.place m.stack m.store c.args.method c.args.count r.number r.receiver c.args.grant.now r.granted r.method r.named c.args.op.now r.asked c.requires.good c.requires.room) old new c.ask.ensures.same c.requires.sound c.in-Ok.answer c.in-Ok.ensures.answer c.in-Ok.ensures.done _ _
     (λ more. ap (λ a. word_answered a (store_of c.args.code.now m.store more) es) (text_answer_is c.in-Ok.answer c.in-Some.text c.in-Some.ensures) ∙ text_answered c.args.code.now c.in-Some.text m.store es more))
 
-pub returns-in-Err-Failed : goal.returns-in-Err-Failed
-returns-in-Err-Failed g c =
+pub returns-in-Err-Failed-clause-step : goal.returns-in-Err-Failed-clause-step
+returns-in-Err-Failed-clause-step g c =
     let m = c.args.machine.now in
     let r = c.requires.request in
     let old = states g.D.Device.state c.args.devices.now in

@@ -8,8 +8,8 @@ use Rattle.wy_machine.proofs.DeedSteps.{no_text, failed_step, reply_step, word_a
 use Rattle.wy_machine.proofs.Quiet.{step_to, wants_when}
 use Rattle.wy_machine.proofs.performing.ask_for_word.Goals as goal
 
-pub returns-in_err-name : goal.returns-in_err-name
-returns-in_err-name g c = wants_when c.args.code.now _ _ _ (states g.D.Device.state c.args.devices.now) _ c.from_residual.ensures.1
+pub returns-in_err-name-clause-step : goal.returns-in_err-name-clause-step
+returns-in_err-name-clause-step g c = wants_when c.args.code.now _ _ _ (states g.D.Device.state c.args.devices.now) _ c.from_residual.ensures.1
 
 pub give-requires-clause-there : goal.give-requires-clause-there
 give-requires-clause-there g c =
@@ -17,8 +17,8 @@ give-requires-clause-there g c =
     let lt = slice_get_within c.args.machine.now.stack.running.operands c.args.count (Grant r.number) r.receiver in
     omega arith
 
-pub returns-in-Some : goal.returns-in-Some
-returns-in-Some g c =
+pub returns-in-Some-clause-step : goal.returns-in-Some-clause-step
+returns-in-Some-clause-step g c =
     let m = c.args.machine.now in
     let r = c.requires.request in
     let old = states g.D.Device.state c.args.devices.now in
@@ -27,8 +27,8 @@ returns-in-Some g c =
     (reply_step c.args.code.now c.args.depth c.args.place m.stack m.store c.args.method c.args.count r.number r.receiver c.args.grant.now r.granted r.method r.named c.args.op.now r.asked c.requires.good (no_text c.args.code.now c.args.depth c.args.place m.stack m.store c.args.method c.args.count r.number r.receiver c.args.grant.now r.granted r.method r.named c.args.op.now r.asked c.requires.good c.requires.no_text) old new c.ask.ensures.same c.requires.sound c.in-Ok.answer c.in-Ok.ensures.answer c.in-Ok.ensures.done c.in-Some.word m.store
     (λ more. word_answered_is c.in-Ok.answer c.in-Some.word c.in-Some.ensures (store_of c.args.code.now m.store more) (deed_event c.args.grant.now.name c.args.op.now (Some c.in-Ok.answer))))
 
-pub returns-in-Err-Failed : goal.returns-in-Err-Failed
-returns-in-Err-Failed g c =
+pub returns-in-Err-Failed-clause-step : goal.returns-in-Err-Failed-clause-step
+returns-in-Err-Failed-clause-step g c =
     let m = c.args.machine.now in
     let r = c.requires.request in
     let old = states g.D.Device.state c.args.devices.now in

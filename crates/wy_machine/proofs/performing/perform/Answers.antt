@@ -4,8 +4,8 @@ use Rattle.wy_machine.proofs.DeedSteps.{grant_there, method_named, operation_the
 use Rattle.wy_machine.proofs.Quiet.{wants_when}
 use Rattle.wy_machine.proofs.performing.perform.Goals as goal
 
-pub returns-in_err-op-in-Some-get : goal.returns-in_err-op-in-Some-get
-returns-in_err-op-in-Some-get g c = wants_when c.args.code.now _ _ _ (states g.D.Device.state c.args.devices.now) _ c.from_residual.ensures.1
+pub returns-in_err-op-in-Some-get-clause-step : goal.returns-in_err-op-in-Some-get-clause-step
+returns-in_err-op-in-Some-get-clause-step g c = wants_when c.args.code.now _ _ _ (states g.D.Device.state c.args.devices.now) _ c.from_residual.ensures.1
 
 pub unreachable-requires : goal.unreachable-requires
 unreachable-requires g c =

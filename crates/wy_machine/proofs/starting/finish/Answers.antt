@@ -5,10 +5,10 @@ use Rattle.wy_machine.proofs.StartSteps.{leave_quiet, finishing, begin_sound}
 use Rattle.wy_machine.proofs.Quiet.{same_step}
 use Rattle.wy_machine.proofs.starting.finish.Goals as goal
 
-pub begin-requires : goal.begin-requires
-begin-requires c = begin_sound c.args.code.now c.args.machine.now.store c.args.place c.args.machine.now.stack c.requires
+pub begin-requires-clause-sound : goal.begin-requires-clause-sound
+begin-requires-clause-sound c = begin_sound c.args.code.now c.args.machine.now.store c.args.place c.args.machine.now.stack c.requires.sound
 
-pub returns : goal.returns
-returns c = λ d.
+pub returns-clause-step : goal.returns-clause-step
+returns-clause-step c = λ d.
     let m = c.args.machine.now in
-    same_step c.args.code.now _ _ (beginning c.args.code.now (Leave ∷ []) m.store) _ d d _ (finishing c.args.code.now m.store c.args.place m.stack c.requires) (c.begin.ensures (Leave ∷ []) leave_quiet d)
+    same_step c.args.code.now _ _ (beginning c.args.code.now (Leave ∷ []) m.store) _ d d _ (finishing c.args.code.now m.store c.args.place m.stack c.requires.sound) (c.begin.ensures.step (Leave ∷ []) leave_quiet d)

@@ -18,7 +18,7 @@ unreachable-requires-in-Unit g c = not_called c.args.code.now c.args.depth c.arg
 pub unreachable-requires-in-Text : goal.unreachable-requires-in-Text
 unreachable-requires-in-Text g c = not_called c.args.code.now c.args.depth c.args.place c.args.machine.now.stack c.args.machine.now.store c.args.method c.args.count c.operand.result (subst (IsUncalled c.args.code.now c.args.depth c.args.place c.args.machine.now.stack c.args.machine.now.store c.args.method c.args.count) (sym c.in-Text.ensures) tt) c.operand.ensures c.requires.sound
 
-pub returns-else-waiting-depth : goal.returns-else-waiting-depth
-returns-else-waiting-depth g c =
+pub returns-else-waiting-depth-clause-step : goal.returns-else-waiting-depth-clause-step
+returns-else-waiting-depth-clause-step g c =
     let many = subst (λ n. c.args.depth ≤ n) c.waiting.ensures c.if-waiting-depth.false in
     too_deep_step c.args.code.now c.args.depth c.args.place c.args.machine.now.stack c.args.machine.now.store c.args.method c.args.count c.in-Object.object (c.operand.ensures ∙ ap Some c.in-Object.ensures) many _ _ (states g.D.Device.state c.args.devices.now)

@@ -12,4 +12,4 @@ pub returns-clause-traced : goal.returns-clause-traced
 returns-clause-traced g c =
     let m = c.args.machine.now in
     c.trace.ensures.traced (stepping c.args.code.now c.args.depth m.stack m.store) (states g.D.Device.state c.args.devices.now) (states g.D.Device.state c.step-own.new.devices)
-    (c.in_ok-coming.ensures c.args.depth) c.step-own.ensures
+    (c.in_ok-coming.ensures c.args.depth) c.step-own.ensures.step

@@ -8,5 +8,5 @@ returns c =
     let s = c.self.inside in
     let le : s.running.base ≤ s.running.top = omega (arith, c.self.invariant.0) in
     let within = subst (λ (s : StackState). c.args.slot < length s.running.slots) (sym c.self.view_is) c.requires in
-    slot_set s.running (reverse s.callers.items) s.words.items c.args.slot c.args.word le c.self.invariant.1 within
+    slot_set s.limits s.running (reverse s.callers.items) s.words.items c.args.slot c.args.word le c.self.invariant.1 within
     ∙ ap (λ (s : StackState). let t : StackState = record s { running = record (s.running) { slots = set s.running.slots c.args.slot c.args.word } } in t) c.self.view_is

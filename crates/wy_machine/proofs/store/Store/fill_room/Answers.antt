@@ -7,7 +7,7 @@ pub returns : goal.returns
 returns c =
     let s = c.self.inside in
     let texts : List (List ℕ) = s.texts.items in
-    let with_texts = λ (texts : List (List ℕ)). let w : StoreState = record { objects = s.objects.items; made = s.made; texts = texts; next = s.next } in w in
+    let with_texts = λ (texts : List (List ℕ)). let w : StoreState = record { objects = s.objects.items; made = s.made; texts = texts; next = s.next; first = s.first.items } in w in
     let some = subst (λ (w : StoreState). 0 < length w.texts) (sym c.self.view_is) c.requires in
     let n : c.len-at.result - 1 ≡ length texts - 1 = ap (λ n. n - 1) (c.len-at.ensures ∙ s.texts.ok.0) in
     let size : length texts ≡ c.len-at.result - 1 + 1 = omega arith in

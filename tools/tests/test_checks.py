@@ -1,0 +1,68 @@
+"""The checks of pages and examples find what is wrong, in a copy of the repository."""
+
+import os
+import shutil
+import subprocess
+import sys
+
+from support import TOP, ToolTest
+
+COPIED = ("README.md", "CHANGELOG.md", "LICENSE", "VERSION", "crates.txt", "docs", "editors", "examples", "bench", "dist", "tools")
+SOURCES = ("wy_text/src/fault.rt", "wy_text/src/limit.rt", "wy_engine/src/last_line.rt", "wy_calls/src/examples_table.rt")
+# Answers each call as the program does that it is compared with: by the report beside the files, or not at all.
+STAND_IN = """#!/bin/sh
+[ "$1" = authority ] && cat "$(dirname "$2")/report.txt"
+"""
+
+
+class Checks(ToolTest):
+    def setUp(self):
+        super().setUp()
+        for name in COPIED:
+            copy = shutil.copytree if os.path.isdir(os.path.join(TOP, name)) else shutil.copy
+            copy(os.path.join(TOP, name), os.path.join(self.room, name))
+        for name in SOURCES:
+            os.makedirs(os.path.dirname(os.path.join(self.room, "crates", name)), exist_ok=True)
+            shutil.copy(os.path.join(TOP, "crates", name), os.path.join(self.room, "crates", name))
+        os.chmod(self.write("program", STAND_IN), 0o755)
+
+    def check(self, name, *words):
+        ran = subprocess.run([sys.executable, f"tools/{name}", *words], cwd=self.room, capture_output=True, text=True)
+        return ran.returncode, ran.stdout
+
+    def change(self, name, old, new):
+        text = self.read(name)
+        self.assertIn(old, text)
+        self.write(name, text.replace(old, new))
+
+    def test_an_entry_that_is_left_out(self):
+        self.change("docs/MESSAGES.md", "### T-Call premise 4\n", "\n")
+        self.change("crates/wy_text/src/limit.rt", '"slots"', '"drawers"')
+        status, said = self.check("check_messages", "--program", "/bin/true")
+        self.assertEqual(status, 1)
+        for wanted in ("no entry: T-Call premise 4", "no entry: limit: drawers", "what no last line names: limit: slots"):
+            self.assertIn(wanted, said)
+        self.assertNotIn("no entry: T-Call premise 3", said)
+
+    def test_an_answer_that_is_another_one(self):
+        status, said = self.check("check_tour", "--program", "/bin/true")
+        self.assertEqual((status, "wyvern run hello.wy" in said), (1, True))
+
+    def test_examples(self):
+        self.write("crates/wy_cli/data/b.wy", self.read("examples/hello/hello.wy"))
+        self.assertEqual(self.check("check_examples", "--program", f"{self.room}/program")[0], 0)
+        self.change("examples/logger/log.wy", "log", "lag")
+        self.write("crates/wy_cli/data/b.wy", "program\n")
+        self.change("examples/README.md", "| hello |", "| hallo |")
+        status, said = self.check("check_examples", "--program", f"{self.room}/program")
+        self.assertEqual(status, 1)
+        for wanted in ("examples_table.rt: log.wy", "crates/wy_cli/data/b.wy", "one row for hello"):
+            self.assertIn(wanted, said)
+
+    def test_pages(self):
+        self.write("docs/OTHER.md", "[a](none.md) and `tools/none`\n")
+        self.write("crates.txt", self.read("crates.txt") + "wy_other:\n")
+        status, said = self.check("check_pages")
+        self.assertEqual(status, 1)
+        for wanted in ("a link to none.md", "tools/none is not there", "no row for wy_other"):
+            self.assertIn(wanted, said)
