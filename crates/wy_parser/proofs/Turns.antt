@@ -1,5 +1,6 @@
 -- One turn of a loop that reads parts, and how such a loop ends.
-use Rattle.std.proofs.Common.{◌≡◌, ℕ, zero, suc, ◌-◌, ◌<◌, Bool, true, false, cond, List, [], ◌∷◌, refl, sym, ap, subst, ◌∙◌, arith}
+use Rattle.std.proofs.Common.{◌≡◌, ℕ, zero, suc, ◌-◌, ◌<◌, Bool, true, false, cond, List, [], ◌∷◌, ◌++◌, map, refl, sym, ap, subst, ◌∙◌, arith}
+use Rattle.std.proofs.lemmas.List.{map-append}
 use Rattle.std.specs.Prelude.{Result, Err}
 use Rattle.std.specs.Borrow.{Bor}
 use Rattle.wy_text.specs.declared.token.Token.{Token}
@@ -44,6 +45,10 @@ level_turn k j G next left right e op ts r s out hk h1 h2 he h =
     let go = fold_goes (suc j) G (operator_part G next) add_binary left ts (omega arith) (took G ts op r h1) in
     let same : suc j - 1 ≡ j = omega arith in
     rw (he, ← h, hk) (sym (go ∙ rw (h1, h2, same) refl))
+
+-- what is pushed is seen behind what the others are seen as
+pub pushed : {X A : Type 0} (view : X → A) (xs ys : List X) (x y : X) → ys ≡ xs ++ x ∷ [] → x ≡ y → map view ys ≡ map view xs ++ view y ∷ []
+pushed view xs ys x y h e = rw (h, e) (map-append view xs (y ∷ []))
 
 -- a part stops
 pub part_halts : {A B : Type 0} (k : ℕ) (G : List ℕ) (p : Reader Tok B) (add : A → B → A) (a : A) (ts : List Tok) (out : Out Tok A) (e : Stop) → 0 < k → starts code G ts ≡ true → Halts e (p ts) → fold_many code k G p add a ts ≡ out → Halts e out

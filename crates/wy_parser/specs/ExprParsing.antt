@@ -7,19 +7,22 @@ use Rattle.wy_syntax.specs.declared.expressions.Operator.TheVariants as op
 use Rattle.wy_syntax.specs.Tokens.{Tok, code}
 use Rattle.wy_syntax.specs.Trees.{ExprTree, number, text, yes, no, this, name, unit, negate, invert, binary, call, size, part, byte_at, byte, show, ascribe, choice, exprs_of}
 use Rattle.wy_syntax.specs.ExprGrammar.{edge}
+use Rattle.wy_parser.specs.declared.operators.Level.{Level}
+use Rattle.wy_parser.specs.declared.operators.Level.TheVariants as levels
+use Rattle.wy_parser.specs.Kinds as kinds
 use Rattle.wy_parser.specs.Reading.{Deep, ◌>>=◌, ret, choose, fold_many}
 use Rattle.wy_parser.specs.Parsing.{R, tok, mark, word, commas, text_of_kind, value_of_kind, type_use}
 
 -- the kinds that an Expr begins with, and an Arg
 abbrev pub expr_first : List ℕ
-expr_first = 1 ∷ 2 ∷ 4 ∷ 25 ∷ 26 ∷ 27 ∷ 33 ∷ 34 ∷ 35 ∷ 36 ∷ 37 ∷ 38 ∷ 55 ∷ 62 ∷ []
+expr_first = kinds.Name ∷ kinds.Number ∷ kinds.Text ∷ kinds.KwThis ∷ kinds.KwTrue ∷ kinds.KwFalse ∷ kinds.KwTextSize ∷ kinds.KwTextPart ∷ kinds.KwTextCode ∷ kinds.KwTextByte ∷ kinds.KwTextShow ∷ kinds.SymOpenParen ∷ kinds.SymMinus ∷ kinds.SymNot ∷ []
 
 abbrev pub arg_first : List ℕ
-arg_first = 22 ∷ expr_first
+arg_first = kinds.KwIf ∷ expr_first
 
 abbrev pub digits : R ℕ
 digits = do
-  x ← tok (2 ∷ [])
+  x ← tok (kinds.Number ∷ [])
   ret (value_of_kind x.kind)
 
 abbrev pub minus_of : ℕ → ℤ
@@ -29,31 +32,31 @@ minus_of (suc n) = negsuc n
 -- the operator of a kind
 abbrev pub operator_at : ℕ → Operator
 operator_at k =
-    cond (k == 60) op.And (
-    cond (k == 48) op.Equal (
-    cond (k == 49) op.NotEqual (
-    cond (k == 50) op.Less (
-    cond (k == 51) op.LessEqual (
-    cond (k == 52) op.Greater (
-    cond (k == 53) op.GreaterEqual (
-    cond (k == 54) op.Plus (
-    cond (k == 55) op.Minus (
-    cond (k == 59) op.Join (
-    cond (k == 56) op.Times (
-    cond (k == 57) op.Divide (
-    cond (k == 58) op.Remainder (
+    cond (k == kinds.SymAndAnd) op.And (
+    cond (k == kinds.SymEqualEqual) op.Equal (
+    cond (k == kinds.SymNotEqual) op.NotEqual (
+    cond (k == kinds.SymLess) op.Less (
+    cond (k == kinds.SymLessEqual) op.LessEqual (
+    cond (k == kinds.SymGreater) op.Greater (
+    cond (k == kinds.SymGreaterEqual) op.GreaterEqual (
+    cond (k == kinds.SymPlus) op.Plus (
+    cond (k == kinds.SymMinus) op.Minus (
+    cond (k == kinds.SymPlusPlus) op.Join (
+    cond (k == kinds.SymStar) op.Times (
+    cond (k == kinds.SymSlash) op.Divide (
+    cond (k == kinds.SymPercent) op.Remainder (
     op.Or)))))))))))))
 
 -- ---- what stands alone
 
 abbrev pub number_alone : R ExprTree
 number_alone = do
-  x ← tok (2 ∷ [])
+  x ← tok (kinds.Number ∷ [])
   ret (number (pos (value_of_kind x.kind)) x.place)
 
 abbrev pub text_alone : R ExprTree
 text_alone = do
-  x ← tok (4 ∷ [])
+  x ← tok (kinds.Text ∷ [])
   ret (text (text_of_kind x.kind) x.place)
 
 abbrev pub alone : ℕ → (Place → ExprTree) → R ExprTree
@@ -75,9 +78,9 @@ argument_at e p = (e, p)
 unfoldable pub one_argument : ℕ → R ExprTree → R (ExprTree × Place)
 one_argument k arg = do
   p ← mark k
-  opening ← mark 38
+  opening ← mark kinds.SymOpenParen
   e ← arg
-  closing ← mark 39
+  closing ← mark kinds.SymCloseParen
   ret (argument_at e p)
 
 unfoldable pub built1 : ℕ → (ExprTree → Place → ExprTree) → R ExprTree → R ExprTree
@@ -87,24 +90,24 @@ built1 k f arg = do
 
 unfoldable pub built2 : R ExprTree → R ExprTree
 built2 arg = do
-  p ← mark 35
-  opening ← mark 38
+  p ← mark kinds.KwTextCode
+  opening ← mark kinds.SymOpenParen
   e ← arg
-  comma ← mark 44
+  comma ← mark kinds.SymComma
   i ← arg
-  closing ← mark 39
+  closing ← mark kinds.SymCloseParen
   ret (byte_at e i p)
 
 unfoldable pub built3 : R ExprTree → R ExprTree
 built3 arg = do
-  p ← mark 34
-  opening ← mark 38
+  p ← mark kinds.KwTextPart
+  opening ← mark kinds.SymOpenParen
   e ← arg
-  comma ← mark 44
+  comma ← mark kinds.SymComma
   a ← arg
-  comma2 ← mark 44
+  comma2 ← mark kinds.SymComma
   b ← arg
-  closing ← mark 39
+  closing ← mark kinds.SymCloseParen
   ret (part e a b p)
 
 -- ---- parentheses
@@ -115,24 +118,24 @@ is_choice _ = false
 
 abbrev pub closing_unit : Place → R ExprTree
 closing_unit p = do
-  closing ← mark 39
+  closing ← mark kinds.SymCloseParen
   ret (unit p)
 
 unfoldable pub ascription : Bool → Place → ExprTree → ℕ → R ExprTree
 ascription plain p e n = do
-  colon ← mark 45
+  colon ← mark kinds.SymColon
   t ← type_use plain n
-  closing ← mark 39
+  closing ← mark kinds.SymCloseParen
   ret (ascribe e t p)
 
 abbrev pub closing_expr : ExprTree → R ExprTree
 closing_expr e = do
-  closing ← mark 39
+  closing ← mark kinds.SymCloseParen
   ret e
 
 -- behind what stands first in parentheses: an `if` there must have a type
 abbrev pub after_arg : Bool → Place → ExprTree → ℕ → R ExprTree
-after_arg plain p e n = cond (is_choice e) (ascription plain p e n) (choose code (45 ∷ []) (ascription plain p e n) (closing_expr e))
+after_arg plain p e n = cond (is_choice e) (ascription plain p e n) (choose code (kinds.SymColon ∷ []) (ascription plain p e n) (closing_expr e))
 
 abbrev pub enclosed : Bool → R ExprTree → ℕ → Place → R ExprTree
 enclosed plain arg n p = do
@@ -141,35 +144,35 @@ enclosed plain arg n p = do
 
 unfoldable pub parens : Bool → R ExprTree → ℕ → R ExprTree
 parens plain arg n = do
-  p ← mark 38
-  choose code (39 ∷ []) (closing_unit p) (enclosed plain arg n p)
+  p ← mark kinds.SymOpenParen
+  choose code (kinds.SymCloseParen ∷ []) (closing_unit p) (enclosed plain arg n p)
 
 -- ---- the levels, from the tightest
 
 unfoldable pub built : R ExprTree → R ExprTree
 built arg =
-    choose code (33 ∷ []) (built1 33 size arg)
-    (choose code (34 ∷ []) (built3 arg)
-    (choose code (35 ∷ []) (built2 arg)
-    (choose code (36 ∷ []) (built1 36 byte arg) (built1 37 show arg))))
+    choose code (kinds.KwTextSize ∷ []) (built1 kinds.KwTextSize size arg)
+    (choose code (kinds.KwTextPart ∷ []) (built3 arg)
+    (choose code (kinds.KwTextCode ∷ []) (built2 arg)
+    (choose code (kinds.KwTextByte ∷ []) (built1 kinds.KwTextByte byte arg) (built1 kinds.KwTextShow show arg))))
 
 unfoldable pub atomic : Bool → R ExprTree → ℕ → R ExprTree
 atomic plain arg n =
-    choose code (2 ∷ []) number_alone
-    (choose code (4 ∷ []) text_alone
-    (choose code (26 ∷ []) (alone 26 yes)
-    (choose code (27 ∷ []) (alone 27 no)
-    (choose code (25 ∷ []) (alone 25 this)
-    (choose code (1 ∷ []) name_alone
-    (choose code (33 ∷ 34 ∷ 35 ∷ 36 ∷ 37 ∷ []) (built arg) (parens plain arg n)))))))
+    choose code (kinds.Number ∷ []) number_alone
+    (choose code (kinds.Text ∷ []) text_alone
+    (choose code (kinds.KwTrue ∷ []) (alone kinds.KwTrue yes)
+    (choose code (kinds.KwFalse ∷ []) (alone kinds.KwFalse no)
+    (choose code (kinds.KwThis ∷ []) (alone kinds.KwThis this)
+    (choose code (kinds.Name ∷ []) name_alone
+    (choose code (kinds.KwTextSize ∷ kinds.KwTextPart ∷ kinds.KwTextCode ∷ kinds.KwTextByte ∷ kinds.KwTextShow ∷ []) (built arg) (parens plain arg n)))))))
 
 unfoldable pub call_part : R ExprTree → ℕ → R (Name × List ExprTree)
 call_part arg n = do
-  dot ← mark 46
+  dot ← mark kinds.SymDot
   m ← word
-  opening ← mark 38
+  opening ← mark kinds.SymOpenParen
   es ← commas arg_first arg n
-  closing ← mark 39
+  closing ← mark kinds.SymCloseParen
   ret (m, es)
 
 abbrev pub add_call : ExprTree → Name × List ExprTree → ExprTree
@@ -178,7 +181,7 @@ add_call e t = call e t.0 (exprs_of t.1)
 unfoldable pub post : Bool → R ExprTree → ℕ → R ExprTree
 post plain arg n = do
   e ← atomic plain arg n
-  fold_many code n (46 ∷ []) (call_part arg n) add_call e
+  fold_many code n (kinds.SymDot ∷ []) (call_part arg n) add_call e
 
 -- behind a `-`: a number belongs to it
 abbrev pub minus_digits : Place → R ExprTree
@@ -188,7 +191,7 @@ minus_digits p = do
 
 abbrev pub minus_edge : Place → R ExprTree
 minus_edge p = do
-  x ← mark 3
+  x ← mark kinds.Edge
   ret (number (negsuc edge) p)
 
 abbrev pub negated : R ExprTree → Place → R ExprTree
@@ -198,17 +201,17 @@ negated inner p = do
 
 unfoldable pub minus : R ExprTree → R ExprTree
 minus inner = do
-  p ← mark 55
-  choose code (2 ∷ 3 ∷ []) (choose code (2 ∷ []) (minus_digits p) (minus_edge p)) (negated inner p)
+  p ← mark kinds.SymMinus
+  choose code (kinds.Number ∷ kinds.Edge ∷ []) (choose code (kinds.Number ∷ []) (minus_digits p) (minus_edge p)) (negated inner p)
 
 unfoldable pub bang : R ExprTree → R ExprTree
 bang inner = do
-  p ← mark 62
+  p ← mark kinds.SymNot
   e ← inner
   ret (invert e p)
 
 unfoldable pub unary : Bool → R ExprTree → R ExprTree → ℕ → R ExprTree
-unary plain inner arg n = choose code (55 ∷ 62 ∷ []) (choose code (55 ∷ []) (minus inner) (bang inner)) (post plain arg n)
+unary plain inner arg n = choose code (kinds.SymMinus ∷ kinds.SymNot ∷ []) (choose code (kinds.SymMinus ∷ []) (minus inner) (bang inner)) (post plain arg n)
 
 abbrev pub operator_part : List ℕ → R ExprTree → R (Tok × ExprTree)
 operator_part G next = do
@@ -224,14 +227,21 @@ level G next n = do
   left ← next
   fold_many code n G (operator_part G next) add_binary left
 
+-- the symbols of each level's operators
+abbrev pub symbols_of : Level → List ℕ
+symbols_of levels.Or = kinds.SymOrOr ∷ []
+symbols_of levels.And = kinds.SymAndAnd ∷ []
+symbols_of levels.Sum = kinds.SymPlus ∷ kinds.SymMinus ∷ kinds.SymPlusPlus ∷ []
+symbols_of levels.Product = kinds.SymStar ∷ kinds.SymSlash ∷ kinds.SymPercent ∷ []
+
 unfoldable pub product : R ExprTree → ℕ → R ExprTree
-product next n = level (56 ∷ 57 ∷ 58 ∷ []) next n
+product next n = level (kinds.SymStar ∷ kinds.SymSlash ∷ kinds.SymPercent ∷ []) next n
 
 unfoldable pub sum : R ExprTree → ℕ → R ExprTree
-sum next n = level (54 ∷ 55 ∷ 59 ∷ []) next n
+sum next n = level (kinds.SymPlus ∷ kinds.SymMinus ∷ kinds.SymPlusPlus ∷ []) next n
 
 abbrev pub compare_set : List ℕ
-compare_set = 48 ∷ 49 ∷ 50 ∷ 51 ∷ 52 ∷ 53 ∷ []
+compare_set = kinds.SymEqualEqual ∷ kinds.SymNotEqual ∷ kinds.SymLess ∷ kinds.SymLessEqual ∷ kinds.SymGreater ∷ kinds.SymGreaterEqual ∷ []
 
 unfoldable pub compare : R ExprTree → R ExprTree
 compare next = do
@@ -241,10 +251,10 @@ compare next = do
     ret (add_binary left t)) (ret left)
 
 unfoldable pub conj : R ExprTree → ℕ → R ExprTree
-conj next n = level (60 ∷ []) next n
+conj next n = level (kinds.SymAndAnd ∷ []) next n
 
 unfoldable pub disj : R ExprTree → ℕ → R ExprTree
-disj next n = level (61 ∷ []) next n
+disj next n = level (kinds.SymOrOr ∷ []) next n
 
 abbrev pub chain : R ExprTree → ℕ → R ExprTree
 chain next n = disj (conj (compare (sum (product next n) n)) n) n
@@ -252,15 +262,15 @@ chain next n = disj (conj (compare (sum (product next n) n)) n) n
 -- what stands behind the condition of a choice
 unfoldable pub choice_rest : R ExprTree → Place → ExprTree → R ExprTree
 choice_rest arg p c = do
-  then' ← mark 23
+  then' ← mark kinds.KwThen
   a ← arg
-  else' ← mark 24
+  else' ← mark kinds.KwElse
   b ← arg
   ret (choice c a b p)
 
 unfoldable pub choice_of : R ExprTree → R ExprTree → R ExprTree
 choice_of expr arg = do
-  p ← mark 22
+  p ← mark kinds.KwIf
   c ← expr
   choice_rest arg p c
 
@@ -277,7 +287,7 @@ unfoldable mutual
 
   pub p_arg : Bool → ℕ → R ExprTree
   p_arg plain zero = λ ts. Deep
-  p_arg plain (suc n) = choose code (22 ∷ []) (choice_of (p_expr plain n) (p_arg plain n)) (chain (unary plain (p_unary plain n) (p_arg plain n) n) n)
+  p_arg plain (suc n) = choose code (kinds.KwIf ∷ []) (choice_of (p_expr plain n) (p_arg plain n)) (chain (unary plain (p_unary plain n) (p_arg plain n) n) n)
 
 -- the readers inside depth n
 abbrev pub unary_at : Bool → ℕ → R ExprTree
@@ -297,3 +307,16 @@ conj_at plain n = conj (compare_at plain n) n
 
 abbrev pub disj_at : Bool → ℕ → R ExprTree
 disj_at plain n = disj (conj_at plain n) n
+
+-- what operators of a level stand between, and what they make
+unfoldable pub operand_at : Bool → ℕ → Level → R ExprTree
+operand_at plain n levels.Or = conj_at plain n
+operand_at plain n levels.And = compare_at plain n
+operand_at plain n levels.Sum = product_at plain n
+operand_at plain n levels.Product = unary_at plain n
+
+unfoldable pub level_at : Bool → ℕ → Level → R ExprTree
+level_at plain n levels.Or = disj_at plain n
+level_at plain n levels.And = conj_at plain n
+level_at plain n levels.Sum = sum_at plain n
+level_at plain n levels.Product = product_at plain n

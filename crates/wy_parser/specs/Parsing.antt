@@ -11,6 +11,7 @@ use Rattle.wy_syntax.specs.declared.types.TypeUse.TheVariants as types
 use Rattle.wy_syntax.specs.declared.types.Param.{Param}
 use Rattle.wy_syntax.specs.declared.types.Signature.{Signature}
 use Rattle.wy_syntax.specs.Tokens.{Tok, code}
+use Rattle.wy_parser.specs.Kinds as kinds
 use Rattle.wy_parser.specs.Reading.{Reader, ◌>>=◌, ret, one_of, choose, fold_many}
 
 abbrev pub R : Type 0 → Type 0
@@ -44,7 +45,7 @@ name_at x = record { text = text_of_kind x.kind; place = x.place }
 
 abbrev pub word : R Name
 word = do
-  x ← tok (1 ∷ [])
+  x ← tok (kinds.Name ∷ [])
   ret (name_at x)
 
 -- ---- lists
@@ -58,24 +59,27 @@ each F item n = fold_many code n F item snoc []
 
 abbrev pub comma_part : {A : Type 0} → R A → R A
 comma_part item = do
-  comma ← mark 44
+  comma ← mark kinds.SymComma
   item
 
 abbrev pub commas1 : {A : Type 0} → R A → ℕ → R (List A)
 commas1 item n = do
   first ← item
-  fold_many code n (44 ∷ []) (comma_part item) snoc (first ∷ [])
+  fold_many code n (kinds.SymComma ∷ []) (comma_part item) snoc (first ∷ [])
 
 abbrev pub commas : {A : Type 0} → List ℕ → R A → ℕ → R (List A)
 commas F item n = choose code F (commas1 item n) (ret [])
 
 -- ---- sets and types; n turns of a loop at most
 
+abbrev pub member_of : Name → Name → AtomUse
+member_of n m = record { owner = Some n; member = m }
+
 abbrev pub owned : Name → R AtomUse
 owned n = do
-  dot ← mark 46
+  dot ← mark kinds.SymDot
   m ← word
-  ret (record { owner = Some n; member = m })
+  ret (member_of n m)
 
 abbrev pub member_alone : Name → AtomUse
 member_alone n = record { owner = None; member = n }
@@ -83,39 +87,39 @@ member_alone n = record { owner = None; member = n }
 unfoldable pub atom : R AtomUse
 atom = do
   n ← word
-  choose code (46 ∷ []) (owned n) (ret (member_alone n))
+  choose code (kinds.SymDot ∷ []) (owned n) (ret (member_alone n))
 
 unfoldable pub set : ℕ → R (List AtomUse)
 set n = do
-  opening ← mark 42
-  atoms ← commas (1 ∷ []) atom n
-  closing ← mark 43
+  opening ← mark kinds.SymOpenBrace
+  atoms ← commas (kinds.Name ∷ []) atom n
+  closing ← mark kinds.SymCloseBrace
   ret atoms
 
 unfoldable pub member_set : ℕ → R MemberSet
 member_set n = do
   m ← word
-  equal ← mark 47
+  equal ← mark kinds.SymEqual
   s ← set n
   ret (record { name = m; effect = s })
 
 abbrev pub with_sets : Name → ℕ → R TypeUse
 with_sets w n = do
-  opening ← mark 40
+  opening ← mark kinds.SymOpenBracket
   ms ← commas1 (member_set n) n
-  closing ← mark 41
+  closing ← mark kinds.SymCloseBracket
   ret (types.With w ms)
 
 abbrev pub at_set : Name → ℕ → R TypeUse
 at_set w n = do
-  at' ← mark 16
+  at' ← mark kinds.KwAt
   s ← set n
   ret (types.At w s)
 
 -- what stands behind the name of a declared type
 unfoldable pub object_rest : Bool → Name → ℕ → R TypeUse
 object_rest true w n = ret (types.Bare w)
-object_rest false w n = choose code (40 ∷ []) (with_sets w n) (choose code (16 ∷ []) (at_set w n) (ret (types.Bare w)))
+object_rest false w n = choose code (kinds.SymOpenBracket ∷ []) (with_sets w n) (choose code (kinds.KwAt ∷ []) (at_set w n) (ret (types.Bare w)))
 
 unfoldable pub object : Bool → ℕ → R TypeUse
 object plain n = do
@@ -129,24 +133,27 @@ base k f = do
 
 unfoldable pub type_use : Bool → ℕ → R TypeUse
 type_use plain n =
-    choose code (29 ∷ []) (base 29 (λ p. types.Int p))
-    (choose code (30 ∷ []) (base 30 (λ p. types.Bool p))
-    (choose code (31 ∷ []) (base 31 (λ p. types.Text p))
-    (choose code (32 ∷ []) (base 32 (λ p. types.Unit p)) (object plain n))))
+    choose code (kinds.KwInt ∷ []) (base kinds.KwInt (λ p. types.Int p))
+    (choose code (kinds.KwBool ∷ []) (base kinds.KwBool (λ p. types.Bool p))
+    (choose code (kinds.KwString ∷ []) (base kinds.KwString (λ p. types.Text p))
+    (choose code (kinds.KwUnit ∷ []) (base kinds.KwUnit (λ p. types.Unit p)) (object plain n))))
+
+abbrev pub param_of : Name → TypeUse → Param
+param_of w t = record { name = w; type_use = t }
 
 unfoldable pub param : Bool → ℕ → R Param
 param plain n = do
   w ← word
-  colon ← mark 45
+  colon ← mark kinds.SymColon
   t ← type_use plain n
-  ret (record { name = w; type_use = t })
+  ret (param_of w t)
 
 unfoldable pub module_param : Bool → ℕ → R Param
 module_param plain n = do
   w ← word
-  colon ← mark 45
+  colon ← mark kinds.SymColon
   t ← object plain n
-  ret (record { name = w; type_use = t })
+  ret (param_of w t)
 
 unfoldable pub effect : Bool → ℕ → R (Option (List AtomUse))
 effect true n = ret None
@@ -154,14 +161,17 @@ effect false n = do
   s ← set n
   ret (Some s)
 
+abbrev pub signature_of : Place → Name → List Param → Option (List AtomUse) → TypeUse → Signature
+signature_of p w ps e t = record { place = p; name = w; params = ps; effect = e; result = t }
+
 unfoldable pub signature : Bool → ℕ → R Signature
 signature plain n = do
-  p ← mark 7
+  p ← mark kinds.KwDef
   w ← word
-  opening ← mark 38
-  ps ← commas (1 ∷ []) (param plain n) n
-  closing ← mark 39
-  colon ← mark 45
+  opening ← mark kinds.SymOpenParen
+  ps ← commas (kinds.Name ∷ []) (param plain n) n
+  closing ← mark kinds.SymCloseParen
+  colon ← mark kinds.SymColon
   e ← effect plain n
   t ← type_use plain n
-  ret (record { place = p; name = w; params = ps; effect = e; result = t })
+  ret (signature_of p w ps e t)

@@ -1,8 +1,9 @@
 //! The smallest readers: one token of some kinds.
-ghost use Rattle.std.specs.Prelude.{◌≡◌, IfOk};
-ghost use Rattle.wy_syntax.specs.Tokens.{code, code_of, member, tok_of, toks};
+ghost use Rattle.std.specs.Prelude.{◌≡◌, [], ◌∷◌, IfOk};
+ghost use Rattle.wy_syntax.specs.Tokens.{code, member, tok_of, toks};
 ghost use Rattle.wy_parser.specs.Reading.{starts, starts2};
-ghost use Rattle.wy_parser.specs.Parsing.{tok, mark, word, name_at, text_of_kind, value_of_kind};
+ghost use Rattle.wy_parser.specs.Kinds as kinds;
+ghost use Rattle.wy_parser.specs.Parsing.{tok, mark, word, name_at, text_of_kind};
 ghost use Rattle.wy_parser.specs.Sorts.{number_of, numbers, Gives};
 
 use crate::sort::{Sort, sort_of};
@@ -69,19 +70,30 @@ pub fn text_of(alloc: Global, token: &Token) -> Result<Text, Memory>
     }
 }
 
+/// The token of the name that stands first. The name is made by `name_of` when all is read.
+pub fn name_token<'a>(tokens: &'a [Token]) -> Result<(&'a Token, &'a [Token]), Stop<'a>>
+    ensures { Gives (λ x. tok_of x.now) result (tok (kinds.Name ∷ []) (toks tokens.now)) }
+{
+    take(tokens, &[Sort::Name])
+}
+
+/// The name that a token has.
+pub fn name_of(alloc: Global, token: &Token) -> Result<Name, Memory>
+    ensures { IfOk result (λ n. n ≡ name_at (tok_of token.now)) }
+{
+    let text = text_of(alloc, token)?;
+    Ok(Name {
+        text,
+        place: token.place,
+    })
+}
+
 /// The name that stands first.
 pub fn word<'a>(alloc: Global, tokens: &'a [Token]) -> Result<(Name, &'a [Token]), Stop<'a>>
     ensures { Gives (λ n. n) result (word (toks tokens.now)) }
 {
-    let (token, rest) = take(tokens, &[Sort::Name])?;
-    let text = text_of(alloc, token)?;
-    Ok((
-        Name {
-            text,
-            place: token.place,
-        },
-        rest,
-    ))
+    let (token, rest) = name_token(tokens)?;
+    Ok((name_of(alloc, token)?, rest))
 }
 
 /// Whether the first token's kind is in the first set and the second one's in the second.

@@ -4,17 +4,19 @@ ghost use Rattle.std.specs.Prelude.{◌≡◌, [], ◌∷◌, IfOk, map, pos};
 ghost use Rattle.wy_syntax.specs.Tokens.{code, tok_of, toks};
 ghost use Rattle.wy_syntax.specs.Trees.{byte_at, choice, part};
 ghost use Rattle.wy_syntax.specs.Views.{expr_tree};
+ghost use Rattle.wy_parser.specs.Kinds as kinds;
 ghost use Rattle.wy_parser.specs.Parsing.{commas, comma_part, value_of_int, value_of_kind};
-ghost use Rattle.wy_parser.specs.ExprParsing.{arg_first, add_binary, minus_of, minus_digits, minus_edge, is_choice, operator_at, number_alone, text_alone, one_argument, built, built2, built3, parens, ascription, after_arg, atomic, call_part, add_call, post, minus, unary_at, product_at, sum_at, compare_at, conj_at, disj_at, choice_rest, choice_of, p_unary, p_expr, p_arg};
+ghost use Rattle.wy_parser.specs.ExprParsing.{arg_first, add_binary, minus_of, minus_digits, minus_edge, is_choice, number_alone, text_alone, one_argument, built, built2, built3, parens, ascription, after_arg, atomic, call_part, add_call, post, minus, unary_at, compare_at, level_at, operand_at, choice_rest, choice_of, p_unary, p_expr, p_arg};
 ghost use Rattle.wy_parser.specs.Reading.{choose};
 ghost use Rattle.wy_parser.specs.Sorts.{number_of, Gives};
 
-use crate::cursor::{begins, mark, take, text_of, word};
+use crate::cursor::{begins, mark, name_of, name_token, take, text_of, word};
+use crate::operators::{COMPARISONS, Level, operator_of};
 use crate::sort::{Sort, sort_of};
 use crate::stop::Stop;
 use crate::types::type_use;
 use std::alloc::{AllocError, Global};
-use wy_syntax::expressions::{Expr, Operator};
+use wy_syntax::expressions::Expr;
 use wy_syntax::types::Name;
 use wy_text::fault::Place;
 use wy_text::token::{Token, TokenKind};
@@ -46,15 +48,6 @@ const BUILT: [Sort; 5] = [
     Sort::KwTextShow,
 ];
 
-const COMPARISONS: [Sort; 6] = [
-    Sort::SymEqualEqual,
-    Sort::SymNotEqual,
-    Sort::SymLess,
-    Sort::SymLessEqual,
-    Sort::SymGreater,
-    Sort::SymGreaterEqual,
-];
-
 /// The value of a number; 0 for what is none.
 #[tactic(auto, using(crate::proofs::Numbers::value_rules))]
 fn value_of(token: &Token) -> i64
@@ -82,81 +75,64 @@ fn minus_value(token: &Token) -> i64
     -value
 }
 
-/// The operator of a symbol.
-fn operator_of(sort: Sort) -> Operator
-    ensures { result ≡ operator_at (number_of sort) }
-{
-    match sort {
-        Sort::SymAndAnd => Operator::And,
-        Sort::SymEqualEqual => Operator::Equal,
-        Sort::SymNotEqual => Operator::NotEqual,
-        Sort::SymLess => Operator::Less,
-        Sort::SymLessEqual => Operator::LessEqual,
-        Sort::SymGreater => Operator::Greater,
-        Sort::SymGreaterEqual => Operator::GreaterEqual,
-        Sort::SymPlus => Operator::Plus,
-        Sort::SymMinus => Operator::Minus,
-        Sort::SymPlusPlus => Operator::Join,
-        Sort::SymStar => Operator::Times,
-        Sort::SymSlash => Operator::Divide,
-        Sort::SymPercent => Operator::Remainder,
-        _ => Operator::Or,
-    }
-}
-
 /// An operator's node with its operands.
-fn binary(alloc: Global, symbol: &Token, left: Expr, right: Expr) -> Result<Expr, AllocError>
-    ensures { IfOk result (λ e. expr_tree e ≡ add_binary (expr_tree left) (tok_of symbol.now, expr_tree right)) }
+fn binary(
+    alloc: Global,
+    symbol: &Token,
+    left: Box<Expr>,
+    right: Box<Expr>,
+) -> Result<Box<Expr>, AllocError>
+    ensures { IfOk result (λ r. expr_tree r.value ≡ add_binary (expr_tree left.value) (tok_of symbol.now, expr_tree right.value)) }
 {
-    let left = Box::new(alloc, left)?;
-    let right = Box::new(alloc, right)?;
     let operator = operator_of(sort_of(&symbol.kind));
-    Ok(Expr::Binary(operator, left, right, symbol.place))
+    Ok(Box::new(alloc, Expr::Binary(operator, left, right, symbol.place))?)
 }
 
 /// A call's node with its receiver and arguments.
-fn call(alloc: Global, receiver: Expr, name: Name, arguments: Vec<Expr>) -> Result<Expr, AllocError>
-    ensures { IfOk result (λ e. expr_tree e ≡ add_call (expr_tree receiver) (name, map expr_tree arguments.items)) }
+fn call(
+    alloc: Global,
+    receiver: Box<Expr>,
+    name: Name,
+    arguments: Vec<Expr>,
+) -> Result<Box<Expr>, AllocError>
+    ensures { IfOk result (λ r. expr_tree r.value ≡ add_call (expr_tree receiver.value) (name, map expr_tree arguments.items)) }
 {
-    Ok(Expr::Call(Box::new(alloc, receiver)?, name, arguments))
+    Ok(Box::new(alloc, Expr::Call(receiver, name, arguments))?)
 }
 
 fn choice_node(
     alloc: Global,
-    condition: Expr,
-    first: Expr,
-    second: Expr,
+    condition: Box<Expr>,
+    first: Box<Expr>,
+    second: Box<Expr>,
     place: Place,
-) -> Result<Expr, AllocError>
-    ensures { IfOk result (λ e. expr_tree e ≡ choice (expr_tree condition) (expr_tree first) (expr_tree second) place) }
+) -> Result<Box<Expr>, AllocError>
+    ensures { IfOk result (λ r. expr_tree r.value ≡ choice (expr_tree condition.value) (expr_tree first.value) (expr_tree second.value) place) }
 {
-    let condition = Box::new(alloc, condition)?;
-    let first = Box::new(alloc, first)?;
-    let second = Box::new(alloc, second)?;
-    Ok(Expr::Choice(condition, first, second, place))
+    Ok(Box::new(alloc, Expr::Choice(condition, first, second, place))?)
 }
 
-fn code_node(alloc: Global, text: Expr, at: Expr, place: Place) -> Result<Expr, AllocError>
-    ensures { IfOk result (λ e. expr_tree e ≡ byte_at (expr_tree text) (expr_tree at) place) }
+fn code_node(
+    alloc: Global,
+    text: Box<Expr>,
+    at: Box<Expr>,
+    place: Place,
+) -> Result<Box<Expr>, AllocError>
+    ensures { IfOk result (λ r. expr_tree r.value ≡ byte_at (expr_tree text.value) (expr_tree at.value) place) }
 {
-    let text = Box::new(alloc, text)?;
-    let at = Box::new(alloc, at)?;
-    Ok(Expr::TextCode(text, at, place))
+    Ok(Box::new(alloc, Expr::TextCode(text, at, place))?)
 }
 
 fn part_node(
     alloc: Global,
-    text: Expr,
-    from: Expr,
-    to: Expr,
+    text: Box<Expr>,
+    from: Box<Expr>,
+    to: Box<Expr>,
     place: Place,
-) -> Result<Expr, AllocError>
-    ensures { IfOk result (λ e. expr_tree e ≡ part (expr_tree text) (expr_tree from) (expr_tree to) place) }
+) -> Result<Box<Expr>, AllocError>
+    ensures { IfOk result (λ r. expr_tree r.value ≡ part (expr_tree text.value) (expr_tree from.value) (expr_tree to.value) place) }
 {
-    let text = Box::new(alloc, text)?;
-    let from = Box::new(alloc, from)?;
-    let to = Box::new(alloc, to)?;
-    Ok(Expr::TextPart(text, from, to, place))
+    Ok(Box::new(alloc, Expr::TextPart(text, from, to, place))?)
 }
 
 /// Whether an expression is an `if`, which stands in parentheses only with a type.
@@ -169,31 +145,41 @@ fn is_choice(e: &Expr) -> bool
     }
 }
 
-fn number<'a>(tokens: &'a [Token]) -> Result<(Expr, &'a [Token]), Stop<'a>>
-    ensures { Gives expr_tree result (number_alone (toks tokens.now)) }
+fn number<'a>(alloc: Global, tokens: &'a [Token]) -> Result<(Box<Expr>, &'a [Token]), Stop<'a>>
+    ensures { Gives (λ b. expr_tree b.value) result (number_alone (toks tokens.now)) }
 {
     let (token, rest) = take(tokens, &[Sort::Number])?;
-    Ok((Expr::Number(value_of(token), token.place), rest))
+    Ok((
+        Box::new(alloc, Expr::Number(value_of(token), token.place))?,
+        rest,
+    ))
 }
 
-fn text<'a>(alloc: Global, tokens: &'a [Token]) -> Result<(Expr, &'a [Token]), Stop<'a>>
-    ensures { Gives expr_tree result (text_alone (toks tokens.now)) }
+fn text<'a>(alloc: Global, tokens: &'a [Token]) -> Result<(Box<Expr>, &'a [Token]), Stop<'a>>
+    ensures { Gives (λ b. expr_tree b.value) result (text_alone (toks tokens.now)) }
 {
     let (token, rest) = take(tokens, &[Sort::Text])?;
     let bytes = text_of(alloc, token)?;
-    Ok((Expr::Text(bytes, token.place), rest))
+    Ok((Box::new(alloc, Expr::Text(bytes, token.place))?, rest))
 }
 
 /// The number behind a `-` whose place is given.
-fn negative<'a>(tokens: &'a [Token], place: Place) -> Result<(Expr, &'a [Token]), Stop<'a>>
-    ensures { Gives expr_tree result (choose code (2 ∷ []) (minus_digits place) (minus_edge place) (toks tokens.now)) }
+fn negative<'a>(
+    alloc: Global,
+    tokens: &'a [Token],
+    place: Place,
+) -> Result<(Box<Expr>, &'a [Token]), Stop<'a>>
+    ensures { Gives (λ b. expr_tree b.value) result (choose code (kinds.Number ∷ []) (minus_digits place) (minus_edge place) (toks tokens.now)) }
 {
     if begins(tokens, &[Sort::Number]) {
         let (token, rest) = take(tokens, &[Sort::Number])?;
-        return Ok((Expr::Number(minus_value(token), place), rest));
+        return Ok((
+            Box::new(alloc, Expr::Number(minus_value(token), place))?,
+            rest,
+        ));
     }
     let (_, rest) = mark(tokens, Sort::Edge)?;
-    Ok((Expr::Number(i64::MIN, place), rest))
+    Ok((Box::new(alloc, Expr::Number(i64::MIN, place))?, rest))
 }
 
 /// An argument: `if` with an expression on each side, or an expression.
@@ -204,8 +190,8 @@ pub fn arg<'a>(
     tokens: &'a [Token],
     plain: bool,
     depth: usize,
-) -> Result<(Expr, &'a [Token]), Stop<'a>>
-    ensures { Gives expr_tree result (p_arg plain depth (toks tokens.now)) }
+) -> Result<(Box<Expr>, &'a [Token]), Stop<'a>>
+    ensures { Gives (λ b. expr_tree b.value) result (p_arg plain depth (toks tokens.now)) }
 {
     if depth == 0 {
         return Err(Stop::Deep);
@@ -213,7 +199,7 @@ pub fn arg<'a>(
     if begins(tokens, &[Sort::KwIf]) {
         choice(alloc, tokens, plain, depth - 1)
     } else {
-        disjunction(alloc, tokens, plain, depth - 1)
+        operation(alloc, tokens, plain, depth - 1, Level::Or)
     }
 }
 
@@ -225,13 +211,13 @@ pub fn expr<'a>(
     tokens: &'a [Token],
     plain: bool,
     depth: usize,
-) -> Result<(Expr, &'a [Token]), Stop<'a>>
-    ensures { Gives expr_tree result (p_expr plain depth (toks tokens.now)) }
+) -> Result<(Box<Expr>, &'a [Token]), Stop<'a>>
+    ensures { Gives (λ b. expr_tree b.value) result (p_expr plain depth (toks tokens.now)) }
 {
     if depth == 0 {
         return Err(Stop::Deep);
     }
-    disjunction(alloc, tokens, plain, depth - 1)
+    operation(alloc, tokens, plain, depth - 1, Level::Or)
 }
 
 /// An `if` with an expression on each side.
@@ -242,8 +228,8 @@ fn choice<'a>(
     tokens: &'a [Token],
     plain: bool,
     inner: usize,
-) -> Result<(Expr, &'a [Token]), Stop<'a>>
-    ensures { Gives expr_tree result (choice_of (p_expr plain inner) (p_arg plain inner) (toks tokens.now)) }
+) -> Result<(Box<Expr>, &'a [Token]), Stop<'a>>
+    ensures { Gives (λ b. expr_tree b.value) result (choice_of (p_expr plain inner) (p_arg plain inner) (toks tokens.now)) }
 {
     let (place, rest) = mark(tokens, Sort::KwIf)?;
     let (condition, rest) = expr(alloc, rest, plain, inner)?;
@@ -257,11 +243,11 @@ pub fn choice_rest<'a>(
     alloc: Global,
     tokens: &'a [Token],
     place: Place,
-    condition: Expr,
+    condition: Box<Expr>,
     plain: bool,
     inner: usize,
-) -> Result<(Expr, &'a [Token]), Stop<'a>>
-    ensures { Gives expr_tree result (choice_rest (p_arg plain inner) place (expr_tree condition) (toks tokens.now)) }
+) -> Result<(Box<Expr>, &'a [Token]), Stop<'a>>
+    ensures { Gives (λ b. expr_tree b.value) result (choice_rest (p_arg plain inner) place (expr_tree condition.value) (toks tokens.now)) }
 {
     let (_, rest) = mark(tokens, Sort::KwThen)?;
     let (first, rest) = arg(alloc, rest, plain, inner)?;
@@ -270,119 +256,69 @@ pub fn choice_rest<'a>(
     Ok((choice_node(alloc, condition, first, second, place)?, rest))
 }
 
-/// Conjunctions with `||` between.
+/// Operands with operators of one level between, in groups to the left.
 #[cycle(expressions)]
-#[tactic(auto, unfolding(crate::specs::ExprParsing::disj))]
-fn disjunction<'a>(
+#[tactic(auto, using(crate::proofs::Depths::level_rules))]
+fn operation<'a>(
     alloc: Global,
     tokens: &'a [Token],
     plain: bool,
     inner: usize,
-) -> Result<(Expr, &'a [Token]), Stop<'a>>
-    ensures { Gives expr_tree result (disj_at plain inner (toks tokens.now)) }
+    level: Level,
+) -> Result<(Box<Expr>, &'a [Token]), Stop<'a>>
+    ensures { Gives (λ b. expr_tree b.value) result (level_at plain inner level (toks tokens.now)) }
 {
-    let (mut left, mut rest) = conjunction(alloc, tokens, plain, inner)?;
+    let symbols = level.symbols();
+    let (mut left, mut rest) = operand(alloc, tokens, plain, inner, level)?;
     for _ in 0..inner {
-        if !begins(rest, &[Sort::SymOrOr]) {
+        if !begins(rest, symbols) {
             return Ok((left, rest));
         }
-        let (symbol, after) = take(rest, &[Sort::SymOrOr])?;
-        let (right, after) = conjunction(alloc, after, plain, inner)?;
+        let (symbol, after) = take(rest, symbols)?;
+        let (right, after) = operand(alloc, after, plain, inner, level)?;
         left = binary(alloc, symbol, left, right)?;
         rest = after;
     }
     Err(Stop::Deep)
 }
 
-/// Comparisons with `&&` between.
+/// What stands between the operators of a level: what binds tighter.
 #[cycle(expressions)]
-#[tactic(auto, unfolding(crate::specs::ExprParsing::conj))]
-fn conjunction<'a>(
+#[tactic(auto, unfolding(crate::specs::ExprParsing::level_at, crate::specs::ExprParsing::operand_at))]
+fn operand<'a>(
     alloc: Global,
     tokens: &'a [Token],
     plain: bool,
     inner: usize,
-) -> Result<(Expr, &'a [Token]), Stop<'a>>
-    ensures { Gives expr_tree result (conj_at plain inner (toks tokens.now)) }
+    level: Level,
+) -> Result<(Box<Expr>, &'a [Token]), Stop<'a>>
+    ensures { Gives (λ b. expr_tree b.value) result (operand_at plain inner level (toks tokens.now)) }
 {
-    let (mut left, mut rest) = comparison(alloc, tokens, plain, inner)?;
-    for _ in 0..inner {
-        if !begins(rest, &[Sort::SymAndAnd]) {
-            return Ok((left, rest));
-        }
-        let (symbol, after) = take(rest, &[Sort::SymAndAnd])?;
-        let (right, after) = comparison(alloc, after, plain, inner)?;
-        left = binary(alloc, symbol, left, right)?;
-        rest = after;
+    match level {
+        Level::Or => operation(alloc, tokens, plain, inner, Level::And),
+        Level::And => comparison(alloc, tokens, plain, inner),
+        Level::Sum => operation(alloc, tokens, plain, inner, Level::Product),
+        Level::Product => prefix_in(alloc, tokens, plain, inner),
     }
-    Err(Stop::Deep)
-}
-
-/// Products with `+`, `-` and `++` between.
-#[cycle(expressions)]
-#[tactic(auto, unfolding(crate::specs::ExprParsing::sum))]
-fn summation<'a>(
-    alloc: Global,
-    tokens: &'a [Token],
-    plain: bool,
-    inner: usize,
-) -> Result<(Expr, &'a [Token]), Stop<'a>>
-    ensures { Gives expr_tree result (sum_at plain inner (toks tokens.now)) }
-{
-    let (mut left, mut rest) = multiplication(alloc, tokens, plain, inner)?;
-    for _ in 0..inner {
-        if !begins(rest, &[Sort::SymPlus, Sort::SymMinus, Sort::SymPlusPlus]) {
-            return Ok((left, rest));
-        }
-        let (symbol, after) = take(rest, &[Sort::SymPlus, Sort::SymMinus, Sort::SymPlusPlus])?;
-        let (right, after) = multiplication(alloc, after, plain, inner)?;
-        left = binary(alloc, symbol, left, right)?;
-        rest = after;
-    }
-    Err(Stop::Deep)
-}
-
-/// Operands with `*`, `/` and `%` between.
-#[cycle(expressions)]
-#[tactic(auto, unfolding(crate::specs::ExprParsing::product))]
-fn multiplication<'a>(
-    alloc: Global,
-    tokens: &'a [Token],
-    plain: bool,
-    inner: usize,
-) -> Result<(Expr, &'a [Token]), Stop<'a>>
-    ensures { Gives expr_tree result (product_at plain inner (toks tokens.now)) }
-{
-    let (mut left, mut rest) = prefix_in(alloc, tokens, plain, inner)?;
-    for _ in 0..inner {
-        if !begins(rest, &[Sort::SymStar, Sort::SymSlash, Sort::SymPercent]) {
-            return Ok((left, rest));
-        }
-        let (symbol, after) = take(rest, &[Sort::SymStar, Sort::SymSlash, Sort::SymPercent])?;
-        let (right, after) = prefix_in(alloc, after, plain, inner)?;
-        left = binary(alloc, symbol, left, right)?;
-        rest = after;
-    }
-    Err(Stop::Deep)
 }
 
 /// A sum, or two with a comparison between.
 #[cycle(expressions)]
-#[tactic(auto, unfolding(crate::specs::ExprParsing::compare))]
+#[tactic(auto, unfolding(crate::specs::ExprParsing::compare, crate::specs::ExprParsing::level_at))]
 fn comparison<'a>(
     alloc: Global,
     tokens: &'a [Token],
     plain: bool,
     inner: usize,
-) -> Result<(Expr, &'a [Token]), Stop<'a>>
-    ensures { Gives expr_tree result (compare_at plain inner (toks tokens.now)) }
+) -> Result<(Box<Expr>, &'a [Token]), Stop<'a>>
+    ensures { Gives (λ b. expr_tree b.value) result (compare_at plain inner (toks tokens.now)) }
 {
-    let (left, rest) = summation(alloc, tokens, plain, inner)?;
+    let (left, rest) = operation(alloc, tokens, plain, inner, Level::Sum)?;
     if !begins(rest, &COMPARISONS) {
         return Ok((left, rest));
     }
     let (symbol, rest) = take(rest, &COMPARISONS)?;
-    let (right, rest) = summation(alloc, rest, plain, inner)?;
+    let (right, rest) = operation(alloc, rest, plain, inner, Level::Sum)?;
     Ok((binary(alloc, symbol, left, right)?, rest))
 }
 
@@ -394,8 +330,8 @@ fn prefix<'a>(
     tokens: &'a [Token],
     plain: bool,
     depth: usize,
-) -> Result<(Expr, &'a [Token]), Stop<'a>>
-    ensures { Gives expr_tree result (p_unary plain depth (toks tokens.now)) }
+) -> Result<(Box<Expr>, &'a [Token]), Stop<'a>>
+    ensures { Gives (λ b. expr_tree b.value) result (p_unary plain depth (toks tokens.now)) }
 {
     if depth == 0 {
         return Err(Stop::Deep);
@@ -411,8 +347,8 @@ fn prefix_in<'a>(
     tokens: &'a [Token],
     plain: bool,
     inner: usize,
-) -> Result<(Expr, &'a [Token]), Stop<'a>>
-    ensures { Gives expr_tree result (unary_at plain inner (toks tokens.now)) }
+) -> Result<(Box<Expr>, &'a [Token]), Stop<'a>>
+    ensures { Gives (λ b. expr_tree b.value) result (unary_at plain inner (toks tokens.now)) }
 {
     if begins(tokens, &[Sort::SymMinus, Sort::SymNot]) {
         if begins(tokens, &[Sort::SymMinus]) {
@@ -420,7 +356,7 @@ fn prefix_in<'a>(
         } else {
             let (place, rest) = mark(tokens, Sort::SymNot)?;
             let (e, rest) = prefix(alloc, rest, plain, inner)?;
-            Ok((Expr::Not(Box::new(alloc, e)?, place), rest))
+            Ok((Box::new(alloc, Expr::Not(e, place))?, rest))
         }
     } else {
         postfix(alloc, tokens, plain, inner)
@@ -435,15 +371,15 @@ fn minus<'a>(
     tokens: &'a [Token],
     plain: bool,
     inner: usize,
-) -> Result<(Expr, &'a [Token]), Stop<'a>>
-    ensures { Gives expr_tree result (minus (p_unary plain inner) (toks tokens.now)) }
+) -> Result<(Box<Expr>, &'a [Token]), Stop<'a>>
+    ensures { Gives (λ b. expr_tree b.value) result (minus (p_unary plain inner) (toks tokens.now)) }
 {
     let (place, rest) = mark(tokens, Sort::SymMinus)?;
     if begins(rest, &[Sort::Number, Sort::Edge]) {
-        return negative(rest, place);
+        return negative(alloc, rest, place);
     }
     let (e, rest) = prefix(alloc, rest, plain, inner)?;
-    Ok((Expr::Negate(Box::new(alloc, e)?, place), rest))
+    Ok((Box::new(alloc, Expr::Negate(e, place))?, rest))
 }
 
 /// Something and the calls behind it.
@@ -454,8 +390,8 @@ fn postfix<'a>(
     tokens: &'a [Token],
     plain: bool,
     inner: usize,
-) -> Result<(Expr, &'a [Token]), Stop<'a>>
-    ensures { Gives expr_tree result (post plain (p_arg plain inner) inner (toks tokens.now)) }
+) -> Result<(Box<Expr>, &'a [Token]), Stop<'a>>
+    ensures { Gives (λ b. expr_tree b.value) result (post plain (p_arg plain inner) inner (toks tokens.now)) }
 {
     let (mut e, mut rest) = atomic(alloc, tokens, plain, inner)?;
     for _ in 0..inner {
@@ -481,11 +417,11 @@ fn call_part<'a>(
     ensures { Gives (λ x. (x.0, map expr_tree x.1.items)) result (call_part (p_arg plain inner) inner (toks tokens.now)) }
 {
     let (_, rest) = mark(tokens, Sort::SymDot)?;
-    let (name, rest) = word(alloc, rest)?;
+    let (name, rest) = name_token(rest)?;
     let (_, rest) = mark(rest, Sort::SymOpenParen)?;
     let (arguments, rest) = arguments(alloc, rest, plain, inner)?;
     let (_, rest) = mark(rest, Sort::SymCloseParen)?;
-    Ok(((name, arguments), rest))
+    Ok(((name_of(alloc, name)?, arguments), rest))
 }
 
 /// Arguments with commas between, or none.
@@ -503,13 +439,13 @@ fn arguments<'a>(
         return Ok((items, tokens));
     }
     let (first, mut rest) = arg(alloc, tokens, plain, inner)?;
-    items.push(first)?;
+    items.push(Box::into_inner(first))?;
     for _ in 0..inner {
         if !begins(rest, &[Sort::SymComma]) {
             return Ok((items, rest));
         }
         let (item, after) = comma_arg(alloc, rest, plain, inner)?;
-        items.push(item)?;
+        items.push(Box::into_inner(item))?;
         rest = after;
     }
     Err(Stop::Deep)
@@ -522,8 +458,8 @@ fn comma_arg<'a>(
     tokens: &'a [Token],
     plain: bool,
     inner: usize,
-) -> Result<(Expr, &'a [Token]), Stop<'a>>
-    ensures { Gives expr_tree result (comma_part (p_arg plain inner) (toks tokens.now)) }
+) -> Result<(Box<Expr>, &'a [Token]), Stop<'a>>
+    ensures { Gives (λ b. expr_tree b.value) result (comma_part (p_arg plain inner) (toks tokens.now)) }
 {
     let (_, rest) = mark(tokens, Sort::SymComma)?;
     arg(alloc, rest, plain, inner)
@@ -537,30 +473,30 @@ fn atomic<'a>(
     tokens: &'a [Token],
     plain: bool,
     inner: usize,
-) -> Result<(Expr, &'a [Token]), Stop<'a>>
-    ensures { Gives expr_tree result (atomic plain (p_arg plain inner) inner (toks tokens.now)) }
+) -> Result<(Box<Expr>, &'a [Token]), Stop<'a>>
+    ensures { Gives (λ b. expr_tree b.value) result (atomic plain (p_arg plain inner) inner (toks tokens.now)) }
 {
     if begins(tokens, &[Sort::Number]) {
-        return number(tokens);
+        return number(alloc, tokens);
     }
     if begins(tokens, &[Sort::Text]) {
         return text(alloc, tokens);
     }
     if begins(tokens, &[Sort::KwTrue]) {
         let (place, rest) = mark(tokens, Sort::KwTrue)?;
-        return Ok((Expr::True(place), rest));
+        return Ok((Box::new(alloc, Expr::True(place))?, rest));
     }
     if begins(tokens, &[Sort::KwFalse]) {
         let (place, rest) = mark(tokens, Sort::KwFalse)?;
-        return Ok((Expr::False(place), rest));
+        return Ok((Box::new(alloc, Expr::False(place))?, rest));
     }
     if begins(tokens, &[Sort::KwThis]) {
         let (place, rest) = mark(tokens, Sort::KwThis)?;
-        return Ok((Expr::This(place), rest));
+        return Ok((Box::new(alloc, Expr::This(place))?, rest));
     }
     if begins(tokens, &[Sort::Name]) {
         let (name, rest) = word(alloc, tokens)?;
-        return Ok((Expr::Name(name), rest));
+        return Ok((Box::new(alloc, Expr::Name(name))?, rest));
     }
     if begins(tokens, &BUILT) {
         built(alloc, tokens, plain, inner)
@@ -577,13 +513,13 @@ fn parens<'a>(
     tokens: &'a [Token],
     plain: bool,
     inner: usize,
-) -> Result<(Expr, &'a [Token]), Stop<'a>>
-    ensures { Gives expr_tree result (parens plain (p_arg plain inner) inner (toks tokens.now)) }
+) -> Result<(Box<Expr>, &'a [Token]), Stop<'a>>
+    ensures { Gives (λ b. expr_tree b.value) result (parens plain (p_arg plain inner) inner (toks tokens.now)) }
 {
     let (place, rest) = mark(tokens, Sort::SymOpenParen)?;
     if begins(rest, &[Sort::SymCloseParen]) {
         let (_, rest) = mark(rest, Sort::SymCloseParen)?;
-        return Ok((Expr::Unit(place), rest));
+        return Ok((Box::new(alloc, Expr::Unit(place))?, rest));
     }
     let (e, rest) = arg(alloc, rest, plain, inner)?;
     after_arg(alloc, rest, place, e, plain, inner)
@@ -597,12 +533,12 @@ fn built<'a>(
     tokens: &'a [Token],
     plain: bool,
     inner: usize,
-) -> Result<(Expr, &'a [Token]), Stop<'a>>
-    ensures { Gives expr_tree result (built (p_arg plain inner) (toks tokens.now)) }
+) -> Result<(Box<Expr>, &'a [Token]), Stop<'a>>
+    ensures { Gives (λ b. expr_tree b.value) result (built (p_arg plain inner) (toks tokens.now)) }
 {
     if begins(tokens, &[Sort::KwTextSize]) {
         let ((e, place), rest) = one_argument(alloc, tokens, Sort::KwTextSize, plain, inner)?;
-        return Ok((Expr::TextSize(Box::new(alloc, e)?, place), rest));
+        return Ok((Box::new(alloc, Expr::TextSize(e, place))?, rest));
     }
     if begins(tokens, &[Sort::KwTextPart]) {
         return three_arguments(alloc, tokens, plain, inner);
@@ -612,10 +548,10 @@ fn built<'a>(
     }
     if begins(tokens, &[Sort::KwTextByte]) {
         let ((e, place), rest) = one_argument(alloc, tokens, Sort::KwTextByte, plain, inner)?;
-        return Ok((Expr::TextByte(Box::new(alloc, e)?, place), rest));
+        return Ok((Box::new(alloc, Expr::TextByte(e, place))?, rest));
     }
     let ((e, place), rest) = one_argument(alloc, tokens, Sort::KwTextShow, plain, inner)?;
-    Ok((Expr::TextShow(Box::new(alloc, e)?, place), rest))
+    Ok((Box::new(alloc, Expr::TextShow(e, place))?, rest))
 }
 
 /// A word and one argument in parentheses.
@@ -627,8 +563,8 @@ fn one_argument<'a>(
     sort: Sort,
     plain: bool,
     inner: usize,
-) -> Result<((Expr, Place), &'a [Token]), Stop<'a>>
-    ensures { Gives (λ x. (expr_tree x.0, x.1)) result (one_argument (number_of sort) (p_arg plain inner) (toks tokens.now)) }
+) -> Result<((Box<Expr>, Place), &'a [Token]), Stop<'a>>
+    ensures { Gives (λ x. (expr_tree x.0.value, x.1)) result (one_argument (number_of sort) (p_arg plain inner) (toks tokens.now)) }
 {
     let (place, rest) = mark(tokens, sort)?;
     let (_, rest) = mark(rest, Sort::SymOpenParen)?;
@@ -645,8 +581,8 @@ fn two_arguments<'a>(
     tokens: &'a [Token],
     plain: bool,
     inner: usize,
-) -> Result<(Expr, &'a [Token]), Stop<'a>>
-    ensures { Gives expr_tree result (built2 (p_arg plain inner) (toks tokens.now)) }
+) -> Result<(Box<Expr>, &'a [Token]), Stop<'a>>
+    ensures { Gives (λ b. expr_tree b.value) result (built2 (p_arg plain inner) (toks tokens.now)) }
 {
     let (place, rest) = mark(tokens, Sort::KwTextCode)?;
     let (_, rest) = mark(rest, Sort::SymOpenParen)?;
@@ -665,8 +601,8 @@ fn three_arguments<'a>(
     tokens: &'a [Token],
     plain: bool,
     inner: usize,
-) -> Result<(Expr, &'a [Token]), Stop<'a>>
-    ensures { Gives expr_tree result (built3 (p_arg plain inner) (toks tokens.now)) }
+) -> Result<(Box<Expr>, &'a [Token]), Stop<'a>>
+    ensures { Gives (λ b. expr_tree b.value) result (built3 (p_arg plain inner) (toks tokens.now)) }
 {
     let (place, rest) = mark(tokens, Sort::KwTextPart)?;
     let (_, rest) = mark(rest, Sort::SymOpenParen)?;
@@ -685,16 +621,17 @@ fn ascription<'a>(
     alloc: Global,
     tokens: &'a [Token],
     place: Place,
-    e: Expr,
+    e: Box<Expr>,
     plain: bool,
     inner: usize,
-) -> Result<(Expr, &'a [Token]), Stop<'a>>
-    ensures { Gives expr_tree result (ascription plain place (expr_tree e) inner (toks tokens.now)) }
+) -> Result<(Box<Expr>, &'a [Token]), Stop<'a>>
+    ensures { Gives (λ b. expr_tree b.value) result (ascription plain place (expr_tree e.value) inner (toks tokens.now)) }
 {
     let (_, rest) = mark(tokens, Sort::SymColon)?;
     let (type_use, rest) = type_use(alloc, rest, plain, inner)?;
     let (_, rest) = mark(rest, Sort::SymCloseParen)?;
-    Ok((Expr::Ascribe(Box::new(alloc, e)?, type_use, place), rest))
+    let type_use = Box::into_inner(type_use);
+    Ok((Box::new(alloc, Expr::Ascribe(e, type_use, place))?, rest))
 }
 
 /// What stands behind an argument in parentheses: an `if` must have a type there.
@@ -702,11 +639,11 @@ fn after_arg<'a>(
     alloc: Global,
     tokens: &'a [Token],
     place: Place,
-    e: Expr,
+    e: Box<Expr>,
     plain: bool,
     inner: usize,
-) -> Result<(Expr, &'a [Token]), Stop<'a>>
-    ensures { Gives expr_tree result (after_arg plain place (expr_tree e) inner (toks tokens.now)) }
+) -> Result<(Box<Expr>, &'a [Token]), Stop<'a>>
+    ensures { Gives (λ b. expr_tree b.value) result (after_arg plain place (expr_tree e.value) inner (toks tokens.now)) }
 {
     if is_choice(&e) {
         return ascription(alloc, tokens, place, e, plain, inner);

@@ -1,21 +1,28 @@
 //! Items and files. `turns` is the depth of the bodies too.
-ghost use Rattle.std.specs.Prelude.{◌≡◌, [], ◌∷◌, map};
-ghost use Rattle.wy_syntax.specs.Tokens.{toks};
-ghost use Rattle.wy_syntax.specs.Views.{inside_tree, item_tree};
-ghost use Rattle.wy_parser.specs.Parsing.{each};
-ghost use Rattle.wy_parser.specs.ItemParsing.{inside_lines, inside_of, type_of, pure_of, params_of, resource_of, plain_of, program_of, item_first, item, items, p_file};
+ghost use Rattle.std.specs.Prelude.{◌≡◌, IfOk, map};
+ghost use Rattle.wy_syntax.specs.Tokens.{tok_of, toks};
+ghost use Rattle.wy_syntax.specs.Trees.{type_item, pure_item, resource_item, plain_item};
+ghost use Rattle.wy_syntax.specs.Views.{inside_tree, item_tree, part_trees};
+ghost use Rattle.wy_parser.specs.Parsing.{name_at};
+ghost use Rattle.wy_parser.specs.ItemParsing.{inside_lines, inside_of, type_of, pure_of, params_of, resource_of, plain_of, program_of, item, items, p_file};
 ghost use Rattle.wy_parser.specs.Sorts.{Gives};
 
-use crate::cursor::{begins, mark, word};
+use crate::cursor::{begins, mark, name_of, name_token};
 use crate::lines::{defines, grants, init, lines, members_inside, uses};
+use crate::lists::named;
 use crate::sort::Sort;
 use crate::statements::{parts, parts_inside, tail};
 use crate::stop::Stop;
-use crate::types::{module_params, set};
+use crate::types::{ModuleParamEntry, set};
 use std::alloc::Global;
-use wy_syntax::items::{Inside, Item, PlainModule, Program, PureModule, ResourceModule, TypeDecl};
+use wy_syntax::items::{
+    Inside, Item, Member, PlainModule, Program, PureModule, ResourceModule, TypeDecl,
+};
+use wy_syntax::statements::Part;
 use wy_syntax::types::ParamList;
+use wy_text::fault::Place;
 use wy_text::list::Items;
+use wy_text::text::Memory;
 use wy_text::token::Token;
 
 const ITEM_FIRST: [Sort; 5] = [
@@ -31,8 +38,8 @@ fn inside_lines<'a>(
     alloc: Global,
     tokens: &'a [Token],
     turns: usize,
-) -> Result<(Inside, &'a [Token]), Stop<'a>>
-    ensures { Gives inside_tree result (inside_lines turns (toks tokens.now)) }
+) -> Result<(Box<Inside>, &'a [Token]), Stop<'a>>
+    ensures { Gives (λ b. inside_tree b.value) result (inside_lines turns (toks tokens.now)) }
 {
     let (_, rest) = mark(tokens, Sort::In)?;
     let (uses, rest) = uses(alloc, rest, turns)?;
@@ -41,16 +48,14 @@ fn inside_lines<'a>(
     let (init, rest) = init(alloc, rest, turns)?;
     let (parts, rest) = parts(alloc, rest, false, turns)?;
     let (_, rest) = mark(rest, Sort::Out)?;
-    Ok((
-        Inside {
-            uses,
-            lines,
-            defines,
-            init,
-            parts,
-        },
-        rest,
-    ))
+    let inside = Inside {
+        uses,
+        lines,
+        defines,
+        init,
+        parts,
+    };
+    Ok((Box::new(alloc, inside)?, rest))
 }
 
 /// What stands inside a pure or a resource module.
@@ -59,22 +64,37 @@ fn inside<'a>(
     alloc: Global,
     tokens: &'a [Token],
     turns: usize,
-) -> Result<(Inside, &'a [Token]), Stop<'a>>
-    ensures { Gives inside_tree result (inside_of turns (toks tokens.now)) }
+) -> Result<(Box<Inside>, &'a [Token]), Stop<'a>>
+    ensures { Gives (λ b. inside_tree b.value) result (inside_of turns (toks tokens.now)) }
 {
     if begins(tokens, &[Sort::In]) {
         return inside_lines(alloc, tokens, turns);
     }
-    Ok((
-        Inside {
-            uses: Items::new(alloc),
-            lines: Items::new(alloc),
-            defines: Items::new(alloc),
-            init: None,
-            parts: Vec::new(alloc),
-        },
-        tokens,
-    ))
+    let inside = Inside {
+        uses: Items::new(alloc),
+        lines: Items::new(alloc),
+        defines: Items::new(alloc),
+        init: None,
+        parts: Vec::new(alloc),
+    };
+    Ok((Box::new(alloc, inside)?, tokens))
+}
+
+fn type_node(
+    alloc: Global,
+    place: Place,
+    name: &Token,
+    members: Items<Member>,
+) -> Result<Box<Item>, Memory>
+    ensures { IfOk result (λ b. item_tree b.value ≡ type_item (record { place = place; name = name_at (tok_of name.now); members = members })) }
+{
+    let name = name_of(alloc, name)?;
+    let item = Item::Type(TypeDecl {
+        place,
+        name,
+        members,
+    });
+    Ok(Box::new(alloc, item)?)
 }
 
 #[tactic(auto, unfolding(crate::specs::ItemParsing::type_of))]
@@ -82,21 +102,32 @@ fn type_decl<'a>(
     alloc: Global,
     tokens: &'a [Token],
     turns: usize,
-) -> Result<(Item, &'a [Token]), Stop<'a>>
-    ensures { Gives item_tree result (type_of turns (toks tokens.now)) }
+) -> Result<(Box<Item>, &'a [Token]), Stop<'a>>
+    ensures { Gives (λ b. item_tree b.value) result (type_of turns (toks tokens.now)) }
 {
     let (place, rest) = mark(tokens, Sort::KwType)?;
-    let (name, rest) = word(alloc, rest)?;
+    let (name, rest) = name_token(rest)?;
     let (_, rest) = mark(rest, Sort::Nl)?;
     let (members, rest) = members_inside(alloc, rest, turns)?;
-    Ok((
-        Item::Type(TypeDecl {
-            place,
-            name,
-            members,
-        }),
-        rest,
-    ))
+    Ok((type_node(alloc, place, name, members)?, rest))
+}
+
+fn pure_node(
+    alloc: Global,
+    place: Place,
+    name: &Token,
+    sealed: &Token,
+    inside: Box<Inside>,
+) -> Result<Box<Item>, Memory>
+    ensures { IfOk result (λ b. item_tree b.value ≡ pure_item place (name_at (tok_of name.now)) (name_at (tok_of sealed.now)) (inside_tree inside.value)) }
+{
+    let item = Item::Pure(PureModule {
+        place,
+        name: name_of(alloc, name)?,
+        sealed: name_of(alloc, sealed)?,
+        inside: Box::into_inner(inside),
+    });
+    Ok(Box::new(alloc, item)?)
 }
 
 #[tactic(auto, unfolding(crate::specs::ItemParsing::pure_of))]
@@ -104,24 +135,16 @@ fn pure_module<'a>(
     alloc: Global,
     tokens: &'a [Token],
     turns: usize,
-) -> Result<(Item, &'a [Token]), Stop<'a>>
-    ensures { Gives item_tree result (pure_of turns (toks tokens.now)) }
+) -> Result<(Box<Item>, &'a [Token]), Stop<'a>>
+    ensures { Gives (λ b. item_tree b.value) result (pure_of turns (toks tokens.now)) }
 {
     let (place, rest) = mark(tokens, Sort::KwModule)?;
-    let (name, rest) = word(alloc, rest)?;
+    let (name, rest) = name_token(rest)?;
     let (_, rest) = mark(rest, Sort::SymColon)?;
-    let (sealed, rest) = word(alloc, rest)?;
+    let (sealed, rest) = name_token(rest)?;
     let (_, rest) = mark(rest, Sort::Nl)?;
     let (inside, rest) = inside(alloc, rest, turns)?;
-    Ok((
-        Item::Pure(PureModule {
-            place,
-            name,
-            sealed,
-            inside,
-        }),
-        rest,
-    ))
+    Ok((pure_node(alloc, place, name, sealed, inside)?, rest))
 }
 
 /// A module's parameters in parentheses.
@@ -134,9 +157,29 @@ fn params<'a>(
     ensures { Gives (λ x. x) result (params_of plain turns (toks tokens.now)) }
 {
     let (_, rest) = mark(tokens, Sort::SymOpenParen)?;
-    let (params, rest) = module_params(alloc, rest, plain, turns)?;
+    let (params, rest) = named(alloc, rest, turns, &ModuleParamEntry { plain, turns })?;
     let (_, rest) = mark(rest, Sort::SymCloseParen)?;
     Ok((params, rest))
+}
+
+fn resource_node(
+    alloc: Global,
+    place: Place,
+    name: &Token,
+    params: ParamList,
+    sealed: &Token,
+    inside: Box<Inside>,
+) -> Result<Box<Item>, Memory>
+    ensures { IfOk result (λ b. item_tree b.value ≡ resource_item place (name_at (tok_of name.now)) params (name_at (tok_of sealed.now)) (inside_tree inside.value)) }
+{
+    let item = Item::Resource(ResourceModule {
+        place,
+        name: name_of(alloc, name)?,
+        params,
+        sealed: name_of(alloc, sealed)?,
+        inside: Box::into_inner(inside),
+    });
+    Ok(Box::new(alloc, item)?)
 }
 
 #[tactic(auto, unfolding(crate::specs::ItemParsing::resource_of))]
@@ -144,27 +187,41 @@ fn resource_module<'a>(
     alloc: Global,
     tokens: &'a [Token],
     turns: usize,
-) -> Result<(Item, &'a [Token]), Stop<'a>>
-    ensures { Gives item_tree result (resource_of turns (toks tokens.now)) }
+) -> Result<(Box<Item>, &'a [Token]), Stop<'a>>
+    ensures { Gives (λ b. item_tree b.value) result (resource_of turns (toks tokens.now)) }
 {
     let (place, rest) = mark(tokens, Sort::KwResource)?;
     let (_, rest) = mark(rest, Sort::KwModule)?;
-    let (name, rest) = word(alloc, rest)?;
+    let (name, rest) = name_token(rest)?;
     let (params, rest) = params(alloc, rest, false, turns)?;
     let (_, rest) = mark(rest, Sort::SymColon)?;
-    let (sealed, rest) = word(alloc, rest)?;
+    let (sealed, rest) = name_token(rest)?;
     let (_, rest) = mark(rest, Sort::Nl)?;
     let (inside, rest) = inside(alloc, rest, turns)?;
     Ok((
-        Item::Resource(ResourceModule {
-            place,
-            name,
-            params,
-            sealed,
-            inside,
-        }),
+        resource_node(alloc, place, name, params, sealed, inside)?,
         rest,
     ))
+}
+
+fn plain_node(
+    alloc: Global,
+    place: Place,
+    name: &Token,
+    params: ParamList,
+    sealed: &Token,
+    parts: Vec<Part>,
+) -> Result<Box<Item>, Memory>
+    ensures { IfOk result (λ b. item_tree b.value ≡ plain_item place (name_at (tok_of name.now)) params (name_at (tok_of sealed.now)) (part_trees parts.items)) }
+{
+    let item = Item::Plain(PlainModule {
+        place,
+        name: name_of(alloc, name)?,
+        params,
+        sealed: name_of(alloc, sealed)?,
+        parts,
+    });
+    Ok(Box::new(alloc, item)?)
 }
 
 #[tactic(auto, unfolding(crate::specs::ItemParsing::plain_of))]
@@ -172,27 +229,18 @@ fn plain_module<'a>(
     alloc: Global,
     tokens: &'a [Token],
     turns: usize,
-) -> Result<(Item, &'a [Token]), Stop<'a>>
-    ensures { Gives item_tree result (plain_of turns (toks tokens.now)) }
+) -> Result<(Box<Item>, &'a [Token]), Stop<'a>>
+    ensures { Gives (λ b. item_tree b.value) result (plain_of turns (toks tokens.now)) }
 {
     let (place, rest) = mark(tokens, Sort::KwPlain)?;
     let (_, rest) = mark(rest, Sort::KwModule)?;
-    let (name, rest) = word(alloc, rest)?;
+    let (name, rest) = name_token(rest)?;
     let (params, rest) = params(alloc, rest, true, turns)?;
     let (_, rest) = mark(rest, Sort::SymColon)?;
-    let (sealed, rest) = word(alloc, rest)?;
+    let (sealed, rest) = name_token(rest)?;
     let (_, rest) = mark(rest, Sort::Nl)?;
     let (parts, rest) = parts_inside(alloc, rest, true, turns)?;
-    Ok((
-        Item::Plain(PlainModule {
-            place,
-            name,
-            params,
-            sealed,
-            parts,
-        }),
-        rest,
-    ))
+    Ok((plain_node(alloc, place, name, params, sealed, parts)?, rest))
 }
 
 #[tactic(auto, unfolding(crate::specs::ItemParsing::program_of))]
@@ -200,8 +248,8 @@ fn program<'a>(
     alloc: Global,
     tokens: &'a [Token],
     turns: usize,
-) -> Result<(Item, &'a [Token]), Stop<'a>>
-    ensures { Gives item_tree result (program_of turns (toks tokens.now)) }
+) -> Result<(Box<Item>, &'a [Token]), Stop<'a>>
+    ensures { Gives (λ b. item_tree b.value) result (program_of turns (toks tokens.now)) }
 {
     let (place, rest) = mark(tokens, Sort::KwProgram)?;
     let (_, rest) = mark(rest, Sort::Nl)?;
@@ -214,18 +262,16 @@ fn program<'a>(
     let (effect, rest) = set(alloc, rest, turns)?;
     let (body, rest) = tail(alloc, rest, false, turns)?;
     let (_, rest) = mark(rest, Sort::Out)?;
-    Ok((
-        Item::Program(Program {
-            place,
-            grants,
-            uses,
-            lines,
-            run,
-            effect,
-            body,
-        }),
-        rest,
-    ))
+    let item = Item::Program(Program {
+        place,
+        grants,
+        uses,
+        lines,
+        run,
+        effect,
+        body: Box::into_inner(body),
+    });
+    Ok((Box::new(alloc, item)?, rest))
 }
 
 /// An item.
@@ -234,8 +280,8 @@ fn item<'a>(
     alloc: Global,
     tokens: &'a [Token],
     turns: usize,
-) -> Result<(Item, &'a [Token]), Stop<'a>>
-    ensures { Gives item_tree result (item turns (toks tokens.now)) }
+) -> Result<(Box<Item>, &'a [Token]), Stop<'a>>
+    ensures { Gives (λ b. item_tree b.value) result (item turns (toks tokens.now)) }
 {
     if begins(tokens, &[Sort::KwType]) {
         return type_decl(alloc, tokens, turns);
@@ -268,7 +314,7 @@ fn items<'a>(
             return Ok((items, rest));
         }
         let (item, after) = item(alloc, rest, turns)?;
-        items.push(item)?;
+        items.push(Box::into_inner(item))?;
         rest = after;
     }
     Err(Stop::Deep)

@@ -6,8 +6,12 @@ mod cursor;
 mod expressions;
 mod items;
 mod lines;
-pub mod parsing;
+mod lists;
+mod operators;
+mod parsing;
 mod sort;
 mod statements;
 mod stop;
 mod types;
+
+pub use parsing::{ParseRefusal, parse};

@@ -1,19 +1,65 @@
 //! The lines inside types, modules and programs. `turns` bounds the turns of each loop.
-ghost use Rattle.std.specs.Prelude.{◌≡◌, [], ◌∷◌};
-ghost use Rattle.wy_syntax.specs.Tokens.{toks};
-ghost use Rattle.wy_parser.specs.Parsing.{each, commas, comma_part, word};
-ghost use Rattle.wy_parser.specs.ItemParsing.{effect_member, method_member, member_of, member_first, members_inside, use_of, arguments, instance_of, import_of, line_of, line_first, define_of, init_of, grant_of};
+ghost use Rattle.std.specs.Prelude.{◌≡◌, [], ◌∷◌, IfOk};
+ghost use Rattle.wy_syntax.specs.declared.items.Line.TheVariants as lines;
+ghost use Rattle.wy_syntax.specs.declared.items.Member.TheVariants as members;
+ghost use Rattle.wy_syntax.specs.Tokens.{tok_of, toks};
+ghost use Rattle.wy_parser.specs.Kinds as kinds;
+ghost use Rattle.wy_parser.specs.Parsing.{each, name_at, word};
+ghost use Rattle.wy_parser.specs.ItemParsing.{defined_member, abstract_member, effect_member, method_member, member_of, members_inside, use_of, arguments, instance_of, import_of, line_of, line_first, define_of, init_of, grant_of};
 ghost use Rattle.wy_parser.specs.Sorts.{Gives};
 
-use crate::cursor::{begins, mark, word};
+use crate::cursor::{begins, mark, name_of, name_token, word};
+use crate::lists::{Entry, named, row};
 use crate::sort::Sort;
 use crate::stop::Stop;
 use crate::types::{set, signature};
 use std::alloc::Global;
 use wy_syntax::items::{Define, Grant, Init, Line, Member};
-use wy_syntax::types::{Name, NameList};
+use wy_syntax::types::{Name, NameList, SetUse};
 use wy_text::list::Items;
+use wy_text::text::Memory;
 use wy_text::token::Token;
+
+fn defined_node(alloc: Global, name: &Token, effect: SetUse) -> Result<Box<Member>, Memory>
+    ensures { IfOk result (λ b. b.value ≡ members.Defined (name_at (tok_of name.now)) effect) }
+{
+    let name = name_of(alloc, name)?;
+    Ok(Box::new(alloc, Member::Defined(name, effect))?)
+}
+
+fn abstract_node(alloc: Global, name: &Token) -> Result<Box<Member>, Memory>
+    ensures { IfOk result (λ b. b.value ≡ members.Abstract (name_at (tok_of name.now))) }
+{
+    let name = name_of(alloc, name)?;
+    Ok(Box::new(alloc, Member::Abstract(name))?)
+}
+
+/// The set of a defined member.
+fn defined_member<'a>(
+    alloc: Global,
+    tokens: &'a [Token],
+    name: &Token,
+    turns: usize,
+) -> Result<(Box<Member>, &'a [Token]), Stop<'a>>
+    ensures { Gives (λ x. x.value) result (defined_member (name_at (tok_of name.now)) turns (toks tokens.now)) }
+{
+    let (_, rest) = mark(tokens, Sort::SymEqual)?;
+    let (effect, rest) = set(alloc, rest, turns)?;
+    let (_, rest) = mark(rest, Sort::Nl)?;
+    Ok((defined_node(alloc, name, effect)?, rest))
+}
+
+/// The end of the line of an abstract member.
+fn abstract_member<'a>(
+    alloc: Global,
+    tokens: &'a [Token],
+    name: &Token,
+) -> Result<(Box<Member>, &'a [Token]), Stop<'a>>
+    ensures { Gives (λ x. x.value) result (abstract_member (name_at (tok_of name.now)) (toks tokens.now)) }
+{
+    let (_, rest) = mark(tokens, Sort::Nl)?;
+    Ok((abstract_node(alloc, name)?, rest))
+}
 
 /// An abstract or defined member.
 #[tactic(auto, unfolding(crate::specs::ItemParsing::effect_member))]
@@ -21,19 +67,15 @@ fn effect_member<'a>(
     alloc: Global,
     tokens: &'a [Token],
     turns: usize,
-) -> Result<(Member, &'a [Token]), Stop<'a>>
-    ensures { Gives (λ x. x) result (effect_member turns (toks tokens.now)) }
+) -> Result<(Box<Member>, &'a [Token]), Stop<'a>>
+    ensures { Gives (λ x. x.value) result (effect_member turns (toks tokens.now)) }
 {
     let (_, rest) = mark(tokens, Sort::KwEffect)?;
-    let (name, rest) = word(alloc, rest)?;
+    let (name, rest) = name_token(rest)?;
     if begins(rest, &[Sort::SymEqual]) {
-        let (_, rest) = mark(rest, Sort::SymEqual)?;
-        let (effect, rest) = set(alloc, rest, turns)?;
-        let (_, rest) = mark(rest, Sort::Nl)?;
-        Ok((Member::Defined(name, effect), rest))
+        defined_member(alloc, rest, name, turns)
     } else {
-        let (_, rest) = mark(rest, Sort::Nl)?;
-        Ok((Member::Abstract(name), rest))
+        abstract_member(alloc, rest, name)
     }
 }
 
@@ -42,12 +84,15 @@ fn method_member<'a>(
     alloc: Global,
     tokens: &'a [Token],
     turns: usize,
-) -> Result<(Member, &'a [Token]), Stop<'a>>
-    ensures { Gives (λ x. x) result (method_member turns (toks tokens.now)) }
+) -> Result<(Box<Member>, &'a [Token]), Stop<'a>>
+    ensures { Gives (λ x. x.value) result (method_member turns (toks tokens.now)) }
 {
     let (signature, rest) = signature(alloc, tokens, false, turns)?;
     let (_, rest) = mark(rest, Sort::Nl)?;
-    Ok((Member::Method(signature), rest))
+    Ok((
+        Box::new(alloc, Member::Method(Box::into_inner(signature)))?,
+        rest,
+    ))
 }
 
 /// A member of a type declaration.
@@ -56,8 +101,8 @@ fn member<'a>(
     alloc: Global,
     tokens: &'a [Token],
     turns: usize,
-) -> Result<(Member, &'a [Token]), Stop<'a>>
-    ensures { Gives (λ x. x) result (member_of turns (toks tokens.now)) }
+) -> Result<(Box<Member>, &'a [Token]), Stop<'a>>
+    ensures { Gives (λ x. x.value) result (member_of turns (toks tokens.now)) }
 {
     if begins(tokens, &[Sort::KwEffect]) {
         effect_member(alloc, tokens, turns)
@@ -66,24 +111,25 @@ fn member<'a>(
     }
 }
 
-fn members<'a>(
-    alloc: Global,
-    tokens: &'a [Token],
+/// The members of a type declaration, one a line.
+#[derive(Drop)]
+struct MemberEntry {
     turns: usize,
-) -> Result<(Items<Member>, &'a [Token]), Stop<'a>>
-    ensures { Gives (λ l. l) result (each member_first (member_of turns) turns (toks tokens.now)) }
-{
-    let mut items = Items::new(alloc);
-    let mut rest = tokens;
-    for _ in 0..turns {
-        if !begins(rest, &[Sort::KwEffect, Sort::KwDef]) {
-            return Ok((items, rest));
-        }
-        let (item, after) = member(alloc, rest, turns)?;
-        items.push(item)?;
-        rest = after;
+}
+
+impl Entry for MemberEntry {
+    type Value = Member;
+
+    ghost reads = { λ e. member_of e.turns };
+
+    fn read<'a>(
+        &self,
+        alloc: Global,
+        tokens: &'a [Token],
+    ) -> Result<(Member, &'a [Token]), Stop<'a>> {
+        let (item, rest) = member(alloc, tokens, self.turns)?;
+        Ok((Box::into_inner(item), rest))
     }
-    Err(Stop::Deep)
 }
 
 /// Indented members, or none.
@@ -99,7 +145,8 @@ pub fn members_inside<'a>(
         return Ok((Items::new(alloc), tokens));
     }
     let (_, rest) = mark(tokens, Sort::In)?;
-    let (members, rest) = members(alloc, rest, turns)?;
+    let set = [Sort::KwEffect, Sort::KwDef];
+    let (members, rest) = row(alloc, rest, turns, &set, &MemberEntry { turns })?;
     let (_, rest) = mark(rest, Sort::Out)?;
     Ok((members, rest))
 }
@@ -109,9 +156,26 @@ fn use_line<'a>(alloc: Global, tokens: &'a [Token]) -> Result<(Name, &'a [Token]
     ensures { Gives (λ x. x) result (use_of (toks tokens.now)) }
 {
     let (_, rest) = mark(tokens, Sort::KwUse)?;
-    let (name, rest) = word(alloc, rest)?;
+    let (name, rest) = name_token(rest)?;
     let (_, rest) = mark(rest, Sort::Nl)?;
-    Ok((name, rest))
+    Ok((name_of(alloc, name)?, rest))
+}
+
+/// The `use` lines.
+struct UseEntry;
+
+impl Entry for UseEntry {
+    type Value = Name;
+
+    ghost reads = { λ _. use_of };
+
+    fn read<'a>(
+        &self,
+        alloc: Global,
+        tokens: &'a [Token],
+    ) -> Result<(Name, &'a [Token]), Stop<'a>> {
+        use_line(alloc, tokens)
+    }
 }
 
 pub fn uses<'a>(
@@ -119,50 +183,26 @@ pub fn uses<'a>(
     tokens: &'a [Token],
     turns: usize,
 ) -> Result<(NameList, &'a [Token]), Stop<'a>>
-    ensures { Gives (λ l. l) result (each (13 ∷ []) (use_of) turns (toks tokens.now)) }
+    ensures { Gives (λ l. l) result (each (kinds.KwUse ∷ []) (use_of) turns (toks tokens.now)) }
 {
-    let mut items = Items::new(alloc);
-    let mut rest = tokens;
-    for _ in 0..turns {
-        if !begins(rest, &[Sort::KwUse]) {
-            return Ok((items, rest));
-        }
-        let (item, after) = use_line(alloc, rest)?;
-        items.push(item)?;
-        rest = after;
-    }
-    Err(Stop::Deep)
+    row(alloc, tokens, turns, &[Sort::KwUse], &UseEntry)
 }
 
-fn comma_name<'a>(alloc: Global, tokens: &'a [Token]) -> Result<(Name, &'a [Token]), Stop<'a>>
-    ensures { Gives (λ x. x) result (comma_part (word) (toks tokens.now)) }
-{
-    let (_, rest) = mark(tokens, Sort::SymComma)?;
-    word(alloc, rest)
-}
+/// Names with commas between.
+struct NameEntry;
 
-fn names<'a>(
-    alloc: Global,
-    tokens: &'a [Token],
-    turns: usize,
-) -> Result<(NameList, &'a [Token]), Stop<'a>>
-    ensures { Gives (λ l. l) result (commas (1 ∷ []) (word) turns (toks tokens.now)) }
-{
-    let mut items = Items::new(alloc);
-    if !begins(tokens, &[Sort::Name]) {
-        return Ok((items, tokens));
+impl Entry for NameEntry {
+    type Value = Name;
+
+    ghost reads = { λ _. word };
+
+    fn read<'a>(
+        &self,
+        alloc: Global,
+        tokens: &'a [Token],
+    ) -> Result<(Name, &'a [Token]), Stop<'a>> {
+        word(alloc, tokens)
     }
-    let (first, mut rest) = word(alloc, tokens)?;
-    items.push(first)?;
-    for _ in 0..turns {
-        if !begins(rest, &[Sort::SymComma]) {
-            return Ok((items, rest));
-        }
-        let (item, after) = comma_name(alloc, rest)?;
-        items.push(item)?;
-        rest = after;
-    }
-    Err(Stop::Deep)
 }
 
 /// Names in parentheses.
@@ -174,9 +214,22 @@ fn arguments<'a>(
     ensures { Gives (λ x. x) result (arguments turns (toks tokens.now)) }
 {
     let (_, rest) = mark(tokens, Sort::SymOpenParen)?;
-    let (names, rest) = names(alloc, rest, turns)?;
+    let (names, rest) = named(alloc, rest, turns, &NameEntry)?;
     let (_, rest) = mark(rest, Sort::SymCloseParen)?;
     Ok((names, rest))
+}
+
+fn instance_node(
+    alloc: Global,
+    name: &Token,
+    module_name: &Token,
+    names: NameList,
+) -> Result<Box<Line>, Memory>
+    ensures { IfOk result (λ b. b.value ≡ lines.Instance (name_at (tok_of name.now)) (name_at (tok_of module_name.now)) names) }
+{
+    let name = name_of(alloc, name)?;
+    let module = name_of(alloc, module_name)?;
+    Ok(Box::new(alloc, Line::Instance(name, module, names))?)
 }
 
 #[tactic(auto, unfolding(crate::specs::ItemParsing::instance_of))]
@@ -184,16 +237,30 @@ fn instance<'a>(
     alloc: Global,
     tokens: &'a [Token],
     turns: usize,
-) -> Result<(Line, &'a [Token]), Stop<'a>>
-    ensures { Gives (λ x. x) result (instance_of turns (toks tokens.now)) }
+) -> Result<(Box<Line>, &'a [Token]), Stop<'a>>
+    ensures { Gives (λ x. x.value) result (instance_of turns (toks tokens.now)) }
 {
     let (_, rest) = mark(tokens, Sort::KwInstance)?;
-    let (name, rest) = word(alloc, rest)?;
+    let (name, rest) = name_token(rest)?;
     let (_, rest) = mark(rest, Sort::SymEqual)?;
-    let (module, rest) = word(alloc, rest)?;
+    let (module, rest) = name_token(rest)?;
     let (names, rest) = arguments(alloc, rest, turns)?;
     let (_, rest) = mark(rest, Sort::Nl)?;
-    Ok((Line::Instance(name, module, names), rest))
+    Ok((instance_node(alloc, name, module, names)?, rest))
+}
+
+fn import_node(
+    alloc: Global,
+    name: &Token,
+    module_name: &Token,
+    names: NameList,
+    bound: SetUse,
+) -> Result<Box<Line>, Memory>
+    ensures { IfOk result (λ b. b.value ≡ lines.Import (name_at (tok_of name.now)) (name_at (tok_of module_name.now)) names bound) }
+{
+    let name = name_of(alloc, name)?;
+    let module = name_of(alloc, module_name)?;
+    Ok(Box::new(alloc, Line::Import(name, module, names, bound))?)
 }
 
 #[tactic(auto, unfolding(crate::specs::ItemParsing::import_of))]
@@ -201,18 +268,18 @@ fn import<'a>(
     alloc: Global,
     tokens: &'a [Token],
     turns: usize,
-) -> Result<(Line, &'a [Token]), Stop<'a>>
-    ensures { Gives (λ x. x) result (import_of turns (toks tokens.now)) }
+) -> Result<(Box<Line>, &'a [Token]), Stop<'a>>
+    ensures { Gives (λ x. x.value) result (import_of turns (toks tokens.now)) }
 {
     let (_, rest) = mark(tokens, Sort::KwImport)?;
-    let (name, rest) = word(alloc, rest)?;
+    let (name, rest) = name_token(rest)?;
     let (_, rest) = mark(rest, Sort::SymEqual)?;
-    let (module, rest) = word(alloc, rest)?;
+    let (module, rest) = name_token(rest)?;
     let (names, rest) = arguments(alloc, rest, turns)?;
     let (_, rest) = mark(rest, Sort::KwAt)?;
     let (bound, rest) = set(alloc, rest, turns)?;
     let (_, rest) = mark(rest, Sort::Nl)?;
-    Ok((Line::Import(name, module, names, bound), rest))
+    Ok((import_node(alloc, name, module, names, bound)?, rest))
 }
 
 /// An `instance` or `import` line.
@@ -221,13 +288,34 @@ fn line<'a>(
     alloc: Global,
     tokens: &'a [Token],
     turns: usize,
-) -> Result<(Line, &'a [Token]), Stop<'a>>
-    ensures { Gives (λ x. x) result (line_of turns (toks tokens.now)) }
+) -> Result<(Box<Line>, &'a [Token]), Stop<'a>>
+    ensures { Gives (λ x. x.value) result (line_of turns (toks tokens.now)) }
 {
     if begins(tokens, &[Sort::KwInstance]) {
         instance(alloc, tokens, turns)
     } else {
         import(alloc, tokens, turns)
+    }
+}
+
+/// The `instance` and `import` lines.
+#[derive(Drop)]
+struct LineEntry {
+    turns: usize,
+}
+
+impl Entry for LineEntry {
+    type Value = Line;
+
+    ghost reads = { λ e. line_of e.turns };
+
+    fn read<'a>(
+        &self,
+        alloc: Global,
+        tokens: &'a [Token],
+    ) -> Result<(Line, &'a [Token]), Stop<'a>> {
+        let (item, rest) = line(alloc, tokens, self.turns)?;
+        Ok((Box::into_inner(item), rest))
     }
 }
 
@@ -238,17 +326,13 @@ pub fn lines<'a>(
 ) -> Result<(Items<Line>, &'a [Token]), Stop<'a>>
     ensures { Gives (λ l. l) result (each line_first (line_of turns) turns (toks tokens.now)) }
 {
-    let mut items = Items::new(alloc);
-    let mut rest = tokens;
-    for _ in 0..turns {
-        if !begins(rest, &[Sort::KwInstance, Sort::KwImport]) {
-            return Ok((items, rest));
-        }
-        let (item, after) = line(alloc, rest, turns)?;
-        items.push(item)?;
-        rest = after;
-    }
-    Err(Stop::Deep)
+    row(
+        alloc,
+        tokens,
+        turns,
+        &[Sort::KwInstance, Sort::KwImport],
+        &LineEntry { turns },
+    )
 }
 
 #[tactic(auto, unfolding(crate::specs::ItemParsing::define_of))]
@@ -260,11 +344,32 @@ fn define<'a>(
     ensures { Gives (λ x. x) result (define_of turns (toks tokens.now)) }
 {
     let (_, rest) = mark(tokens, Sort::KwEffect)?;
-    let (name, rest) = word(alloc, rest)?;
+    let (name, rest) = name_token(rest)?;
     let (_, rest) = mark(rest, Sort::SymEqual)?;
     let (effect, rest) = set(alloc, rest, turns)?;
     let (_, rest) = mark(rest, Sort::Nl)?;
+    let name = name_of(alloc, name)?;
     Ok((Define { name, effect }, rest))
+}
+
+/// The lines that define effects.
+#[derive(Drop)]
+struct DefineEntry {
+    turns: usize,
+}
+
+impl Entry for DefineEntry {
+    type Value = Define;
+
+    ghost reads = { λ e. define_of e.turns };
+
+    fn read<'a>(
+        &self,
+        alloc: Global,
+        tokens: &'a [Token],
+    ) -> Result<(Define, &'a [Token]), Stop<'a>> {
+        define(alloc, tokens, self.turns)
+    }
 }
 
 pub fn defines<'a>(
@@ -272,19 +377,15 @@ pub fn defines<'a>(
     tokens: &'a [Token],
     turns: usize,
 ) -> Result<(Items<Define>, &'a [Token]), Stop<'a>>
-    ensures { Gives (λ l. l) result (each (6 ∷ []) (define_of turns) turns (toks tokens.now)) }
+    ensures { Gives (λ l. l) result (each (kinds.KwEffect ∷ []) (define_of turns) turns (toks tokens.now)) }
 {
-    let mut items = Items::new(alloc);
-    let mut rest = tokens;
-    for _ in 0..turns {
-        if !begins(rest, &[Sort::KwEffect]) {
-            return Ok((items, rest));
-        }
-        let (item, after) = define(alloc, rest, turns)?;
-        items.push(item)?;
-        rest = after;
-    }
-    Err(Stop::Deep)
+    row(
+        alloc,
+        tokens,
+        turns,
+        &[Sort::KwEffect],
+        &DefineEntry { turns },
+    )
 }
 
 /// The line that declares the effect of the field initialisers, where there is one.
@@ -311,11 +412,30 @@ fn grant<'a>(alloc: Global, tokens: &'a [Token]) -> Result<(Grant, &'a [Token]),
     ensures { Gives (λ x. x) result (grant_of (toks tokens.now)) }
 {
     let (_, rest) = mark(tokens, Sort::KwGrant)?;
-    let (name, rest) = word(alloc, rest)?;
+    let (name, rest) = name_token(rest)?;
     let (_, rest) = mark(rest, Sort::SymColon)?;
-    let (kind, rest) = word(alloc, rest)?;
+    let (kind, rest) = name_token(rest)?;
     let (_, rest) = mark(rest, Sort::Nl)?;
+    let name = name_of(alloc, name)?;
+    let kind = name_of(alloc, kind)?;
     Ok((Grant { name, kind }, rest))
+}
+
+/// The `grant` lines.
+struct GrantEntry;
+
+impl Entry for GrantEntry {
+    type Value = Grant;
+
+    ghost reads = { λ _. grant_of };
+
+    fn read<'a>(
+        &self,
+        alloc: Global,
+        tokens: &'a [Token],
+    ) -> Result<(Grant, &'a [Token]), Stop<'a>> {
+        grant(alloc, tokens)
+    }
 }
 
 pub fn grants<'a>(
@@ -323,17 +443,7 @@ pub fn grants<'a>(
     tokens: &'a [Token],
     turns: usize,
 ) -> Result<(Items<Grant>, &'a [Token]), Stop<'a>>
-    ensures { Gives (λ l. l) result (each (12 ∷ []) (grant_of) turns (toks tokens.now)) }
+    ensures { Gives (λ l. l) result (each (kinds.KwGrant ∷ []) (grant_of) turns (toks tokens.now)) }
 {
-    let mut items = Items::new(alloc);
-    let mut rest = tokens;
-    for _ in 0..turns {
-        if !begins(rest, &[Sort::KwGrant]) {
-            return Ok((items, rest));
-        }
-        let (item, after) = grant(alloc, rest)?;
-        items.push(item)?;
-        rest = after;
-    }
-    Err(Stop::Deep)
+    row(alloc, tokens, turns, &[Sort::KwGrant], &GrantEntry)
 }

@@ -1,25 +1,28 @@
 //! Right sides, statements, parts and bodies by recursive descent. `inner` is the depth that is left
 //! inside, and bounds the turns of each loop; it is one less at each right side behind an equals sign
 //! and at each block.
-ghost use Rattle.std.specs.Prelude.{◌≡◌, ◌||◌, map};
-ghost use Rattle.wy_syntax.specs.Tokens.{code, toks};
+ghost use Rattle.std.specs.Prelude.{◌≡◌, ◌||◌, IfOk, map};
+ghost use Rattle.wy_syntax.specs.Tokens.{code, tok_of, toks};
+ghost use Rattle.wy_syntax.specs.Trees.{assign, branch, field, method, run, short, val, value};
 ghost use Rattle.wy_syntax.specs.Views.{expr_tree, part_tree, rhs_tree, stmt_tree, tail_tree, part_trees, stmt_trees};
 ghost use Rattle.wy_syntax.specs.StmtGrammar.{is_val};
 ghost use Rattle.wy_parser.specs.Reading.{blocks, starts};
-ghost use Rattle.wy_parser.specs.Parsing.{each};
+ghost use Rattle.wy_parser.specs.Parsing.{each, name_at};
 ghost use Rattle.wy_parser.specs.ExprParsing.{p_expr, p_arg};
-ghost use Rattle.wy_parser.specs.StmtParsing.{stmt_first, part_first, parts_inside, literal_of, indented_block, branch_rest, if_of, expr_line, rhs_at, untyped_at, val_of, assign_of, stmt_at, block_of, tail_at, field_of, part_at, p_rhs, p_block};
+ghost use Rattle.wy_parser.specs.StmtParsing.{stmt_first, typed_val, untyped_val, part_first, parts_inside, literal_of, indented_block, branch_rest, if_of, expr_line, rhs_at, untyped_at, val_of, assign_of, stmt_at, block_of, tail_at, field_of, part_at, p_rhs, p_block};
 ghost use Rattle.wy_parser.specs.Sorts.{number_of, Gives};
 
-use crate::cursor::{begins, begins_two, mark, word};
+use crate::cursor::{begins, begins_two, mark, name_of, name_token};
 use crate::expressions::{choice_rest, expr};
 use crate::sort::Sort;
 use crate::stop::Stop;
 use crate::types::{signature, type_use};
-use std::alloc::Global;
+use std::alloc::{AllocError, Global};
 use wy_syntax::expressions::Expr;
 use wy_syntax::statements::{FieldKind, Part, Rhs, Stmt, Tail};
+use wy_syntax::types::{Signature, TypeUse};
 use wy_text::fault::Place;
+use wy_text::text::Memory;
 use wy_text::token::Token;
 
 /// What a statement begins with.
@@ -62,6 +65,84 @@ fn must_go_on(stmt: &Stmt, after: &[Token]) -> bool
     is_val(stmt) || begins(after, &STMT_FIRST)
 }
 
+fn value_node(alloc: Global, e: Box<Expr>) -> Result<Box<Rhs>, AllocError>
+    ensures { IfOk result (λ b. rhs_tree b.value ≡ value (expr_tree e.value)) }
+{
+    Ok(Box::new(alloc, Rhs::Value(Box::into_inner(e)))?)
+}
+
+fn branch_node(
+    alloc: Global,
+    place: Place,
+    condition: Box<Expr>,
+    first: Vec<Stmt>,
+    second: Vec<Stmt>,
+) -> Result<Box<Rhs>, AllocError>
+    ensures { IfOk result (λ b. rhs_tree b.value ≡ branch place (expr_tree condition.value) (stmt_trees first.items) (stmt_trees second.items)) }
+{
+    let condition = Box::into_inner(condition);
+    Ok(Box::new(alloc, Rhs::Branch(place, condition, first, second))?)
+}
+
+fn run_node(alloc: Global, side: Box<Rhs>) -> Result<Box<Stmt>, AllocError>
+    ensures { IfOk result (λ b. stmt_tree b.value ≡ run (rhs_tree side.value)) }
+{
+    Ok(Box::new(alloc, Stmt::Run(Box::into_inner(side)))?)
+}
+
+fn val_node(
+    alloc: Global,
+    name: &Token,
+    type_use: Option<TypeUse>,
+    side: Box<Rhs>,
+) -> Result<Box<Stmt>, Memory>
+    ensures { IfOk result (λ b. stmt_tree b.value ≡ val (name_at (tok_of name.now)) type_use (rhs_tree side.value)) }
+{
+    let name = name_of(alloc, name)?;
+    let side = Box::into_inner(side);
+    Ok(Box::new(alloc, Stmt::Val(name, type_use, side))?)
+}
+
+fn assign_node(alloc: Global, name: &Token, side: Box<Rhs>) -> Result<Box<Stmt>, Memory>
+    ensures { IfOk result (λ b. stmt_tree b.value ≡ assign (name_at (tok_of name.now)) (rhs_tree side.value)) }
+{
+    let name = name_of(alloc, name)?;
+    Ok(Box::new(alloc, Stmt::Assign(name, Box::into_inner(side)))?)
+}
+
+fn field_node(
+    alloc: Global,
+    kind: FieldKind,
+    name: &Token,
+    type_use: Box<TypeUse>,
+    side: Box<Rhs>,
+) -> Result<Box<Part>, Memory>
+    ensures { IfOk result (λ b. part_tree b.value ≡ field kind (name_at (tok_of name.now)) type_use.value (rhs_tree side.value)) }
+{
+    let name = name_of(alloc, name)?;
+    let type_use = Box::into_inner(type_use);
+    let side = Box::into_inner(side);
+    Ok(Box::new(alloc, Part::Field(kind, name, type_use, side))?)
+}
+
+fn method_node(
+    alloc: Global,
+    signature: Box<Signature>,
+    body: Box<Tail>,
+) -> Result<Box<Part>, AllocError>
+    ensures { IfOk result (λ b. part_tree b.value ≡ method signature.value (tail_tree body.value)) }
+{
+    let signature = Box::into_inner(signature);
+    let body = Box::into_inner(body);
+    Ok(Box::new(alloc, Part::Method(signature, body))?)
+}
+
+fn short_node(alloc: Global, side: Box<Rhs>) -> Result<Box<Tail>, AllocError>
+    ensures { IfOk result (λ b. tail_tree b.value ≡ short (rhs_tree side.value)) }
+{
+    Ok(Box::new(alloc, Tail::Short(Box::into_inner(side)))?)
+}
+
 /// An expression and its line's end.
 #[tactic(auto, unfolding(crate::specs::StmtParsing::expr_line))]
 fn expr_line<'a>(
@@ -69,12 +150,12 @@ fn expr_line<'a>(
     tokens: &'a [Token],
     plain: bool,
     inner: usize,
-) -> Result<(Rhs, &'a [Token]), Stop<'a>>
-    ensures { Gives rhs_tree result (expr_line (p_expr plain inner) (toks tokens.now)) }
+) -> Result<(Box<Rhs>, &'a [Token]), Stop<'a>>
+    ensures { Gives (λ b. rhs_tree b.value) result (expr_line (p_expr plain inner) (toks tokens.now)) }
 {
     let (e, rest) = expr(alloc, tokens, plain, inner)?;
     let (_, rest) = mark(rest, Sort::Nl)?;
-    Ok((Rhs::Value(e), rest))
+    Ok((value_node(alloc, e)?, rest))
 }
 
 /// A right side behind an equals sign.
@@ -85,8 +166,8 @@ fn right_side<'a>(
     tokens: &'a [Token],
     plain: bool,
     depth: usize,
-) -> Result<(Rhs, &'a [Token]), Stop<'a>>
-    ensures { Gives rhs_tree result (p_rhs plain depth (toks tokens.now)) }
+) -> Result<(Box<Rhs>, &'a [Token]), Stop<'a>>
+    ensures { Gives (λ b. rhs_tree b.value) result (p_rhs plain depth (toks tokens.now)) }
 {
     if depth == 0 {
         return Err(Stop::Deep);
@@ -102,8 +183,8 @@ fn right_side_in<'a>(
     tokens: &'a [Token],
     plain: bool,
     inner: usize,
-) -> Result<(Rhs, &'a [Token]), Stop<'a>>
-    ensures { Gives rhs_tree result (rhs_at plain inner (toks tokens.now)) }
+) -> Result<(Box<Rhs>, &'a [Token]), Stop<'a>>
+    ensures { Gives (λ b. rhs_tree b.value) result (rhs_at plain inner (toks tokens.now)) }
 {
     if begins(tokens, &[Sort::KwNew]) {
         return literal(alloc, tokens, plain, inner);
@@ -122,8 +203,8 @@ fn untyped_side<'a>(
     tokens: &'a [Token],
     plain: bool,
     inner: usize,
-) -> Result<(Rhs, &'a [Token]), Stop<'a>>
-    ensures { Gives rhs_tree result (untyped_at plain inner (toks tokens.now)) }
+) -> Result<(Box<Rhs>, &'a [Token]), Stop<'a>>
+    ensures { Gives (λ b. rhs_tree b.value) result (untyped_at plain inner (toks tokens.now)) }
 {
     if begins(tokens, &[Sort::KwNew]) {
         return literal(alloc, tokens, plain, inner);
@@ -139,15 +220,15 @@ fn either<'a>(
     tokens: &'a [Token],
     plain: bool,
     inner: usize,
-) -> Result<(Rhs, &'a [Token]), Stop<'a>>
-    ensures { Gives rhs_tree result (if_of (p_expr plain inner) (p_arg plain inner) (p_block plain inner) (toks tokens.now)) }
+) -> Result<(Box<Rhs>, &'a [Token]), Stop<'a>>
+    ensures { Gives (λ b. rhs_tree b.value) result (if_of (p_expr plain inner) (p_arg plain inner) (p_block plain inner) (toks tokens.now)) }
 {
     let (place, rest) = mark(tokens, Sort::KwIf)?;
     let (condition, rest) = expr(alloc, rest, plain, inner)?;
     if begins(rest, &[Sort::KwThen]) {
         let (e, rest) = choice_rest(alloc, rest, place, condition, plain, inner)?;
         let (_, rest) = mark(rest, Sort::Nl)?;
-        Ok((Rhs::Value(e), rest))
+        Ok((value_node(alloc, e)?, rest))
     } else {
         branch_rest(alloc, rest, place, condition, plain, inner)
     }
@@ -160,18 +241,18 @@ fn branch_rest<'a>(
     alloc: Global,
     tokens: &'a [Token],
     place: Place,
-    condition: Expr,
+    condition: Box<Expr>,
     plain: bool,
     inner: usize,
-) -> Result<(Rhs, &'a [Token]), Stop<'a>>
-    ensures { Gives rhs_tree result (branch_rest (p_block plain inner) place (expr_tree condition) (toks tokens.now)) }
+) -> Result<(Box<Rhs>, &'a [Token]), Stop<'a>>
+    ensures { Gives (λ b. rhs_tree b.value) result (branch_rest (p_block plain inner) place (expr_tree condition.value) (toks tokens.now)) }
 {
     let (_, rest) = mark(tokens, Sort::Nl)?;
     let (first, rest) = indented_block(alloc, rest, plain, inner)?;
     let (_, rest) = mark(rest, Sort::KwElse)?;
     let (_, rest) = mark(rest, Sort::Nl)?;
     let (second, rest) = indented_block(alloc, rest, plain, inner)?;
-    Ok((Rhs::Branch(place, condition, first, second), rest))
+    Ok((branch_node(alloc, place, condition, first, second)?, rest))
 }
 
 /// A block in lines of its own.
@@ -238,7 +319,7 @@ fn stmts<'a>(
     for _ in 0..inner {
         let (item, after) = stmt(alloc, rest, plain, inner)?;
         let goes_on = must_go_on(&item, after);
-        items.push(item)?;
+        items.push(Box::into_inner(item))?;
         rest = after;
         if !goes_on {
             return Ok((items, rest));
@@ -255,8 +336,8 @@ fn stmt<'a>(
     tokens: &'a [Token],
     plain: bool,
     inner: usize,
-) -> Result<(Stmt, &'a [Token]), Stop<'a>>
-    ensures { Gives stmt_tree result (stmt_at plain inner (toks tokens.now)) }
+) -> Result<(Box<Stmt>, &'a [Token]), Stop<'a>>
+    ensures { Gives (λ b. stmt_tree b.value) result (stmt_at plain inner (toks tokens.now)) }
 {
     if begins(tokens, &[Sort::KwVal]) {
         return val(alloc, tokens, plain, inner);
@@ -265,32 +346,63 @@ fn stmt<'a>(
         return assign(alloc, tokens, plain, inner);
     }
     let (value, rest) = right_side_in(alloc, tokens, plain, inner)?;
-    Ok((Stmt::Run(value), rest))
+    Ok((run_node(alloc, value)?, rest))
+}
+
+/// The type and the right side of a `val`.
+#[cycle(statements)]
+#[tactic(auto, unfolding(crate::specs::StmtParsing::typed_val))]
+fn typed_val<'a>(
+    alloc: Global,
+    tokens: &'a [Token],
+    name: &Token,
+    plain: bool,
+    inner: usize,
+) -> Result<(Box<Stmt>, &'a [Token]), Stop<'a>>
+    ensures { Gives (λ b. stmt_tree b.value) result (typed_val plain (p_rhs plain inner) (name_at (tok_of name.now)) inner (toks tokens.now)) }
+{
+    let (_, rest) = mark(tokens, Sort::SymColon)?;
+    let (type_use, rest) = type_use(alloc, rest, plain, inner)?;
+    let (_, rest) = mark(rest, Sort::SymEqual)?;
+    let (value, rest) = right_side(alloc, rest, plain, inner)?;
+    let type_use = Some(Box::into_inner(type_use));
+    Ok((val_node(alloc, name, type_use, value)?, rest))
+}
+
+/// The right side of a `val` without a type.
+#[cycle(statements)]
+#[tactic(auto, unfolding(crate::specs::StmtParsing::untyped_val))]
+fn untyped_val<'a>(
+    alloc: Global,
+    tokens: &'a [Token],
+    name: &Token,
+    plain: bool,
+    inner: usize,
+) -> Result<(Box<Stmt>, &'a [Token]), Stop<'a>>
+    ensures { Gives (λ b. stmt_tree b.value) result (untyped_val (untyped_at plain inner) (name_at (tok_of name.now)) (toks tokens.now)) }
+{
+    let (_, rest) = mark(tokens, Sort::SymEqual)?;
+    let (value, rest) = untyped_side(alloc, rest, plain, inner)?;
+    Ok((val_node(alloc, name, None, value)?, rest))
 }
 
 /// A `val` with a type or without one.
 #[cycle(statements)]
-#[tactic(auto, unfolding(crate::specs::StmtParsing::val_of, crate::specs::StmtParsing::typed_val, crate::specs::StmtParsing::untyped_val))]
+#[tactic(auto, unfolding(crate::specs::StmtParsing::val_of))]
 fn val<'a>(
     alloc: Global,
     tokens: &'a [Token],
     plain: bool,
     inner: usize,
-) -> Result<(Stmt, &'a [Token]), Stop<'a>>
-    ensures { Gives stmt_tree result (val_of plain (p_rhs plain inner) (untyped_at plain inner) inner (toks tokens.now)) }
+) -> Result<(Box<Stmt>, &'a [Token]), Stop<'a>>
+    ensures { Gives (λ b. stmt_tree b.value) result (val_of plain (p_rhs plain inner) (untyped_at plain inner) inner (toks tokens.now)) }
 {
     let (_, rest) = mark(tokens, Sort::KwVal)?;
-    let (name, rest) = word(alloc, rest)?;
+    let (name, rest) = name_token(rest)?;
     if begins(rest, &[Sort::SymColon]) {
-        let (_, rest) = mark(rest, Sort::SymColon)?;
-        let (type_use, rest) = type_use(alloc, rest, plain, inner)?;
-        let (_, rest) = mark(rest, Sort::SymEqual)?;
-        let (value, rest) = right_side(alloc, rest, plain, inner)?;
-        Ok((Stmt::Val(name, Some(type_use), value), rest))
+        typed_val(alloc, rest, name, plain, inner)
     } else {
-        let (_, rest) = mark(rest, Sort::SymEqual)?;
-        let (value, rest) = untyped_side(alloc, rest, plain, inner)?;
-        Ok((Stmt::Val(name, None, value), rest))
+        untyped_val(alloc, rest, name, plain, inner)
     }
 }
 
@@ -302,13 +414,13 @@ fn assign<'a>(
     tokens: &'a [Token],
     plain: bool,
     inner: usize,
-) -> Result<(Stmt, &'a [Token]), Stop<'a>>
-    ensures { Gives stmt_tree result (assign_of (p_rhs plain inner) (toks tokens.now)) }
+) -> Result<(Box<Stmt>, &'a [Token]), Stop<'a>>
+    ensures { Gives (λ b. stmt_tree b.value) result (assign_of (p_rhs plain inner) (toks tokens.now)) }
 {
-    let (name, rest) = word(alloc, tokens)?;
+    let (name, rest) = name_token(tokens)?;
     let (_, rest) = mark(rest, Sort::SymEqual)?;
     let (value, rest) = right_side(alloc, rest, plain, inner)?;
-    Ok((Stmt::Assign(name, value), rest))
+    Ok((assign_node(alloc, name, value)?, rest))
 }
 
 /// `new` with its fields and methods.
@@ -319,13 +431,13 @@ fn literal<'a>(
     tokens: &'a [Token],
     plain: bool,
     inner: usize,
-) -> Result<(Rhs, &'a [Token]), Stop<'a>>
-    ensures { Gives rhs_tree result (literal_of (part_at plain inner) inner (toks tokens.now)) }
+) -> Result<(Box<Rhs>, &'a [Token]), Stop<'a>>
+    ensures { Gives (λ b. rhs_tree b.value) result (literal_of (part_at plain inner) inner (toks tokens.now)) }
 {
     let (place, rest) = mark(tokens, Sort::KwNew)?;
     let (_, rest) = mark(rest, Sort::Nl)?;
     let (parts, rest) = parts_inside(alloc, rest, plain, inner)?;
-    Ok((Rhs::New(place, parts), rest))
+    Ok((Box::new(alloc, Rhs::New(place, parts))?, rest))
 }
 
 /// Indented parts, or none.
@@ -365,7 +477,7 @@ pub fn parts<'a>(
             return Ok((items, rest));
         }
         let (item, after) = part(alloc, rest, plain, inner)?;
-        items.push(item)?;
+        items.push(Box::into_inner(item))?;
         rest = after;
     }
     Err(Stop::Deep)
@@ -379,13 +491,13 @@ fn part<'a>(
     tokens: &'a [Token],
     plain: bool,
     inner: usize,
-) -> Result<(Part, &'a [Token]), Stop<'a>>
-    ensures { Gives part_tree result (part_at plain inner (toks tokens.now)) }
+) -> Result<(Box<Part>, &'a [Token]), Stop<'a>>
+    ensures { Gives (λ b. part_tree b.value) result (part_at plain inner (toks tokens.now)) }
 {
     if begins(tokens, &[Sort::KwDef]) {
         let (signature, rest) = signature(alloc, tokens, plain, inner)?;
         let (body, rest) = tail(alloc, rest, plain, inner)?;
-        return Ok((Part::Method(signature, body), rest));
+        return Ok((method_node(alloc, signature, body)?, rest));
     }
     if begins(tokens, &[Sort::KwVal]) {
         return field(alloc, tokens, Sort::KwVal, FieldKind::Val, plain, inner);
@@ -403,16 +515,16 @@ fn field<'a>(
     kind: FieldKind,
     plain: bool,
     inner: usize,
-) -> Result<(Part, &'a [Token]), Stop<'a>>
-    ensures { Gives part_tree result (field_of plain (number_of sort) kind (p_rhs plain inner) inner (toks tokens.now)) }
+) -> Result<(Box<Part>, &'a [Token]), Stop<'a>>
+    ensures { Gives (λ b. part_tree b.value) result (field_of plain (number_of sort) kind (p_rhs plain inner) inner (toks tokens.now)) }
 {
     let (_, rest) = mark(tokens, sort)?;
-    let (name, rest) = word(alloc, rest)?;
+    let (name, rest) = name_token(rest)?;
     let (_, rest) = mark(rest, Sort::SymColon)?;
     let (type_use, rest) = type_use(alloc, rest, plain, inner)?;
     let (_, rest) = mark(rest, Sort::SymEqual)?;
     let (value, rest) = right_side(alloc, rest, plain, inner)?;
-    Ok((Part::Field(kind, name, type_use, value), rest))
+    Ok((field_node(alloc, kind, name, type_use, value)?, rest))
 }
 
 /// A body: behind an equals sign, or a block of its own.
@@ -423,15 +535,15 @@ pub fn tail<'a>(
     tokens: &'a [Token],
     plain: bool,
     inner: usize,
-) -> Result<(Tail, &'a [Token]), Stop<'a>>
-    ensures { Gives tail_tree result (tail_at plain inner (toks tokens.now)) }
+) -> Result<(Box<Tail>, &'a [Token]), Stop<'a>>
+    ensures { Gives (λ b. tail_tree b.value) result (tail_at plain inner (toks tokens.now)) }
 {
     if begins(tokens, &[Sort::SymEqual]) {
         let (_, rest) = mark(tokens, Sort::SymEqual)?;
         let (value, rest) = right_side(alloc, rest, plain, inner)?;
-        return Ok((Tail::Short(value), rest));
+        return Ok((short_node(alloc, value)?, rest));
     }
     let (_, rest) = mark(tokens, Sort::Nl)?;
     let (stmts, rest) = indented_block(alloc, rest, plain, inner)?;
-    Ok((Tail::Long(stmts), rest))
+    Ok((Box::new(alloc, Tail::Long(stmts))?, rest))
 }

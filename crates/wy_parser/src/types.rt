@@ -1,73 +1,80 @@
 //! Sets, types and signatures. Each function reads what stands first and gives what stands behind it;
 //! `turns` bounds the turns of each loop.
-ghost use Rattle.std.specs.Prelude.{◌≡◌, [], ◌∷◌};
-ghost use Rattle.wy_syntax.specs.Tokens.{toks};
-ghost use Rattle.wy_parser.specs.Parsing.{word, commas, comma_part, commas1, atom, set, member_set, object_rest, object, type_use, param, module_param, effect, signature};
+ghost use Rattle.std.specs.Prelude.{◌≡◌, IfOk};
+ghost use Rattle.wy_syntax.specs.declared.types.TypeUse.TheVariants as types;
+ghost use Rattle.wy_syntax.specs.Tokens.{tok_of, toks};
+ghost use Rattle.wy_parser.specs.Parsing.{name_at, member_alone, member_of, owned, atom, set, member_set, with_sets, at_set, object_rest, object, type_use, param_of, param, module_param, effect, signature_of, signature};
 ghost use Rattle.wy_parser.specs.Sorts.{Gives};
 
-use crate::cursor::{begins, mark, word};
+use crate::cursor::{begins, mark, name_of, name_token};
+use crate::lists::{Entry, named, separated};
 use crate::sort::Sort;
 use crate::stop::Stop;
 use std::alloc::Global;
-use wy_syntax::types::{AtomUse, MemberSet, Name, Param, ParamList, SetUse, Signature, TypeUse};
+use wy_syntax::types::{AtomUse, MemberSet, Param, ParamList, SetUse, Signature, TypeUse};
+use wy_text::fault::Place;
 use wy_text::list::Items;
+use wy_text::text::Memory;
 use wy_text::token::Token;
+
+fn member_alone(alloc: Global, member: &Token) -> Result<AtomUse, Memory>
+    ensures { IfOk result (λ a. a ≡ member_alone (name_at (tok_of member.now))) }
+{
+    let member = name_of(alloc, member)?;
+    Ok(AtomUse {
+        owner: None,
+        member,
+    })
+}
+
+fn member_of(alloc: Global, owner: &Token, member: &Token) -> Result<AtomUse, Memory>
+    ensures { IfOk result (λ a. a ≡ member_of (name_at (tok_of owner.now)) (name_at (tok_of member.now))) }
+{
+    let owner = Some(name_of(alloc, owner)?);
+    let member = name_of(alloc, member)?;
+    Ok(AtomUse { owner, member })
+}
+
+/// A dot and a member behind its owner.
+fn owned<'a>(
+    alloc: Global,
+    tokens: &'a [Token],
+    owner: &Token,
+) -> Result<(AtomUse, &'a [Token]), Stop<'a>>
+    ensures { Gives (λ a. a) result (owned (name_at (tok_of owner.now)) (toks tokens.now)) }
+{
+    let (_, rest) = mark(tokens, Sort::SymDot)?;
+    let (member, rest) = name_token(rest)?;
+    Ok((member_of(alloc, owner, member)?, rest))
+}
 
 /// A member, or an owner and its member.
 #[tactic(auto, unfolding(crate::specs::Parsing::atom))]
 fn atom<'a>(alloc: Global, tokens: &'a [Token]) -> Result<(AtomUse, &'a [Token]), Stop<'a>>
     ensures { Gives (λ a. a) result (atom (toks tokens.now)) }
 {
-    let (name, rest) = word(alloc, tokens)?;
-    if !begins(rest, &[Sort::SymDot]) {
-        return Ok((
-            AtomUse {
-                owner: None,
-                member: name,
-            },
-            rest,
-        ));
+    let (name, rest) = name_token(tokens)?;
+    if begins(rest, &[Sort::SymDot]) {
+        return owned(alloc, rest, name);
     }
-    let (_, rest) = mark(rest, Sort::SymDot)?;
-    let (member, rest) = word(alloc, rest)?;
-    Ok((
-        AtomUse {
-            owner: Some(name),
-            member,
-        },
-        rest,
-    ))
+    Ok((member_alone(alloc, name)?, rest))
 }
 
-fn comma_atom<'a>(alloc: Global, tokens: &'a [Token]) -> Result<(AtomUse, &'a [Token]), Stop<'a>>
-    ensures { Gives (λ x. x) result (comma_part (atom) (toks tokens.now)) }
-{
-    let (_, rest) = mark(tokens, Sort::SymComma)?;
-    atom(alloc, rest)
-}
+/// What stands between the commas of a set.
+struct AtomEntry;
 
-fn atoms<'a>(
-    alloc: Global,
-    tokens: &'a [Token],
-    turns: usize,
-) -> Result<(SetUse, &'a [Token]), Stop<'a>>
-    ensures { Gives (λ l. l) result (commas (1 ∷ []) (atom) turns (toks tokens.now)) }
-{
-    let mut items = Items::new(alloc);
-    if !begins(tokens, &[Sort::Name]) {
-        return Ok((items, tokens));
+impl Entry for AtomEntry {
+    type Value = AtomUse;
+
+    ghost reads = { λ _. atom };
+
+    fn read<'a>(
+        &self,
+        alloc: Global,
+        tokens: &'a [Token],
+    ) -> Result<(AtomUse, &'a [Token]), Stop<'a>> {
+        atom(alloc, tokens)
     }
-    let (first, mut rest) = atom(alloc, tokens)?;
-    items.push(first)?;
-    for _ in 0..turns {
-        if !begins(rest, &[Sort::SymComma]) {
-            return Ok((items, rest));
-        }
-        let (item, after) = comma_atom(alloc, rest)?;
-        items.push(item)?;
-        rest = after;
-    }
-    Err(Stop::Deep)
 }
 
 /// A set in braces.
@@ -80,7 +87,7 @@ pub fn set<'a>(
     ensures { Gives (λ l. l) result (set turns (toks tokens.now)) }
 {
     let (_, rest) = mark(tokens, Sort::SymOpenBrace)?;
-    let (atoms, rest) = atoms(alloc, rest, turns)?;
+    let (atoms, rest) = named(alloc, rest, turns, &AtomEntry)?;
     let (_, rest) = mark(rest, Sort::SymCloseBrace)?;
     Ok((atoms, rest))
 }
@@ -93,42 +100,31 @@ fn member_set<'a>(
 ) -> Result<(MemberSet, &'a [Token]), Stop<'a>>
     ensures { Gives (λ m. m) result (member_set turns (toks tokens.now)) }
 {
-    let (name, rest) = word(alloc, tokens)?;
+    let (name, rest) = name_token(tokens)?;
     let (_, rest) = mark(rest, Sort::SymEqual)?;
     let (effect, rest) = set(alloc, rest, turns)?;
+    let name = name_of(alloc, name)?;
     Ok((MemberSet { name, effect }, rest))
 }
 
-fn comma_member_set<'a>(
-    alloc: Global,
-    tokens: &'a [Token],
+/// What stands between the commas of a declared type's members.
+#[derive(Drop)]
+struct MemberSetEntry {
     turns: usize,
-) -> Result<(MemberSet, &'a [Token]), Stop<'a>>
-    ensures { Gives (λ x. x) result (comma_part (member_set turns) (toks tokens.now)) }
-{
-    let (_, rest) = mark(tokens, Sort::SymComma)?;
-    member_set(alloc, rest, turns)
 }
 
-fn member_sets<'a>(
-    alloc: Global,
-    tokens: &'a [Token],
-    turns: usize,
-) -> Result<(Items<MemberSet>, &'a [Token]), Stop<'a>>
-    ensures { Gives (λ l. l) result (commas1 (member_set turns) turns (toks tokens.now)) }
-{
-    let mut items = Items::new(alloc);
-    let (first, mut rest) = member_set(alloc, tokens, turns)?;
-    items.push(first)?;
-    for _ in 0..turns {
-        if !begins(rest, &[Sort::SymComma]) {
-            return Ok((items, rest));
-        }
-        let (item, after) = comma_member_set(alloc, rest, turns)?;
-        items.push(item)?;
-        rest = after;
+impl Entry for MemberSetEntry {
+    type Value = MemberSet;
+
+    ghost reads = { λ e. member_set e.turns };
+
+    fn read<'a>(
+        &self,
+        alloc: Global,
+        tokens: &'a [Token],
+    ) -> Result<(MemberSet, &'a [Token]), Stop<'a>> {
+        member_set(alloc, tokens, self.turns)
     }
-    Err(Stop::Deep)
 }
 
 /// A declared type; in a plain module its name alone.
@@ -138,38 +134,84 @@ pub fn object<'a>(
     tokens: &'a [Token],
     plain: bool,
     turns: usize,
-) -> Result<(TypeUse, &'a [Token]), Stop<'a>>
-    ensures { Gives (λ t. t) result (object plain turns (toks tokens.now)) }
+) -> Result<(Box<TypeUse>, &'a [Token]), Stop<'a>>
+    ensures { Gives (λ t. t.value) result (object plain turns (toks tokens.now)) }
 {
-    let (name, rest) = word(alloc, tokens)?;
+    let (name, rest) = name_token(tokens)?;
     object_rest(alloc, rest, name, plain, turns)
 }
 
+fn bare(alloc: Global, name: &Token) -> Result<Box<TypeUse>, Memory>
+    ensures { IfOk result (λ b. b.value ≡ types.Bare (name_at (tok_of name.now))) }
+{
+    let name = name_of(alloc, name)?;
+    Ok(Box::new(alloc, TypeUse::Bare(name))?)
+}
+
+fn with(alloc: Global, name: &Token, sets: Items<MemberSet>) -> Result<Box<TypeUse>, Memory>
+    ensures { IfOk result (λ b. b.value ≡ types.With (name_at (tok_of name.now)) sets) }
+{
+    let name = name_of(alloc, name)?;
+    Ok(Box::new(alloc, TypeUse::With(name, sets))?)
+}
+
+fn at(alloc: Global, name: &Token, effect: SetUse) -> Result<Box<TypeUse>, Memory>
+    ensures { IfOk result (λ b. b.value ≡ types.At (name_at (tok_of name.now)) effect) }
+{
+    let name = name_of(alloc, name)?;
+    Ok(Box::new(alloc, TypeUse::At(name, effect))?)
+}
+
+/// A declared type's members in brackets, each with its set.
+fn with_sets<'a>(
+    alloc: Global,
+    tokens: &'a [Token],
+    name: &Token,
+    turns: usize,
+) -> Result<(Box<TypeUse>, &'a [Token]), Stop<'a>>
+    ensures { Gives (λ t. t.value) result (with_sets (name_at (tok_of name.now)) turns (toks tokens.now)) }
+{
+    let (_, rest) = mark(tokens, Sort::SymOpenBracket)?;
+    let (sets, rest) = separated(alloc, rest, turns, &MemberSetEntry { turns })?;
+    let (_, rest) = mark(rest, Sort::SymCloseBracket)?;
+    Ok((with(alloc, name, sets)?, rest))
+}
+
+/// A declared type's one set.
+fn at_set<'a>(
+    alloc: Global,
+    tokens: &'a [Token],
+    name: &Token,
+    turns: usize,
+) -> Result<(Box<TypeUse>, &'a [Token]), Stop<'a>>
+    ensures { Gives (λ t. t.value) result (at_set (name_at (tok_of name.now)) turns (toks tokens.now)) }
+{
+    let (_, rest) = mark(tokens, Sort::KwAt)?;
+    let (effect, rest) = set(alloc, rest, turns)?;
+    Ok((at(alloc, name, effect)?, rest))
+}
+
+/// What stands behind a declared type's name.
 #[tactic(auto, unfolding(crate::specs::Parsing::object_rest))]
 fn object_rest<'a>(
     alloc: Global,
     tokens: &'a [Token],
-    name: Name,
+    name: &Token,
     plain: bool,
     turns: usize,
-) -> Result<(TypeUse, &'a [Token]), Stop<'a>>
-    ensures { Gives (λ t. t) result (object_rest plain name turns (toks tokens.now)) }
+) -> Result<(Box<TypeUse>, &'a [Token]), Stop<'a>>
+    ensures { Gives (λ t. t.value) result (object_rest plain (name_at (tok_of name.now)) turns (toks tokens.now)) }
 {
     if plain {
-        return Ok((TypeUse::Bare(name), tokens));
+        return Ok((bare(alloc, name)?, tokens));
     }
     if begins(tokens, &[Sort::SymOpenBracket]) {
-        let (_, rest) = mark(tokens, Sort::SymOpenBracket)?;
-        let (sets, rest) = member_sets(alloc, rest, turns)?;
-        let (_, rest) = mark(rest, Sort::SymCloseBracket)?;
-        return Ok((TypeUse::With(name, sets), rest));
+        return with_sets(alloc, tokens, name, turns);
     }
     if begins(tokens, &[Sort::KwAt]) {
-        let (_, rest) = mark(tokens, Sort::KwAt)?;
-        let (effect, rest) = set(alloc, rest, turns)?;
-        return Ok((TypeUse::At(name, effect), rest));
+        return at_set(alloc, tokens, name, turns);
     }
-    Ok((TypeUse::Bare(name), tokens))
+    Ok((bare(alloc, name)?, tokens))
 }
 
 /// A base type or a declared one.
@@ -179,26 +221,34 @@ pub fn type_use<'a>(
     tokens: &'a [Token],
     plain: bool,
     turns: usize,
-) -> Result<(TypeUse, &'a [Token]), Stop<'a>>
-    ensures { Gives (λ t. t) result (type_use plain turns (toks tokens.now)) }
+) -> Result<(Box<TypeUse>, &'a [Token]), Stop<'a>>
+    ensures { Gives (λ t. t.value) result (type_use plain turns (toks tokens.now)) }
 {
     if begins(tokens, &[Sort::KwInt]) {
         let (place, rest) = mark(tokens, Sort::KwInt)?;
-        return Ok((TypeUse::Int(place), rest));
+        return Ok((Box::new(alloc, TypeUse::Int(place))?, rest));
     }
     if begins(tokens, &[Sort::KwBool]) {
         let (place, rest) = mark(tokens, Sort::KwBool)?;
-        return Ok((TypeUse::Bool(place), rest));
+        return Ok((Box::new(alloc, TypeUse::Bool(place))?, rest));
     }
     if begins(tokens, &[Sort::KwString]) {
         let (place, rest) = mark(tokens, Sort::KwString)?;
-        return Ok((TypeUse::Text(place), rest));
+        return Ok((Box::new(alloc, TypeUse::Text(place))?, rest));
     }
     if begins(tokens, &[Sort::KwUnit]) {
         let (place, rest) = mark(tokens, Sort::KwUnit)?;
-        return Ok((TypeUse::Unit(place), rest));
+        return Ok((Box::new(alloc, TypeUse::Unit(place))?, rest));
     }
     object(alloc, tokens, plain, turns)
+}
+
+fn param_node(alloc: Global, name: &Token, type_use: Box<TypeUse>) -> Result<Box<Param>, Memory>
+    ensures { IfOk result (λ b. b.value ≡ param_of (name_at (tok_of name.now)) type_use.value) }
+{
+    let name = name_of(alloc, name)?;
+    let type_use = Box::into_inner(type_use);
+    Ok(Box::new(alloc, Param { name, type_use })?)
 }
 
 #[tactic(auto, unfolding(crate::specs::Parsing::param))]
@@ -207,50 +257,35 @@ fn param<'a>(
     tokens: &'a [Token],
     plain: bool,
     turns: usize,
-) -> Result<(Param, &'a [Token]), Stop<'a>>
-    ensures { Gives (λ x. x) result (param plain turns (toks tokens.now)) }
+) -> Result<(Box<Param>, &'a [Token]), Stop<'a>>
+    ensures { Gives (λ x. x.value) result (param plain turns (toks tokens.now)) }
 {
-    let (name, rest) = word(alloc, tokens)?;
+    let (name, rest) = name_token(tokens)?;
     let (_, rest) = mark(rest, Sort::SymColon)?;
     let (type_use, rest) = type_use(alloc, rest, plain, turns)?;
-    Ok((Param { name, type_use }, rest))
+    Ok((param_node(alloc, name, type_use)?, rest))
 }
 
-fn comma_param<'a>(
-    alloc: Global,
-    tokens: &'a [Token],
+/// What stands between the commas of a method's parameters.
+#[derive(Drop)]
+struct ParamEntry {
     plain: bool,
     turns: usize,
-) -> Result<(Param, &'a [Token]), Stop<'a>>
-    ensures { Gives (λ x. x) result (comma_part (param plain turns) (toks tokens.now)) }
-{
-    let (_, rest) = mark(tokens, Sort::SymComma)?;
-    param(alloc, rest, plain, turns)
 }
 
-fn params<'a>(
-    alloc: Global,
-    tokens: &'a [Token],
-    plain: bool,
-    turns: usize,
-) -> Result<(ParamList, &'a [Token]), Stop<'a>>
-    ensures { Gives (λ l. l) result (commas (1 ∷ []) (param plain turns) turns (toks tokens.now)) }
-{
-    let mut items = Items::new(alloc);
-    if !begins(tokens, &[Sort::Name]) {
-        return Ok((items, tokens));
+impl Entry for ParamEntry {
+    type Value = Param;
+
+    ghost reads = { λ e. param e.plain e.turns };
+
+    fn read<'a>(
+        &self,
+        alloc: Global,
+        tokens: &'a [Token],
+    ) -> Result<(Param, &'a [Token]), Stop<'a>> {
+        let (item, rest) = param(alloc, tokens, self.plain, self.turns)?;
+        Ok((Box::into_inner(item), rest))
     }
-    let (first, mut rest) = param(alloc, tokens, plain, turns)?;
-    items.push(first)?;
-    for _ in 0..turns {
-        if !begins(rest, &[Sort::SymComma]) {
-            return Ok((items, rest));
-        }
-        let (item, after) = comma_param(alloc, rest, plain, turns)?;
-        items.push(item)?;
-        rest = after;
-    }
-    Err(Stop::Deep)
 }
 
 #[tactic(auto, unfolding(crate::specs::Parsing::module_param))]
@@ -259,50 +294,35 @@ fn module_param<'a>(
     tokens: &'a [Token],
     plain: bool,
     turns: usize,
-) -> Result<(Param, &'a [Token]), Stop<'a>>
-    ensures { Gives (λ x. x) result (module_param plain turns (toks tokens.now)) }
+) -> Result<(Box<Param>, &'a [Token]), Stop<'a>>
+    ensures { Gives (λ x. x.value) result (module_param plain turns (toks tokens.now)) }
 {
-    let (name, rest) = word(alloc, tokens)?;
+    let (name, rest) = name_token(tokens)?;
     let (_, rest) = mark(rest, Sort::SymColon)?;
     let (type_use, rest) = object(alloc, rest, plain, turns)?;
-    Ok((Param { name, type_use }, rest))
+    Ok((param_node(alloc, name, type_use)?, rest))
 }
 
-fn comma_module_param<'a>(
-    alloc: Global,
-    tokens: &'a [Token],
-    plain: bool,
-    turns: usize,
-) -> Result<(Param, &'a [Token]), Stop<'a>>
-    ensures { Gives (λ x. x) result (comma_part (module_param plain turns) (toks tokens.now)) }
-{
-    let (_, rest) = mark(tokens, Sort::SymComma)?;
-    module_param(alloc, rest, plain, turns)
+/// What stands between the commas of a module's parameters.
+#[derive(Drop)]
+pub struct ModuleParamEntry {
+    pub plain: bool,
+    pub turns: usize,
 }
 
-pub fn module_params<'a>(
-    alloc: Global,
-    tokens: &'a [Token],
-    plain: bool,
-    turns: usize,
-) -> Result<(ParamList, &'a [Token]), Stop<'a>>
-    ensures { Gives (λ l. l) result (commas (1 ∷ []) (module_param plain turns) turns (toks tokens.now)) }
-{
-    let mut items = Items::new(alloc);
-    if !begins(tokens, &[Sort::Name]) {
-        return Ok((items, tokens));
+impl Entry for ModuleParamEntry {
+    type Value = Param;
+
+    ghost reads = { λ e. module_param e.plain e.turns };
+
+    fn read<'a>(
+        &self,
+        alloc: Global,
+        tokens: &'a [Token],
+    ) -> Result<(Param, &'a [Token]), Stop<'a>> {
+        let (item, rest) = module_param(alloc, tokens, self.plain, self.turns)?;
+        Ok((Box::into_inner(item), rest))
     }
-    let (first, mut rest) = module_param(alloc, tokens, plain, turns)?;
-    items.push(first)?;
-    for _ in 0..turns {
-        if !begins(rest, &[Sort::SymComma]) {
-            return Ok((items, rest));
-        }
-        let (item, after) = comma_module_param(alloc, rest, plain, turns)?;
-        items.push(item)?;
-        rest = after;
-    }
-    Err(Stop::Deep)
 }
 
 /// A method's effect, which is written exactly outside plain modules.
@@ -322,6 +342,26 @@ fn effect<'a>(
     Ok((Some(effect), rest))
 }
 
+fn signature_node(
+    alloc: Global,
+    place: Place,
+    name: &Token,
+    params: ParamList,
+    effect: Option<SetUse>,
+    result_type: Box<TypeUse>,
+) -> Result<Box<Signature>, Memory>
+    ensures { IfOk result (λ b. b.value ≡ signature_of place (name_at (tok_of name.now)) params effect result_type.value) }
+{
+    let signature = Signature {
+        place,
+        name: name_of(alloc, name)?,
+        params,
+        effect,
+        result: Box::into_inner(result_type),
+    };
+    Ok(Box::new(alloc, signature)?)
+}
+
 /// What stands before a method's body.
 #[tactic(auto, unfolding(crate::specs::Parsing::signature))]
 pub fn signature<'a>(
@@ -329,25 +369,17 @@ pub fn signature<'a>(
     tokens: &'a [Token],
     plain: bool,
     turns: usize,
-) -> Result<(Signature, &'a [Token]), Stop<'a>>
-    ensures { Gives (λ s. s) result (signature plain turns (toks tokens.now)) }
+) -> Result<(Box<Signature>, &'a [Token]), Stop<'a>>
+    ensures { Gives (λ s. s.value) result (signature plain turns (toks tokens.now)) }
 {
     let (place, rest) = mark(tokens, Sort::KwDef)?;
-    let (name, rest) = word(alloc, rest)?;
+    let (name, rest) = name_token(rest)?;
     let (_, rest) = mark(rest, Sort::SymOpenParen)?;
-    let (params, rest) = params(alloc, rest, plain, turns)?;
+    let (params, rest) = named(alloc, rest, turns, &ParamEntry { plain, turns })?;
     let (_, rest) = mark(rest, Sort::SymCloseParen)?;
     let (_, rest) = mark(rest, Sort::SymColon)?;
     let (effect, rest) = effect(alloc, rest, plain, turns)?;
     let (result, rest) = type_use(alloc, rest, plain, turns)?;
-    Ok((
-        Signature {
-            place,
-            name,
-            params,
-            effect,
-            result,
-        },
-        rest,
-    ))
+    let signature = signature_node(alloc, place, name, params, effect, result)?;
+    Ok((signature, rest))
 }

@@ -1,32 +1,25 @@
-use Rattle.std.proofs.Common.{◌+◌, ◌-◌, [], ◌∷◌, arith, sym, ◌∙◌, ap, subst, map}
-use Rattle.std.proofs.lemmas.List.{map-append}
+use Rattle.std.proofs.Common.{◌≡◌, ℕ, List, ◌+◌, ◌-◌, [], ◌∷◌, arith, sym, ◌∙◌, subst, map}
 use Rattle.std.proofs.lemmas.Result.{err_from_is_err_and}
-use Rattle.wy_syntax.specs.Tokens.{tok_of, toks}
+use Rattle.wy_syntax.specs.Tokens.{code, tok_of, toks}
 use Rattle.wy_syntax.specs.Views.{expr_tree}
 use Rattle.wy_parser.specs.declared.stop.Stop.{Stop}
+use Rattle.wy_parser.specs.Reading.{Yes, one_of}
 use Rattle.wy_parser.specs.Parsing.{commas, comma_part, snoc}
-use Rattle.wy_parser.specs.ExprParsing.{arg_first, call_part, add_call, unary_at, product_at, compare_at, conj_at, p_arg}
+use Rattle.wy_parser.specs.ExprParsing.{arg_first, call_part, add_call, symbols_of, operand_at, p_arg}
 use Rattle.wy_parser.specs.Sorts.{Halts}
-use Rattle.wy_parser.proofs.Turns.{level_turn, part_turn, part_halts, fold_ends, gives_err}
+use Rattle.wy_parser.proofs.Turns.{level_turn, part_turn, part_halts, fold_ends, gives_err, pushed}
 use Rattle.wy_parser.proofs.expressions.+expressions.Goals as goal
 
-pub disjunction-loop-preserved : goal.disjunction-loop-preserved
-disjunction-loop-preserved t c = level_turn (c.args.inner - c.loop.counter) (c.args.inner - (c.loop.counter + 1)) (61 ∷ []) (conj_at c.args.plain c.args.inner) (expr_tree c.loop.left) (expr_tree c.in_ok-right.right) (expr_tree c.in_ok-left-2.left) (tok_of c.in_ok-symbol.symbol.now) (toks c.loop.rest.now) (toks c.in_ok-symbol.after.now) (toks c.in_ok-right.after.now) _ (omega arith) c.in_ok-symbol.ensures c.in_ok-right.ensures c.in_ok-left-2.ensures c.loop.invariant
-
-pub conjunction-loop-preserved : goal.conjunction-loop-preserved
-conjunction-loop-preserved t c = level_turn (c.args.inner - c.loop.counter) (c.args.inner - (c.loop.counter + 1)) (60 ∷ []) (compare_at c.args.plain c.args.inner) (expr_tree c.loop.left) (expr_tree c.in_ok-right.right) (expr_tree c.in_ok-left-2.left) (tok_of c.in_ok-symbol.symbol.now) (toks c.loop.rest.now) (toks c.in_ok-symbol.after.now) (toks c.in_ok-right.after.now) _ (omega arith) c.in_ok-symbol.ensures c.in_ok-right.ensures c.in_ok-left-2.ensures c.loop.invariant
-
-pub summation-loop-preserved : goal.summation-loop-preserved
-summation-loop-preserved t c = level_turn (c.args.inner - c.loop.counter) (c.args.inner - (c.loop.counter + 1)) (54 ∷ 55 ∷ 59 ∷ []) (product_at c.args.plain c.args.inner) (expr_tree c.loop.left) (expr_tree c.in_ok-right.right) (expr_tree c.in_ok-left-2.left) (tok_of c.in_ok-symbol.symbol.now) (toks c.loop.rest.now) (toks c.in_ok-symbol.after.now) (toks c.in_ok-right.after.now) _ (omega arith) c.in_ok-symbol.ensures c.in_ok-right.ensures c.in_ok-left-2.ensures c.loop.invariant
-
-pub multiplication-loop-preserved : goal.multiplication-loop-preserved
-multiplication-loop-preserved t c = level_turn (c.args.inner - c.loop.counter) (c.args.inner - (c.loop.counter + 1)) (56 ∷ 57 ∷ 58 ∷ []) (unary_at c.args.plain c.args.inner) (expr_tree c.loop.left) (expr_tree c.in_ok-right.right) (expr_tree c.in_ok-left-2.left) (tok_of c.in_ok-symbol.symbol.now) (toks c.loop.rest.now) (toks c.in_ok-symbol.after.now) (toks c.in_ok-right.after.now) _ (omega arith) c.in_ok-symbol.ensures c.in_ok-right.ensures c.in_ok-left-2.ensures c.loop.invariant
+pub operation-loop-preserved : goal.operation-loop-preserved
+operation-loop-preserved t c =
+    let read = subst (λ (G : List ℕ). one_of code G (toks c.loop.rest.now) ≡ Yes (tok_of c.in_ok-symbol.symbol.now) (toks c.in_ok-symbol.after.now)) c.symbols-symbols.ensures c.in_ok-symbol.ensures in
+    level_turn (c.args.inner - c.loop.counter) (c.args.inner - (c.loop.counter + 1)) (symbols_of c.args.level) (operand_at c.args.plain c.args.inner c.args.level) (expr_tree c.loop.left.value) (expr_tree c.in_ok-right.right.value) (expr_tree c.in_ok-left-2.left.value) (tok_of c.in_ok-symbol.symbol.now) (toks c.loop.rest.now) (toks c.in_ok-symbol.after.now) (toks c.in_ok-right.after.now) _ (omega arith) read c.in_ok-right.ensures c.in_ok-left-2.ensures c.loop.invariant
 
 pub postfix-loop-preserved : goal.postfix-loop-preserved
-postfix-loop-preserved t c = part_turn (c.args.inner - c.loop.counter) (c.args.inner - (c.loop.counter + 1)) (46 ∷ []) (call_part (p_arg c.args.plain c.args.inner) c.args.inner) add_call (expr_tree c.loop.e) _ (c.in_ok-name.name, map expr_tree c.in_ok-name.arguments.items) (toks c.loop.rest.now) (toks c.in_ok-name.after.now) _ (omega arith) (sym c.begins.ensures ∙ c.if-not-begins.false) c.in_ok-name.ensures c.in_ok-e-2.ensures c.loop.invariant
+postfix-loop-preserved t c = part_turn (c.args.inner - c.loop.counter) (c.args.inner - (c.loop.counter + 1)) (46 ∷ []) (call_part (p_arg c.args.plain c.args.inner) c.args.inner) add_call (expr_tree c.loop.e.value) _ (c.in_ok-name.name, map expr_tree c.in_ok-name.arguments.items) (toks c.loop.rest.now) (toks c.in_ok-name.after.now) _ (omega arith) (sym c.begins.ensures ∙ c.if-not-begins.false) c.in_ok-name.ensures c.in_ok-e-2.ensures c.loop.invariant
 
 pub arguments-loop-preserved : goal.arguments-loop-preserved
-arguments-loop-preserved t c = part_turn (c.args.inner - c.loop.counter) (c.args.inner - (c.loop.counter + 1)) (44 ∷ []) (comma_part (p_arg c.args.plain c.args.inner)) snoc (map expr_tree c.loop.items.items) (map expr_tree c.push-in-loop.new.self.items) (expr_tree c.in_ok-item.item) (toks c.loop.rest.now) (toks c.in_ok-item.after.now) _ (omega arith) (sym c.begins-in-loop.ensures ∙ c.if-not-begins-2.false) c.in_ok-item.ensures (ap (map expr_tree) c.in_ok-push-2.ensures.items ∙ map-append expr_tree c.loop.items.items (c.in_ok-item.item ∷ [])) c.loop.invariant
+arguments-loop-preserved t c = part_turn (c.args.inner - c.loop.counter) (c.args.inner - (c.loop.counter + 1)) (44 ∷ []) (comma_part (p_arg c.args.plain c.args.inner)) snoc (map expr_tree c.loop.items.items) (map expr_tree c.push-in-loop.new.self.items) (expr_tree c.in_ok-item.item.value) (toks c.loop.rest.now) (toks c.in_ok-item.after.now) _ (omega arith) (sym c.begins-in-loop.ensures ∙ c.if-not-begins-2.false) c.in_ok-item.ensures (pushed expr_tree c.loop.items.items c.push-in-loop.new.self.items c.into_inner-in-loop.result c.in_ok-item.item.value c.in_ok-push-2.ensures.items c.into_inner-in-loop.ensures) c.loop.invariant
 
 pub arguments-returns-then-not-begins-2 : goal.arguments-returns-then-not-begins-2
 arguments-returns-then-not-begins-2 t c = sym c.loop.invariant ∙ fold_ends (c.args.inner - c.loop.counter) (44 ∷ []) (comma_part (p_arg c.args.plain c.args.inner)) snoc (map expr_tree c.loop.items.items) (toks c.loop.rest.now) (omega arith) (sym c.begins-in-loop.ensures ∙ c.if-not-begins-2.true)

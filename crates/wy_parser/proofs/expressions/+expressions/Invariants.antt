@@ -3,7 +3,8 @@ use Rattle.wy_syntax.specs.Tokens.{code, toks}
 use Rattle.wy_syntax.specs.Views.{expr_tree}
 use Rattle.wy_parser.specs.Reading.{fold_many}
 use Rattle.wy_parser.specs.Parsing.{commas, comma_part, snoc}
-use Rattle.wy_parser.specs.ExprParsing.{arg_first, operator_part, add_binary, call_part, add_call, post, unary_at, product_at, sum_at, compare_at, conj_at, disj_at, p_arg}
+use Rattle.wy_parser.specs.ExprParsing.{arg_first, operator_part, add_binary, call_part, add_call, post, symbols_of, operand_at, level_at, p_arg}
+use Rattle.wy_parser.proofs.Depths.{height}
 use Rattle.wy_parser.proofs.expressions.+expressions.Given as goal
 
 abbrev pub decreases-arg : goal.decreases-arg
@@ -31,13 +32,7 @@ abbrev pub decreases-comma_arg : goal.decreases-comma_arg
 decreases-comma_arg l = 20 * l.inner + 1
 
 abbrev pub decreases-comparison : goal.decreases-comparison
-decreases-comparison l = 20 * l.inner + 10
-
-abbrev pub decreases-conjunction : goal.decreases-conjunction
-decreases-conjunction l = 20 * l.inner + 11
-
-abbrev pub decreases-disjunction : goal.decreases-disjunction
-decreases-disjunction l = 20 * l.inner + 12
+decreases-comparison l = 20 * l.inner + 12
 
 abbrev pub decreases-expr : goal.decreases-expr
 decreases-expr l = 20 * l.depth + 0
@@ -45,11 +40,14 @@ decreases-expr l = 20 * l.depth + 0
 abbrev pub decreases-minus : goal.decreases-minus
 decreases-minus l = 20 * l.inner + 1
 
-abbrev pub decreases-multiplication : goal.decreases-multiplication
-decreases-multiplication l = 20 * l.inner + 8
-
 abbrev pub decreases-one_argument : goal.decreases-one_argument
 decreases-one_argument l = 20 * l.inner + 1
+
+abbrev pub decreases-operand : goal.decreases-operand
+decreases-operand l = 20 * l.inner + height l.level
+
+abbrev pub decreases-operation : goal.decreases-operation
+decreases-operation l = 20 * l.inner + height l.level + 1
 
 abbrev pub decreases-parens : goal.decreases-parens
 decreases-parens l = 20 * l.inner + 2
@@ -63,29 +61,17 @@ decreases-prefix l = 20 * l.depth + 0
 abbrev pub decreases-prefix_in : goal.decreases-prefix_in
 decreases-prefix_in l = 20 * l.inner + 7
 
-abbrev pub decreases-summation : goal.decreases-summation
-decreases-summation l = 20 * l.inner + 9
-
 abbrev pub decreases-three_arguments : goal.decreases-three_arguments
 decreases-three_arguments l = 20 * l.inner + 1
 
 abbrev pub decreases-two_arguments : goal.decreases-two_arguments
 decreases-two_arguments l = 20 * l.inner + 1
 
-abbrev pub invariant-disjunction-loop : goal.invariant-disjunction-loop
-invariant-disjunction-loop l = fold_many code (l.inner - l.counter) (61 ∷ []) (operator_part (61 ∷ []) (conj_at l.plain l.inner)) add_binary (expr_tree l.left) (toks l.rest) ≡ disj_at l.plain l.inner (toks l.tokens)
-
-abbrev pub invariant-conjunction-loop : goal.invariant-conjunction-loop
-invariant-conjunction-loop l = fold_many code (l.inner - l.counter) (60 ∷ []) (operator_part (60 ∷ []) (compare_at l.plain l.inner)) add_binary (expr_tree l.left) (toks l.rest) ≡ conj_at l.plain l.inner (toks l.tokens)
-
-abbrev pub invariant-summation-loop : goal.invariant-summation-loop
-invariant-summation-loop l = fold_many code (l.inner - l.counter) (54 ∷ 55 ∷ 59 ∷ []) (operator_part (54 ∷ 55 ∷ 59 ∷ []) (product_at l.plain l.inner)) add_binary (expr_tree l.left) (toks l.rest) ≡ sum_at l.plain l.inner (toks l.tokens)
-
-abbrev pub invariant-multiplication-loop : goal.invariant-multiplication-loop
-invariant-multiplication-loop l = fold_many code (l.inner - l.counter) (56 ∷ 57 ∷ 58 ∷ []) (operator_part (56 ∷ 57 ∷ 58 ∷ []) (unary_at l.plain l.inner)) add_binary (expr_tree l.left) (toks l.rest) ≡ product_at l.plain l.inner (toks l.tokens)
+abbrev pub invariant-operation-loop : goal.invariant-operation-loop
+invariant-operation-loop l = fold_many code (l.inner - l.counter) (symbols_of l.level) (operator_part (symbols_of l.level) (operand_at l.plain l.inner l.level)) add_binary (expr_tree l.left.value) (toks l.rest) ≡ level_at l.plain l.inner l.level (toks l.tokens)
 
 abbrev pub invariant-postfix-loop : goal.invariant-postfix-loop
-invariant-postfix-loop l = fold_many code (l.inner - l.counter) (46 ∷ []) (call_part (p_arg l.plain l.inner) l.inner) add_call (expr_tree l.e) (toks l.rest) ≡ post l.plain (p_arg l.plain l.inner) l.inner (toks l.tokens)
+invariant-postfix-loop l = fold_many code (l.inner - l.counter) (46 ∷ []) (call_part (p_arg l.plain l.inner) l.inner) add_call (expr_tree l.e.value) (toks l.rest) ≡ post l.plain (p_arg l.plain l.inner) l.inner (toks l.tokens)
 
 abbrev pub invariant-arguments-loop : goal.invariant-arguments-loop
 invariant-arguments-loop l = fold_many code (l.inner - l.counter) (44 ∷ []) (comma_part (p_arg l.plain l.inner)) snoc (map expr_tree l.items.items) (toks l.rest) ≡ commas arg_first (p_arg l.plain l.inner) l.inner (toks l.tokens)

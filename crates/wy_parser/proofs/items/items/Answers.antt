@@ -1,5 +1,4 @@
-use Rattle.std.proofs.Common.{◌+◌, ◌-◌, [], ◌∷◌, arith, sym, ◌∙◌, ap, subst, map}
-use Rattle.std.proofs.lemmas.List.{map-append}
+use Rattle.std.proofs.Common.{◌+◌, ◌-◌, arith, sym, ◌∙◌, subst, map}
 use Rattle.std.proofs.lemmas.Result.{err_from_is_err_and}
 use Rattle.wy_syntax.specs.Tokens.{toks}
 use Rattle.wy_syntax.specs.Views.{item_tree}
@@ -7,11 +6,11 @@ use Rattle.wy_parser.specs.declared.stop.Stop.{Stop}
 use Rattle.wy_parser.specs.ItemParsing.{item_first, item, items}
 use Rattle.wy_parser.specs.Parsing.{snoc}
 use Rattle.wy_parser.specs.Sorts.{Halts}
-use Rattle.wy_parser.proofs.Turns.{part_turn, part_halts, fold_ends, gives_err}
+use Rattle.wy_parser.proofs.Turns.{part_turn, part_halts, fold_ends, gives_err, pushed}
 use Rattle.wy_parser.proofs.items.items.Goals as goal
 
 pub loop-preserved : goal.loop-preserved
-loop-preserved c = part_turn (c.args.turns - c.loop.counter) (c.args.turns - (c.loop.counter + 1)) item_first (item c.args.turns) snoc (map item_tree c.loop.items.items) (map item_tree c.push.new.self.items) (item_tree c.in_ok-item.item) (toks c.loop.rest.now) (toks c.in_ok-item.after.now) _ (omega arith) (sym c.begins.ensures ∙ c.if-not-begins.false) c.in_ok-item.ensures (ap (map item_tree) c.in_ok-push.ensures.items ∙ map-append item_tree c.loop.items.items (c.in_ok-item.item ∷ [])) c.loop.invariant
+loop-preserved c = part_turn (c.args.turns - c.loop.counter) (c.args.turns - (c.loop.counter + 1)) item_first (item c.args.turns) snoc (map item_tree c.loop.items.items) (map item_tree c.push.new.self.items) (item_tree c.in_ok-item.item.value) (toks c.loop.rest.now) (toks c.in_ok-item.after.now) _ (omega arith) (sym c.begins.ensures ∙ c.if-not-begins.false) c.in_ok-item.ensures (pushed item_tree c.loop.items.items c.push.new.self.items c.into_inner.result c.in_ok-item.item.value c.in_ok-push.ensures.items c.into_inner.ensures) c.loop.invariant
 
 pub returns-then-not-begins : goal.returns-then-not-begins
 returns-then-not-begins c = sym c.loop.invariant ∙ fold_ends (c.args.turns - c.loop.counter) item_first (item c.args.turns) snoc (map item_tree c.loop.items.items) (toks c.loop.rest.now) (omega arith) (sym c.begins.ensures ∙ c.if-not-begins.true)

@@ -15,7 +15,7 @@ abbrev pub decreases-block : goal.decreases-block
 decreases-block l = 20 * l.depth + 0
 
 abbrev pub decreases-block_in : goal.decreases-block_in
-decreases-block_in l = 20 * l.inner + 11
+decreases-block_in l = 20 * l.inner + 12
 
 abbrev pub decreases-branch_rest : goal.decreases-branch_rest
 decreases-branch_rest l = 20 * l.inner + 2
@@ -48,10 +48,10 @@ abbrev pub decreases-right_side_in : goal.decreases-right_side_in
 decreases-right_side_in l = 20 * l.inner + 7
 
 abbrev pub decreases-stmt : goal.decreases-stmt
-decreases-stmt l = 20 * l.inner + 9
+decreases-stmt l = 20 * l.inner + 10
 
 abbrev pub decreases-stmts : goal.decreases-stmts
-decreases-stmts l = 20 * l.inner + 10
+decreases-stmts l = 20 * l.inner + 11
 
 abbrev pub decreases-tail : goal.decreases-tail
 decreases-tail l = 20 * l.inner + 2
@@ -59,8 +59,14 @@ decreases-tail l = 20 * l.inner + 2
 abbrev pub decreases-untyped_side : goal.decreases-untyped_side
 decreases-untyped_side l = 20 * l.inner + 7
 
+abbrev pub decreases-typed_val : goal.decreases-typed_val
+decreases-typed_val l = 20 * l.inner + 1
+
+abbrev pub decreases-untyped_val : goal.decreases-untyped_val
+decreases-untyped_val l = 20 * l.inner + 8
+
 abbrev pub decreases-val : goal.decreases-val
-decreases-val l = 20 * l.inner + 8
+decreases-val l = 20 * l.inner + 9
 
 abbrev pub invariant-parts-loop : goal.invariant-parts-loop
 invariant-parts-loop l = fold_many code (l.inner - l.counter) part_first (part_at l.plain l.inner) snoc (map part_tree l.items.items) (toks l.rest) ≡ each part_first (part_at l.plain l.inner) l.inner (toks l.tokens)
