@@ -9,7 +9,7 @@ use crate::status::{Status, SyntaxKind};
 use std::alloc::Global;
 use wy_layout::lex;
 use wy_layout::refusal::LexRefusal;
-use wy_parser::parsing::{ParseRefusal, parse};
+use wy_parser::{ParseRefusal, parse};
 use wy_syntax::items::Tree;
 use wy_text::fault::Place;
 use wy_text::text::Text;

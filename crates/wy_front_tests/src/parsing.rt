@@ -4,7 +4,7 @@ ghost use Rattle.wy_parser.specs.Refusals.{EndsOnce};
 
 use std::alloc::Global;
 use std::test::Fail;
-use wy_parser::parsing::{ParseRefusal, parse};
+use wy_parser::{ParseRefusal, parse};
 use wy_syntax::items::{Item, Member};
 use wy_text::fault::Place;
 use wy_text::text::{Memory, from_bytes};
