@@ -7,7 +7,7 @@ ghost use Rattle.wy_cli.specs.FolderNames.{HoldsFileNames};
 use crate::listing::put_name;
 use std::alloc::Global;
 use std::collections::BTreeSet;
-use std::fs::{self, File, Metadata, OpenFile, OpenOptions};
+use std::fs::{self, Metadata, OpenFile, OpenOptions};
 use std::io::{self, ErrorKind, Read, Write};
 use std::os::unix::fs::MetadataExt;
 use std::rt::Files;
@@ -62,11 +62,19 @@ fn open_plain<R: Files>(rt: &R, how: &OpenOptions, path: &str) -> io::Result<Opt
     Ok(Some(file))
 }
 
-/// Opens the plain file of this name, and makes it where nothing stands there.
-fn open_or_make<R: Files>(rt: &R, how: &OpenOptions, path: &str) -> io::Result<R::File> {
-    match open_plain(rt, how, path)? {
+/// Opens the plain file of this name, and makes it where nothing stands there. Where another program makes it
+/// between the look and the making, that file is looked at and opened.
+fn open_or_make<R: Files>(rt: &R, how: &mut OpenOptions, path: &str) -> io::Result<R::File> {
+    if let Some(file) = open_plain(rt, how, path)? {
+        return Ok(file);
+    }
+    match how.create_new(true).open(rt, path) {
+        Err(error) if error.kind() == ErrorKind::AlreadyExists => {}
+        made => return made,
+    }
+    match open_plain(rt, how.create_new(false), path)? {
         Some(file) => Ok(file),
-        None => File::create_new(rt, path),
+        None => Err(io::Error::from(ErrorKind::NotFound)),
     }
 }
 

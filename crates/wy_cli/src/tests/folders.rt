@@ -79,6 +79,8 @@ fn a_folder_holds_plain_files_and_leads_nowhere_else(rt: HostRuntime) -> Result<
     lay_out(&rt, base)?;
     let rows = [
         ("none", Asked::Names, "failed"),
+        ("none", Asked::Read("a"), "failed"),
+        ("none", Asked::Has("a"), "failed"),
         ("none", Asked::Write("a", "1"), "failed"),
         ("linked", Asked::Names, "failed"),
         (".", Asked::Read("outside"), "failed"),
