@@ -1,6 +1,7 @@
 /// Programs that the rules accept, and the reports of their authority: an instance of a module that notes, one that takes
-/// less than the folder that it is handed, a literal that escapes, and a callback that is kept.
-pub static REPORTS: [(&str, &str); 4] = [
+/// less than the folder that it is handed, a literal that escapes, a callback that is kept, and a method that the module's
+/// type has not got.
+pub static REPORTS: [(&str, &str); 5] = [
     (
         "type Logger\n  effect Log\n  def log(t: String): {Log} Unit\nresource module logger(disk: Folder): Logger\n  effect Log = {disk.Append}\n  def log(t: String): {Log} Unit = disk.append(\"log\", t)\nprogram\n  grant disk: Folder\n  instance lg = logger(disk)\n  run: {lg.Log}\n    lg.log(\"a\")\n",
         "authority of lg: disk.Append\n  init: -\n  log: disk.Append\nauthority of main: disk.Append\n  run: disk.Append\n",
@@ -16,6 +17,10 @@ pub static REPORTS: [(&str, &str); 4] = [
     (
         "type Handler\n  effect Fire\n  def fire(t: String): {Fire} Unit\ntype Plug\n  effect Use\n  def keep(h: Handler[Fire = {Use}]): {Use} Unit\n  def go(): {Use} Unit\nresource module app(disk: Folder): Handler\n  effect Fire = {disk.Append}\n  def fire(t: String): {Fire} Unit = disk.append(\"f\", t)\nplain module plug(first: Handler): Plug\n  var h: Handler = first\n  def keep(n: Handler): Unit\n    h = n\n  def go(): Unit = h.fire(\"go\")\nprogram\n  grant disk: Folder\n  instance a = app(disk)\n  import p = plug(a) at {a.Fire, disk.Append}\n  run: {a.Fire, disk.Append}\n    p.go()\n    val n = new\n      def fire(t: String): {disk.Append} Unit = disk.append(\"g\", t)\n    p.keep(n)\n    p.go()\n",
         "authority of a: disk.Append\n  init: -\n  fire: disk.Append\nauthority of p: disk.Append\n  init: disk.Append\n  keep: disk.Append\n  go: disk.Append\nauthority of main: disk.Append\n  run: disk.Append\n  new1.fire: disk.Append\n",
+    ),
+    (
+        "type T\n  effect E\n  def a(): {E} Unit\nresource module m(c: Console): T\n  effect E = {c.Out}\n  def a(): {E} Unit = this.b()\n  def b(): {E} Unit = c.write(\"b\")\nprogram\n  grant console: Console\n  instance x = m(console)\n  run: {x.E}\n    x.a()\n",
+        "authority of x: console.Out\n  init: -\n  a: console.Out\n  b: console.Out\nauthority of main: console.Out\n  run: console.Out\n",
     ),
 ];
 

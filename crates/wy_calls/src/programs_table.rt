@@ -30,6 +30,41 @@ authority of main: disk.Append
     ..BLANK
 };
 
+/// An object that leaves its module, and is called outside.
+pub const ESCAPING: Row = Row {
+    words: &["run", "fac.wy"],
+    files: &[(
+        "fac.wy",
+        r#"type Item
+  effect Put
+  def put(t: String): {Put} Unit
+type Maker
+  effect Put
+  def make(): {} Item[Put = {Put}]
+resource module maker(disk: Folder): Maker
+  effect Put = {disk.Append}
+  def make(): {} Item[Put = {Put}]
+    new
+      def put(t: String): {Put} Unit = disk.append("i", t)
+program
+  grant disk: Folder
+  instance m = maker(disk)
+  run: {m.Put}
+    m.make().put("z")
+"#,
+    )],
+    report: "authority of m: disk.Append
+  init: -
+  make: -
+  new1.put: disk.Append
+authority of main: disk.Append
+  run: disk.Append
+",
+    folder: "deed disk.append(\"i\", \"z\") = ()\n",
+    after: &[("disk", "i", "z")],
+    ..BLANK
+};
+
 /// Programs that log.
 pub static LOGGERS: [Row; 5] = [
     LOGGER,
@@ -119,39 +154,7 @@ authority of main: disk.Read
         after: &[("disk", "y", "q"), ("disk", "x", "")],
         ..BLANK
     },
-    Row {
-        words: &["run", "fac.wy"],
-        files: &[(
-            "fac.wy",
-            r#"type Item
-  effect Put
-  def put(t: String): {Put} Unit
-type Maker
-  effect Put
-  def make(): {} Item[Put = {Put}]
-resource module maker(disk: Folder): Maker
-  effect Put = {disk.Append}
-  def make(): {} Item[Put = {Put}]
-    new
-      def put(t: String): {Put} Unit = disk.append("i", t)
-program
-  grant disk: Folder
-  instance m = maker(disk)
-  run: {m.Put}
-    m.make().put("z")
-"#,
-        )],
-        report: "authority of m: disk.Append
-  init: -
-  make: -
-  new1.put: disk.Append
-authority of main: disk.Append
-  run: disk.Append
-",
-        folder: "deed disk.append(\"i\", \"z\") = ()\n",
-        after: &[("disk", "i", "z")],
-        ..BLANK
-    },
+    ESCAPING,
     Row {
         words: &["run", "plug.wy"],
         files: &[(

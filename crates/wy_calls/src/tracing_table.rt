@@ -1,5 +1,6 @@
 use crate::devices::{BLANK, Part, Row};
 use crate::primitive_table::ORDERED;
+use crate::programs_table::ESCAPING;
 use crate::running_table::{DEEP, HELLO};
 use crate::three_files_table::WHOLE;
 
@@ -71,7 +72,7 @@ leave
 
 /// Runs with a line for each event: of one body, of three files with a used module and an object, with the receiver before the
 /// argument, of code that keeps what it is handed, and of runs that come to no end of their own.
-pub static TRACES: [Row; 9] = [
+pub static TRACES: [Row; 10] = [
     ONE_WRITE,
     Row {
         words: &["trace", "--steps", "0", "b.wy"],
@@ -155,6 +156,20 @@ enter l go
         last: "o.wy:5:15: trap: ZeroDivisor\n",
         console: "deed console.write(\"s\") = ()\n",
         ..BLANK
+    },
+    Row {
+        words: &["trace", "fac.wy"],
+        out: r#"enter m init
+leave
+enter main run
+enter m make
+leave
+enter m new1.put
+deed disk.append("i", "z") = ()
+leave
+leave
+"#,
+        ..ESCAPING
     },
     Row {
         words: &["trace", "plug.wy"],
