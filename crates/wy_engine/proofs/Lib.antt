@@ -1,4 +1,5 @@
 mod CodeRuns
+mod CompletenessLaws
 mod Deeds
 mod Doing
 mod EndOnce

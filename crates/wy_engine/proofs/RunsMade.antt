@@ -16,7 +16,7 @@ use Rattle.wy_machine.specs.declared.run_end.RunEnd.TheVariants as end
 use Rattle.wy_sound.specs.Laws.{course}
 use Rattle.wy_sound.specs.Programs.{program_starts}
 use Rattle.wy_types.specs.Program.{Program}
-use Rattle.wy_engine.specs.Headline.{DidFirst, EndsAs, HasEnded, HasRun, IsUncut, IsUnprinted, IsUnwritten, Runs, WritesRun, course_in}
+use Rattle.wy_engine.specs.Headline.{DidFirst, EndsAs, HasEnded, HasRun, IsUncut, IsUnprinted, IsUnwritten, MissesReport, Runs, WritesRun, course_in}
 use Rattle.wy_engine.specs.Judgement.{IsNumbered, authority_text, running, summary_text}
 use Rattle.wy_engine.specs.ProgramLaws.{RunsAsMeant}
 use Rattle.wy_engine.specs.Running.{Ran, RunsCode, SumsCode, ThenWrote, TracesCode, performed, skipped, status_of, stopped, summed}
@@ -154,6 +154,15 @@ record StopsBefore (call : TopCall) (text : List ℕ) : Type 0 where
 unprinted : (call : TopCall) (text : List ℕ) (so : StopsBefore call text) → call.status ≡ status.Unwritten → IsUnprinted call so.short.rest
 unprinted call text so is = record { some = so.short.some; devices = so.same; rose = rose_of call.status is so.why }
 
+misses : (call : TopCall) (text : List ℕ) → StopsBefore call text → call.status ≡ status.Unwritten → MissesReport call text
+misses call text so is = record {
+  front = so.short.written.front;
+  rest = so.short.rest;
+  split = so.short.written.split;
+  taken = so.short.written.taken;
+  missed = unprinted call text so is;
+}
+
 unwritten_by : (asked : Command) (call : TopCall) (rest : List ℕ) → IsUnprinted call rest → IsUnwritten asked call rest
 unwritten_by command.Check call rest is = is
 unwritten_by command.Authority call rest is = is
@@ -175,7 +184,7 @@ nothing_written mode.Silent call settings program number so = so.out
 nothing_written mode.Traced call settings program number so =
     writes_none call settings program so.out so.same (λ uncut. stopped_status call.status uncut.full uncut.written so.why) (λ is. stopped_spent call.status is so.why)
 nothing_written (mode.Summed number) call settings program is so =
-    sums_none call settings program number is so.out (λ ended. stopped_ended call.status ended so.why) (inl so.same)
+    sums_none call settings program number is so.out (λ ended. stopped_ended call.status ended so.why) (misses call (authority_text program) so)
 
 stopped_reached : (call : TopCall) (text : List ℕ) → StopsBefore call text → IsOfRun call.status
 stopped_reached call text so = elim so.why [ inl is ↦ subst IsOfRun (sym is) tt | inr is ↦ subst IsOfRun (sym is.0) tt ]

@@ -1,5 +1,5 @@
 -- What a call promises at each way out of it, before its last line is written.
-use Rattle.std.proofs.Common.{◌≡◌, ◌≢◌, ◌≤◌, inl, ℕ, List, [], Option, None, Some, Bool, true, false, refl, sym, ◌∙◌, ap, subst, arith, length, take, drop}
+use Rattle.std.proofs.Common.{◌≡◌, ◌≢◌, ◌<◌, ◌≤◌, inl, ℕ, List, [], Option, None, Some, Bool, true, false, refl, sym, ◌∙◌, ap, subst, arith, length, take, drop}
 use Rattle.std.proofs.lemmas.Bool.Decides.{nat_tests}
 use Rattle.std.proofs.lemmas.List.{append-nil}
 use Rattle.wy_text.proofs.Gains.{gained-nil}
@@ -39,6 +39,14 @@ one_of_format named files is format =
     let fits : takes command.Format files ≡ true = subst (λ (c : Command). takes c files ≡ true) format is in
     grind (arith, nat_tests)
 
+-- the words of a call name one number of files
+not_crowded : {A : Type 0} → (call : TopCall) (settings other : Settings) → IsSet call settings → length settings.files ≤ most_files → IsSet call other → most_files < length other.files → A
+not_crowded call settings other set few same many =
+    let both : Some settings ≡ Some other = sym set ∙ same in
+    let one : other ≡ settings = cc in
+    let less : most_files < length settings.files = subst (λ (s : Settings). most_files < length s.files) one many in
+    absurd (omega arith)
+
 -- a call that did nothing, and that its texts did not end
 quiet_settles : (call : TopCall) → ReadsFiles call → ((asked : Command) (texts : List (List ℕ)) → IsGiven call asked texts → ((file : ℕ) → call.status ≢ status.Unread file) → Accepts call asked nothing texts)
     → IsQuiet call → (call.status ≢ status.Memory → ¬ IsOfRun call.status) → Settles call
@@ -47,6 +55,7 @@ quiet_settles call reads accepts quiet idle = record {
   did = nothing;
   accepts = accepts;
   quiet = λ _. quiet;
+  crowded = λ settings set many. refl;
   idle = λ _. idle;
   runs = λ program none. absurd (cc);
   checks = λ none. absurd (cc);
@@ -114,6 +123,7 @@ closes_unsettled one other end before after closes = record {
   split = closes.split;
   taken = closes.taken;
   whole = closes.whole;
+  counted = closes.counted;
   kept = closes.kept;
 }
 
@@ -132,6 +142,7 @@ settles_unread call settings file set takes few stops out report devices is = re
   did = nothing;
   accepts = λ asked texts given none. absurd (none file is);
   quiet = λ _. record { out = out; report = report; devices = devices };
+  crowded = λ other same many. refl;
   idle = λ _ full run. subst IsOfRun is run;
   runs = λ program none. absurd (cc);
   checks = λ none. absurd (cc);
@@ -160,6 +171,7 @@ settles_starved call settings set takes few stops out report devices is = record
     does = λ other asks full. absurd (full is);
   };
   quiet = λ _. record { out = out; report = report; devices = devices };
+  crowded = λ other same many. refl;
   idle = λ _ full run. full is;
   runs = λ program none. absurd (cc);
   checks = λ none. absurd (cc);
@@ -181,6 +193,7 @@ settles_answered law runs call settings read set few so (answering.declined why 
   did = nothing;
   accepts = λ other texts given none. accepts_none law call settings read set so why other texts given;
   quiet = λ _. record { out = out; report = report; devices = devices };
+  crowded = λ other same many. refl;
   idle = λ _. idle_declined settings.command read call.status why;
   runs = λ program none. absurd (cc);
   checks = λ none. absurd (cc);
@@ -196,6 +209,7 @@ settles_answered law runs call settings read set few so (answering.checked progr
       accepts = λ other texts given none. accepts_some law call settings read checked set so
           (λ told same. asks_check settings.command told program check (passes_read read told program same passes)) (out_run call.status reached) other texts given;
       quiet = λ none. absurd (cc);
+      crowded = λ other same many. not_crowded call settings other set few same many;
       idle = λ none. absurd (cc);
       runs = λ program none. absurd (cc);
       checks = λ _. writes_by call command.Check accepted_text (has_command call settings command.Check set check) report devices wrote;
@@ -211,6 +225,7 @@ settles_answered law runs call settings read set few so (answering.reported prog
       accepts = λ other texts given none. accepts_some law call settings read (reported program) set so
           (λ told same. asks_report settings.command told program asks (passes_read read told program same passes)) (out_run call.status reached) other texts given;
       quiet = λ none. absurd (cc);
+      crowded = λ other same many. not_crowded call settings other set few same many;
       idle = λ none. absurd (cc);
       runs = λ program none. absurd (cc);
       checks = λ none. absurd (cc);
@@ -227,6 +242,7 @@ settles_answered law runs call settings read set few so (answering.ran program w
       accepts = λ other texts given none. accepts_some law call settings read (ran program) set so
           (λ told same. asks_run settings.command told way program run (runnable_read read told program same is)) reached other texts given;
       quiet = λ none. absurd (cc);
+      crowded = λ other same many. not_crowded call settings other set few same many;
       idle = λ none. absurd (cc);
       runs = λ other same. let e : program ≡ other = cc in subst (λ (p : Program). Runs call p) e
           (runs_by call settings set program (runs read program is.passes) way run number ended);
@@ -243,6 +259,7 @@ settles_answered law runs call settings read set few so (answering.formatted tre
       accepts = λ other texts given none. accepts_some law call settings read (formatted tree) set so
           (λ told same. asks_format settings.command told tree format (tree_read read told tree same have)) (out_run call.status reached) other texts given;
       quiet = λ none. absurd (cc);
+      crowded = λ other same many. not_crowded call settings other set few same many;
       idle = λ none. absurd (cc);
       runs = λ program none. absurd (cc);
       checks = λ none. absurd (cc);

@@ -9,8 +9,8 @@ use Rattle.wy_machine.specs.declared.run_end.RunEnd.{RunEnd}
 use Rattle.wy_machine.specs.declared.run_end.RunEnd.TheVariants as end
 use Rattle.wy_types.specs.Program.{Program}
 use Rattle.wy_settings.specs.Settings.{Settings, sample_number}
-use Rattle.wy_engine.specs.Headline.{EndsAs, HasEnded, IsUncut, SumsUp, course_in}
-use Rattle.wy_engine.specs.Judgement.{summary_text}
+use Rattle.wy_engine.specs.Headline.{EndsAs, HasEnded, IsUncut, MissesReport, SumsUp, course_in}
+use Rattle.wy_engine.specs.Judgement.{authority_text, summary_text}
 use Rattle.wy_engine.specs.Running.{ThenWrote, skipped, status_of, summed}
 use Rattle.wy_engine.specs.TopCall.{TopCall}
 use Rattle.wy_engine.specs.Writing.{Wrote, cut, starved, whole}
@@ -51,7 +51,7 @@ ended_by call settings program ends =
 
 -- nothing came to `out`, and the run did not end well
 pub sums_none : (call : TopCall) (settings : Settings) (program : Program) (number : ℕ) → sample_number settings.files ≡ Some number → call.out_after ≡ call.out → call.status ≢ status.Ended
-    → (call.devices_after ≡ call.devices) ⊎ (TellsDeeds call.devices → HasEnded call settings program) → SumsUp call settings program
+    → (call.status ≡ status.Unwritten → MissesReport call (authority_text program)) → SumsUp call settings program
 sums_none call settings program number is out other why = record {
   number = number;
   is = is;
@@ -62,7 +62,7 @@ sums_none call settings program number is out other why = record {
   whole = λ ended. absurd (other ended);
   others = λ uncut ended. refl;
   begun = inl refl;
-  cut = λ unwritten. why;
+  cut = λ unwritten. inl (why unwritten);
 }
 
 wrote_by : (call : TopCall) (settings : Settings) (program : Program) (number : ℕ) → sample_number settings.files ≡ Some number → (TellsDeeds call.devices → HasEnded call settings program)
@@ -77,7 +77,7 @@ wrote_by call settings program number is finished (whole written ended) = record
   whole = λ _. refl;
   others = λ uncut other. absurd (other ended);
   begun = inr finished;
-  cut = λ unwritten. inr finished;
+  cut = λ unwritten. let q : status.Ended ≡ status.Unwritten = sym ended ∙ unwritten in absurd (cc);
 }
 wrote_by call settings program number is finished (cut short rose unwritten) = record {
   number = number;
@@ -89,7 +89,7 @@ wrote_by call settings program number is finished (cut short rose unwritten) = r
   whole = λ ended. let q : status.Unwritten ≡ status.Ended = sym unwritten ∙ ended in absurd (cc);
   others = λ uncut other. absurd (uncut.written unwritten);
   begun = inr finished;
-  cut = λ _. inr finished;
+  cut = λ _. inr (short.some, finished);
 }
 wrote_by call settings program number is finished (starved rest written wanting) = record {
   number = number;
@@ -101,7 +101,7 @@ wrote_by call settings program number is finished (starved rest written wanting)
   whole = λ ended. let q : status.Memory ≡ status.Ended = sym wanting ∙ ended in absurd (cc);
   others = λ uncut other. absurd (uncut.full wanting);
   begun = inr finished;
-  cut = λ unwritten. inr finished;
+  cut = λ unwritten. let q : status.Memory ≡ status.Unwritten = sym wanting ∙ unwritten in absurd (cc);
 }
 
 not_ended : (e : RunEnd) → e ≢ end.Ended → status_of e ≢ status.Ended

@@ -27,7 +27,7 @@ use Rattle.wy_engine.specs.Judgement.{Asks, Did, IsReported, RunsPrograms, Stops
 use Rattle.wy_engine.specs.LastLine.{LineWords, last_line, line_words}
 use Rattle.wy_settings.specs.Settings.{Settings, sample_number, settings_of}
 use Rattle.wy_engine.specs.Status.{IsOfEnd, IsOfOut, IsOfRun, IsOfTexts}
-use Rattle.wy_engine.specs.TopCall.{IsGiven, IsQuiet, IsSet, ReadsFiles, TopCall}
+use Rattle.wy_engine.specs.TopCall.{IsGiven, IsQuiet, IsSet, ReadsFiles, TopCall, most_files}
 use Rattle.wy_settings.specs.declared.command_line.Command.{Command}
 use Rattle.wy_settings.specs.declared.command_line.Command.TheVariants as command
 use Rattle.wy_engine.specs.declared.status.Status.{Status}
@@ -59,6 +59,14 @@ pub record IsUnprinted (call : TopCall) (rest : List ℕ) : Type 0 where
   pub some : 0 < length rest
   pub devices : call.devices_after ≡ call.devices
   pub rose : Rose call.report.faults call.report_after.faults
+
+-- .. which is the part of this text
+pub record MissesReport (call : TopCall) (text : List ℕ) : Type 0 where
+  pub front : List ℕ
+  pub rest : List ℕ
+  pub split : text ≡ front ++ rest
+  pub taken : call.report_after.taken ≡ gained call.report.taken front
+  pub missed : IsUnprinted call rest
 
 -- Why a status is Unwritten: the report could not be written; or, in `trace`, the line of an event could not, or in
 -- `sample` the line that sums it up, and then `out` counted a fault.
@@ -133,7 +141,8 @@ pub record HasEnded (call : TopCall) (settings : Settings) (program : Program) :
 
 -- The line that sums a sample up came to `out`: whole where the status is Ended, and a part of it, or nothing, where it is
 -- Unwritten or where memory was wanting; else nothing. Where the devices tell their deeds, something of it stands there only behind a run
--- that did all that the program means, and so it is where the status is Unwritten but for the report.
+-- that did all that the program means. Where the status is Unwritten, a part of the report is missing; or a part of the line is,
+-- and the run did all that the program means.
 pub record SumsUp (call : TopCall) (settings : Settings) (program : Program) : Type 0 where
   pub number : ℕ
   pub is : sample_number settings.files ≡ Some number
@@ -144,7 +153,7 @@ pub record SumsUp (call : TopCall) (settings : Settings) (program : Program) : T
   pub whole : call.status ≡ status.Ended → rest ≡ []
   pub others : IsUncut call.status → call.status ≢ status.Ended → front ≡ []
   pub begun : (front ≡ []) ⊎ (TellsDeeds call.devices → HasEnded call settings program)
-  pub cut : call.status ≡ status.Unwritten → (call.devices_after ≡ call.devices) ⊎ (TellsDeeds call.devices → HasEnded call settings program)
+  pub cut : call.status ≡ status.Unwritten → MissesReport call (authority_text program) ⊎ ((0 < length rest) × (TellsDeeds call.devices → HasEnded call settings program))
 
 -- what came to `out`: `run` writes nothing there, `trace` the lines of the events, and `sample` the line that sums it up
 abbrev pub WritesRun : Command → TopCall → Settings → Program → Type 0
@@ -187,12 +196,14 @@ pub record Writes (call : TopCall) (command : Command) (text : List ℕ) : Type 
   pub report : call.report_after ≡ call.report
   pub devices : call.devices_after ≡ call.devices
 
--- All that a call promises before its last line is written. Where nothing was done, nothing was printed or written.
+-- All that a call promises before its last line is written. Where nothing was done, nothing was printed or written; and
+-- nothing is done where the words name more files than the limit.
 pub record Settles (call : TopCall) : Type 0 where
   pub reads : ReadsFiles call
   pub did : Did
   pub accepts : (command : Command) (texts : List (List ℕ)) → IsGiven call command texts → ((file : ℕ) → call.status ≢ status.Unread file) → Accepts call command did texts
   pub quiet : did ≡ nothing → IsQuiet call
+  pub crowded : (settings : Settings) → IsSet call settings → most_files < length settings.files → did ≡ nothing
   pub idle : did ≡ nothing → call.status ≢ status.Memory → ¬ IsOfRun call.status
   pub runs : (program : Program) → did ≡ ran program → Runs call program
   pub checks : did ≡ checked → Writes call command.Check accepted_text
@@ -208,6 +219,7 @@ pub record Closes (words : LineWords) (settled end : Status) (before after : Sin
   pub split : last_line words settled ≡ line ++ cut
   pub taken : after.taken ≡ gained before.taken line
   pub whole : end ≢ status.Memory → (cut ≡ []) ⊎ Rose before.faults after.faults
+  pub counted : before.faults ≤ after.faults
   pub kept : (end ≡ settled) ⊎ (end ≡ status.Memory)
 
 -- the call before its last line was written

@@ -1,4 +1,5 @@
 pub mod Answering
+pub mod Completeness
 pub mod FileTrees
 pub mod FormatAgain
 pub mod Headline

@@ -1,9 +1,11 @@
 //! Laws of the definitions of this crate. No function here does anything: what it says is its clause.
 
+ghost use Rattle.wy_engine.specs.Completeness.{AcceptedTextsEnd};
 ghost use Rattle.wy_engine.specs.FormatAgain.{FormatAgain};
 ghost use Rattle.wy_engine.specs.ProgramLaws.{AcceptedRunAsMeant};
 
 use wy_canonical::trees_have_words;
+use wy_code::laws::spent_takes_all;
 use wy_lower::laws::{accepted_code_follows, accepted_is_never_stuck};
 use wy_meaning::laws::{answers_are_taken_in_order, nodes_cost_four};
 use wy_sound::laws::events_are_bounded;
@@ -40,4 +42,15 @@ pub fn accepted_run_as_meant()
     allowed_is_reported();
     nodes_cost_four();
     answers_are_taken_in_order();
+}
+
+/// A call finds no excuse. Where no part of the outside counted a fault and no limit is passed, an accepted program that
+/// `run`, `trace` or `sample` runs, with a bound of at least four steps for each node that its meaning evaluates and four
+/// more, ends, traps or goes too deep as its meaning does; and texts that `check`, `authority` or `format` do not stop come
+/// to their good end. Only want of memory may come in the place of these.
+pub fn accepted_texts_end()
+    ensures { AcceptedTextsEnd }
+{
+    accepted_run_as_meant();
+    spent_takes_all();
 }
