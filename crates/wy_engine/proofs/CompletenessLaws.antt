@@ -98,7 +98,7 @@ settled_run law call settings set program meant_so run tells report out devices 
     let one : run.asked.settings ≡ settings = cc in
     let uncut : IsUncut call.status = record { full = full; written = λ is. unwritten_run call run.asked.settings.command run.printed.rest report out (run.printed.proper is) } in
     let so : EndsAs call.status settings.steps (course_in call settings program) =
-        subst (λ (s : Settings). EndsAs call.status s.steps (course_in call s program)) one (run.ends tells uncut) in
+    subst (λ (s : Settings). EndsAs call.status s.steps (course_in call s program)) one (run.ends tells uncut) in
     let c : Course = course_in call settings program in
     let within : c.steps ≤ settings.steps = elim (cases_lt settings.steps c.steps) [
       | inl more ↦ let small : settings.steps < 4 * c.nodes = (so.spent more).1 in absurd (omega arith)
