@@ -1,7 +1,7 @@
 -- Where nothing fails outside, accepted texts come to their end.
-use Rattle.std.proofs.Common.{◌≡◌, ◌≢◌, ◌⊎◌, inl, inr, ◌≤◌, ◌<◌, ◌+◌, ◌*◌, ℕ, suc, List, Some, refl, sym, ◌∙◌, ap, subst, arith, length}
+use Rattle.std.proofs.Common.{◌≡◌, ◌≢◌, ◌⊎◌, inl, inr, ◌≤◌, ◌<◌, ◌+◌, ◌*◌, ℕ, suc, List, Some, refl, sym, ◌∙◌, ap, subst, arith}
 use Rattle.std.proofs.lemmas.Bool.{cases_lt}
-use Rattle.wy_text.specs.Outside.{Rose, SinkState}
+use Rattle.wy_text.specs.Outside.{Rose}
 use Rattle.wy_device.specs.Devices.{device_of}
 use Rattle.wy_device.specs.Events.{TellsDeeds}
 use Rattle.wy_device.specs.Operation.{kind_named}

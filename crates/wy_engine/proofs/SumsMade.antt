@@ -1,5 +1,5 @@
 -- What came to `out` behind the run of a sample.
-use Rattle.std.proofs.Common.{◌≡◌, ◌≢◌, ◌⊎◌, inl, inr, ◌≤◌, ℕ, List, [], Some, refl, sym, ◌∙◌, ap, subst}
+use Rattle.std.proofs.Common.{◌≡◌, ◌≢◌, inl, inr, ◌≤◌, ℕ, List, [], Some, refl, sym, ◌∙◌, ap, subst}
 use Rattle.std.proofs.lemmas.Bool.{cases_lt}
 use Rattle.wy_text.specs.Outside.{Rose, SinkState}
 use Rattle.wy_text.proofs.Gains.{gained-nil}

@@ -10,7 +10,6 @@ use Rattle.wy_device.specs.declared.operation.Kind.{Kind}
 use Rattle.wy_machine.specs.TrapKinds.{trap_meant}
 use Rattle.wy_types.specs.Program.{Program}
 use Rattle.wy_settings.specs.declared.command_line.Command.{Command}
-use Rattle.wy_settings.specs.declared.command_line.Command.TheVariants as command
 use Rattle.wy_engine.specs.Headline.{Headline, course_in}
 use Rattle.wy_engine.specs.Judgement.{Asks, Did, checked, formatted, nothing, ran, reported}
 use Rattle.wy_engine.specs.TopCall.{IsGiven, TopCall}
