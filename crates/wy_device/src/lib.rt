@@ -1,6 +1,7 @@
 //! Operations, answers, deeds and events; devices, handed in, shut or in memory.
 #![tactic(auto)]
 
+mod call_record;
 pub mod deed;
 pub mod device;
 pub mod file_name;

@@ -7,12 +7,13 @@ ghost use Rattle.wy_device.specs.Device.{DeviceState, IsAnswerOf, deed_done, dee
 ghost use Rattle.wy_device.specs.MemClock.{time_after};
 ghost use Rattle.wy_device.specs.Operation.{kind_of};
 
-use crate::deed::{Deed, DeedList};
+use crate::call_record::CallRecord;
+use crate::deed::DeedList;
 use crate::device::{Device, DeviceError};
 use crate::operation::{Answer, Kind, Op};
 use std::alloc::Global;
 use std::marker::Model;
-use wy_text::list::{CallList, Items};
+use wy_text::list::CallList;
 use wy_text::text::{Memory, Text};
 
 /// A clock in memory: a second passes at each call that succeeds. It fails at the calls that it was told to fail.
@@ -20,10 +21,7 @@ use wy_text::text::{Memory, Text};
 pub struct MemClock {
     start: i64,
     given: u64,
-    deeds: DeedList,
-    fails: CallList,
-    calls: u64,
-    faults: u64,
+    kept: CallRecord,
 }
 
 impl Model for MemClock {
@@ -33,9 +31,9 @@ impl Model for MemClock {
 
     ghost Value = { MemClockState };
 
-    ghost view = { λ c. record { start = c.start; deeds = c.deeds; fails = c.fails; calls = c.calls; faults = c.faults } };
+    ghost view = { λ c. record { start = c.start; deeds = c.kept.deeds; fails = c.kept.fails; calls = c.kept.calls; faults = c.kept.faults } };
 
-    ghost invariant = { λ c. c.given ≡ min (answered c.deeds) (2 ^ 64 - 1) };
+    ghost invariant = { λ c. c.given ≡ min (answered c.kept.deeds) (2 ^ 64 - 1) };
 }
 
 impl MemClock {
@@ -46,10 +44,7 @@ impl MemClock {
         Ok(MemClock {
             start,
             given: 0,
-            deeds: Items::new(alloc),
-            fails,
-            calls: 0,
-            faults: 0,
+            kept: CallRecord::new(alloc, fails),
         })
     }
 
@@ -59,8 +54,8 @@ impl MemClock {
         ensures noted { IfOk result (λ a. self.new ≡ record self.old { deeds = self.old.deeds ++ deed_done grant.now op.now a }) }
         ensures err { OnErr result (self.new ≡ self.old) }
     {
-        let answer = Answer::Number(self.start.saturating_add_unsigned(self.given));
-        self.deeds.push(Deed::done(grant, op, &answer)?)?;
+        let time = Answer::Number(self.start.saturating_add_unsigned(self.given));
+        let answer = self.kept.answer(grant, op, time)?;
         self.given = self.given.saturating_add(1);
         Ok(answer)
     }
@@ -76,7 +71,7 @@ impl Device for MemClock {
     }
 
     fn deeds(&self) -> Option<&DeedList> {
-        Some(&self.deeds)
+        Some(&self.kept.deeds)
     }
 
     fn perform(&mut self, grant: &Text, op: &Op) -> Result<Answer, DeviceError>
@@ -100,12 +95,7 @@ impl Device for MemClock {
         ensures time { IfOk result (λ a. a ≡ Answer.Number (time_after (answered self.old.deeds) self.old.start)) }
         ensures same_start { self.new.start ≡ self.old.start }
     {
-        self.calls = self.calls.saturating_add(1);
-        if self.fails.contains(self.calls) {
-            self.deeds.push(Deed::failed(grant, op)?)?;
-            self.faults = self.faults.saturating_add(1);
-            return Err(DeviceError::Failed);
-        }
+        self.kept.begin(grant, op)?;
         match op {
             Op::ClockNow => Ok(self.tell_time(grant, op)?),
             _ => unreachable!(),

@@ -6,12 +6,13 @@ ghost use Rattle.wy_device.specs.Device.{DeviceState, IsAnswerOf, deed_done, dee
 ghost use Rattle.wy_device.specs.MemConsole.{line_size, next_line};
 ghost use Rattle.wy_device.specs.Operation.{kind_of};
 
-use crate::deed::{Deed, DeedList};
+use crate::call_record::CallRecord;
+use crate::deed::DeedList;
 use crate::device::{Device, DeviceError};
 use crate::operation::{Answer, Kind, Op};
 use std::alloc::Global;
 use std::marker::Model;
-use wy_text::list::{CallList, Items};
+use wy_text::list::CallList;
 use wy_text::text::{Memory, Text, from_bytes};
 
 /// The greatest number of bytes that one `read` of a console gives.
@@ -24,10 +25,7 @@ pub struct MemConsole {
     input: Text,
     at: usize,
     written: Text,
-    deeds: DeedList,
-    fails: CallList,
-    calls: u64,
-    faults: u64,
+    kept: CallRecord,
 }
 
 impl Model for MemConsole {
@@ -36,7 +34,7 @@ impl Model for MemConsole {
 
     ghost Value = { MemConsoleState };
 
-    ghost view = { λ c. record { input = drop c.at c.input; written = c.written; deeds = c.deeds; fails = c.fails; calls = c.calls; faults = c.faults } };
+    ghost view = { λ c. record { input = drop c.at c.input; written = c.written; deeds = c.kept.deeds; fails = c.kept.fails; calls = c.kept.calls; faults = c.kept.faults } };
 
     ghost invariant = { λ c. c.at ≤ length c.input };
 }
@@ -72,10 +70,7 @@ impl MemConsole {
             input,
             at: 0,
             written,
-            deeds: Items::new(alloc),
-            fails,
-            calls: 0,
-            faults: 0,
+            kept: CallRecord::new(alloc, fails),
         })
     }
 
@@ -88,8 +83,7 @@ impl MemConsole {
         let rest = &self.input.as_bytes()[self.at..];
         let size = line_len(rest);
         let line = from_bytes(self.alloc, &rest[..size])?;
-        let answer = Answer::Bytes(line);
-        self.deeds.push(Deed::done(grant, op, &answer)?)?;
+        let answer = self.kept.answer(grant, op, Answer::Bytes(line))?;
         self.at += size;
         Ok(answer)
     }
@@ -100,9 +94,9 @@ impl MemConsole {
         ensures err { OnErr result (self.new ≡ self.old) }
     {
         let written = self.written.joined(text)?;
-        self.deeds.push(Deed::done(grant, op, &Answer::Unit)?)?;
+        let answer = self.kept.answer(grant, op, Answer::Unit)?;
         self.written = written;
-        Ok(Answer::Unit)
+        Ok(answer)
     }
 }
 
@@ -116,7 +110,7 @@ impl Device for MemConsole {
     }
 
     fn deeds(&self) -> Option<&DeedList> {
-        Some(&self.deeds)
+        Some(&self.kept.deeds)
     }
 
     fn perform(&mut self, grant: &Text, op: &Op) -> Result<Answer, DeviceError>
@@ -141,12 +135,7 @@ impl Device for MemConsole {
         ensures wrote { (t : List ℕ) → op.now ≡ Op.ConsoleWrite t → OnOk result ((self.new.written ≡ self.old.written ++ t) × (self.new.input ≡ self.old.input)) }
         ensures kept { OnErr result ((self.new.input ≡ self.old.input) × (self.new.written ≡ self.old.written)) }
     {
-        self.calls = self.calls.saturating_add(1);
-        if self.fails.contains(self.calls) {
-            self.deeds.push(Deed::failed(grant, op)?)?;
-            self.faults = self.faults.saturating_add(1);
-            return Err(DeviceError::Failed);
-        }
+        self.kept.begin(grant, op)?;
         match op {
             Op::ConsoleRead => Ok(self.read_line(grant, op)?),
             Op::ConsoleWrite(text) => Ok(self.write_text(grant, op, text)?),

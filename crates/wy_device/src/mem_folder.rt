@@ -7,13 +7,14 @@ ghost use Rattle.wy_device.specs.FolderFiles.{text_in, text_or_empty, Puts};
 ghost use Rattle.wy_device.specs.MemFolder.{Answers, Leaves, AnswersTooMuch};
 ghost use Rattle.wy_device.specs.Operation.{kind_of};
 
-use crate::deed::{Deed, DeedList};
+use crate::call_record::CallRecord;
+use crate::deed::DeedList;
 use crate::device::{Device, DeviceError};
 use crate::folder_files::{FolderFile, FolderList, copied, listing, put, text_of};
 use crate::operation::{Answer, Kind, Op};
 use std::alloc::Global;
 use std::marker::Model;
-use wy_text::list::{CallList, Items};
+use wy_text::list::CallList;
 use wy_text::text::{Memory, Text, from_bytes};
 
 /// How many bytes a text has at most, and so an answer of a folder.
@@ -25,10 +26,7 @@ pub const LONGEST_TEXT: usize = 1_048_576;
 pub struct MemFolder {
     alloc: Global,
     files: Vec<FolderFile>,
-    deeds: DeedList,
-    fails: CallList,
-    calls: u64,
-    faults: u64,
+    kept: CallRecord,
 }
 
 impl Model for MemFolder {
@@ -36,7 +34,7 @@ impl Model for MemFolder {
 
     ghost Value = { MemFolderState };
 
-    ghost view = { λ f. record { files = f.files.items; deeds = f.deeds; fails = f.fails; calls = f.calls; faults = f.faults } };
+    ghost view = { λ f. record { files = f.files.items; deeds = f.kept.deeds; fails = f.kept.fails; calls = f.kept.calls; faults = f.kept.faults } };
 }
 
 impl MemFolder {
@@ -47,10 +45,7 @@ impl MemFolder {
         Ok(MemFolder {
             alloc,
             files: copied(alloc, files.as_slice())?,
-            deeds: Items::new(alloc),
-            fails,
-            calls: 0,
-            faults: 0,
+            kept: CallRecord::new(alloc, fails),
         })
     }
 
@@ -69,29 +64,6 @@ impl MemFolder {
         text_of(self.files.as_slice(), grant, name).is_some()
     }
 
-    /// Notes the deed of an operation that was answered.
-    fn note(&mut self, grant: &Text, op: &Op, answer: Answer) -> Result<Answer, Memory>
-        ensures ok { IfOk result (λ a. (a ≡ answer) × (self.new ≡ record self.old { deeds = self.old.deeds ++ deed_done grant.now op.now a })) }
-        ensures err { OnErr result (self.new ≡ self.old) }
-    {
-        self.deeds.push(Deed::done(grant, op, &answer)?)?;
-        Ok(answer)
-    }
-
-    /// Notes the deed of an operation that failed, and counts a fault.
-    fn note_failure(&mut self, grant: &Text, op: &Op) -> Result<(), Memory>
-        ensures ok { OnOk result (self.new ≡ record self.old {
-          deeds = self.old.deeds ++ deed_failed grant.now op.now;
-          faults = next_count self.old.faults;
-        }) }
-        ensures err { OnErr result (self.new ≡ self.old) }
-        ensures counted { self.old.faults ≤ self.new.faults }
-    {
-        self.deeds.push(Deed::failed(grant, op)?)?;
-        self.faults = self.faults.saturating_add(1);
-        Ok(())
-    }
-
     /// Answers a text and notes the deed, or fails where it is longer than an answer may be.
     fn answer_text(&mut self, grant: &Text, op: &Op, text: Text) -> Result<Answer, DeviceError>
         ensures answer { IfOk result (λ a. (a ≡ Answer.Bytes text) × (length text ≤ 1048576)) }
@@ -105,10 +77,10 @@ impl MemFolder {
         ensures counted { self.old.faults ≤ self.new.faults }
     {
         if text.as_bytes().len() > LONGEST_TEXT {
-            self.note_failure(grant, op)?;
+            self.kept.fail(grant, op)?;
             return Err(DeviceError::Failed);
         }
-        Ok(self.note(grant, op, Answer::Bytes(text))?)
+        Ok(self.kept.answer(grant, op, Answer::Bytes(text))?)
     }
 
     /// Makes or replaces the file of a name, and notes the deed.
@@ -132,11 +104,10 @@ impl MemFolder {
             name: name.copy()?,
             text,
         };
-        let deed = Deed::done(grant, op, &Answer::Unit)?;
         self.files.reserve(1)?;
-        self.deeds.push(deed)?;
+        let answer = self.kept.answer(grant, op, Answer::Unit)?;
         put(&mut self.files, file);
-        Ok(Answer::Unit)
+        Ok(answer)
     }
 }
 
@@ -150,7 +121,7 @@ impl Device for MemFolder {
     }
 
     fn deeds(&self) -> Option<&DeedList> {
-        Some(&self.deeds)
+        Some(&self.kept.deeds)
     }
 
     fn perform(&mut self, grant: &Text, op: &Op) -> Result<Answer, DeviceError>
@@ -177,11 +148,7 @@ impl Device for MemFolder {
         ensures leaves { OnOk result (Leaves self.old.files grant.now op.now self.new.files) }
         ensures kept { OnErr result (self.new.files ≡ self.old.files) }
     {
-        self.calls = self.calls.saturating_add(1);
-        if self.fails.contains(self.calls) {
-            self.note_failure(grant, op)?;
-            return Err(DeviceError::Failed);
-        }
+        self.kept.begin(grant, op)?;
         match op {
             Op::FolderRead(name) => {
                 let text = self.text(grant, name)?;
@@ -189,7 +156,7 @@ impl Device for MemFolder {
             }
             Op::FolderHas(name) => {
                 let answer = Answer::Truth(self.has(grant, name));
-                Ok(self.note(grant, op, answer)?)
+                Ok(self.kept.answer(grant, op, answer)?)
             }
             Op::FolderWrite(name, text) => Ok(self.write_text(grant, op, name, text.copy()?)?),
             Op::FolderAppend(name, text) => {

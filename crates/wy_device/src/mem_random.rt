@@ -7,7 +7,8 @@ ghost use Rattle.wy_device.specs.Device.{DeviceState, IsAnswerOf, deed_done, dee
 ghost use Rattle.wy_device.specs.MemRandom.{word_after};
 ghost use Rattle.wy_device.specs.Operation.{kind_of};
 
-use crate::deed::{Deed, DeedList};
+use crate::call_record::CallRecord;
+use crate::deed::DeedList;
 use crate::device::{Device, DeviceError};
 use crate::operation::{Answer, Kind, Op};
 use std::alloc::Global;
@@ -24,10 +25,7 @@ pub type NumberList = Items<i64>;
 pub struct MemRandom {
     numbers: NumberList,
     at: usize,
-    deeds: DeedList,
-    fails: CallList,
-    calls: u64,
-    faults: u64,
+    kept: CallRecord,
 }
 
 impl Model for MemRandom {
@@ -37,9 +35,9 @@ impl Model for MemRandom {
 
     ghost Value = { MemRandomState };
 
-    ghost view = { λ r. record { numbers = r.numbers; deeds = r.deeds; fails = r.fails; calls = r.calls; faults = r.faults } };
+    ghost view = { λ r. record { numbers = r.numbers; deeds = r.kept.deeds; fails = r.kept.fails; calls = r.kept.calls; faults = r.kept.faults } };
 
-    ghost invariant = { λ r. r.at ≡ answered r.deeds % max (length r.numbers) 1 };
+    ghost invariant = { λ r. r.at ≡ answered r.kept.deeds % max (length r.numbers) 1 };
 }
 
 /// The number at a place, and 0 past the end.
@@ -69,10 +67,7 @@ impl MemRandom {
         Ok(MemRandom {
             numbers,
             at: 0,
-            deeds: Items::new(alloc),
-            fails,
-            calls: 0,
-            faults: 0,
+            kept: CallRecord::new(alloc, fails),
         })
     }
 
@@ -82,8 +77,8 @@ impl MemRandom {
         ensures noted { IfOk result (λ a. self.new ≡ record self.old { deeds = self.old.deeds ++ deed_done grant.now op.now a }) }
         ensures err { OnErr result (self.new ≡ self.old) }
     {
-        let answer = Answer::Number(number_at(&self.numbers, self.at));
-        self.deeds.push(Deed::done(grant, op, &answer)?)?;
+        let number = Answer::Number(number_at(&self.numbers, self.at));
+        let answer = self.kept.answer(grant, op, number)?;
         self.at = next_place(self.at, self.numbers.len());
         Ok(answer)
     }
@@ -99,7 +94,7 @@ impl Device for MemRandom {
     }
 
     fn deeds(&self) -> Option<&DeedList> {
-        Some(&self.deeds)
+        Some(&self.kept.deeds)
     }
 
     fn perform(&mut self, grant: &Text, op: &Op) -> Result<Answer, DeviceError>
@@ -123,12 +118,7 @@ impl Device for MemRandom {
         ensures word { IfOk result (λ a. a ≡ Answer.Number (word_after (answered self.old.deeds) self.old.numbers)) }
         ensures same_numbers { self.new.numbers ≡ self.old.numbers }
     {
-        self.calls = self.calls.saturating_add(1);
-        if self.fails.contains(self.calls) {
-            self.deeds.push(Deed::failed(grant, op)?)?;
-            self.faults = self.faults.saturating_add(1);
-            return Err(DeviceError::Failed);
-        }
+        self.kept.begin(grant, op)?;
         match op {
             Op::RandomWord => Ok(self.draw(grant, op)?),
             _ => unreachable!(),
