@@ -19,7 +19,7 @@ use wy_device::operation::{Answer, Kind, Op};
 use wy_engine::handing_in::devices;
 use wy_engine::top::wyvern;
 use wy_machine::devices::Devices;
-use wy_meaning::event_lines::event_line;
+use wy_meaning::event_line;
 use wy_text::list::{CallList, Items};
 use wy_text::mem_shelf::MemShelf;
 use wy_text::mem_sink::MemSink;

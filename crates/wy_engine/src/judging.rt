@@ -2,7 +2,7 @@ ghost use Rattle.std.specs.Prelude.{◌≡◌};
 ghost use Rattle.wy_engine.specs.NameFaults.{name_fault, names_status};
 
 use crate::status::Status;
-use wy_names::refusal::NameRefusal;
+use wy_names::NameRefusal;
 use wy_text::fault::{Fault, Place, RuleName};
 
 /// Where a program that has no program block is refused.

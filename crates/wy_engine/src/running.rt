@@ -17,7 +17,7 @@ use crate::status::Status;
 use crate::writing::write_out;
 use std::alloc::Global;
 use wy_device::device::Device;
-use wy_lower::lowering::{LowerRefusal, lower};
+use wy_lower::{LowerRefusal, lower};
 use wy_machine::devices::Devices;
 use wy_machine::run::{Image, load, run, run_traced};
 use wy_machine::run_end::RunEnd;

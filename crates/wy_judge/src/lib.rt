@@ -2,12 +2,17 @@
 //! has none (docs/LANGUAGE.md, "First failing node").
 #![tactic(auto)]
 
-pub mod checking;
-pub mod combining;
-pub mod faults;
-pub mod judging;
+mod checking;
+mod combining;
+mod faults;
+mod judging;
 pub mod laws;
-pub mod outcomes;
-pub mod scopes;
-pub mod settling;
-pub mod targets;
+mod outcomes;
+mod scopes;
+mod settling;
+mod targets;
+
+pub use checking::{CheckRefusal, Checked, check_modules, check_scope, keep_limit};
+pub use combining::fault_at;
+pub use faults::{atom_name, least_missing};
+pub use scopes::{Judged, judge_scope};

@@ -10,8 +10,7 @@ ghost use Rattle.wy_link.specs.Checking.{IsBeforeLines, IsCheckedProgram};
 use crate::lines::judge_lines;
 use crate::linking::{LinkRefusal, Links, link};
 use std::alloc::Global;
-use wy_judge::checking::{CheckRefusal, check_modules, keep_limit};
-use wy_judge::scopes::{Judged, judge_scope};
+use wy_judge::{CheckRefusal, Judged, check_modules, judge_scope, keep_limit};
 use wy_types::resolved::Core;
 
 /// Checks all lines and then the program's own block.

@@ -15,7 +15,7 @@ use wy_bounds::effects::effects;
 use wy_bounds::safety::{Safety, ho_safe};
 use wy_effects::atom::Atom;
 use wy_effects::set::EffSet;
-use wy_judge::faults::least_missing;
+use wy_judge::least_missing;
 use wy_subtype::pair_table::PairTable;
 use wy_text::text::Memory;
 use wy_types::reading::erase;

@@ -2,9 +2,13 @@
 //! checking all of a program (docs/LANGUAGE.md, "Modules and lines" and "Start order and ground sets").
 #![tactic(auto)]
 
-pub mod checking;
-pub mod imports;
-pub mod instances;
-pub mod lines;
-pub mod linking;
-pub mod members;
+mod checking;
+mod imports;
+mod instances;
+mod lines;
+mod linking;
+mod members;
+
+pub use checking::check;
+pub use lines::judge_lines;
+pub use linking::{LinkRefusal, Links, link};

@@ -9,8 +9,10 @@ mod indexes;
 mod kinds;
 pub mod laws;
 mod limits;
-pub mod lowering;
+mod lowering;
 mod names;
 mod operands;
 mod scopes;
 mod starting;
+
+pub use lowering::{LowerRefusal, lower};

@@ -20,7 +20,7 @@ use std::alloc::Global;
 use wy_code::code::Code;
 use wy_device::deed::Event;
 use wy_device::device::Device;
-use wy_meaning::event_lines::event_line;
+use wy_meaning::event_line;
 use wy_text::sink::{Sink, WriteError};
 use wy_text::writing::write_all;
 

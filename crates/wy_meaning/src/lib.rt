@@ -3,5 +3,7 @@
 //! an event is code too.
 #![tactic(auto)]
 
-pub mod event_lines;
+mod event_lines;
 pub mod laws;
+
+pub use event_lines::event_line;

@@ -3,9 +3,13 @@
 #![tactic(auto)]
 
 mod cutting;
-pub mod judging;
+mod judging;
 pub mod laws;
 mod names;
-pub mod policy;
-pub mod reading;
+mod policy;
+mod reading;
 mod rows;
+
+pub use judging::judge;
+pub use policy::{Entry, Judgement, Member, Pattern, Policy, PolicyRefusal, PolicyRow};
+pub use reading::read_policy;

@@ -1,7 +1,7 @@
 use std::test::Fail;
 use wy_device::deed::{Deed, Event};
 use wy_device::operation::{Answer, Op};
-use wy_meaning::event_lines::event_line;
+use wy_meaning::event_line;
 use wy_text::text::from_bytes;
 
 #[test]

@@ -3,9 +3,9 @@ use std::test::Fail;
 use wy_authority::rows::{Authority, BodyRow, InstanceRow};
 use wy_effects::atom::Atom;
 use wy_effects::set::EffSet;
-use wy_policy::judging::judge;
-use wy_policy::policy::{Entry, Judgement, Member, Pattern, Policy, PolicyRefusal, PolicyRow};
-use wy_policy::reading::read_policy;
+use wy_policy::{
+    Entry, Judgement, Member, Pattern, Policy, PolicyRefusal, PolicyRow, judge, read_policy,
+};
 use wy_text::fault::AtomName;
 use wy_text::list::Items;
 use wy_text::text::{Memory, from_bytes};

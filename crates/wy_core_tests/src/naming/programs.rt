@@ -1,14 +1,14 @@
-use crate::naming::{name, place};
+use crate::naming::{atom, block, name, nothing, place};
 use std::alloc::Global;
 use std::test::Fail;
 use wy_effects::atom::Atom;
 use wy_effects::set::EffSet;
-use wy_names::refusal::NameRefusal;
-use wy_names::resolving::resolve;
+use wy_names::{NameRefusal, resolve};
 use wy_syntax::expressions::Expr;
-use wy_syntax::items::{Grant, Item, Program, Tree};
+use wy_syntax::items::{Grant, Item, Tree};
 use wy_syntax::statements::{Rhs, Tail};
-use wy_syntax::types::{AtomUse, SetUse};
+use wy_syntax::types::SetUse;
+use wy_text::limit::LimitName;
 use wy_text::list::Items;
 use wy_text::text::Memory;
 use wy_types::code::{self, Binding, Value};
@@ -28,10 +28,7 @@ fn grants(alloc: Global) -> Result<Items<Grant>, Memory> {
 /// `{c.Tick}`.
 fn effect(alloc: Global) -> Result<SetUse, Memory> {
     let mut effect = Items::new(alloc);
-    effect.push(AtomUse {
-        owner: Some(name(alloc, "c", 3)?),
-        member: name(alloc, "Tick", 3)?,
-    })?;
+    effect.push(atom(alloc, "c", "Tick", 3)?)?;
     Ok(effect)
 }
 
@@ -42,21 +39,43 @@ fn call(alloc: Global, receiver: &str) -> Result<Tail, Memory> {
     Ok(Tail::Short(Rhs::Value(Expr::Call(receiver, method, Vec::new(alloc)))))
 }
 
+/// Files with one item each.
+fn files(alloc: Global, items: Vec<Item>) -> Result<Vec<Tree>, Memory> {
+    let mut trees = Vec::new(alloc);
+    for item in items {
+        let mut alone = Vec::new(alloc);
+        alone.push(item)?;
+        trees.push(Tree { items: alone })?;
+    }
+    Ok(trees)
+}
+
 /// A file with a program block, which is granted a clock `c` and asks a name for the time.
 fn trees(alloc: Global, receiver: &str) -> Result<Vec<Tree>, Memory> {
     let mut items = Vec::new(alloc);
-    items.push(Item::Program(Program {
-        place: place(1),
-        grants: grants(alloc)?,
-        uses: Items::new(alloc),
-        lines: Items::new(alloc),
-        run: place(3),
-        effect: effect(alloc)?,
-        body: call(alloc, receiver)?,
-    }))?;
-    let mut trees = Vec::new(alloc);
-    trees.push(Tree { items })?;
-    Ok(trees)
+    items.push(block(
+        alloc,
+        grants(alloc)?,
+        effect(alloc)?,
+        call(alloc, receiver)?,
+    ))?;
+    files(alloc, items)
+}
+
+/// A file for each of these numbers, with a program block that is granted so many clocks of one name.
+fn blocks(alloc: Global, counts: &[u32]) -> Result<Vec<Tree>, Memory> {
+    let mut items = Vec::new(alloc);
+    for count in counts {
+        let mut grants = Items::new(alloc);
+        for number in 0..*count {
+            grants.push(Grant {
+                name: name(alloc, "g", number + 10)?,
+                kind: name(alloc, "Clock", number + 10)?,
+            })?;
+        }
+        items.push(block(alloc, grants, Items::new(alloc), nothing()))?;
+    }
+    files(alloc, items)
 }
 
 /// The set of the first atom.
@@ -130,13 +149,36 @@ fn a_program_is_resolved(rt: HostRuntime) -> Result<(), Fail> {
     Ok(())
 }
 
+/// Why names are not resolved.
+fn refusal(alloc: Global, trees: &[Tree]) -> Option<NameRefusal> {
+    match resolve(alloc, trees) {
+        Ok(_) => None,
+        Err(refusal) => Some(refusal),
+    }
+}
+
 #[test]
 fn a_name_out_of_sight_is_refused(rt: HostRuntime) -> Result<(), Fail> {
     let alloc = rt.alloc();
-    let refusal = match resolve(alloc, &trees(alloc, "d")?) {
-        Ok(_) => None,
-        Err(refusal) => Some(refusal),
-    };
-    assert!(rt; refusal == Some(NameRefusal::Unknown(place(4))));
+    let found = refusal(alloc, &trees(alloc, "d")?);
+    assert!(rt; found == Some(NameRefusal::Unknown(place(4))));
+    Ok(())
+}
+
+#[test]
+fn the_second_of_a_name_is_refused(rt: HostRuntime) -> Result<(), Fail> {
+    let alloc = rt.alloc();
+    let found = refusal(alloc, &blocks(alloc, &[2])?);
+    assert!(rt; found == Some(NameRefusal::Twice(place(11))));
+    Ok(())
+}
+
+#[test]
+fn grants_are_counted_in_each_block_by_itself(rt: HostRuntime) -> Result<(), Fail> {
+    let alloc = rt.alloc();
+    let within = refusal(alloc, &blocks(alloc, &[64, 64])?);
+    assert!(rt; within == Some(NameRefusal::TwoPrograms(place(1))));
+    let past = refusal(alloc, &blocks(alloc, &[1, 65])?);
+    assert!(rt; past == Some(NameRefusal::Limit(LimitName::Grants)));
     Ok(())
 }
