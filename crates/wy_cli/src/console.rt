@@ -6,11 +6,9 @@ use std::alloc::{AllocError, Global};
 use std::io::{self, BufRead, Read, Write};
 use wy_device::deed::DeedList;
 use wy_device::device::{Device, DeviceError};
+use wy_device::mem_console::LONGEST_LINE;
 use wy_device::operation::{Answer, Kind, Op};
 use wy_text::text::{Text, from_bytes};
-
-/// The greatest number of bytes that one `read` gives.
-const LONGEST_LINE: usize = 65_536;
 
 /// Lines of a reader as the input, and a writer as the output. It tells no deeds.
 ///

@@ -6,7 +6,7 @@ use indexmap::IndexSet;
 use std::alloc::Global;
 use std::marker::Model;
 use wy_text::fault::AtomName;
-use wy_text::limit::LimitName;
+use wy_text::limit::{LimitName, MOST_ATOMS};
 use wy_text::text::Text;
 
 /// An effect of one scope, as its number in the scope's table (docs/LANGUAGE.md, "Effects and types").
@@ -72,7 +72,7 @@ impl AtomTable {
         if let Some(at) = self.names.get_index_of(&name) {
             return Ok(Atom(at as u16));
         }
-        if self.names.len() >= 512 {
+        if self.names.len() >= MOST_ATOMS {
             return Err(TableRefusal::Limit(LimitName::Atoms));
         }
         match self.names.insert_full(name) {

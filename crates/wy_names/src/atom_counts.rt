@@ -11,6 +11,7 @@ use crate::scoping::{Opening, Owner};
 use crate::tables::Table;
 use std::alloc::Global;
 use wy_syntax::items::{Member, Program, TypeDecl};
+use wy_text::limit::MOST_ATOMS;
 use wy_text::text::Memory;
 
 fn abstract_count(members: &[Member]) -> usize
@@ -57,7 +58,7 @@ fn owners_count(counts: &[usize], owners: &[Owner]) -> usize
     for owner in owners {
         count = count
             .saturating_add(opening_count(counts, owner.opening))
-            .min(513);
+            .min(MOST_ATOMS + 1);
     }
     count
 }
@@ -66,7 +67,7 @@ fn owners_count(counts: &[usize], owners: &[Owner]) -> usize
 fn open_too_many(counts: &[usize], owners: &[Owner]) -> bool
     ensures { result ≡ nat_lt 512 (owners_count counts.now owners.now) }
 {
-    owners_count(counts, owners) > 512
+    owners_count(counts, owners) > MOST_ATOMS
 }
 
 /// Whether some type has too many abstract members.
@@ -74,7 +75,7 @@ pub fn types_pass(types: &[&TypeDecl]) -> bool
     ensures { result ≡ some_above 512 (abstract_counts (map lent_type types.now)) }
 {
     for decl in types {
-        if abstract_count(decl.members.as_slice()) > 512 {
+        if abstract_count(decl.members.as_slice()) > MOST_ATOMS {
             return true;
         }
     }

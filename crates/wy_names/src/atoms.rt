@@ -11,6 +11,7 @@ use crate::scoping::{Meaning, Opening, Owner};
 use std::alloc::Global;
 use wy_effects::atom::{Atom, AtomTable};
 use wy_effects::set::{EffSet, SetList};
+use wy_text::limit::MOST_ATOMS;
 use wy_text::list::Items;
 use wy_text::text::{Memory, Text};
 
@@ -31,7 +32,7 @@ fn add_atom(atoms: &mut AtomTable, owner: &Text, member: &Text) -> Result<Atom, 
 pub fn single(alloc: Global, number: usize) -> Result<EffSet, Memory>
     ensures { IfOk result (λ s. s ≡ number ∷ []) }
 {
-    if number >= 512 {
+    if number >= MOST_ATOMS {
         return Err(Memory);
     }
     let mut set = EffSet::empty(alloc);

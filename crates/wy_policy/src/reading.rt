@@ -7,15 +7,9 @@ use crate::cutting::cut;
 use crate::policy::{Policy, PolicyRefusal, PolicyRow};
 use crate::rows::row_of;
 use std::alloc::Global;
-use wy_text::limit::LimitName;
+use wy_text::limit::{LimitName, MOST_FILE_BYTES, MOST_POLICY_ROWS};
 use wy_text::list::Items;
 use wy_text::text::Memory;
-
-/// The most bytes of a policy.
-const MOST_BYTES: usize = 1_048_576;
-
-/// The most rows of a policy.
-const MOST_ROWS: usize = 4_096;
 
 /// What the lines so far say: their rows, and the number of the first that is bad.
 #[derive(Drop)]
@@ -100,13 +94,13 @@ pub fn read_policy(alloc: Global, bytes: &[u8]) -> Result<Policy, PolicyRefusal>
     ensures read { IfOk result (λ policy. IsPolicy bytes.now policy.rows) }
     ensures refused { IfErr result (IsRefused bytes.now) }
 {
-    if bytes.len() > MOST_BYTES {
+    if bytes.len() > MOST_FILE_BYTES {
         return Err(PolicyRefusal::Limit(LimitName::FileBytes));
     }
     let Ok(said) = read_lines(alloc, bytes) else {
         return Err(PolicyRefusal::Memory);
     };
-    if said.rows.len() > MOST_ROWS {
+    if said.rows.len() > MOST_POLICY_ROWS {
         return Err(PolicyRefusal::Limit(LimitName::PolicyRows));
     }
     match said.bad {

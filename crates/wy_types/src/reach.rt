@@ -13,7 +13,7 @@ use crate::types::{Method, TypeList, TypeRef};
 use crate::written::{add_block, add_values};
 use std::alloc::Global;
 use wy_effects::set::copy_sets;
-use wy_text::limit::LimitName;
+use wy_text::limit::{LimitName, MOST_REACHED_TYPES};
 use wy_text::list::Items;
 use wy_text::text::Memory;
 
@@ -58,7 +58,7 @@ fn add(alloc: Global, seen: &mut TypeList, t: &TypeRef) -> Result<(), ReachRefus
     if !t.is_object() || has(seen.as_slice(), t) {
         return Ok(());
     }
-    if seen.len() >= 1024 {
+    if seen.len() >= MOST_REACHED_TYPES {
         return Err(ReachRefusal::Limit(LimitName::ReachedTypes));
     }
     seen.push(t.copy(alloc)?)?;

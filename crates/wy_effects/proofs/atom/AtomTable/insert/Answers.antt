@@ -15,8 +15,8 @@ returns-in-Some c =
     let P : List AtomName → Type 0 = λ l. slice_get l c.in-Some.at ≡ Some name in
     (subst P c.self.view_is (found_at _ name (λ y e. name_exact name y e) c.self.inside.names.keys c.in-Some.at (sym c.in-Some.ensures.index)), inl refl)
 
-pub returns-then-len-ge512 : goal.returns-then-len-ge512
-returns-then-len-ge512 c =
+pub returns-then-len-ge-MOST_ATOMS : goal.returns-then-len-ge-MOST_ATOMS
+returns-then-len-ge-MOST_ATOMS c =
     let name : AtomName = atom_name c.args.owner c.args.member in
     let P : List AtomName → Type 0 = λ l. (In name l → ⊥) × (512 ≤ length l) in
     let r = subst P c.self.view_is (absent _ c.self.inside.names.keys name (sym c.in_default.ensures.found) (name_same name), (search rules)) in
