@@ -1,32 +1,10 @@
 //! The refusal that comes first.
 
 ghost use Rattle.std.specs.Prelude.{◌≡◌, ◌∷◌, [], Some};
-ghost use Rattle.wy_syntax.specs.Nodes.{is_before};
-ghost use Rattle.wy_names.specs.Least.{cause_number, same_place, comes_before, lesser, noted, refusal_at};
+ghost use Rattle.wy_names.specs.Least.{cause_number, comes_before, lesser, noted, refusal_at};
 
 use crate::refusal::{Cause, Refusal};
 use wy_text::fault::Place;
-
-/// Whether a place stands before another: files come in order, then lines, then columns.
-fn is_before(a: Place, b: Place) -> bool
-    ensures { result ≡ is_before a b }
-{
-    if a.file == b.file {
-        if a.line == b.line {
-            a.column < b.column
-        } else {
-            a.line < b.line
-        }
-    } else {
-        a.file < b.file
-    }
-}
-
-fn same_place(a: Place, b: Place) -> bool
-    ensures { result ≡ same_place a b }
-{
-    a.file == b.file && (a.line == b.line && a.column == b.column)
-}
 
 /// The order of causes at one place.
 fn cause_number(cause: Cause) -> u8
@@ -47,8 +25,7 @@ fn cause_number(cause: Cause) -> u8
 pub fn comes_before(a: Refusal, b: Refusal) -> bool
     ensures { result ≡ comes_before a b }
 {
-    is_before(a.place, b.place)
-        || (same_place(a.place, b.place) && cause_number(a.cause) < cause_number(b.cause))
+    a.place < b.place || (a.place == b.place && cause_number(a.cause) < cause_number(b.cause))
 }
 
 /// Keeps the refusal that comes first, of the one so far and another. It takes no memory.

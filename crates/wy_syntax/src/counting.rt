@@ -9,27 +9,12 @@ use crate::items::{Item, Tree};
 use crate::statements::{Part, Rhs, Stmt, Tail};
 use wy_text::fault::Place;
 
-/// Whether a place stands before another: files come in order, then lines, then columns.
-fn is_before(a: Place, b: Place) -> bool
-    ensures { result ≡ is_before a b }
-{
-    if a.file == b.file {
-        if a.line == b.line {
-            a.column < b.column
-        } else {
-            a.line < b.line
-        }
-    } else {
-        a.file < b.file
-    }
-}
-
 /// One for a node whose mark stands before the place.
 fn node_before(mark: Place, place: Place) -> u64
     ensures count { result ≡ one_if (is_before mark place) }
     ensures within { result ≤ 1 }
 {
-    if is_before(mark, place) { 1 } else { 0 }
+    if mark < place { 1 } else { 0 }
 }
 
 /// The nodes of an expression.

@@ -4,8 +4,9 @@ ghost use Rattle.wy_text.specs.RuleName.{rule_text};
 use crate::text::Text;
 
 /// A place in the source: the file's number among the file words, its line, and one more than the
-/// number of bytes before it in the line. All three count from 1.
-#[derive(Clone, Copy, Debug, PartialEq, Eq)]
+/// number of bytes before it in the line. All three count from 1. A place is less than another where it stands before it: files
+/// come in order, then lines, then columns.
+#[derive(Clone, Copy, Debug, PartialEq, Eq, PartialOrd, Ord)]
 pub struct Place {
     pub file: u16,
     pub line: u32,
