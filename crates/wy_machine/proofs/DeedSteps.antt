@@ -1,5 +1,5 @@
 -- What an operation on a grant does.
-use Rattle.std.proofs.Common.{◌≡◌, ◌≢◌, ℕ, ◌≤◌, ◌<◌, Bool, true, false, not, ◌&&◌, List, [], ◌∷◌, ◌++◌, length, reverse, take, Option, Some, None, Ok, Err, refl, sym, ap, ◌∙◌, subst, ◌-◌, nat_le, nat_lt, arith}
+use Rattle.std.proofs.Common.{◌≡◌, ◌≢◌, ◌⊎◌, inl, inr, ℕ, ◌≤◌, ◌<◌, Bool, true, false, not, ◌&&◌, List, [], ◌∷◌, ◌++◌, length, reverse, take, Option, Some, None, Ok, Err, refl, sym, ap, ◌∙◌, subst, ◌-◌, nat_le, nat_lt, arith}
 use Rattle.std.proofs.lemmas.List.{length_push, take_at}
 use Rattle.std.proofs.lemmas.Option.{same_Some}
 use Rattle.std.specs.Prelude.{slice_get, if◌then◌else◌}
@@ -16,27 +16,30 @@ use Rattle.wy_device.specs.Device.{IsAnswerNamed, IsAnswerOf, IsBytesUpTo, IsTru
 use Rattle.wy_device.specs.Devices.{DevicesState, device_of}
 use Rattle.wy_device.specs.Events.{DidExactly}
 use Rattle.wy_device.specs.Operation.{name_of, kind_of}
-use Rattle.wy_device.specs.Requests.{has_good_name, answers_text, fits_operation, is_text_up_to, is_truth, is_number, is_done, Answers, Fails, Waits, asked}
+use Rattle.wy_device.specs.Requests.{operations_of, operation_called, has_good_name, answers_text, fits_operation, is_text_up_to, is_truth, is_number, is_done, Told, Answers, Fails, Waits, asked}
 use Rattle.wy_device.specs.RunEnds as ends
 use Rattle.wy_device.specs.Tapes.{Tapes, spliced}
+use Rattle.wy_device.specs.Traps as device
 use Rattle.wy_device.specs.Traps.{most_texts, BadName as TrapBadName, Crowded as TrapCrowded}
 use Rattle.wy_code.specs.declared.code.Code.{Code}
 use Rattle.wy_code.specs.declared.code.Grant.{Grant as CodeGrant}
 use Rattle.wy_code.specs.Operations.{deed_event, word_answered, answered, requested, requested_of, texts_named, performed}
 use Rattle.wy_code.specs.Stores.{Word, Text, Grant, Store, Reply, Replies, ended}
-use Rattle.wy_code.specs.Machine.{Next, Go, has_room, push_reply}
+use Rattle.wy_code.specs.Machine.{State, Next, Go, Halt, stuck, with_operands, has_room, push_reply}
 use Rattle.wy_machine.specs.declared.run_end.RunEnd.TheVariants.{Trap, DeviceFailed, Memory}
-use Rattle.wy_machine.specs.declared.run_end.TrapKind.TheVariants.{BadName, Crowded}
-use Rattle.wy_machine.specs.Requesting.{asked_for, text_answer, word_answer}
+use Rattle.wy_machine.specs.declared.run_end.TrapKind.{TrapKind}
+use Rattle.wy_machine.specs.Requesting.{asked_for, operation_with, first_text, refused, text_answer, word_answer}
 use Rattle.wy_machine.specs.Runs.{tapes_of, AreSameDevices}
 use Rattle.wy_machine.specs.Stacks.{StackState, pushed}
 use Rattle.wy_machine.specs.States.{frame_of, store_of, state_of}
 use Rattle.wy_machine.specs.Steps.{IsNotStuck, IsStep}
 use Rattle.wy_machine.specs.StoreStates.{StoreState}
+use Rattle.wy_machine.specs.TrapKinds.{trap_meant}
 use Rattle.wy_machine.proofs.Acts.{no_tapes, either}
 use Rattle.wy_machine.proofs.CallSteps.{calling, called_from, calls}
-use Rattle.wy_machine.proofs.OperatorSteps.{below, not_below, with_built, text_added}
+use Rattle.wy_machine.proofs.OperatorSteps.{below, with_built, text_added}
 use Rattle.wy_machine.proofs.Quiet.{traps}
+use Rattle.wy_machine.proofs.Refusals.{asked_with, by_refusal, requested_by}
 
 ------------------------------------------------------------
 -- Answers
@@ -102,6 +105,19 @@ asked_fails RandomWord grant more = refl
 ------------------------------------------------------------
 -- Requests
 
+-- an operation that was asked does not trap
+pushed_goes : (v : Word) (es : List Event) (s : State) (room : Bool) (kind : device.TrapKind) (at : Place) → (if room then Go es (with_operands (v ∷ s.frame.operands) s) else stuck) ≢ Halt (ends.Trap kind at) []
+pushed_goes v es s true kind at e = cc
+pushed_goes v es s false kind at e = cc
+
+answered_goes : (grant : List ℕ) (op : Op) (w : Store) (told : Told) (s : State) (kind : device.TrapKind) (at : Place) → push_reply (answered grant op w told) s ≢ Halt (ends.Trap kind at) []
+answered_goes grant op w (Answers (answer.Bytes bytes) tapes) s kind at = pushed_goes _ _ _ (has_room s.frame) kind at
+answered_goes grant op w (Answers (answer.Truth b) tapes) s kind at = pushed_goes _ _ _ (has_room s.frame) kind at
+answered_goes grant op w (Answers (answer.Number n) tapes) s kind at = pushed_goes _ _ _ (has_room s.frame) kind at
+answered_goes grant op w (Answers answer.Unit tapes) s kind at = pushed_goes _ _ _ (has_room s.frame) kind at
+answered_goes grant op w (Fails tapes) s kind at = λ e. cc
+answered_goes grant op w Waits s kind at = λ e. cc
+
 requests : (place : Place) (g : CodeGrant) (w : Store) (method : List ℕ) (o : Option (List (List ℕ))) → requested_of place g w (Some method) o ≡ requested place g.name w (asked_for g.kind method o)
 requests place g w method None = refl
 requests place g w method (Some texts) = refl
@@ -133,14 +149,63 @@ module _ (code : Code) (depth : ℕ) (place : Place) (s : StackState) (w : Store
       abbrev pub IsAskedFor : Option Op → Type 0
       IsAskedFor op = (t : Tapes) → op ≡ asked_for grant.kind method (texts_named (store_of code w t) args)
 
-      pub replies : (op : Option Op) → IsAskedFor op → (t : Tapes) → next t ≡ push_reply (requested place grant.name (store_of code w t) op) (state_of code from w t)
-      replies op e t =
+      replies_at : (t : Tapes) → next t ≡ push_reply (requested place grant.name (store_of code w t) (asked_for grant.kind method (texts_named (store_of code w t) args))) (state_of code from w t)
+      replies_at t =
           grants t
           ∙ ap (λ o. push_reply (requested_of place grant (store_of code w t) o (texts_named (store_of code w t) args)) (state_of code from w t)) named
-          ∙ ap (λ r. push_reply r (state_of code from w t)) (requests place grant (store_of code w t) method (texts_named (store_of code w t) args) ∙ ap (requested place grant.name (store_of code w t)) (sym (e t)))
+          ∙ ap (λ r. push_reply r (state_of code from w t)) (requests place grant (store_of code w t) method (texts_named (store_of code w t) args))
+
+      pub replies : (op : Option Op) → IsAskedFor op → (t : Tapes) → next t ≡ push_reply (requested place grant.name (store_of code w t) op) (state_of code from w t)
+      replies op e t = replies_at t ∙ ap (λ op. push_reply (requested place grant.name (store_of code w t) op) (state_of code from w t)) (sym (e t))
 
       pub operation_there : IsNotStuck next → IsAskedFor None → ⊥
       operation_there h e = h.holds no_tapes (replies None e no_tapes)
+
+      -- an operation of this name
+      module _ (o : OpName) (is_called : operation_called method (operations_of grant.kind) ≡ Some o) where
+        abbrev texts : Tapes → Option (List (List ℕ))
+        texts t = texts_named (store_of code w t) args
+
+        abbrev pub trap_before : Tapes → Option TrapKind
+        trap_before t = refused o (first_text (store_of code w t) args) (length w.texts)
+
+        pub asked_of : (op : Option Op) → ((t : Tapes) → op ≡ operation_with o (texts t)) → IsAskedFor op
+        asked_of op e t = e t ∙ sym (asked_with grant.kind method o is_called (texts t))
+
+        pub no_such_texts : IsNotStuck next → ((t : Tapes) → None ≡ operation_with o (texts t)) → ⊥
+        no_such_texts h e = operation_there h (asked_of None e)
+
+        replies_with : (t : Tapes) → next t ≡ push_reply (requested place grant.name (store_of code w t) (operation_with o (texts t))) (state_of code from w t)
+        replies_with t = replies_at t ∙ ap (λ op. push_reply (requested place grant.name (store_of code w t) op) (state_of code from w t)) (asked_with grant.kind method o is_called (texts t))
+
+        -- it traps where it is refused, or takes no such texts
+        pub refusing : (t : Tapes) (kind : TrapKind) → trap_before t ≡ Some kind → (next t ≡ stuck) ⊎ (next t ≡ Halt (ends.Trap (trap_meant kind) place) [])
+        refusing t kind e = of (operation_with o (texts t)) refl
+          where
+            of : (op : Option Op) → op ≡ operation_with o (texts t) → (next t ≡ stuck) ⊎ (next t ≡ Halt (ends.Trap (trap_meant kind) place) [])
+            of None f = inl (replies_with t ∙ ap (λ op. push_reply (requested place grant.name (store_of code w t) op) (state_of code from w t)) (sym f))
+            of (Some op) f =
+                inr (replies_with t
+                ∙ ap (λ op. push_reply (requested place grant.name (store_of code w t) op) (state_of code from w t)) (sym f)
+                ∙ ap (λ r. push_reply r (state_of code from w t)) (requested_by place grant.name (store_of code w t) o args op f)
+                ∙ ap (λ b. push_reply (by_refusal place (answered grant.name op (store_of code w t) (asked op t)) b) (state_of code from w t)) e)
+
+        pub refused_step : IsNotStuck next → (kind : TrapKind) → ((t : Tapes) → trap_before t ≡ Some kind) → (s' : StackState) (w' : StoreState) (d : DevicesState) → IsStep code s' w' next d d (Err (Trap kind place))
+        refused_step h kind e s' w' d = traps code s' w' next d kind place (λ t. elim (refusing t kind (e t)) [ inl wrong ↦ absurd (h.holds t wrong) | inr at ↦ at ])
+
+        -- else it does not trap
+        pub no_trap : ((t : Tapes) → trap_before t ≡ None) → IsNotStuck next → (t : Tapes) (kind : device.TrapKind) (at : Place) → next t ≢ Halt (ends.Trap kind at) []
+        no_trap e h t kind at wrong = of (operation_with o (texts t)) refl
+          where
+            of : (op : Option Op) → op ≡ operation_with o (texts t) → ⊥
+            of None f = h.holds t (replies_with t ∙ ap (λ op. push_reply (requested place grant.name (store_of code w t) op) (state_of code from w t)) (sym f))
+            of (Some op) f =
+                answered_goes grant.name op (store_of code w t) (asked op t) (state_of code from w t) kind at
+                (sym (replies_with t
+                ∙ ap (λ op. push_reply (requested place grant.name (store_of code w t) op) (state_of code from w t)) (sym f)
+                ∙ ap (λ r. push_reply r (state_of code from w t)) (requested_by place grant.name (store_of code w t) o args op f)
+                ∙ ap (λ b. push_reply (by_refusal place (answered grant.name op (store_of code w t) (asked op t)) b) (state_of code from w t)) (e t))
+                ∙ wrong)
 
       module _ (op : Op) (e : IsAskedFor (Some op)) where
         abbrev tested : Tapes → Bool → Bool → Reply
@@ -152,20 +217,7 @@ module _ (code : Code) (depth : ℕ) (place : Place) (s : StackState) (w : Store
         tests : (t : Tapes) → next t ≡ push_reply (tested t (has_good_name op) (answers_text op && not (nat_lt (length w.texts) most_texts))) (state_of code from w t)
         tests t = replies (Some op) e t
 
-        pub bad_name_step : has_good_name op ≡ false → (s' : StackState) (w' : StoreState) (d : DevicesState) → IsStep code s' w' next d d (Err (Trap BadName place))
-        bad_name_step bad s' w' d =
-            traps code s' w' next d BadName place
-            (λ t. tests t ∙ ap (λ b. push_reply (tested t b (answers_text op && not (nat_lt (length w.texts) most_texts))) (state_of code from w t)) bad)
-
         module _ (good : has_good_name op ≡ true) where
-          pub full_step : answers_text op ≡ true → most_texts ≤ length w.texts → (s' : StackState) (w' : StoreState) (d : DevicesState) → IsStep code s' w' next d d (Err (Trap Crowded place))
-          full_step text many s' w' d =
-              traps code s' w' next d Crowded place
-              (λ t. tests t
-              ∙ ap (λ b. push_reply (tested t b (answers_text op && not (nat_lt (length w.texts) most_texts))) (state_of code from w t)) good
-              ∙ ap (λ b. push_reply (tested t true (b && not (nat_lt (length w.texts) most_texts))) (state_of code from w t)) text
-              ∙ ap (λ b. push_reply (tested t true (true && not b)) (state_of code from w t)) (not_below (length w.texts) most_texts many))
-
           pub room_for_text : length w.texts < most_texts → (answers_text op && not (nat_lt (length w.texts) most_texts)) ≡ false
           room_for_text few = ap (λ b. answers_text op && not b) (below (length w.texts) most_texts few) ∙ no_more (answers_text op)
             where

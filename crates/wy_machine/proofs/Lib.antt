@@ -14,6 +14,7 @@ pub mod Operating
 pub mod OperatorSteps
 pub mod Quiet
 pub mod Refilling
+pub mod Refusals
 pub mod Rooms
 pub mod Showings
 pub mod StartSteps

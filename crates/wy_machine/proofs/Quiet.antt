@@ -1,5 +1,5 @@
 -- Steps that ask no device.
-use Rattle.std.proofs.Common.{◌≡◌, Bool, true, List, [], ◌++◌, Result, Ok, Err, refl, sym, ap, ◌∙◌, subst, arith}
+use Rattle.std.proofs.Common.{◌≡◌, ◌≢◌, Bool, true, List, [], ◌++◌, Result, Ok, Err, refl, sym, ap, ◌∙◌, subst, arith}
 use Rattle.std.specs.Prelude.{IsErrAnd}
 use Rattle.wy_text.specs.declared.fault.Place.{Place}
 use Rattle.wy_text.proofs.Gains.{gained-nil}
@@ -22,7 +22,8 @@ use Rattle.wy_machine.specs.States.{state_of}
 use Rattle.wy_machine.specs.Steps.{AreQuiet, IsNotStuck, Halts, Comes, IsStep}
 use Rattle.wy_machine.specs.StoreStates.{StoreState}
 use Rattle.wy_machine.specs.TrapKinds.{trap_meant}
-use Rattle.wy_machine.specs.Wanting.{WantsOnly}
+use Rattle.wy_device.specs.Traps as device
+use Rattle.wy_machine.specs.Wanting.{WantsOnly, TrapsFirst}
 
 pub no_events : AreQuiet []
 no_events = record { none = λ kind. refl }
@@ -121,3 +122,14 @@ wants_any (Err Memory) = refl
 
 pub wants_taken : (taken : Bool) (r : Result (Unit {0}) RunEnd) → taken ≡ true → WantsOnly taken r
 wants_taken taken r e = subst (λ b. WantsOnly b r) (sym e) (wants_any r)
+
+-- .. and where no trap comes
+pub traps_none : (next : Tapes → Next) → ((t : Tapes) (kind : device.TrapKind) (place : Place) → next t ≢ Halt (ends.Trap kind place) []) → (r : Result (Unit {0}) RunEnd) → TrapsFirst next r
+traps_none next h (Ok u) = tt
+traps_none next h (Err Ended) = tt
+traps_none next h (Err (Trap kind place)) = tt
+traps_none next h (Err TooDeep) = tt
+traps_none next h (Err Spent) = tt
+traps_none next h (Err (DeviceFailed grant op)) = tt
+traps_none next h (Err SinkFailed) = tt
+traps_none next h (Err Memory) = h

@@ -1,5 +1,5 @@
 -- Which events a step shows.
-use Rattle.std.proofs.Common.{◌≡◌, ℕ, zero, suc, Bool, true, false, not, ◌&&◌, List, [], ◌∷◌, ◌++◌, length, drop, map, ◌+◌, Option, Some, None, refl, sym, ap, ◌∙◌, subst, nat_eq, nat_lt}
+use Rattle.std.proofs.Common.{◌≡◌, inl, inr, ℕ, zero, suc, Bool, true, false, not, ◌&&◌, List, [], ◌∷◌, ◌++◌, length, drop, map, ◌+◌, Option, Some, None, refl, sym, ap, ◌∙◌, subst, nat_eq, nat_lt}
 use Rattle.std.specs.Prelude.{slice_get, if◌then◌else◌}
 use Rattle.wy_text.specs.declared.fault.Place.{Place}
 use Rattle.wy_device.specs.declared.deed.Deed.{Deed as DeedRecord}
@@ -10,7 +10,8 @@ use Rattle.wy_device.specs.declared.operation.Answer.TheVariants as answer
 use Rattle.wy_device.specs.declared.operation.Op.{Op}
 use Rattle.wy_device.specs.Operators as meant
 use Rattle.wy_device.specs.Operators.{Bytes}
-use Rattle.wy_device.specs.Requests.{has_good_name, answers_text, Told, Answers, Fails, Waits, asked}
+use Rattle.wy_device.specs.declared.operation.OpName.{OpName}
+use Rattle.wy_device.specs.Requests.{operations_of, operation_called, has_good_name, answers_text, Told, Answers, Fails, Waits, asked}
 use Rattle.wy_device.specs.RunEnds as ends
 use Rattle.wy_device.specs.Tapes.{Tapes}
 use Rattle.wy_device.specs.Traps.{most_texts, most_objects, BadName, Crowded}
@@ -26,17 +27,18 @@ use Rattle.wy_code.specs.declared.instruction.Placed.{Placed}
 use Rattle.wy_code.specs.Operations.{deed_event, answered, requested, requested_of, performed, operated, computed, operator_meant, operand_count, texts_named}
 use Rattle.wy_code.specs.Stores.{Word, Int, Truth, Nothing, Text, Object, Grant, Thing, Store, found, value_at, value_set, with_text, object_made, operand, bytes_found, replied, ended}
 use Rattle.wy_code.specs.Machine as machine
-use Rattle.wy_code.specs.Machine.{State, Frame, Next, Go, Halt, stuck, act, act_first, step, push, push_reply, popped, store_slot, stored, on_truth, on_taken, Taken, taken, short, take_operands, has_room, make_with, words_from, this_of, literal_of, call_on, enter_method, enter_body, method_of_literal, return_to, begin_next, begin_instance, begin_body, start_in, all_instances, name_in, with_operands, with_store}
+use Rattle.wy_code.specs.Machine.{State, Frame, Next, Go, Halt, stuck, act, act_first, step, push, push_reply, popped, store_slot, stored, on_truth, on_taken, Taken, taken, short, take_operands, has_room, make_with, words_from, this_of, literal_of, call_on, enter_method, enter_body, method_of_literal, return_to, begin_instance, begin_body, start_in, all_instances, name_in, with_operands, with_store}
 use Rattle.wy_code.specs.Running.{store_at_first}
 use Rattle.wy_machine.specs.declared.coming.Coming.{Coming}
 use Rattle.wy_machine.specs.declared.coming.Coming.TheVariants as coming
+use Rattle.wy_machine.specs.declared.run_end.TrapKind.{TrapKind}
 use Rattle.wy_machine.specs.Showing.{events_in, answer_told, shown, Shows}
 use Rattle.wy_machine.specs.Stacks.{StackState, at_address}
 use Rattle.wy_machine.specs.States.{body_at, store_of, state_of}
 use Rattle.wy_machine.specs.Steps.{acting, stepping, starting}
 use Rattle.wy_machine.specs.StoreStates.{StoreState}
 use Rattle.wy_machine.proofs.CallSteps.{IsUncalled, calls, uncalled}
-use Rattle.wy_machine.proofs.DeedSteps.{args, from, performs, grants, replies, IsAskedFor}
+use Rattle.wy_machine.proofs.DeedSteps.{args, from, performs, grants, replies, trap_before, refusing, IsAskedFor}
 use Rattle.wy_machine.proofs.Fetching.{fetched}
 
 past_end : (xs : List Placed) (k : ℕ) → slice_get xs k ≡ None → drop k xs ≡ []
@@ -302,6 +304,15 @@ module _ (code : Code) where
       module _ (method : List ℕ) (named : slice_get code.methods m ≡ Some method) where
         pub shows_no_operation : IsAskedFor code depth place s w m k g receiver grant granted method named None → Shows code coming.Nothing (acting code depth place s w (Call m k))
         shows_no_operation e = shows_as coming.Nothing _ (λ t. stuck) (replies code depth place s w m k g receiver grant granted method named None e) (record { holds = λ t. refl })
+
+        pub shows_refused : (o : OpName) (is_called : operation_called method (operations_of grant.kind) ≡ Some o) (kind : TrapKind) →
+            ((t : Tapes) → trap_before code depth place s w m k g receiver grant granted method named o is_called t ≡ Some kind) → Shows code coming.Nothing (acting code depth place s w (Call m k))
+        shows_refused o is_called kind e = record {
+          holds = λ t. elim (refusing code depth place s w m k g receiver grant granted method named o is_called t kind (e t)) [
+            | inl at ↦ ap events_in at ∙ ap (shown code coming.Nothing) (sym at)
+            | inr at ↦ ap events_in at ∙ ap (shown code coming.Nothing) (sym at)
+          ];
+        }
 
         pub shows_deed : (op : Op) → IsAskedFor code depth place s w m k g receiver grant granted method named (Some op) → Shows code (coming.Deed (deed grant.name op)) (acting code depth place s w (Call m k))
         shows_deed op e =

@@ -1,9 +1,12 @@
 -- The texts that a request is made with.
-use Rattle.std.specs.Prelude.{◌≡◌, ℕ, List, ◌++◌, reverse, take, Option, Some, None, slice_get}
+use Rattle.std.specs.Prelude.{◌≡◌, ℕ, Bool, true, false, not, ◌&&◌, nat_lt, List, [], ◌∷◌, ◌++◌, reverse, take, Option, Some, None, slice_get, if◌then◌else◌}
 use Rattle.wy_device.specs.Tapes.{Tapes}
 use Rattle.wy_code.specs.declared.code.Code.{Code}
 use Rattle.wy_code.specs.declared.code.Grant.{Grant as CodeGrant}
-use Rattle.wy_code.specs.Operations.{texts_named}
+use Rattle.wy_code.specs.Operations.{operand_text, texts_named}
+use Rattle.wy_device.specs.Traps.{most_texts}
+use Rattle.wy_machine.specs.declared.run_end.TrapKind.{TrapKind}
+use Rattle.wy_machine.specs.declared.run_end.TrapKind.TheVariants.{BadName, Crowded}
 use Rattle.wy_machine.specs.Stacks.{StackState}
 use Rattle.wy_machine.specs.States.{store_of}
 use Rattle.wy_machine.specs.StoreStates.{StoreState}
@@ -11,8 +14,10 @@ use Rattle.wy_device.specs.declared.operation.Answer.{Answer}
 use Rattle.wy_device.specs.declared.operation.Answer.TheVariants as answer
 use Rattle.wy_device.specs.declared.operation.Kind.{Kind}
 use Rattle.wy_device.specs.declared.operation.Op.{Op}
-use Rattle.wy_device.specs.Requests.{operation_of}
-use Rattle.wy_code.specs.Stores.{Word, Int, Truth, Nothing, Grant}
+use Rattle.wy_device.specs.declared.operation.OpName.{OpName}
+use Rattle.wy_device.specs.declared.operation.OpName.TheVariants as name
+use Rattle.wy_device.specs.Requests.{operations_of, operation_called, operation_on, operation_of, is_file_name}
+use Rattle.wy_code.specs.Stores.{Word, Int, Truth, Nothing, Grant, Store, operand}
 
 -- texts after these, where they are there
 abbrev pub after_texts : List (List ℕ) → Option (List (List ℕ)) → Option (List (List ℕ))
@@ -23,6 +28,52 @@ after_texts first (Some more) = Some (first ++ more)
 abbrev pub asked_for : Kind → List ℕ → Option (List (List ℕ)) → Option Op
 asked_for kind method None = None
 asked_for kind method (Some texts) = operation_of kind method texts
+
+-- an operation with these texts, where they are there
+abbrev pub operation_with : OpName → Option (List (List ℕ)) → Option Op
+operation_with o None = None
+operation_with o (Some texts) = operation_on o texts
+
+-- the text that the first of these words names
+abbrev pub first_text : Store → List Word → Option (List ℕ)
+first_text w [] = None
+first_text w (v ∷ vs) = operand_text (operand w v)
+
+abbrev pub names_file : Option (List ℕ) → Bool
+names_file None = false
+names_file (Some text) = is_file_name text
+
+-- the first text that an operation is given is a file's name, where it takes one
+abbrev pub is_well_named : OpName → Option (List ℕ) → Bool
+is_well_named name.FolderRead first = names_file first
+is_well_named name.FolderHas first = names_file first
+is_well_named name.FolderWrite first = names_file first
+is_well_named name.FolderAppend first = names_file first
+is_well_named name.ConsoleRead first = true
+is_well_named name.ConsoleWrite first = true
+is_well_named name.FolderNames first = true
+is_well_named name.ClockNow first = true
+is_well_named name.RandomWord first = true
+
+-- an operation of this name is answered by a text
+abbrev pub is_answered_by_text : OpName → Bool
+is_answered_by_text name.ConsoleRead = true
+is_answered_by_text name.FolderRead = true
+is_answered_by_text name.FolderNames = true
+is_answered_by_text name.ConsoleWrite = false
+is_answered_by_text name.FolderHas = false
+is_answered_by_text name.FolderWrite = false
+is_answered_by_text name.FolderAppend = false
+is_answered_by_text name.ClockNow = false
+is_answered_by_text name.RandomWord = false
+
+-- why an operation with this first text is refused before memory is taken for it, where so many texts are built: the
+-- text is no file's name, or one text too many would be built
+abbrev pub refused : OpName → Option (List ℕ) → ℕ → Option TrapKind
+refused o first built =
+    if not (is_well_named o first) then Some BadName
+    else if is_answered_by_text o && not (nat_lt built most_texts) then Some Crowded
+    else None
 
 -- the text that is an answer, and the word of any other
 abbrev pub text_answer : Answer → Option (List ℕ)
@@ -37,7 +88,16 @@ word_answer (answer.Truth b) = Some (Truth b)
 word_answer (answer.Number n) = Some (Int n)
 word_answer answer.Unit = Some Nothing
 
--- a call that asks for an operation through a grant: the grant is the word below the arguments
+-- a call of an operation's method through a grant, which is the word below the arguments
+pub record IsAsking (code : Code) (s : StackState) (m k : ℕ) (grant : CodeGrant) (o : OpName) : Type 0 where
+  pub number : ℕ
+  pub receiver : slice_get s.running.operands k ≡ Some (Grant number)
+  pub granted : slice_get code.grants number ≡ Some grant
+  pub method : List ℕ
+  pub named : slice_get code.methods m ≡ Some method
+  pub called : operation_called method (operations_of grant.kind) ≡ Some o
+
+-- .. with the texts that make an operation of it
 pub record IsRequest (code : Code) (s : StackState) (w : StoreState) (m k : ℕ) (grant : CodeGrant) (op : Op) : Type 0 where
   pub number : ℕ
   pub receiver : slice_get s.running.operands k ≡ Some (Grant number)

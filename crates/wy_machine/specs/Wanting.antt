@@ -1,6 +1,9 @@
 -- Which instructions take memory, and where a run comes to one. (docs/LANGUAGE.md, "Code", "How a run ends")
-use Rattle.std.specs.Prelude.{◌≡◌, ℕ, zero, suc, Bool, true, false, List, [], ◌∷◌, Option, Some, None, Result, Ok, Err, ⊤, slice_get, drop}
+use Rattle.std.specs.Prelude.{◌≡◌, ◌≢◌, ℕ, zero, suc, Bool, true, false, List, [], ◌∷◌, Option, Some, None, Result, Ok, Err, ⊤, slice_get, drop}
+use Rattle.wy_text.specs.declared.fault.Place.{Place}
+use Rattle.wy_device.specs.RunEnds as ends
 use Rattle.wy_device.specs.Tapes.{Tapes}
+use Rattle.wy_device.specs.Traps as traps
 use Rattle.wy_code.specs.declared.code.Code.{Code}
 use Rattle.wy_code.specs.declared.instruction.Instruction.{Instruction}
 use Rattle.wy_code.specs.declared.instruction.Instruction.TheVariants.{Op, New, Call}
@@ -55,6 +58,11 @@ WantsOnly taken (Err Spent) = ⊤
 WantsOnly taken (Err (DeviceFailed grant op)) = ⊤
 WantsOnly taken (Err SinkFailed) = ⊤
 WantsOnly taken (Err Memory) = taken ≡ true
+
+-- .. and where it is, whatever the answers to come are, no trap comes first
+abbrev pub TrapsFirst : (Tapes → Next) → Result (Unit {0}) RunEnd → Type 0
+TrapsFirst next (Err Memory) = (tapes : Tapes) (kind : traps.TrapKind) (place : Place) → next tapes ≢ Halt (ends.Trap kind place) []
+TrapsFirst next _ = ⊤
 
 ------------------------------------------------------------
 -- Runs

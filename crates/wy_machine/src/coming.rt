@@ -3,6 +3,7 @@
 ghost use Rattle.std.specs.Prelude.{◌≡◌, ℕ, IfOk, slice_get, Some};
 ghost use Rattle.wy_code.specs.Stores.{Grant as GrantWord};
 ghost use Rattle.wy_code.specs.declared.instruction.Instruction.TheVariants.{Call};
+ghost use Rattle.wy_machine.specs.Requesting.{IsAsking};
 ghost use Rattle.wy_machine.specs.Showing.{Shows};
 ghost use Rattle.wy_machine.specs.Stacks.{at_address};
 ghost use Rattle.wy_machine.specs.States.{body_at};
@@ -11,11 +12,13 @@ ghost use Rattle.wy_text.specs.declared.fault.Place.{Place};
 
 use crate::deeds::requested;
 use crate::machine::Machine;
+use crate::requests::{operation_called, refusal};
 use crate::stack::Stack;
 use crate::word::{Word, WordKind};
-use wy_code::code::Code;
+use wy_code::code::{Code, Grant};
 use wy_code::instruction::{Instruction, Placed};
 use wy_device::deed::Deed;
+use wy_device::operation::OpName;
 use wy_text::text::Memory;
 
 /// What the next step does that a trace shows: nothing, a body is entered or left, one is left where an
@@ -50,6 +53,40 @@ fn operand_below(stack: &Stack, above: usize) -> Option<Word>
     }
 }
 
+/// What an operation on a grant does: nothing that shows where it is refused.
+fn operation_coming(
+    code: &Code,
+    machine: &Machine,
+    method: u32,
+    count: u32,
+    grant: &Grant,
+    operation: OpName,
+) -> Result<Coming, Memory>
+    requires { IsAsking code.now machine.now.stack method count grant.now operation }
+    ensures { IfOk result (λ c. (depth : ℕ) (place : Place) (at : ℕ) →
+        Shows code.now c (acting code.now depth place (at_address at machine.now.stack) machine.now.store (Call method count))) }
+{
+    match refusal(
+        code,
+        &machine.store,
+        operation,
+        machine.stack.arguments(count as usize),
+    ) {
+        Some(_) => Ok(Coming::Nothing),
+        None => match requested(code, machine, operation, count as usize)? {
+            Some(op) => {
+                let grant = grant.name.copy()?;
+                Ok(Coming::Deed(Deed {
+                    grant,
+                    op,
+                    answer: None,
+                }))
+            }
+            None => Ok(Coming::Nothing),
+        },
+    }
+}
+
 /// What a call on the grant of a number does.
 fn deed_coming(
     code: &Code,
@@ -64,15 +101,8 @@ fn deed_coming(
 {
     match code.grants.get(number as usize) {
         Some(grant) => match code.methods.get(method as usize) {
-            Some(name) => match requested(code, machine, grant.kind, name, count as usize)? {
-                Some(op) => {
-                    let grant = grant.name.copy()?;
-                    Ok(Coming::Deed(Deed {
-                        grant,
-                        op,
-                        answer: None,
-                    }))
-                }
+            Some(name) => match operation_called(grant.kind, name.as_bytes()) {
+                Some(operation) => operation_coming(code, machine, method, count, grant, operation),
                 None => Ok(Coming::Nothing),
             },
             None => Ok(Coming::Nothing),

@@ -1,36 +1,31 @@
-//! The operation that a call on a grant asks for, and the word of its answer.
+//! The operation that a call on a grant makes of its texts, and the word of its answer.
 
-ghost use Rattle.std.specs.Prelude.{◌≡◌, ◌<◌, ◌≤◌, length, reverse, take, slice_get, IfOk, Some};
+ghost use Rattle.std.specs.Prelude.{◌≡◌, ◌<◌, ◌≤◌, length, reverse, take, IfOk, Some};
 ghost use Rattle.wy_code.specs.Operations.{texts_named};
 ghost use Rattle.wy_device.specs.Tapes.{Tapes};
-ghost use Rattle.wy_machine.specs.Requesting.{asked_for, text_answer, word_answer};
+ghost use Rattle.wy_machine.specs.Requesting.{operation_with, text_answer, word_answer};
 ghost use Rattle.wy_machine.specs.States.{store_of};
 
 use crate::machine::Machine;
-use crate::requests::{operation_called, operation_on, texts_of};
+use crate::requests::{operation_on, texts_of};
 use crate::word::{Word, WordKind};
 use wy_code::code::Code;
-use wy_device::operation::{Answer, Kind, Op};
+use wy_device::operation::{Answer, Op, OpName};
 use wy_text::text::{Memory, Text};
 
-/// The operation that a method of a kind of device asks for with the topmost operands; `None` exactly
-/// where there is none.
+/// An operation with the texts that the topmost operands name; `None` exactly where it takes no such texts.
 pub fn requested(
     code: &Code,
     machine: &Machine,
-    kind: Kind,
-    method: &Text,
+    operation: OpName,
     count: usize,
 ) -> Result<Option<Op>, Memory>
     requires { count ≤ length machine.now.stack.running.operands }
     ensures { IfOk result (λ op. (tapes : Tapes) →
-        op ≡ asked_for kind method.now (texts_named (store_of code.now machine.now.store tapes) (reverse (take count machine.now.stack.running.operands)))) }
+        op ≡ operation_with operation (texts_named (store_of code.now machine.now.store tapes) (reverse (take count machine.now.stack.running.operands)))) }
 {
     match texts_of(code, &machine.store, machine.stack.arguments(count))? {
-        Some(texts) => match operation_called(kind, method.as_bytes()) {
-            Some(name) => Ok(operation_on(name, texts)),
-            None => Ok(None),
-        },
+        Some(texts) => Ok(operation_on(operation, texts)),
         None => Ok(None),
     }
 }

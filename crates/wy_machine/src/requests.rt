@@ -1,11 +1,14 @@
-//! The operation that a method of a device asks for, and which names are a file's.
+//! The operation that a method of a device asks for, and which are refused before memory is taken for them.
 
 ghost use Rattle.std.specs.Prelude.{◌≡◌, ◌≢◌, ◌∷◌, [], length, IfOk, MatchOption, Some, None};
 ghost use Rattle.wy_code.specs.Operations.{texts_named};
 ghost use Rattle.wy_device.specs.Requests as requests;
 ghost use Rattle.wy_device.specs.Tapes.{Tapes};
+ghost use Rattle.wy_machine.specs.Requesting.{first_text, names_file, is_well_named, is_answered_by_text, refused};
 ghost use Rattle.wy_machine.specs.States.{store_of};
 
+use crate::building::MOST_TEXTS;
+use crate::run_end::TrapKind;
 use crate::store::Store;
 use crate::texts::text_named;
 use crate::word::Word;
@@ -14,38 +17,66 @@ use wy_device::file_name::is_file_name;
 use wy_device::operation::{Kind, Op, OpName};
 use wy_text::text::{Memory, Text};
 
-/// Whether each name that an operation has is a file's.
-pub fn has_good_name(op: &Op) -> bool
-    ensures { result ≡ requests.has_good_name op.now }
+/// Whether the first of these words names a text that is a file's name.
+fn names_file(code: &Code, store: &Store, words: &[Word]) -> bool
+    ensures { (tapes : Tapes) → result ≡ names_file (first_text (store_of code.now store.now tapes) words.now) }
 {
-    match op {
-        Op::FolderRead(name) => is_file_name(name.as_bytes()),
-        Op::FolderHas(name) => is_file_name(name.as_bytes()),
-        Op::FolderWrite(name, _) => is_file_name(name.as_bytes()),
-        Op::FolderAppend(name, _) => is_file_name(name.as_bytes()),
-        Op::ConsoleRead => true,
-        Op::ConsoleWrite(_) => true,
-        Op::FolderNames => true,
-        Op::ClockNow => true,
-        Op::RandomWord => true,
+    match words {
+        [first, ..] => match text_named(code, store, *first) {
+            Some(text) => is_file_name(text.as_bytes()),
+            None => false,
+        },
+        [] => false,
     }
 }
 
-/// Whether an operation is answered by a text.
-pub fn answers_text(op: &Op) -> bool
-    ensures { result ≡ requests.answers_text op.now }
+/// Whether an operation of this name is answered by a text.
+pub fn answers_text(operation: OpName) -> bool
+    ensures { result ≡ is_answered_by_text operation }
 {
-    match op {
-        Op::ConsoleRead => true,
-        Op::FolderRead(_) => true,
-        Op::FolderNames => true,
-        Op::ConsoleWrite(_) => false,
-        Op::FolderHas(_) => false,
-        Op::FolderWrite(_, _) => false,
-        Op::FolderAppend(_, _) => false,
-        Op::ClockNow => false,
-        Op::RandomWord => false,
+    match operation {
+        OpName::ConsoleRead | OpName::FolderRead | OpName::FolderNames => true,
+        OpName::ConsoleWrite
+        | OpName::FolderHas
+        | OpName::FolderWrite
+        | OpName::FolderAppend
+        | OpName::ClockNow
+        | OpName::RandomWord => false,
     }
+}
+
+/// Whether the first text that an operation is given is a file's name, where it takes one.
+fn is_well_named(code: &Code, store: &Store, operation: OpName, arguments: &[Word]) -> bool
+    ensures { (tapes : Tapes) → result ≡ is_well_named operation (first_text (store_of code.now store.now tapes) arguments.now) }
+{
+    match operation {
+        OpName::FolderRead | OpName::FolderHas | OpName::FolderWrite | OpName::FolderAppend =>
+            names_file(code, store, arguments),
+        OpName::ConsoleRead
+        | OpName::ConsoleWrite
+        | OpName::FolderNames
+        | OpName::ClockNow
+        | OpName::RandomWord => true,
+    }
+}
+
+/// Why an operation is refused before memory is taken for it: its first text is no file's name, or one text too many
+/// would be built. `None` exactly where it is not.
+pub fn refusal(
+    code: &Code,
+    store: &Store,
+    operation: OpName,
+    arguments: &[Word],
+) -> Option<TrapKind>
+    ensures { (tapes : Tapes) → result ≡ refused operation (first_text (store_of code.now store.now tapes) arguments.now) (length store.now.texts) }
+{
+    if !is_well_named(code, store, operation, arguments) {
+        return Some(TrapKind::BadName);
+    }
+    if answers_text(operation) && store.built() >= MOST_TEXTS {
+        return Some(TrapKind::Crowded);
+    }
+    None
 }
 
 /// The first operation that a method asks for; `None` exactly where there is none.

@@ -1,6 +1,7 @@
 pub mod Answering
 pub mod Bounding
 pub mod Costs
+pub mod Ending
 pub mod Extending
 pub mod Longer
 mod Examples

@@ -5,7 +5,7 @@ ghost use Rattle.wy_device.specs.Tapes.{Tapes};
 ghost use Rattle.wy_types.specs.Program.{Program};
 ghost use Rattle.wy_meaning.specs.Answers.{TakesWhatFits};
 ghost use Rattle.wy_meaning.specs.Bounds.{Call};
-ghost use Rattle.wy_meaning.specs.Laws.{IsCheap, ExtendsOnly, TakesInOrder};
+ghost use Rattle.wy_meaning.specs.Laws.{IsCheap, ExtendsOnly, TakesInOrder, FailsLast};
 ghost use Rattle.wy_meaning.specs.Start.{meaning};
 ghost use Rattle.wy_meaning.specs.Starts.{Starts};
 ghost use Rattle.wy_meaning.specs.OpenCalls.{IsSaidOfEachDeed, BoundsBeginnings};
@@ -41,4 +41,10 @@ pub fn fitting_answers_are_taken()
 /// the first ones of the tape.
 pub fn answers_are_taken_in_order()
     ensures { (n : ℕ) (p : Program) (s : Starts) → TakesInOrder n p s }
+{}
+
+/// An operation that failed is the last event of a run, which ends so, and the one operation that failed; a run that
+/// ends otherwise had an answer to each operation. No meaning is spent, since it has no bound on its steps.
+pub fn failed_operations_are_last()
+    ensures { (n : ℕ) (p : Program) (s : Starts) → FailsLast n p s }
 {}

@@ -1,27 +1,16 @@
-use Rattle.std.proofs.Common.{None, sym, ◌∙◌, subst}
-use Rattle.wy_device.specs.declared.deed.Deed.{Deed as DeedRecord}
-use Rattle.wy_machine.specs.declared.coming.Coming.TheVariants.{Deed}
-use Rattle.wy_machine.specs.Showing.{Shows}
+use Rattle.std.proofs.Common.{ap, sym, ◌∙◌}
+use Rattle.wy_device.specs.Requests.{operation_called, operations_of}
 use Rattle.wy_machine.specs.Stacks.{at_address}
-use Rattle.wy_machine.specs.Steps.{acting}
-use Rattle.wy_code.specs.declared.instruction.Instruction.TheVariants.{Call}
-use Rattle.wy_machine.proofs.Showings.{shows_no_grant, shows_no_method, shows_no_operation, shows_deed}
+use Rattle.wy_machine.proofs.Refusals.{asked_by_none}
+use Rattle.wy_machine.proofs.Showings.{shows_no_grant, shows_no_method, shows_no_operation}
 use Rattle.wy_machine.proofs.coming.deed_coming.Goals as goal
 
-pub returns-in_ok-grant-in-Some-2 : goal.returns-in_ok-grant-in-Some-2
-returns-in_ok-grant-in-Some-2 c = λ depth place at.
+pub returns-in-None-operation_called : goal.returns-in-None-operation_called
+returns-in-None-operation_called c = λ depth place at.
     let m = c.args.machine.now in
-    let code = c.args.code.now in
-    let s = at_address at m.stack in
-    subst (λ name. let d : DeedRecord = record { grant = name; op = c.in-Some-2.op; answer = None } in Shows code (Deed d) (acting code depth place s m.store (Call c.args.method c.args.count))) (sym c.in_ok-grant-in-Some-2.ensures)
-    (shows_deed code depth place s m.store c.args.method c.args.count c.args.number c.requires c.in-Some.grant.now (sym c.in-Some.ensures) c.in-Some-get.name.now (sym c.in-Some-get.ensures) c.in-Some-2.op
-    (λ t. sym c.in-Some-2.is ∙ c.in_ok-op-in-Some-get.ensures t))
-
-pub returns-in-None-2 : goal.returns-in-None-2
-returns-in-None-2 c = λ depth place at.
-    let m = c.args.machine.now in
-    shows_no_operation c.args.code.now depth place (at_address at m.stack) m.store c.args.method c.args.count c.args.number c.requires c.in-Some.grant.now (sym c.in-Some.ensures) c.in-Some-get.name.now (sym c.in-Some-get.ensures)
-    (λ t. sym c.in-None-2.is ∙ c.in_ok-op-in-Some-get.ensures t)
+    let grant = c.in-Some.grant.now in
+    shows_no_operation c.args.code.now depth place (at_address at m.stack) m.store c.args.method c.args.count c.args.number c.requires grant (sym c.in-Some.ensures) c.in-Some-get.name.now (sym c.in-Some-get.ensures)
+    (λ t. asked_by_none grant.kind c.in-Some-get.name.now (ap (λ name. operation_called name (operations_of grant.kind)) (sym c.as_bytes.ensures) ∙ sym c.operation_called.ensures ∙ c.in-None-operation_called.is) _)
 
 pub returns-in-None-get : goal.returns-in-None-get
 returns-in-None-get c = λ depth place at.

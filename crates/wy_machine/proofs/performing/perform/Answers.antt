@@ -1,16 +1,15 @@
-use Rattle.std.proofs.Common.{sym, ◌∙◌}
-use Rattle.wy_machine.specs.Devices.{states}
+use Rattle.std.proofs.Common.{ap, sym, ◌∙◌}
+use Rattle.wy_device.specs.Requests.{operation_called, operations_of}
 use Rattle.wy_machine.proofs.DeedSteps.{grant_there, method_named, operation_there}
-use Rattle.wy_machine.proofs.Quiet.{wants_when}
+use Rattle.wy_machine.proofs.Refusals.{asked_by_none}
 use Rattle.wy_machine.proofs.performing.perform.Goals as goal
-
-pub returns-in_err-op-in-Some-get-clause-step : goal.returns-in_err-op-in-Some-get-clause-step
-returns-in_err-op-in-Some-get-clause-step g c = wants_when c.args.code.now _ _ _ (states g.D.Device.state c.args.devices.now) _ c.from_residual.ensures.1
 
 pub unreachable-requires : goal.unreachable-requires
 unreachable-requires g c =
     let m = c.args.machine.now in
-    operation_there c.args.code.now c.args.depth c.args.place m.stack m.store c.args.method c.args.count c.args.number c.requires.receiver c.in-Some.grant.now (sym c.in-Some.ensures) c.in-Some-get.name.now (sym c.in-Some-get.ensures) c.requires.sound (λ t. sym c.in-None-2.is ∙ c.in_ok-op-in-Some-get.ensures t)
+    let grant = c.in-Some.grant.now in
+    operation_there c.args.code.now c.args.depth c.args.place m.stack m.store c.args.method c.args.count c.args.number c.requires.receiver grant (sym c.in-Some.ensures) c.in-Some-get.name.now (sym c.in-Some-get.ensures) c.requires.sound
+    (λ t. asked_by_none grant.kind c.in-Some-get.name.now (ap (λ name. operation_called name (operations_of grant.kind)) (sym c.as_bytes.ensures) ∙ sym c.operation_called.ensures ∙ c.in-None-operation_called.is) _)
 
 pub unreachable-requires-in-None-get : goal.unreachable-requires-in-None-get
 unreachable-requires-in-None-get g c =

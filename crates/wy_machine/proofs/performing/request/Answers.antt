@@ -1,17 +1,72 @@
-use Rattle.std.proofs.Common.{◌≤◌, sym, subst}
+use Rattle.std.proofs.Common.{Some, length, sym, ap, ◌∙◌}
+use Rattle.std.specs.Prelude.{reverse, take}
 use Rattle.wy_machine.specs.Devices.{states}
-use Rattle.wy_machine.proofs.DeedSteps.{bad_name_step, full_step}
+use Rattle.wy_machine.specs.Requesting.{first_text, refused}
+use Rattle.wy_machine.specs.States.{store_of}
+use Rattle.wy_machine.proofs.Acts.{no_tapes}
+use Rattle.wy_machine.proofs.DeedSteps.{asked_of, no_such_texts, refused_step, no_trap}
+use Rattle.wy_machine.proofs.Quiet.{wants_when, traps_none}
+use Rattle.wy_machine.proofs.Refusals.{free_is_good, free_has_room}
 use Rattle.wy_machine.proofs.performing.request.Goals as goal
 
-pub returns-then-not-has_good_name-clause-step : goal.returns-then-not-has_good_name-clause-step
-returns-then-not-has_good_name-clause-step g c =
-    let m = c.args.machine.now in
-    let r = c.requires.request in
-    bad_name_step c.args.code.now c.args.depth c.args.place m.stack m.store c.args.method c.args.count r.number r.receiver c.args.grant.now r.granted r.method r.named c.args.op.now r.asked (sym c.if-not-has_good_name.ensures) _ _ (states g.D.Device.state c.args.devices.now)
+pub returns-in_err-op-in-None-clause-step : goal.returns-in_err-op-in-None-clause-step
+returns-in_err-op-in-None-clause-step g c = wants_when c.args.code.now _ _ _ (states g.D.Device.state c.args.devices.now) _ c.from_residual.ensures.1
 
-pub returns-else-built-lt-MOST_TEXTS-clause-step : goal.returns-else-built-lt-MOST_TEXTS-clause-step
-returns-else-built-lt-MOST_TEXTS-clause-step g c =
+pub returns-in_err-op-in-None-clause-traps : goal.returns-in_err-op-in-None-clause-traps
+returns-in_err-op-in-None-clause-traps g c =
     let m = c.args.machine.now in
-    let r = c.requires.request in
-    let many = subst (λ n. 4194304 ≤ n) c.built.ensures c.if-built-lt-MOST_TEXTS.false in
-    full_step c.args.code.now c.args.depth c.args.place m.stack m.store c.args.method c.args.count r.number r.receiver c.args.grant.now r.granted r.method r.named c.args.op.now r.asked (sym c.if-not-has_good_name.ensures) (sym c.if-not-answers_text.ensures) many _ _ (states g.D.Device.state c.args.devices.now)
+    let r = c.requires.asking in
+    traps_none _
+    (no_trap c.args.code.now c.args.depth c.args.place m.stack m.store c.args.method c.args.count r.number r.receiver c.args.grant.now r.granted r.method r.named c.args.operation r.called
+    (λ t. ap (λ vs. refused c.args.operation (first_text (store_of c.args.code.now m.store t) vs) (length m.store.texts)) (sym c.arguments.ensures) ∙ sym (c.refusal.ensures t) ∙ c.in-None.is) c.requires.sound)
+    c.from_residual.result
+
+pub ask-requires-clause-request : goal.ask-requires-clause-request
+ask-requires-clause-request g c =
+    let m = c.args.machine.now in
+    let r = c.requires.asking in
+    record {
+      number = r.number;
+      receiver = r.receiver;
+      granted = r.granted;
+      method = r.method;
+      named = r.named;
+      asked = asked_of c.args.code.now c.args.depth c.args.place m.stack m.store c.args.method c.args.count r.number r.receiver c.args.grant.now r.granted r.method r.named c.args.operation r.called (Some c.in-Some-2.op)
+          (λ t. sym c.in-Some-2.is ∙ c.in_ok-op-in-None.ensures t);
+    }
+
+pub ask-requires-clause-good : goal.ask-requires-clause-good
+ask-requires-clause-good g c =
+    let m = c.args.machine.now in
+    free_is_good c.args.operation (store_of c.args.code.now m.store no_tapes) (reverse (take c.args.count m.stack.running.operands)) c.in-Some-2.op (sym c.in-Some-2.is ∙ c.in_ok-op-in-None.ensures no_tapes)
+    (ap (λ vs. refused c.args.operation (first_text (store_of c.args.code.now m.store no_tapes) vs) (length m.store.texts)) (sym c.arguments.ensures) ∙ sym (c.refusal.ensures no_tapes) ∙ c.in-None.is)
+
+pub ask-requires-clause-room : goal.ask-requires-clause-room
+ask-requires-clause-room g c =
+    let m = c.args.machine.now in
+    free_has_room c.args.operation (store_of c.args.code.now m.store no_tapes) (reverse (take c.args.count m.stack.running.operands)) c.in-Some-2.op (sym c.in-Some-2.is ∙ c.in_ok-op-in-None.ensures no_tapes)
+    (ap (λ vs. refused c.args.operation (first_text (store_of c.args.code.now m.store no_tapes) vs) (length m.store.texts)) (sym c.arguments.ensures) ∙ sym (c.refusal.ensures no_tapes) ∙ c.in-None.is)
+
+pub unreachable-requires : goal.unreachable-requires
+unreachable-requires g c =
+    let m = c.args.machine.now in
+    let r = c.requires.asking in
+    no_such_texts c.args.code.now c.args.depth c.args.place m.stack m.store c.args.method c.args.count r.number r.receiver c.args.grant.now r.granted r.method r.named c.args.operation r.called c.requires.sound
+    (λ t. sym c.in-None-2.is ∙ c.in_ok-op-in-None.ensures t)
+
+pub returns-in-Some-clause-step : goal.returns-in-Some-clause-step
+returns-in-Some-clause-step g c =
+    let m = c.args.machine.now in
+    let r = c.requires.asking in
+    refused_step c.args.code.now c.args.depth c.args.place m.stack m.store c.args.method c.args.count r.number r.receiver c.args.grant.now r.granted r.method r.named c.args.operation r.called c.requires.sound c.in-Some.kind
+    (λ t. ap (λ vs. refused c.args.operation (first_text (store_of c.args.code.now m.store t) vs) (length m.store.texts)) (sym c.arguments.ensures) ∙ sym (c.refusal.ensures t) ∙ c.in-Some.is)
+    _ _ (states g.D.Device.state c.args.devices.now)
+
+pub returns-in-Some-2-clause-traps : goal.returns-in-Some-2-clause-traps
+returns-in-Some-2-clause-traps g c =
+    let m = c.args.machine.now in
+    let r = c.requires.asking in
+    traps_none _
+    (no_trap c.args.code.now c.args.depth c.args.place m.stack m.store c.args.method c.args.count r.number r.receiver c.args.grant.now r.granted r.method r.named c.args.operation r.called
+    (λ t. ap (λ vs. refused c.args.operation (first_text (store_of c.args.code.now m.store t) vs) (length m.store.texts)) (sym c.arguments.ensures) ∙ sym (c.refusal.ensures t) ∙ c.in-None.is) c.requires.sound)
+    c.ask.result
