@@ -4,13 +4,13 @@ use Rattle.std.specs.Prelude.{codes, ℕ, ◌<◌, List, [], ◌∷◌, ◌++◌
 use Rattle.std.specs.Fmt.{decimal}
 use Rattle.wy_text.specs.declared.fault.AtomName.{AtomName}
 use Rattle.wy_effects.specs.AtomTable.{atom_name}
-use Rattle.wy_effects.specs.EffSet.{union, replace}
+use Rattle.wy_effects.specs.EffSet.{union}
 use Rattle.wy_types.specs.declared.resolved.Origin.{Origin}
 use Rattle.wy_types.specs.declared.resolved.Origin.TheVariants.{Parameter, Grant, Use, Instance, Import}
 use Rattle.wy_types.specs.declared.resolved.OwnName.{OwnName}
 use Rattle.wy_types.specs.declared.linked.Instance.{Instance as Started}
 use Rattle.wy_types.specs.Program.{Program, Scope, Body}
-use Rattle.wy_types.specs.Ground.{names_of, members_of, program_number, program_sets, start_list}
+use Rattle.wy_types.specs.Ground.{names_of, members_of, program_number, program_sets, start_list, ground_of}
 use Rattle.wy_authority.specs.declared.rows.BodyRow.{BodyRow}
 use Rattle.wy_authority.specs.declared.rows.InstanceRow.{InstanceRow}
 use Rattle.wy_authority.specs.declared.rows.Authority.{Authority}
@@ -22,7 +22,7 @@ body_name b = if nat_eq b.owner 0 then b.signature.name else codes "new" ++ (dec
 -- what a body may do: the ground bound where there is one, else its declared effect at the ground sets
 abbrev pub body_set : Option (List ℕ) → List (List ℕ) → List ℕ → List ℕ
 body_set (Some bound) sets effect = bound
-body_set None sets effect = replace sets effect
+body_set None sets effect = ground_of sets effect
 
 abbrev pub body_row : List ℕ → List ℕ → BodyRow
 body_row name set = record { name = name; set = set }

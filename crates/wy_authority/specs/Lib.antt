@@ -1,2 +1,3 @@
 pub mod Authority
+pub mod Ground
 pub mod Report

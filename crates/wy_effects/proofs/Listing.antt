@@ -1,6 +1,8 @@
 -- Lists of all candidates: all sets below a number, all lists of a length, all pairs.
-use Rattle.std.proofs.Common.{◌≡◌, ℕ, zero, suc, ◌+◌, ◌<◌, List, [], ◌∷◌, ◌++◌, map, inl, inr, length, refl, sym, subst, arith}
+use Rattle.std.proofs.Common.{◌≡◌, ℕ, zero, suc, ◌+◌, ◌*◌, ◌^◌, ◌<◌, List, [], ◌∷◌, ◌++◌, map, inl, inr, length, refl, sym, ap, ap₂, ◌∙◌, subst, arith, length-append}
+use Rattle.std.proofs.Math.Nat.{pow-zero, pow-succ', zero-mul, suc-mul, add_comm}
 use Rattle.std.proofs.lemmas.Bool.{cases_lt}
+use Rattle.std.proofs.Math.ListN.{length-map}
 use Rattle.wy_effects.specs.Members.{In, Within}
 use Rattle.wy_effects.specs.EffSet.{IsSetFrom}
 use Rattle.wy_effects.proofs.Lists.{In-left, In-right, In-map}
@@ -26,6 +28,18 @@ In-sets_from k (suc n) m (x ∷ xs) e s =
           (In-map (λ s. x ∷ s) xs (sets_from (k + 1) n) (In-sets_from (k + 1) n m xs (omega arith) (subst Q (sym e') s.2))))
     ]
 
+-- there are two to the number of atoms
+pub length-sets_from : (k n : ℕ) → length (sets_from k n) ≡ 2 ^ n
+unfolding sets_from
+length-sets_from k zero = refl
+length-sets_from k (suc n) =
+    let rest = length-sets_from (k + 1) n in
+    let both : length (sets_from k (suc n)) ≡ length (sets_from (k + 1) n) + length (map (λ s. k ∷ s) (sets_from (k + 1) n)) =
+    length-append (sets_from (k + 1) n) (map (λ s. k ∷ s) (sets_from (k + 1) n)) in
+    let same : length (map (λ s. k ∷ s) (sets_from (k + 1) n)) ≡ length (sets_from (k + 1) n) = length-map (sets_from (k + 1) n) (λ s. k ∷ s) in
+    let power : 2 ^ suc n ≡ 2 * 2 ^ n = pow-succ' 2 n in
+    omega (arith, rest, both, same, power)
+
 -- each of xs before each of ys
 pub joined : {X : Type 0} → List X → List (List X) → List (List X)
 joined [] ys = []
@@ -35,6 +49,18 @@ joined (x ∷ xs) ys = map (λ y. x ∷ y) ys ++ joined xs ys
 pub tuples : {X : Type 0} → ℕ → List X → List (List X)
 tuples zero xs = [] ∷ []
 tuples (suc n) xs = joined xs (tuples n xs)
+
+length-joined : {X : Type 0} (xs : List X) (ys : List (List X)) → length (joined xs ys) ≡ length xs * length ys
+unfolding joined
+length-joined [] ys = sym (zero-mul (length ys))
+length-joined (x ∷ xs) ys =
+    length-append (map (λ y. x ∷ y) ys) (joined xs ys) ∙ ap₂ (λ m n. m + n) (length-map ys (λ y. x ∷ y)) (length-joined xs ys) ∙
+    add_comm (length ys) (length xs * length ys) ∙ sym (suc-mul (length xs) (length ys))
+
+pub length-tuples : {X : Type 0} (n : ℕ) (xs : List X) → length (tuples n xs) ≡ length xs ^ n
+unfolding tuples
+length-tuples zero xs = sym (pow-zero (length xs))
+length-tuples (suc n) xs = length-joined xs (tuples n xs) ∙ ap (λ m. length xs * m) (length-tuples n xs) ∙ sym (pow-succ' (length xs) n)
 
 In-joined : {X : Type 0} (x : X) (y : List X) (xs : List X) (ys : List (List X)) → In x xs → In y ys → In (x ∷ y) (joined xs ys)
 unfolding joined
@@ -48,20 +74,6 @@ pub In-tuples : {X : Type 0} (xs : List X) (y : List X) → Within y xs → In y
 unfolding tuples
 In-tuples xs [] w = inl refl
 In-tuples xs (x ∷ y) w = In-joined x y xs (tuples (length y) xs) (w x (inl refl)) (In-tuples xs y (λ z h. w z (inr h)))
-
--- the lists at each number below n, one after another
-pub spread : {X : Type 0} → (ℕ → List X) → ℕ → List X
-spread f zero = []
-spread f (suc n) = spread f n ++ f n
-
-pub In-spread : {X : Type 0} (f : ℕ → List X) (n k : ℕ) (x : X) → k < n → In x (f k) → In x (spread f n)
-unfolding spread
-In-spread f zero k x h i = absurd (omega arith)
-In-spread {X} f (suc n) k x h i =
-    elim (cases_lt k n) [
-      | inl lt ↦ In-left x (spread f n) (f n) (In-spread f n k x lt i)
-      | inr ge ↦ (let e : k ≡ n = omega arith in let P : ℕ → Type 0 = λ j. In x (f j) in In-right x (spread f n) (f n) (subst P e i))
-    ]
 
 -- each of xs with each of ys
 pub pairs_of : {X Y : Type 0} → List X → List Y → List (X × Y)

@@ -101,7 +101,7 @@ module _ (p : Program) (now : ℕ) where
             (if b then replied (Object (length w.objects)) (record w { objects = w.objects ++ t ∷ []; made = w.made + 1 }) else stopped
             (Trap Crowded place) w)
         of_room true = let h = heap_more p now w.objects t wh th in record { by = (h.0, h.1, (t, read_next w.objects [] t, ready, below)) }
-        of_room false = trap_answers p now w (Valued p now k) Crowded place w
+        of_room false = trap_answers p now w (Valued p now k) Crowded place wh
 
     pub new_answers : (l : ℕ) (vs : List Value) → l < length pl.scope.literals → Within (literal_captures (slice_get pl.scope.literals l)) seen →
         AllHave p now w.objects vs (fields_at p sight.instance pl l) →

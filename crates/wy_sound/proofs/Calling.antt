@@ -122,7 +122,7 @@ module _ (p : Program) (linked : IsLinked p) (now : ℕ) (early : now ≤ instan
   unfolding open_calls
   calls_sound zero = record {
     by =
-        λ a t name vs w m at ready found typed wh. stop_sound p now m.effect w (Valued p now m.result) TooDeep w (λ e. cc);
+        λ a t name vs w m at ready found typed wh. stop_sound p now m.effect w (Valued p now m.result) TooDeep (λ e. cc) wh;
   }
   calls_sound (suc n) = record {
     by = λ a t name vs w m at ready found typed wh.

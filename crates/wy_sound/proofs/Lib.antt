@@ -10,6 +10,7 @@ pub mod Heaps
 pub mod Linked
 mod LinkingAdded
 mod LinkingApart
+mod LinkingEnds
 mod LinkingExamples
 mod LinkingGrants
 pub mod LinkingLaws

@@ -13,11 +13,11 @@ use Rattle.wy_types.specs.declared.resolved.ScopeKind.TheVariants.{Program as Ma
 use Rattle.wy_types.specs.Program.{Program, Scope}
 use Rattle.wy_types.specs.Core.{OriginFits, origin_modules, LeadsTo, LeadsBy, IsCore}
 use Rattle.wy_types.specs.Ground.{Visited, Visit, names_of, is_use, uses_among, handed, number_from, used, visit_name, visit_names, visit}
-use Rattle.wy_rules.specs.Acceptance.{is_parameter, parameters_until, parameters_among}
+use Rattle.wy_rules.specs.Acceptance.{is_parameter, parameters_among}
 use Rattle.wy_rules.specs.OwnNames.{opens, opened_count, after_parameters, name_of, HasItsType, HaveTheirTypes, LinesAreTyped}
 use Rattle.wy_sound.proofs.LinkingLists.{read_there}
 use Rattle.wy_sound.proofs.LinkingPrograms.{main_is_last, one_module, pure_word}
-use Rattle.wy_sound.proofs.LinkingVisits.{first_and_after}
+use Rattle.wy_sound.proofs.LinkingVisits.{parameters_are, first_and_after}
 use Rattle.wy_sound.proofs.LinkingWays.{names_lead}
 
 -- instances are added behind, each of such a name
@@ -175,14 +175,6 @@ pub record IsUseOf (p : Program) (m : ℕ) (n : OwnName) (j : ℕ) : Type 0 wher
   pub leads : LeadsTo p m j
   pub module_there : j + 1 < length p.scopes
   pub word : n.name ≡ name_of (slice_get p.scopes j)
-
-parameters_are : (ns : List OwnName) (n : OwnName) → In n (parameters_among ns) → is_parameter n.origin ≡ true
-parameters_are [] n = λ i. absurd i
-parameters_are (m ∷ ns) n =
-    elim (is_parameter m.origin) as (λ b. is_parameter m.origin ≡ b → In n (parameters_until b m (parameters_among ns)) → is_parameter n.origin ≡ true) [
-      | true ↦ λ e i. elim i [ inl f ↦ subst (λ (v : OwnName). is_parameter v.origin ≡ true) f e | inr j ↦ parameters_are ns n j ]
-      | false ↦ λ e i. absurd i
-    ] refl
 
 typed_among : (p : Program) (k : ℕ) (ns : List OwnName) → HaveTheirTypes p k ns → (n : OwnName) → In n ns → (opened : ℕ) × HasItsType p opened n n.origin
 typed_among p k [] h n i = absurd i

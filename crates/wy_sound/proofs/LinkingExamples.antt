@@ -1,13 +1,14 @@
 -- Own names with their types, in a program with a grant, a used module, an instance that is handed the grant, and an import that is handed the instance
 -- (`console.In` 0, `console.Out` 1, `log.Line` 2 in the program; `out.In` 0, `out.Out` 1 in the module `logger`).
-use Rattle.std.proofs.Common.{◌≡◌, ℕ, List, [], ◌∷◌, ◌++◌, inl, inr, refl, sym, ◌∙◌, subst, arith, Option, Some, None, true, false}
-use Rattle.std.specs.Prelude.{codes}
+use Rattle.std.proofs.Common.{◌≡◌, ℕ, List, [], ◌∷◌, ◌++◌, map, inl, inr, refl, sym, ◌∙◌, subst, arith, Option, Some, None, true, false}
+use Rattle.std.specs.Prelude.{codes, slice_index_or}
 use Rattle.wy_text.specs.declared.fault.Place.{Place}
 use Rattle.wy_effects.specs.Members.{In}
 use Rattle.wy_effects.specs.EffSet.{IsSet, AreSets, has}
 use Rattle.wy_effects.proofs.SetLaws.{has-In}
 use Rattle.wy_types.specs.declared.types.TypeRef.{TypeRef}
 use Rattle.wy_types.specs.declared.types.TypeRef.TheVariants.{Named, At}
+use Rattle.wy_types.specs.declared.linked.Actual.TheVariants as actual
 use Rattle.wy_types.specs.declared.resolved.TypeDecl.{TypeDecl}
 use Rattle.wy_types.specs.declared.resolved.Origin.{Origin}
 use Rattle.wy_types.specs.declared.resolved.Origin.TheVariants.{Parameter, Grant, Use, Instance, Import}
@@ -18,7 +19,8 @@ use Rattle.wy_types.specs.Code.{none}
 use Rattle.wy_types.specs.Fitting.{FitsType}
 use Rattle.wy_types.specs.Primitive.{primitive_types, primitive_type}
 use Rattle.wy_types.specs.Program.{Program, Scope, Init}
-use Rattle.wy_types.specs.Ground.{number_from, instance_of}
+use Rattle.wy_types.specs.Ground.{number_from, instance_of, program_sets, program_visited, visit, ground_of}
+use Rattle.wy_sound.specs.Grounds.{IsGround}
 use Rattle.wy_rules.specs.OwnNames.{HaveTheirTypes, OwnNamesFit, LinesAreTyped, IsPlainName, HavePlainNames, GrantsStandFirst}
 
 abbrev at : Place
@@ -27,16 +29,16 @@ at = record { file = 1; line = 1; column = 1 }
 abbrev own : List ℕ → TypeRef → Origin → OwnName
 own name typ origin = record { name = name; place = at; typ = typ; origin = origin }
 
--- a scope of a kind, as far as its own names and its seal go
-abbrev scope : ScopeKind → List ℕ → List OwnName → Option ℕ → Scope
-scope kind name names ascribed = record {
+-- a scope of a kind, as far as its own names, its seal and what it defines go
+abbrev scope : ScopeKind → List ℕ → List OwnName → Option ℕ → List (List ℕ) → Scope
+scope kind name names ascribed definitions = record {
   kind = kind;
   name = name;
   place = at;
   atoms = [];
   names = names;
   ascribed = ascribed;
-  definitions = [];
+  definitions = definitions;
   literals = [];
   start_place = at;
   start_effect = [];
@@ -54,19 +56,19 @@ log = primitive_type (codes "Log") (codes "Line" ∷ []) []
 abbrev plain_text : TypeDecl
 plain_text = primitive_type (codes "Plain") [] []
 
--- a pure module, and one with a bare parameter that uses it
+-- a pure module, and one with a bare parameter that uses it, and defines `Line` as `{out.Out}`
 abbrev format : Scope
-format = scope Pure (codes "format") [] (Some 5)
+format = scope Pure (codes "format") [] (Some 5) []
 
 abbrev logger_names : List OwnName
 logger_names = own (codes "out") (Named 0 two) (Parameter true) ∷ own (codes "format") (Named 5 []) (Use 0) ∷ []
 
 abbrev logger : Scope
-logger = scope Resource (codes "logger") logger_names (Some 4)
+logger = scope Resource (codes "logger") logger_names (Some 4) ((1 ∷ []) ∷ [])
 
 -- a plain module, whose parameter's type is bare
 abbrev plug : Scope
-plug = scope Plain (codes "plug") (own (codes "l") (Named 4 []) (Parameter false) ∷ []) (Some 5)
+plug = scope Plain (codes "plug") (own (codes "l") (Named 4 []) (Parameter false) ∷ []) (Some 5) []
 
 -- the program's own names, with the type of the import
 abbrev main_names : TypeRef → List OwnName
@@ -75,7 +77,7 @@ main_names typ =
     own (codes "log") (Named 4 ((2 ∷ []) ∷ [])) (Instance 1 (0 ∷ [])) ∷ own (codes "p") typ (Import 2 (2 ∷ []) (2 ∷ [])) ∷ []
 
 abbrev program : TypeRef → Program
-program typ = record { declarations = primitive_types ++ log ∷ plain_text ∷ []; scopes = format ∷ logger ∷ plug ∷ scope Main (codes "main") (main_names typ) None ∷ [] }
+program typ = record { declarations = primitive_types ++ log ∷ plain_text ∷ []; scopes = format ∷ logger ∷ plug ∷ scope Main (codes "main") (main_names typ) None [] ∷ [] }
 
 without : (byte : ℕ) (name : List ℕ) → has byte name ≡ false → In byte name → ⊥
 without byte name e i = let f : false ≡ true = sym e ∙ has-In byte name i in cc
@@ -112,7 +114,7 @@ plug_fits typ = record {
 }
 
 -- the import stands at its bound, of an atom that is opened before it
-main_fits : OwnNamesFit (program (At 5 (2 ∷ []))) (scope Main (codes "main") (main_names (At 5 (2 ∷ []))) None)
+main_fits : OwnNamesFit (program (At 5 (2 ∷ []))) (scope Main (codes "main") (main_names (At 5 (2 ∷ []))) None [])
 main_fits = record {
   may_have = refl;
   parameters = λ n i. absurd i;
@@ -159,3 +161,43 @@ taken_for_pure = refl
 
 no_such_name : (p : Program) → HavePlainNames p → (s : Scope) → In s p.scopes → (n : OwnName) → In n s.names → n.name ≡ codes "pure format" → ⊥
 no_such_name p plain s among n i e = (plain s among n i).0 (subst (λ v. In 32 v) (sym e) (inr (inr (inr (inr (inl refl))))))
+
+------------------------------------------------------------
+-- Ground sets
+
+abbrev imported : Program
+imported = program (At 5 (2 ∷ []))
+
+-- what stands for an own name of the program, as it has to be
+abbrev GroundInMain : OwnName → ℕ → Type 0
+GroundInMain n k = IsGround imported (program_sets imported) (main_names (At 5 (2 ∷ []))) n n.origin (slice_index_or (program_visited imported).actuals k (actual.Grant 0))
+
+-- the grant's atoms are themselves
+of_grant : GroundInMain (own (codes "console") (Named 0 two) Grant) 0
+of_grant = refl
+
+-- `log.Line` stands for what `Line` is in the module, `{out.Out}`, and that for `{console.Out}`
+of_line : map (ground_of (program_sets imported)) ((2 ∷ []) ∷ []) ≡ (1 ∷ []) ∷ []
+of_line = refl
+
+of_instance : GroundInMain (own (codes "log") (Named 4 ((2 ∷ []) ∷ [])) (Instance 1 (0 ∷ []))) 2
+of_instance = (
+  instance_of (codes "log") 1 (actual.Grant 0 ∷ actual.Instance 0 ∷ []) None two,
+  record { number = 1; is = refl; there = refl; of_module = refl },
+  refl,
+  ([], refl),
+)
+
+-- the import is handed the instance, whose type has no bare parameter, and has the ground of its bound
+of_import : GroundInMain (own (codes "p") (At 5 (2 ∷ [])) (Import 2 (2 ∷ []) (2 ∷ []))) 3
+of_import = (
+  instance_of (codes "p") 2 (actual.Instance 1 ∷ []) (Some (1 ∷ [])) [],
+  record { number = 2; is = refl; there = refl; of_module = refl },
+  ([], refl),
+  refl,
+)
+
+-- a visit that may go through one scope more is the same
+goes_through_all :
+    visit imported 5 (main_names (At 5 (2 ∷ []))) [] (main_names (At 5 (2 ∷ []))) (record { started = []; actuals = []; sets = [] }) ≡ program_visited imported
+goes_through_all = refl

@@ -18,8 +18,9 @@ use Rattle.wy_sound.specs.Arguments.{ground_below, actual_type, ArgumentFits, In
 use Rattle.wy_rules.specs.OwnNames.{opened_count, HasItsType, HaveTheirTypes, LinesAreTyped, HavePlainNames}
 use Rattle.wy_sound.specs.Programs.{IsResolved}
 use Rattle.wy_sound.specs.Linking.{AcceptedInstancesFit, AcceptedArgumentsFit}
+use Rattle.wy_sound.specs.Grounds.{GroundSetsAre}
 use Rattle.wy_sound.proofs.LinkingLists.{GoesOn, goes_on_same, goes_on_further, read_next, read_last, read_within}
-use Rattle.wy_sound.proofs.LinkingStates.{count_more, AreActuals, actual_at, actuals_length, Stands}
+use Rattle.wy_sound.proofs.LinkingStates.{count_more, AreActuals, actual_at, actuals_length, AreGround, ground_at, Stands}
 use Rattle.wy_sound.proofs.LinkingTables.{no_own, no_own_read, same_at}
 use Rattle.wy_sound.proofs.LinkingVisits.{later_names_grow}
 use Rattle.wy_sound.proofs.LinkingPrograms.{last_scope, main_is_last, one_scope}
@@ -32,7 +33,7 @@ module _ (p : Program) (c : IsCore p) (t : LinesAreTyped p) (words : HavePlainNa
   module _ (k : ℕ) (inside : VisitStands p k) (m : ℕ) (s : Scope) (path prefix : List ℕ) (top : List (List ℕ)) (at : Visiting p m s prefix top)
       (way : Way p path m (suc k)) where
     module _ (done : List OwnName) (n : OwnName) (rest : List OwnName) (v : Visited) (names : names_at p m ≡ done ++ n ∷ rest)
-        (stands : Stands p None top done v) where
+        (stands : Stands p (names_at p m) None top done v) where
       place : slice_get (names_at p m) (length done) ≡ Some n
       place = ap (λ l. slice_get l (length done)) names ∙ read_next done rest n
 
@@ -43,13 +44,13 @@ module _ (p : Program) (c : IsCore p) (t : LinesAreTyped p) (words : HavePlainNa
       name_stands : (o : Origin) → n.origin ≡ o → HasItsType p (opened_count p done) n o →
           GoesOn (visit_name p (visit p k) (names_at p m) prefix n o v).started (start_list p) →
           GoesOn (visit_name p (visit p k) (names_at p m) prefix n o v).sets top →
-          Stands p None top (done ++ n ∷ []) (visit_name p (visit p k) (names_at p m) prefix n o v)
+          Stands p (names_at p m) None top (done ++ n ∷ []) (visit_name p (visit p k) (names_at p m) prefix n o v)
       name_stands (Parameter bare) e typed goes further = absurd typed
       name_stands Grant e typed goes further =
           let main : s.kind ≡ Main = (subst (OriginFits p s (length done) n) e (at.facts.written (length done) n place).1).0 in
-          grant_stands p c top done v n stands (length s.atoms) (at.facts.written (length done) n place).0.0 m typed.0 rest names
+          grant_stands p c (names_at p m) top done v n stands (length s.atoms) (at.facts.written (length done) n place).0.0 m typed.0 rest names
           (main_is_last p.scopes c.program m s at.facts.there main) (at.main main) e
-          at.facts.fits.atoms typed.1
+          at.facts.fits.atoms typed.1 further
       name_stands (Use j) e typed goes further =
           use_stands p c t words a k inside m s path prefix top at way done n rest v names stands j e (line (Use j) e) typed.0 typed.1 goes further
       name_stands (Instance j arguments) e typed goes further =
@@ -60,9 +61,9 @@ module _ (p : Program) (c : IsCore p) (t : LinesAreTyped p) (words : HavePlainNa
     -- the own names that are left
     names_stand : (done rest : List OwnName) (v : Visited) → names_at p m ≡ done ++ rest → HaveTheirTypes p (opened_count p done) rest →
         top ≡ (visit_names p (visit p k) (names_at p m) prefix rest v).sets →
-        GoesOn (visit_names p (visit p k) (names_at p m) prefix rest v).started (start_list p) → Stands p None top done v →
-        Stands p None top (names_at p m) (visit_names p (visit p k) (names_at p m) prefix rest v)
-    names_stand done [] v names typed ends goes stands = subst (λ l. Stands p None top l v) (sym (names ∙ append-nil done)) stands
+        GoesOn (visit_names p (visit p k) (names_at p m) prefix rest v).started (start_list p) → Stands p (names_at p m) None top done v →
+        Stands p (names_at p m) None top (names_at p m) (visit_names p (visit p k) (names_at p m) prefix rest v)
+    names_stand done [] v names typed ends goes stands = subst (λ l. Stands p (names_at p m) None top l v) (sym (names ∙ append-nil done)) stands
     names_stand done (n ∷ rest) v names typed ends goes stands =
         let w = visit_name p (visit p k) (names_at p m) prefix n n.origin v in
         let grows = later_names_grow p k (names_at p m) prefix rest w in
@@ -73,7 +74,7 @@ module _ (p : Program) (c : IsCore p) (t : LinesAreTyped p) (words : HavePlainNa
         (subst (λ j. HaveTheirTypes p j rest) (sym (count_more p done n)) typed.1) ends goes one
 
   visit_stands : (k : ℕ) → VisitStands p k
-  visit_stands zero m s path prefix done rest v top at way names typed ends goes stands = absurd (way_ends p c path m s at.facts.there way)
+  visit_stands zero m s path prefix done rest v top at way names typed ends goes stands = absurd (way_ends p c.no_cycle path m s at.facts.there way)
   visit_stands (suc k) m s path prefix done rest v top at way names typed ends goes stands =
       names_stand k (visit_stands k) m s path prefix top at way done rest v names typed ends goes stands
 
@@ -86,11 +87,11 @@ module _ (p : Program) (c : IsCore p) (t : LinesAreTyped p) (words : HavePlainNa
   main_facts : Facts p (program_number p) main.0
   main_facts = facts_at p c t words a (program_number p) main.0 main.1
 
-  program_stands : Stands p None (program_sets p) (names_at p (program_number p)) (program_visited p)
+  program_stands : Stands p (names_at p (program_number p)) None (program_sets p) (names_at p (program_number p)) (program_visited p)
   program_stands =
       let empty : Visited = record { started = []; actuals = []; sets = [] } in
-      let stands : Stands p None (program_sets p) [] empty =
-      record { actuals = tt; count = refl; types = λ x i. absurd i; sets = λ x i. absurd i; started = λ y i e. absurd (cc) } in
+      let stands : Stands p (names_at p (program_number p)) None (program_sets p) [] empty =
+      record { actuals = tt; grounds = tt; count = refl; types = λ x i. absurd i; sets = λ x i. absurd i; started = λ y i e. absurd (cc) } in
       visit_stands (length p.scopes) (program_number p) main.0 [] [] [] (names_at p (program_number p)) empty (program_sets p)
       (record { facts = main_facts; plain = ap is_plain main.2; words = λ i. absurd i; main = λ e. refl })
       (way_begins p (program_number p)) refl (program_typed p c t) refl (goes_on_same (start_list p)) stands
@@ -146,6 +147,25 @@ module _ (p : Program) (c : IsCore p) (t : LinesAreTyped p) (words : HavePlainNa
             subst (λ y. AreActuals p y i.bound i.ground s.names i.arguments) (sym last.0) (subst Q last.1 fits)
       ]
 
+  grounds_of : (x : ℕ) (i : Started) (s : Scope) → slice_get (run_instances p) x ≡ Some i → slice_get p.scopes i.scope ≡ Some s →
+      AreGround p i.ground s.names s.names i.arguments
+  unfolding program
+  grounds_of x i s e scope =
+      elim (read_last (start_list p) program x i e) [
+        | inl there ↦
+            let fit = program_stands.started x i there in
+            subst (λ (z : Scope). AreGround p i.ground z.names z.names i.arguments)
+            (one_scope (slice_get p.scopes i.scope) fit.scope s fit.there scope) fit.grounds
+        | inr last ↦
+            let P : Started → Type 0 = λ j. slice_get p.scopes j.scope ≡ Some s in
+            let same : main.0 ≡ s = one_scope (slice_get p.scopes (program_number p)) main.0 s main.1 (subst P (sym last.1) scope) in
+            let own : names_at p (program_number p) ≡ s.names = main_facts.names ∙ ap (λ (z : Scope). z.names) same in
+            let fits : AreGround p program.ground s.names s.names program.arguments =
+            subst (λ l. AreGround p (program_sets p) l l (program_visited p).actuals) own program_stands.grounds in
+            let Q : Started → Type 0 = λ j. AreGround p j.ground s.names s.names j.arguments in
+            subst Q last.1 fits
+      ]
+
   argument_fits : (x : ℕ) (i : Started) (s : Scope) (k : ℕ) (n : OwnName) → slice_get (run_instances p) x ≡ Some i →
       slice_get p.scopes i.scope ≡ Some s → slice_get s.names k ≡ Some n → ArgumentFits p x i k n
   argument_fits x i s k n e scope at =
@@ -179,6 +199,11 @@ accepted_modules p r a x i e =
 
 pub accepted_instances_fit : AcceptedInstancesFit
 accepted_instances_fit p c t words a = record { each = instance_fits p c t words a }
+
+-- the ground sets of an instance's atoms
+pub ground_sets_are : GroundSetsAre
+ground_sets_are p r a x i s k n e scope at =
+    ground_at p i.ground s.names s.names i.arguments k n (grounds_of p r.core r.lines r.names a x i s e scope) at
 
 pub accepted_arguments_fit : AcceptedArgumentsFit
 accepted_arguments_fit p c t words a = record {

@@ -1,5 +1,5 @@
 -- The visit of one own name more: a grant, a use, an instance or an import; what it stands for is of its type.
-use Rattle.std.proofs.Common.{◌≡◌, ℕ, ◌≤◌, List, [], ◌∷◌, ◌++◌, map, inl, inr, length, refl, sym, ap, ◌∙◌, subst, arith, Option, Some, None, true, false, append_assoc}
+use Rattle.std.proofs.Common.{◌≡◌, ℕ, ◌≤◌, List, [], ◌∷◌, ◌++◌, map, inl, inr, length, refl, sym, ap, ap₂, ◌∙◌, subst, arith, Option, Some, None, true, false, append_assoc}
 use Rattle.std.specs.Prelude.{slice_get}
 use Rattle.std.proofs.Math.ListN.{length-map}
 use Rattle.wy_effects.specs.EffSet.{IsSet, AreSets, replace}
@@ -13,11 +13,12 @@ use Rattle.wy_types.specs.Program.{Program, Scope}
 use Rattle.wy_types.specs.Types.{substituted, is_plain}
 use Rattle.wy_types.specs.Fitting.{FitsType}
 use Rattle.wy_types.specs.Core.{IsCore}
-use Rattle.wy_types.specs.Ground.{Visited, settled, type_of, abstract_names, members_of, single_sets, program_number, program_sets, start_list}
+use Rattle.wy_types.specs.Ground.{Visited, settled, type_of, abstract_names, members_of, single_sets, definitions_of, program_number, program_sets, start_list}
 use Rattle.wy_rules.specs.GroundTypes.{Named, Own, type_at, run_instances}
 use Rattle.wy_rules.specs.GroundTyping.{BoundFits}
 use Rattle.wy_sound.specs.Arguments.{actual_type, program_names}
 use Rattle.wy_rules.specs.OwnNames.{opens, opened_count, IsOpened, IsBounded}
+use Rattle.wy_sound.specs.Grounds.{member_sets, GroundIsDefined, IsGround}
 use Rattle.wy_sound.proofs.LinkingLists.{GoesOn, read_on, read_next, read_first, read_within, length_goes_on}
 use Rattle.wy_sound.proofs.LinkingSets.{AreSets-wider, replace_first, singles, length_singles, opened_fits, count_members}
 use Rattle.wy_sound.proofs.LinkingStates.{read_type, AllFit, Stands, actuals_length, stands_more}
@@ -31,7 +32,8 @@ pub in_run : (p : Program) (started : List Started) (y : ℕ) (i : Started) → 
     slice_get (run_instances p) y ≡ Some i
 in_run p started y i g e = read_first (start_list p) _ y i (read_on started (start_list p) y i g e)
 
-module _ (p : Program) (c : IsCore p) (top : List (List ℕ)) (done : List OwnName) (v : Visited) (n : OwnName) (s : Stands p None top done v)
+module _ (p : Program) (c : IsCore p) (outer : List OwnName) (top : List (List ℕ)) (done : List OwnName) (v : Visited) (n : OwnName)
+    (s : Stands p outer None top done v)
     (atoms : ℕ) (written : FitsType p atoms 0 n.typ) where
   -- the types that are sealed so
   abbrev Sealed : Option ℕ → Type 0
@@ -54,8 +56,9 @@ module _ (p : Program) (c : IsCore p) (top : List (List ℕ)) (done : List OwnNa
       slice_get started y ≡ Some i → Facts p i.scope z → is_plain z.kind ≡ false → sets ≡ map (replace i.ground) z.definitions →
       IsOpened p (opened_count p done) z.ascribed n.typ →
       GoesOn (v.sets ++ sets) top → opens p n n.origin ≡ members_of p n.typ →
-      Stands p None top (done ++ n ∷ []) (settled v started (actual.Instance y) sets)
-  sealed_stands started y i z sets longer goes all at f plain are opened further opening =
+      (GroundIsDefined p top n i → IsGround p top outer n n.origin (actual.Instance y)) →
+      Stands p outer None top (done ++ n ∷ []) (settled v started (actual.Instance y) sets)
+  sealed_stands started y i z sets longer goes all at f plain are opened further opening ground =
       let fit = all y i at in
       let same : fit.scope ≡ z = one_scope (slice_get p.scopes i.scope) fit.scope z fit.there f.there in
       let bound : BoundFits (is_plain z.kind) i.bound = subst (λ (w : Scope). BoundFits (is_plain w.kind) i.bound) same fit.bound in
@@ -72,9 +75,11 @@ module _ (p : Program) (c : IsCore p) (top : List (List ℕ)) (done : List OwnNa
       let read : map (replace top) (single_sets k names) ≡ map (replace i.ground) z.definitions =
       singles 512 top v.sets sets further.0 k names (further.1 ∙ append_assoc v.sets sets further.0) (sym s.count) many are_sets ∙ are in
       let is_type : read_type None top n.typ ≡ Named d.0 (map (replace i.ground) z.definitions) = ap (read_type None top) d.2 ∙ ap (Named d.0) read in
+      let defined : GroundIsDefined p top n i =
+      ap (λ t. map (replace top) (member_sets t)) d.2 ∙ read ∙ ap (λ o. map (replace i.ground) (definitions_of o)) (sym f.there) in
       let fits = opened_fits p atoms k d.0 n.typ written d.2 in
-      stands_more p None top done v n started (actual.Instance y) sets s (length_goes_on v.started started longer) all
-      (record { there = read_within started y i at; below = inr (subst (IsBelow p (Own y 0)) (sym is_type) seal) })
+      stands_more p outer None top done v n started (actual.Instance y) sets s (length_goes_on v.started started longer) all
+      (record { there = read_within started y i at; below = inr (subst (IsBelow p (Own y 0)) (sym is_type) seal) }) (ground defined)
       (many ∙ sym members ∙ ap length (sym opening)) (subst (λ j. FitsType p j 0 n.typ) (omega (arith, s.count, many, members)) fits) are_sets
 
   -- a name that stands for an instance of a plain module, at the bound
@@ -82,8 +87,9 @@ module _ (p : Program) (c : IsCore p) (top : List (List ℕ)) (done : List OwnNa
       GoesOn started (start_list p) → AllFit p started →
       slice_get started y ≡ Some i → Facts p i.scope z → is_plain z.kind ≡ true → i.bound ≡ Some (replace v.sets bound) →
       IsSet (opened_count p done) bound → IsBounded bound z.ascribed n.typ →
-      GoesOn v.sets top → opens p n n.origin ≡ [] → Stands p None top (done ++ n ∷ []) (settled v started (actual.Instance y) [])
-  bounded_stands started y i z bound longer goes all at f plain at_bound of_atoms is further opening =
+      GoesOn v.sets top → opens p n n.origin ≡ [] → IsGround p top outer n n.origin (actual.Instance y) →
+      Stands p outer None top (done ++ n ∷ []) (settled v started (actual.Instance y) [])
+  bounded_stands started y i z bound longer goes all at f plain at_bound of_atoms is further opening ground =
       let fit = all y i at in
       let d = bounded_at bound z.ascribed is in
       let before : IsSet (length v.sets) bound = subst (λ k. IsSet k bound) (sym s.count) of_atoms in
@@ -92,16 +98,16 @@ module _ (p : Program) (c : IsCore p) (top : List (List ℕ)) (done : List OwnNa
       ap (read_type None top) d.2 ∙ ap (λ b. type_at 0 (of.At d.0 b)) (replace_first v.sets top bound further before) in
       let there : FitsType p atoms 0 (of.At d.0 bound) = subst (FitsType p atoms 0) d.2 written in
       let fits : FitsType p (length v.sets) 0 (of.At d.0 bound) = (there.0, before) in
-      stands_more p None top done v n started (actual.Instance y) [] s (length_goes_on v.started started longer) all
-      (record { there = read_within started y i at; below = inr (subst (IsBelow p (Own y 0)) (sym is_type) seal) })
+      stands_more p outer None top done v n started (actual.Instance y) [] s (length_goes_on v.started started longer) all
+      (record { there = read_within started y i at; below = inr (subst (IsBelow p (Own y 0)) (sym is_type) seal) }) ground
       (ap length (sym opening)) (subst (λ j. FitsType p j 0 n.typ) (omega arith) (subst (FitsType p (length v.sets) 0) (sym d.2) fits)) (λ t i. absurd i)
 
   -- a grant
   pub grant_stands : (m d : ℕ) (rest : List OwnName) → names_at p m ≡ done ++ n ∷ rest → m ≡ program_number p → top ≡ program_sets p →
       n.origin ≡ Grant → atoms ≤ 512 →
-      IsOpened p (opened_count p done) (Some d) n.typ →
-      Stands p None top (done ++ n ∷ []) (settled v v.started (actual.Grant (length v.actuals)) (single_sets (length v.sets) (members_of p n.typ)))
-  grant_stands m d rest names main sets origin few opened =
+      IsOpened p (opened_count p done) (Some d) n.typ → GoesOn (v.sets ++ single_sets (length v.sets) (members_of p n.typ)) top →
+      Stands p outer None top (done ++ n ∷ []) (settled v v.started (actual.Grant (length v.actuals)) (single_sets (length v.sets) (members_of p n.typ)))
+  grant_stands m d rest names main sets origin few opened further =
       let members = members_of p n.typ in
       let k = opened_count p done in
       let g = length v.actuals in
@@ -118,7 +124,15 @@ module _ (p : Program) (c : IsCore p) (top : List (List ℕ)) (done : List OwnNa
       (subst (λ l. AreSets atoms (single_sets k l)) (sym (ap (members_of p) opened)) ((subst (FitsType p atoms 0) opened written).2)) in
       let fits = opened_fits p atoms k d n.typ written opened in
       let many : length (single_sets (length v.sets) members) ≡ length members = length_singles (length v.sets) members in
-      stands_more p None top done v n v.started (actual.Grant g) (single_sets (length v.sets) members) s (omega arith) s.started
-      (record { there = (n, at, origin); below = inl is_type })
+      let own : member_sets n.typ ≡ single_sets (length v.sets) members =
+      ap member_sets opened ∙ ap₂ single_sets (sym s.count) (sym (ap (members_of p) opened)) in
+      let read : map (replace top) (single_sets (length v.sets) members) ≡ single_sets (length v.sets) members =
+      singles 512 top v.sets (single_sets (length v.sets) members) further.0 (length v.sets) members
+      (further.1 ∙ append_assoc v.sets (single_sets (length v.sets) members) further.0) refl many
+      (subst (λ j. AreSets 512 (single_sets j members)) (sym s.count) singles_are) in
+      let itself : IsGround p top outer n n.origin (actual.Grant g) =
+      subst (λ o. IsGround p top outer n o (actual.Grant g)) (sym origin) (ap (map (replace top)) own ∙ read ∙ sym own) in
+      stands_more p outer None top done v n v.started (actual.Grant g) (single_sets (length v.sets) members) s (omega arith) s.started
+      (record { there = (n, at, origin); below = inl is_type }) itself
       (many ∙ ap length (sym opening)) (subst (λ j. FitsType p j 0 n.typ) (omega (arith, s.count, many)) fits)
       (subst (λ j. AreSets 512 (single_sets j members)) (sym s.count) singles_are)

@@ -20,8 +20,8 @@ use Rattle.wy_types.specs.Ground.{Visited, names_of, is_use, uses_among, argumen
 use Rattle.wy_rules.specs.Acceptance.{IsLine, PureHolds, LineHolds, ScopeAccepted, Accepted, parameters_among, Handed, handed_to}
 use Rattle.wy_rules.specs.OwnNames.{opens, opened_count, after_parameters, HasItsType, HaveTheirTypes, MayHave, LinesAreTyped, HavePlainNames}
 use Rattle.wy_sound.proofs.LinkingSets.{arguments_count}
-use Rattle.wy_sound.proofs.LinkingStates.{read_type, IsActual, AreActuals, AllFit, Stands}
-use Rattle.wy_sound.proofs.LinkingVisits.{first_and_after, all_uses}
+use Rattle.wy_sound.proofs.LinkingStates.{read_type, IsActual, AreActuals, parameters_ground, AllFit, Stands}
+use Rattle.wy_sound.proofs.LinkingVisits.{parameters_are, first_and_after, all_uses}
 use Rattle.wy_sound.proofs.LinkingPrograms.{NoSpace, last_scope}
 use Rattle.wy_sound.proofs.LinkingWays.{names_lead}
 
@@ -140,7 +140,8 @@ module _ (p : Program) (z : ℕ) (outer : List OwnName) (v : Visited) (o : Optio
   -- the parameters of a module are handed what they ask for
   pub handed_stands : (s : Scope) (f : Facts p z s) (arguments : List ℕ) → length arguments ≡ length (parameters_among (names_at p z)) →
       TakesAll (parameters_among (names_at p z)) arguments →
-      AreSets 512 v.sets → AllFit p v.started → Stands p o top (parameters_among (names_at p z)) (handed p outer v z arguments)
+      AreSets 512 v.sets → AllFit p v.started →
+      Stands p (names_at p z) o top (parameters_among (names_at p z)) (handed p outer v z arguments)
   handed_stands s f arguments many takes sets started =
       let ns = names_at p z in
       let given = arguments_sets p outer ns arguments in
@@ -148,6 +149,9 @@ module _ (p : Program) (z : ℕ) (outer : List OwnName) (v : Visited) (o : Optio
       length-map given (replace v.sets) ∙ arguments_count p outer ns arguments many in
       record {
         actuals = taken (parameters_among ns) arguments many takes;
+        grounds =
+            parameters_ground p top ns (parameters_among ns) (map (λ a. slice_index_or v.actuals a (actual.Grant 0)) arguments)
+            (length-map arguments (λ a. slice_index_or v.actuals a (actual.Grant 0)) ∙ many) (parameters_are ns);
         count = count;
         types = λ n i. subst (λ k. FitsType p k 0 n.typ) (sym count) (f.parameters n i);
         sets = AreSets-map 512 v.sets given sets;

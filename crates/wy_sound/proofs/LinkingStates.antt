@@ -1,5 +1,5 @@
 -- What stands while a scope is visited: what is handed on has the types of the own names so far, and each instance so far is one of its scope.
-use Rattle.std.proofs.Common.{◌≡◌, ℕ, zero, suc, ◌+◌, ◌≤◌, List, [], ◌∷◌, ◌++◌, inl, inr, length, refl, sym, ap, ◌∙◌, subst, arith, Option, Some, length-append}
+use Rattle.std.proofs.Common.{◌≡◌, ℕ, zero, suc, ◌+◌, ◌≤◌, List, [], ◌∷◌, ◌++◌, inl, inr, length, refl, sym, ap, ◌∙◌, subst, arith, Option, Some, true, length-append}
 use Rattle.std.specs.Prelude.{codes, slice_get, slice_index_or}
 use Rattle.wy_effects.specs.Members.{In}
 use Rattle.wy_effects.specs.EffSet.{AreSets}
@@ -7,17 +7,21 @@ use Rattle.wy_effects.proofs.Lists.{In-cases, In-slice_get}
 use Rattle.wy_types.specs.declared.types.TypeRef.{TypeRef}
 use Rattle.wy_types.specs.declared.linked.Actual.{Actual}
 use Rattle.wy_types.specs.declared.linked.Actual.TheVariants as actual
-use Rattle.wy_types.specs.declared.linked.Instance.{Instance}
+use Rattle.wy_types.specs.declared.linked.Instance.{Instance as Started}
+use Rattle.wy_types.specs.declared.resolved.Origin.{Origin}
+use Rattle.wy_types.specs.declared.resolved.Origin.TheVariants.{Parameter, Grant, Use, Instance, Import}
 use Rattle.wy_types.specs.declared.resolved.OwnName.{OwnName}
 use Rattle.wy_types.specs.declared.resolved.ScopeKind.TheVariants.{Program as Main}
 use Rattle.wy_types.specs.Program.{Program, Scope}
 use Rattle.wy_types.specs.Types.{is_plain}
 use Rattle.wy_types.specs.Fitting.{FitsType}
 use Rattle.wy_types.specs.Ground.{Visited, settled, type_of}
+use Rattle.wy_rules.specs.Acceptance.{is_parameter}
 use Rattle.wy_rules.specs.GroundTypes.{GroundType, type_at, read_by}
 use Rattle.wy_rules.specs.GroundTyping.{BoundFits}
 use Rattle.wy_sound.specs.Arguments.{ground_below, actual_type, IsThere}
 use Rattle.wy_rules.specs.OwnNames.{opens, opened_count}
+use Rattle.wy_sound.specs.Grounds.{IsGround}
 use Rattle.wy_sound.proofs.LinkingLists.{read_first, read_last}
 use Rattle.wy_sound.proofs.LinkingSets.{AreSets-both, Fits-wider}
 
@@ -82,45 +86,86 @@ module _ (p : Program) where
       (a, refl, (let same : m ≡ n = cc in subst (λ (v : OwnName). IsActual limit (read_type o sets v.typ) a) same h.0))
   actual_at limit o sets (m ∷ ns) (a ∷ xs) (suc k) n h e = actual_at limit o sets ns xs k n h.1 e
 
+  -- own names one after the other, and what stands for them; their atoms stand for the ground of that
+  abbrev pub AreGround : List (List ℕ) → List OwnName → List OwnName → List Actual → Type 0
+  AreGround ground outer [] [] = Unit {0}
+  AreGround ground outer (n ∷ ns) (a ∷ rest) = IsGround p ground outer n n.origin a × AreGround ground outer ns rest
+  AreGround ground outer ns rest = ⊥
+
+  ground_more : (ground : List (List ℕ)) (outer ns : List OwnName) (xs : List Actual) (n : OwnName) (a : Actual) → AreGround ground outer ns xs →
+      IsGround p ground outer n n.origin a → AreGround ground outer (ns ++ n ∷ []) (xs ++ a ∷ [])
+  ground_more ground outer [] [] n a h g = (g, tt)
+  ground_more ground outer [] (b ∷ xs) n a h g = absurd h
+  ground_more ground outer (m ∷ ns) [] n a h g = absurd h
+  ground_more ground outer (m ∷ ns) (b ∷ xs) n a h g = (h.0, ground_more ground outer ns xs n a h.1 g)
+
+  pub ground_at : (ground : List (List ℕ)) (outer ns : List OwnName) (xs : List Actual) (k : ℕ) (n : OwnName) → AreGround ground outer ns xs →
+      slice_get ns k ≡ Some n → (a : Actual) × (slice_get xs k ≡ Some a) × IsGround p ground outer n n.origin a
+  ground_at ground outer [] xs k n h e = absurd (cc)
+  ground_at ground outer (m ∷ ns) [] k n h e = absurd h
+  ground_at ground outer (m ∷ ns) (a ∷ xs) zero n h e =
+      (a, refl, (let same : m ≡ n = cc in subst (λ (v : OwnName). IsGround p ground outer v v.origin a) same h.0))
+  ground_at ground outer (m ∷ ns) (a ∷ xs) (suc k) n h e = ground_at ground outer ns xs k n h.1 e
+
+  -- of parameters nothing is said
+  parameter_ground : (ground : List (List ℕ)) (outer : List OwnName) (n : OwnName) (o : Origin) (a : Actual) → is_parameter o ≡ true → IsGround p ground outer n o a
+  parameter_ground ground outer n (Parameter bare) a e = tt
+  parameter_ground ground outer n Grant a e = absurd (cc)
+  parameter_ground ground outer n (Use m) a e = absurd (cc)
+  parameter_ground ground outer n (Instance m arguments) a e = absurd (cc)
+  parameter_ground ground outer n (Import m arguments bound) a e = absurd (cc)
+
+  pub parameters_ground : (ground : List (List ℕ)) (outer ns : List OwnName) (xs : List Actual) → length xs ≡ length ns →
+      ((n : OwnName) → In n ns → is_parameter n.origin ≡ true) → AreGround ground outer ns xs
+  parameters_ground ground outer [] [] e h = tt
+  parameters_ground ground outer [] (a ∷ xs) e h = absurd (omega arith)
+  parameters_ground ground outer (n ∷ ns) [] e h = absurd (omega arith)
+  parameters_ground ground outer (n ∷ ns) (a ∷ xs) e h =
+      (parameter_ground ground outer n n.origin a (h n (inl refl)), parameters_ground ground outer ns xs (omega (arith, e)) (λ m i. h m (inr i)))
+
   -- an instance is one of its scope, a module, and is handed what the scope's own names ask for; by its name it is one of a pure module only where it is
-  pub record Fits (y : ℕ) (i : Instance) : Type 0 where
+  pub record Fits (y : ℕ) (i : Started) : Type 0 where
     pub scope : Scope
     pub there : slice_get p.scopes i.scope ≡ Some scope
     pub is_module : scope.kind ≡ Main → ⊥
     pub bound : BoundFits (is_plain scope.kind) i.bound
     pub sets : AreSets 512 i.ground
     pub actuals : AreActuals y i.bound i.ground scope.names i.arguments
+    pub grounds : AreGround i.ground scope.names scope.names i.arguments
     pub called : (word : List ℕ) → i.name ≡ codes "pure " ++ word → scope.name ≡ word
 
-  abbrev pub AllFit : List Instance → Type 0
-  AllFit xs = (y : ℕ) (i : Instance) → slice_get xs y ≡ Some i → Fits y i
+  abbrev pub AllFit : List Started → Type 0
+  AllFit xs = (y : ℕ) (i : Started) → slice_get xs y ≡ Some i → Fits y i
 
-  pub all_more : (xs : List Instance) (i : Instance) → AllFit xs → Fits (length xs) i → AllFit (xs ++ i ∷ [])
+  pub all_more : (xs : List Started) (i : Started) → AllFit xs → Fits (length xs) i → AllFit (xs ++ i ∷ [])
   all_more xs i h f y j e =
       elim (read_last xs i y j e) [
         | inl g ↦ h y j g
         | inr g ↦ subst (λ z. Fits z j) (sym g.0) (subst (Fits (length xs)) g.1 f)
       ]
 
-  -- so far in a visit of a scope, of whose own names these are done; the last sets are those at its end
-  pub record Stands (o : Option (List ℕ)) (top : List (List ℕ)) (done : List OwnName) (v : Visited) : Type 0 where
+  -- so far in a visit of a scope, of whose own names, the outer ones, these are done; the last sets are those at its end
+  pub record Stands (outer : List OwnName) (o : Option (List ℕ)) (top : List (List ℕ)) (done : List OwnName) (v : Visited) : Type 0 where
     pub actuals : AreActuals (length v.started) o top done v.actuals
+    pub grounds : AreGround top outer done v.actuals
     pub count : length v.sets ≡ opened_count p done
     pub types : (n : OwnName) → In n done → FitsType p (length v.sets) 0 n.typ
     pub sets : AreSets 512 v.sets
     pub started : AllFit v.started
 
   -- one more own name
-  pub stands_more : (o : Option (List ℕ)) (top : List (List ℕ)) (done : List OwnName) (v : Visited) (n : OwnName) (started : List Instance) (a : Actual) (sets : List (List ℕ)) → Stands o top done v →
-      length v.started ≤ length started → AllFit started → IsActual (length started) (read_type o top n.typ) a →
+  pub stands_more : (outer : List OwnName) (o : Option (List ℕ)) (top : List (List ℕ)) (done : List OwnName) (v : Visited) (n : OwnName) (started : List Started) (a : Actual) (sets : List (List ℕ)) →
+      Stands outer o top done v →
+      length v.started ≤ length started → AllFit started → IsActual (length started) (read_type o top n.typ) a → IsGround p top outer n n.origin a →
       length sets ≡ length (opens p n n.origin) →
-      FitsType p (length v.sets + length sets) 0 n.typ → AreSets 512 sets → Stands o top (done ++ n ∷ []) (settled v started a sets)
-  stands_more o top done v n started a sets s le all is many fits are =
+      FitsType p (length v.sets + length sets) 0 n.typ → AreSets 512 sets → Stands outer o top (done ++ n ∷ []) (settled v started a sets)
+  stands_more outer o top done v n started a sets s le all is ground many fits are =
       let long : length (v.sets ++ sets) ≡ length v.sets + length sets = length-append v.sets sets in
       record {
         actuals =
             actuals_more (length started) o top done v.actuals n a
             (actuals_later (length v.started) (length started) o top done v.actuals le s.actuals) is;
+        grounds = ground_more top outer done v.actuals n a s.grounds ground;
         count = omega (arith, long, many, s.count, count_more p done n);
         types = λ m i. elim (In-cases m done (n ∷ []) i) [
           | inl j ↦ Fits-wider p (length v.sets) (length (v.sets ++ sets)) m.typ (omega (arith, long)) (s.types m j)
@@ -144,7 +189,7 @@ module _ (p : Program) where
   or_read (x ∷ xs) (suc k) a d e = or_read xs k a d e
 
   pub given : (o : Option (List ℕ)) (top : List (List ℕ)) (outer done rest : List OwnName) (v : Visited) (a : ℕ) (n : OwnName) →
-      outer ≡ done ++ rest → Stands o top done v → slice_get done a ≡ Some n → Given o top outer v a
+      outer ≡ done ++ rest → Stands outer o top done v → slice_get done a ≡ Some n → Given o top outer v a
   given o top outer done rest v a n e s at =
       let r = actual_at (length v.started) o top done v.actuals a n s.actuals at in
       let typ : type_of (slice_get outer a) ≡ n.typ = ap type_of (ap (λ l. slice_get l a) e ∙ read_first done rest a n at) in

@@ -1,5 +1,5 @@
 -- Visits add instances behind those that are there, and sets behind those of the scope; a scope's parameters are passed over.
-use Rattle.std.proofs.Common.{◌≡◌, ℕ, zero, suc, List, [], ◌∷◌, ◌++◌, inl, inr, Option, Some, None, true, false, refl, sym, ap, ◌∙◌}
+use Rattle.std.proofs.Common.{◌≡◌, ℕ, zero, suc, List, [], ◌∷◌, ◌++◌, inl, inr, Option, Some, None, true, false, refl, sym, ap, ◌∙◌, subst}
 use Rattle.std.specs.Prelude.{codes, slice_get, if◌then◌else◌}
 use Rattle.wy_effects.specs.Members.{In}
 use Rattle.wy_types.specs.declared.resolved.Origin.{Origin}
@@ -77,6 +77,14 @@ pub visit_passes : (p : Program) (k : ℕ) (outer : List OwnName) (prefix : List
     visit p k outer prefix ns v ≡ visit p k outer prefix (after_parameters ns) v
 visit_passes p zero outer prefix ns v = refl
 visit_passes p (suc k) outer prefix ns v = parameters_passed p (visit p k) outer prefix ns v
+
+pub parameters_are : (ns : List OwnName) (n : OwnName) → In n (parameters_among ns) → is_parameter n.origin ≡ true
+parameters_are [] n = λ i. absurd i
+parameters_are (m ∷ ns) n =
+    elim (is_parameter m.origin) as (λ b. is_parameter m.origin ≡ b → In n (parameters_until b m (parameters_among ns)) → is_parameter n.origin ≡ true) [
+      | true ↦ λ e i. elim i [ inl f ↦ subst (λ (v : OwnName). is_parameter v.origin ≡ true) f e | inr j ↦ parameters_are ns n j ]
+      | false ↦ λ e i. absurd i
+    ] refl
 
 pub first_and_after : (ns : List OwnName) → ns ≡ parameters_among ns ++ after_parameters ns
 first_and_after [] = refl

@@ -5,7 +5,7 @@ use Rattle.wy_effects.specs.Members.{In, Apart}
 use Rattle.wy_effects.proofs.Lists.{In-left, In-right}
 use Rattle.wy_types.specs.declared.resolved.OwnName.{OwnName}
 use Rattle.wy_types.specs.Program.{Program, Scope}
-use Rattle.wy_types.specs.Core.{origin_modules, names_modules, LeadsTo, LeadsBy, IsCore}
+use Rattle.wy_types.specs.Core.{origin_modules, names_modules, LeadsTo, LeadsBy, NoCycle}
 use Rattle.wy_sound.proofs.LinkingLists.{read_within, few_numbers}
 
 -- the scopes on the way to one, for which so much depth is left
@@ -19,9 +19,9 @@ leads_on : (p : Program) (j m n : ℕ) (between : List ℕ) → LeadsBy p j betw
 leads_on p j m n [] h g = (h, g)
 leads_on p j m n (i ∷ between) h g = (h.0, leads_on p i m n between h.1 g)
 
-module _ (p : Program) (c : IsCore p) where
+module _ (p : Program) (no_cycle : NoCycle p) where
   not_twice : (path : List ℕ) (m k : ℕ) → Way p path m k → In m path → ⊥
-  not_twice path m k w i = let r = w.leads m i in c.no_cycle m r.0 r.1
+  not_twice path m k w i = let r = w.leads m i in no_cycle m r.0 r.1
 
   pub way_on : (path : List ℕ) (m n k : ℕ) (s : Scope) → slice_get p.scopes m ≡ Some s → LeadsTo p m n → Way p path m (suc k) → Way p (m ∷ path) n k
   way_on path m n k s e l w = record {

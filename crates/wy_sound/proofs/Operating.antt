@@ -258,14 +258,14 @@ module _ (p : Program) (core : IsCore p) (now x : ℕ) (pl : Placed p x) where
       room : (c : Bool) → Answers p now w (Valued p now k)
           (if c then replied (Text bytes) (record w { built = w.built + 1 }) else stopped (Trap Crowded place) w)
       room true = same_answers p now w (Valued p now k) (Text bytes) (record w { built = w.built + 1 }) refl wh q
-      room false = trap_answers p now w (Valued p now k) Crowded place w
+      room false = trap_answers p now w (Valued p now k) Crowded place wh
 
   computed_answers : (w : World) (place : Place) (k : GroundType) (c : Computed) → WellHeap p now w.objects → Fits k c →
       Answers p now w (Valued p now k) (computed place w c)
   computed_answers w place k (GivesNumber n) wh q = same_answers p now w (Valued p now k) (Number n) w refl wh q
   computed_answers w place k (GivesTruth b) wh q = same_answers p now w (Valued p now k) (Truth b) w refl wh q
   computed_answers w place k (Builds bytes) wh q = built_answers w place bytes k wh q
-  computed_answers w place k (Traps kind) wh q = trap_answers p now w (Valued p now k) kind place w
+  computed_answers w place k (Traps kind) wh q = trap_answers p now w (Valued p now k) kind place wh
   computed_answers w place k Misfits wh q = absurd q
 
   pub unary_answers : (o : UnaryOperator) (r : Row) → In r (unary_rows o) → (w : World) (place : Place) (vs : List Value) → WellHeap p now w.objects →

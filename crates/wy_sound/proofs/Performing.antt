@@ -30,7 +30,7 @@ use Rattle.wy_sound.specs.TypedHeaps.{AllHave, WellHeap}
 use Rattle.wy_sound.proofs.Heaps.{extends_refl}
 use Rattle.wy_sound.proofs.BaseTypes.{IsGrant, is_grant, grant_kind, sets_put, text_value}
 use Rattle.wy_sound.proofs.Operations.{arity_of, answer_kind, kind_of_number, operation_method, primitive_methods, operation_found, operation_there, operation_atom}
-use Rattle.wy_sound.proofs.Results.{Sound, Valued, stop_sound}
+use Rattle.wy_sound.proofs.Results.{Sound, Valued, stays_same, stop_sound}
 
 ------------------------------------------------------------
 -- The grant of a number
@@ -119,10 +119,10 @@ module _ (p : Program) (now : ℕ) where
 
     failed_sound : (tapes : Tapes) → Sound p now f w (Valued p now k) (answered grant op w (Fails tapes))
     unfolding told stop
-    failed_sound tapes = record { by = ((λ e. cc), kept_held p f _ (kept_deed p f _ (has None))) }
+    failed_sound tapes = record { by = ((λ e. cc), kept_held p f _ (kept_deed p f _ (has None)), stays_same p now w wh) }
 
     waits_sound : Sound p now f w (Valued p now k) (answered grant op w Waits)
-    waits_sound = stop_sound p now f w (Valued p now k) Waiting w (λ e. cc)
+    waits_sound = stop_sound p now f w (Valued p now k) Waiting (λ e. cc) wh
 
     told_sound : (o : OpName) (kind : Kind) (tape : List (Option Answer)) (tapes : Tapes) → answer_kind o ≡ k →
         Sound p now f w (Valued p now k) (answered grant op w (told_by o kind tape tapes))
@@ -139,13 +139,13 @@ module _ (p : Program) (now : ℕ) where
     requested_sound place e = of_name (not (has_good_name op))
       where
         of_room : (b : Bool) → Sound p now f w (Valued p now k) (if b then stop (Trap Crowded place) w else answered grant op w (asked op w.tapes))
-        of_room true = stop_sound p now f w (Valued p now k) (Trap Crowded place) w (λ e. cc)
+        of_room true = stop_sound p now f w (Valued p now k) (Trap Crowded place) (λ e. cc) wh
         of_room false = told_sound (name_of op) (kind_of op) (tape_of (kind_of op) w.tapes) w.tapes e
 
         of_name : (b : Bool) → Sound p now f w (Valued p now k)
             (if b then stop (Trap BadName place) w else if answers_text op && not (nat_lt w.built most_texts) then stop
             (Trap Crowded place) w else answered grant op w (asked op w.tapes))
-        of_name true = stop_sound p now f w (Valued p now k) (Trap BadName place) w (λ e. cc)
+        of_name true = stop_sound p now f w (Valued p now k) (Trap BadName place) (λ e. cc) wh
         of_name false = of_room (answers_text op && not (nat_lt w.built most_texts))
 
   module _ (core : IsCore p) where

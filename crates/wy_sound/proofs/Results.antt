@@ -16,8 +16,15 @@ use Rattle.wy_sound.specs.TypedHeaps.{ValueHas, WellHeap}
 use Rattle.wy_sound.proofs.Heaps.{Extends, extends_refl, extends_trans}
 
 module _ (p : Program) (now : ℕ) where
+  -- objects stay, and the heap stays typed
+  abbrev pub Stays : World → World → Type 0
+  Stays w0 w = Extends p now w0.objects w.objects × WellHeap p now w.objects
+
+  pub stays_same : (w : World) → WellHeap p now w.objects → Stays w w
+  stays_same w wh = (extends_refl p now w.objects, wh)
+
   abbrev pub SoundTo : {X : Type 0} → List ℕ → World → (X → World → Type 0) → Outcome X → World → List Event → Type 0
-  SoundTo f w0 ok (Stops e) w es = (e ≢ Wrong) × Held p f es
+  SoundTo f w0 ok (Stops e) w es = (e ≢ Wrong) × Held p f es × Stays w0 w
   SoundTo f w0 ok (Gives a) w es = Extends p now w0.objects w.objects × WellHeap p now w.objects × Kept p f es × ok a w
 
   pub record Sound {X : Type 0} (f : List ℕ) (w0 : World) (ok : X → World → Type 0) (r : Result X) : Type 0 where
@@ -25,7 +32,7 @@ module _ (p : Program) (now : ℕ) where
 
   -- a reply is sound: it has no events
   abbrev pub AnswersTo : World → (Value → World → Type 0) → Outcome Value → World → Type 0
-  AnswersTo w0 ok (Stops e) w = e ≢ Wrong
+  AnswersTo w0 ok (Stops e) w = (e ≢ Wrong) × Stays w0 w
   AnswersTo w0 ok (Gives v) w = Extends p now w0.objects w.objects × WellHeap p now w.objects × ok v w
 
   pub record Answers (w0 : World) (ok : Value → World → Type 0) (r : Reply) : Type 0 where
@@ -39,9 +46,9 @@ module _ (p : Program) (now : ℕ) where
     unfolding give
     give_sound a wh q = record { by = (extends_refl p now w0.objects, wh, kept_none p f, q) }
 
-    pub stop_sound : (e : RunEnd) (w : World) → e ≢ Wrong → Sound f w0 ok (stop e w)
+    pub stop_sound : (e : RunEnd) → e ≢ Wrong → WellHeap p now w0.objects → Sound f w0 ok (stop e w0)
     unfolding stop
-    stop_sound e w ne = record { by = (ne, held_none p f) }
+    stop_sound e ne wh = record { by = (ne, held_none p f, stays_same w0 wh) }
 
     pub node_sound : (r : Result X) → Sound f w0 ok r → Sound f w0 ok (node r)
     unfolding node
@@ -53,7 +60,7 @@ module _ (p : Program) (now : ℕ) where
 
     later_to : (w1 : World) (es fs : List Event) (o : Outcome X) (w : World) → Extends p now w0.objects w1.objects → Kept p f es →
         SoundTo f w1 ok o w fs → SoundTo f w0 ok o w (es ++ fs)
-    later_to w1 es fs (Stops e) w x k h = (h.0, held_more p f es fs k h.1)
+    later_to w1 es fs (Stops e) w x k h = (h.0, held_more p f es fs k h.1, (extends_trans p now w0.objects w1.objects w.objects x h.2.0, h.2.1))
     later_to w1 es fs (Gives a) w x k h = (extends_trans p now w0.objects w1.objects w.objects x h.0, h.1, kept_more p f es fs k h.2, h.3)
 
     more_to : (ok' : X → World → Type 0) → ((a : X) (w : World) → ok a w → ok' a w) → (o : Outcome X) (w : World) (es : List Event) →
@@ -65,7 +72,7 @@ module _ (p : Program) (now : ℕ) where
     more_sound ok' g r h = record { by = more_to ok' g r.out r.world r.events h.by }
 
     wider_to : (g : List ℕ) → Within g f → (o : Outcome X) (w : World) (es : List Event) → SoundTo g w0 ok o w es → SoundTo f w0 ok o w es
-    wider_to g i (Stops e) w es h = (h.0, held_wider p f g es i h.1)
+    wider_to g i (Stops e) w es h = (h.0, held_wider p f g es i h.1, h.2)
     wider_to g i (Gives a) w es h = (h.0, h.1, kept_wider p f g es i h.2, h.3)
 
     pub wider_sound : (g : List ℕ) → Within g f → (r : Result X) → Sound g w0 ok r → Sound f w0 ok r
@@ -87,16 +94,16 @@ module _ (p : Program) (now : ℕ) where
     bind_sound r h k = carried_sound r.out r.world r.events r.nodes r.steps h.by k
 
   settle_to : (f : List ℕ) (w0 : World) (ok : Value → World → Type 0) (o : Outcome Value) (w : World) → AnswersTo w0 ok o w → SoundTo f w0 ok o w []
-  settle_to f w0 ok (Stops e) w h = (h, held_none p f)
+  settle_to f w0 ok (Stops e) w h = (h.0, held_none p f, h.1)
   settle_to f w0 ok (Gives v) w h = (h.0, h.1, kept_none p f, h.2)
 
   pub settle_sound : (f : List ℕ) (w0 : World) (ok : Value → World → Type 0) (r : Reply) → Answers w0 ok r → Sound f w0 ok (settle r)
   unfolding settle
   settle_sound f w0 ok r h = record { by = settle_to f w0 ok r.out r.world h.by }
 
-  pub trap_answers : (w0 : World) (ok : Value → World → Type 0) (kind : TrapKind) (place : Place) (w : World) →
-      Answers w0 ok (stopped (Trap kind place) w)
-  trap_answers w0 ok kind place w = record { by = λ e. cc }
+  pub trap_answers : (w : World) (ok : Value → World → Type 0) (kind : TrapKind) (place : Place) → WellHeap p now w.objects →
+      Answers w ok (stopped (Trap kind place) w)
+  trap_answers w ok kind place wh = record { by = ((λ e. cc), stays_same w wh) }
 
   -- a value, with the objects as they were
   pub same_answers : (w0 : World) (ok : Value → World → Type 0) (v : Value) (w : World) → w.objects ≡ w0.objects → WellHeap p now w0.objects →
@@ -113,7 +120,7 @@ module _ (p : Program) (now : ℕ) where
       May p (call_of x b) f → SoundTo f w0 ok o w es →
       Sound f w0 ok (told (Enter x b) (node (carried o w es c q (λ v w. tick (told Leave (give v w))))))
   unfolding told node added tick give
-  whole_to f x b w0 ok (Stops e) w es c q i h = record { by = (h.0, held_call p f x b es i h.1) }
+  whole_to f x b w0 ok (Stops e) w es c q i h = record { by = (h.0, held_call p f x b es i h.1, h.2) }
   whole_to f x b w0 ok (Gives a) w es c q i h = record { by = (h.0, h.1, kept_call p f x b es i h.2, h.3) }
 
   pub whole_sound : (f : List ℕ) (x b : List ℕ) (w0 : World) (ok : Value → World → Type 0) (r : Result Value) → May p (call_of x b) f →

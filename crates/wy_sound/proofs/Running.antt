@@ -17,7 +17,7 @@ use Rattle.wy_meaning.specs.Eval.{open_calls}
 use Rattle.wy_meaning.specs.Start.{begin, objects_at_first, end_of, world_at_first, meaning}
 use Rattle.wy_meaning.specs.Bounds.{Bounded}
 use Rattle.wy_sound.specs.Programs.{IsResolved, program_starts, allowed}
-use Rattle.wy_sound.specs.Laws.{course, NeverWrong, EventsAreBounded, Keeps, Preservation}
+use Rattle.wy_sound.specs.Laws.{course, NeverWrong, EventsAreBounded, Keeps, KeepsFilling, Preservation, BlockPreservation, CallPreservation, StartPreservation, FirstHeapIsTyped}
 use Rattle.wy_sound.proofs.LinkingLaws.{accepted_instances_fit, accepted_arguments_fit}
 use Rattle.wy_sound.proofs.LinkingMain.{main_fits}
 use Rattle.wy_sound.proofs.LinkingGrants.{grants_fit}
@@ -26,16 +26,17 @@ use Rattle.wy_sound.proofs.LinkingLists.{read_within, read_first, read_last, rea
 use Rattle.wy_sound.proofs.Lists.{some_same, get_mapped, map_length}
 use Rattle.wy_sound.proofs.Effects.{call_of, May}
 use Rattle.wy_sound.proofs.Allowing.{init_first, run_first, may_first}
-use Rattle.wy_sound.specs.TypedHeaps.{Placed, fields_at, instance_count, WellHeap}
+use Rattle.wy_sound.specs.TypedHeaps.{Placed, fields_at, instance_count, WellHeap, unstarted_thing, AreUnstarted, Filling, PartlyFilled}
 use Rattle.wy_sound.proofs.Placing.{place}
 use Rattle.wy_sound.proofs.Results.{SoundTo, Valued}
-use Rattle.wy_sound.proofs.Evaluating.{value_sound}
+use Rattle.wy_sound.proofs.Evaluating.{value_sound, block_sound}
 use Rattle.wy_sound.proofs.Calling.{calls_sound}
-use Rattle.wy_sound.proofs.Starting.{Fine, TopTo, Top, bind_top, whole_top, thing_of, Rest, Filling, declared, done_now, init_fine, main_fine}
+use Rattle.wy_sound.proofs.Starting.{FineTo, Fine, TopTo, Top, bind_top, whole_top, declared, done_now, init_fine, main_fine}
 
 module _ (p : Program) (linked : IsLinked p) where
-  abbrev Anything : Value → World → Type 0
-  Anything v w = Unit {0}
+  -- where the run has come to its end the heap is typed
+  abbrev Ended : Value → World → Type 0
+  Ended v w = WellHeap p (instance_count p) w.objects
 
   -- the instances from number x on, and then the program
   AreFrom : ℕ → List Started → Type 0
@@ -50,26 +51,27 @@ module _ (p : Program) (linked : IsLinked p) where
   ]
 
   main_top : (n x : ℕ) (w : World) → x ≡ instance_count p → WellHeap p x w.objects →
-      Top p Anything (begin p (program_starts p) (open_calls p (program_starts p) n) x [] w)
+      Top p Ended (begin p (program_starts p) (open_calls p (program_starts p) n) x [] w)
   unfolding begin
   main_top n x w last wh =
       let pl : Placed p x = place p linked x (omega (arith, last)) in
       let may : May p (call_of (codes "main") (codes "run")) (declared p linked n x pl) =
       subst (λ m. May p (call_of m (codes "run")) (declared p linked n x pl)) (main_named x pl.instance pl.is.there last)
       (may_first p x pl.instance (codes "run") pl.scope (run_first p x pl.instance pl.is.there last) pl.is.scope) in
-      whole_top p (declared p linked n x pl) (codes "main") (codes "run") Anything _ may (main_fine p linked n x pl last w wh)
+      subst (λ y. Top p (λ v w. WellHeap p y w.objects) (begin p (program_starts p) (open_calls p (program_starts p) n) x [] w)) last
+      (whole_top p (declared p linked n x pl) (codes "main") (codes "run") (λ w. WellHeap p x w.objects) (λ v w. WellHeap p x w.objects) _ may (main_fine p linked n x pl last w wh))
 
   init_top : (n x : ℕ) (pl : Placed p x) (s : Started) (w : World) → x < instance_count p → slice_get (start_list p) x ≡ Some pl.instance →
-      s ≡ started_of pl.instance → Filling p linked x pl [] w.objects → (r : Result Value) →
-      Fine p (declared p linked n x pl) (λ u w. Filling p linked x pl (fields_at p x pl 0) w.objects) r →
-      Top p (λ u w. Filling p linked x pl (fields_at p x pl 0) w.objects) (whole (Enter s.name (codes "init")) r)
+      s ≡ started_of pl.instance → Filling p x pl [] w.objects → (r : Result Value) →
+      Fine p (declared p linked n x pl) (λ w. PartlyFilled p x pl w.objects) (λ u w. Filling p x pl (fields_at p x pl 0) w.objects) r →
+      Top p (λ u w. Filling p x pl (fields_at p x pl 0) w.objects) (whole (Enter s.name (codes "init")) r)
   init_top n x pl s w lt there is q r fine =
-      whole_top p (declared p linked n x pl) s.name (codes "init") (λ u w. Filling p linked x pl (fields_at p x pl 0) w.objects) r
+      whole_top p (declared p linked n x pl) s.name (codes "init") (λ w. PartlyFilled p x pl w.objects) (λ u w. Filling p x pl (fields_at p x pl 0) w.objects) r
       (subst (λ m. May p (call_of m (codes "init")) (declared p linked n x pl)) (sym (ap (λ (s : Started). s.name) is))
       (may_first p x pl.instance (codes "init") pl.scope (init_first p x pl.instance there) pl.is.scope)) fine
 
-  begin_top : (n x : ℕ) (is : List Started) (w : World) → AreFrom x is → x + length is ≡ instance_count p → WellHeap p x w.objects → Rest p x w.objects →
-      Top p Anything (begin p (program_starts p) (open_calls p (program_starts p) n) x is w)
+  begin_top : (n x : ℕ) (is : List Started) (w : World) → AreFrom x is → x + length is ≡ instance_count p → WellHeap p x w.objects → AreUnstarted p x w.objects →
+      Top p Ended (begin p (program_starts p) (open_calls p (program_starts p) n) x is w)
   unfolding begin AreFrom
   begin_top n x [] w at count wh rest = main_top n x w (omega (arith, count)) wh
   begin_top n x (s ∷ is) w at count wh rest =
@@ -77,14 +79,14 @@ module _ (p : Program) (linked : IsLinked p) where
       let a = at 0 x s (omega arith) refl in
       let pl : Placed p x = place p linked x (omega (arith, lt)) in
       let same : a.0 ≡ pl.instance = some_same (sym (read_first (start_list p) _ x a.0 a.1) ∙ pl.is.there) in
-      let first : Filling p linked x pl [] w.objects = record {
+      let first : Filling p x pl [] w.objects = record {
         heap = wh;
         values = [];
         here = rest.by x (omega arith) lt;
         typed = tt;
         rest = record { by = λ z le below. rest.by z (omega (arith, le)) below };
       } in
-      bind_top p (λ u w1. Filling p linked x pl (fields_at p x pl 0) w1.objects) Anything
+      bind_top p (λ u w1. Filling p x pl (fields_at p x pl 0) w1.objects) Ended
       (λ v w. begin p (program_starts p) (open_calls p (program_starts p) n) (suc x) is w) _
       (init_top n x pl s w lt (a.1 ∙ ap (λ i. Some i) same) (a.2 ∙ ap started_of same) first _ (init_fine p linked n x pl lt w first))
       (λ v w1 q. begin_top n (suc x) is w1 (λ i z s e g. at (suc i) z s (omega (arith, e)) g) (omega (arith, count))
@@ -93,9 +95,9 @@ module _ (p : Program) (linked : IsLinked p) where
   ------------------------------------------------------------
   -- Before anything runs
 
-  first_at : (x : ℕ) (is : List Started) (i z : ℕ) → z ≡ x + i → i < length is → slice_get (objects_at_first x is) i ≡ Some (thing_of p z)
+  first_at : (x : ℕ) (is : List Started) (i z : ℕ) → z ≡ x + i → i < length is → slice_get (objects_at_first x is) i ≡ Some (unstarted_thing p z)
   first_at x [] i z e lt = absurd (omega arith)
-  first_at x (s ∷ is) zero z e lt = let f : x ≡ z = omega (arith, e) in ap (λ x. Some (thing_of p x)) f
+  first_at x (s ∷ is) zero z e lt = let f : x ≡ z = omega (arith, e) in ap (λ x. Some (unstarted_thing p x)) f
   first_at x (s ∷ is) (suc i) z e lt = first_at (suc x) is i z (omega (arith, e)) (omega (arith, lt))
 
   first_length : (x : ℕ) (is : List Started) → length (objects_at_first x is) ≡ length is
@@ -108,7 +110,7 @@ module _ (p : Program) (linked : IsLinked p) where
   first_many : length at_first ≡ instance_count p
   first_many = first_length 0 (map started_of (start_list p)) ∙ map_length started_of (start_list p)
 
-  first_rest : Rest p 0 at_first
+  first_rest : AreUnstarted p 0 at_first
   first_rest = record {
     by = λ z le below. first_at 0 (map started_of (start_list p)) z z (omega arith)
         (omega (arith, below, map_length started_of (start_list p)));
@@ -119,7 +121,7 @@ module _ (p : Program) (linked : IsLinked p) where
     by = λ a t e r. absurd (let lt =
         read_within at_first a t e in elim r [ inl l ↦ lt_irrefl a (omega (arith, l)) | inr ge ↦ lt_irrefl a (omega (arith, lt, ge, first_many)) ]);
     long = omega (arith, first_many);
-    first = λ z below. (thing_of p z, first_rest.by z (omega arith) below, refl, refl);
+    first = λ z below. (unstarted_thing p z, first_rest.by z (omega arith) below, refl, refl);
   }
 
   all_from : AreFrom 0 (map started_of (start_list p))
@@ -131,7 +133,7 @@ module _ (p : Program) (linked : IsLinked p) where
       (a.0, ap (slice_get (start_list p)) (sym f) ∙ a.1, some_same (sym g ∙ get_mapped started_of (start_list p) i a.0 a.1))
 
   run_top : (n : ℕ) (tapes : Tapes) →
-      Top p Anything (begin p (program_starts p) (open_calls p (program_starts p) n) 0 (map started_of (start_list p))
+      Top p Ended (begin p (program_starts p) (open_calls p (program_starts p) n) 0 (map started_of (start_list p))
       (world_at_first (program_starts p) tapes))
   run_top n tapes = begin_top n 0 (map started_of (start_list p)) (world_at_first (program_starts p) tapes) all_from
       (omega (arith, map_length started_of (start_list p))) first_heap first_rest
@@ -173,7 +175,7 @@ events_are_bounded p r a = linked_bounded p (linked p r a) (grants_fit p r.core 
 -- what is sound keeps the heap typed
 sound_keeps : (p : Program) (now : ℕ) (f : List ℕ) (w0 : World) (t : GroundType) (o : Outcome Value) (w : World) (es : List Event) →
     SoundTo p now f w0 (Valued p now t) o w es → Keeps p now t o w
-sound_keeps p now f w0 t (Stops e) w es h = h.0
+sound_keeps p now f w0 t (Stops e) w es h = (h.0, h.2.1)
 sound_keeps p now f w0 t (Gives v) w es h = (h.1, h.3)
 
 pub preservation : Preservation
@@ -181,3 +183,29 @@ preservation p r a now le sight place owner seen d x t e h fits n w sh wh =
     let l = linked p r a in
     sound_keeps p now e w t _ _ _
     (value_sound p l now le (open_calls p (program_starts p) n) (calls_sound p l now le n) e owner d x t e seen sight place w h (λ b i. i) fits sh wh).by
+
+-- .. so of a block
+pub block_preservation : BlockPreservation
+block_preservation p r a now le sight place owner seen d b t e h fits n w sh wh =
+    let l = linked p r a in
+    sound_keeps p now e w t _ _ _
+    (block_sound p l now le (open_calls p (program_starts p) n) (calls_sound p l now le n) e owner d b t e seen sight place w h (λ b i. i) fits sh wh).by
+
+-- .. and of a call on an object
+pub call_preservation : CallPreservation
+call_preservation p r a now le o thing name m vs n w there ready found typed wh =
+    sound_keeps p now m.effect w m.result _ _ _ ((calls_sound p (linked p r a) now le n).by o thing name vs w m there ready found typed wh).by
+
+-- .. and of an init
+fine_keeps : (p : Program) (l : IsLinked p) (x : ℕ) (lt : x < instance_count p) (pl : Placed p x) (f : List ℕ) (o : Outcome Value) (w : World) (es : List Event) →
+    FineTo p f (λ w. PartlyFilled p x pl w.objects) (λ u w. Filling p x pl (fields_at p x pl 0) w.objects) o w es → KeepsFilling p x pl o w
+fine_keeps p l x lt pl f (Stops e) w es h = (h.0, h.2)
+fine_keeps p l x lt pl f (Gives v) w es h = (h.1, done_now p l x pl lt w.objects h.1)
+
+pub start_preservation : StartPreservation
+start_preservation p r a x lt pl n w q =
+    let l = linked p r a in
+    fine_keeps p l x lt pl _ _ _ _ (init_fine p l n x pl lt w q).by
+
+pub first_heap_is_typed : FirstHeapIsTyped
+first_heap_is_typed p r a = let l = linked p r a in (first_heap p l, first_rest p l)

@@ -30,9 +30,9 @@ use Rattle.wy_sound.proofs.Linked.{IsLinked}
 use Rattle.wy_sound.proofs.LinkingLists.{read_within}
 use Rattle.wy_sound.proofs.Lists.{some_same, get_set_same, get_set_other, length_set}
 use Rattle.wy_sound.proofs.Effects.{call_of, May, Kept, Held, kept_none, held_more, kept_more, kept_call, held_call, after_append, bounded_append}
-use Rattle.wy_sound.specs.TypedHeaps.{Placed, kind_at, fields_at, instance_count, Ready, ValueHas, AllHave, ThingHas, WellHeap, SightHas}
+use Rattle.wy_sound.specs.TypedHeaps.{Placed, kind_at, fields_at, instance_count, Ready, ValueHas, AllHave, ThingHas, WellHeap, SightHas, unstarted_thing, Filling, PartlyFilled}
 use Rattle.wy_sound.proofs.Heaps.{Grows, Extends, value_grows, all_grow, all_append, thing_grows, set_grows}
-use Rattle.wy_sound.proofs.Results.{SoundTo, Sound, Valued}
+use Rattle.wy_sound.proofs.Results.{Stays, SoundTo, Sound, Valued}
 use Rattle.wy_sound.proofs.Placing.{place, scope_there, scope_fits, kind_main, main_kind}
 use Rattle.wy_sound.proofs.Applying.{CallsSound}
 use Rattle.wy_sound.proofs.Evaluating.{left_within, right_within, value_sound, block_sound}
@@ -42,42 +42,43 @@ use Rattle.wy_sound.proofs.Calling.{calls_sound}
 -- Results between starts, where other objects are ready than before
 
 module _ (p : Program) where
-  abbrev pub FineTo : {X : Type 0} → List ℕ → (X → World → Type 0) → Outcome X → World → List Event → Type 0
-  FineTo f ok (Stops e) w es = (e ≢ Wrong) × Held p f es
-  FineTo f ok (Gives a) w es = Kept p f es × ok a w
+  abbrev pub FineTo : {X : Type 0} → List ℕ → (World → Type 0) → (X → World → Type 0) → Outcome X → World → List Event → Type 0
+  FineTo f end ok (Stops e) w es = (e ≢ Wrong) × Held p f es × end w
+  FineTo f end ok (Gives a) w es = Kept p f es × ok a w
 
-  -- as sound results are, without what stays of the heap
-  pub record Fine {X : Type 0} (f : List ℕ) (ok : X → World → Type 0) (r : Result X) : Type 0 where
-    pub by : FineTo f ok r.out r.world r.events
+  -- as sound results are, but for what stays of the heap: one thing where there is an end, and another where something is given
+  pub record Fine {X : Type 0} (f : List ℕ) (end : World → Type 0) (ok : X → World → Type 0) (r : Result X) : Type 0 where
+    pub by : FineTo f end ok r.out r.world r.events
 
-  module _ {X Y : Type 0} (f : List ℕ) (ok : X → World → Type 0) (ok' : Y → World → Type 0) (g : X → World → Result Y) where
-    fine_more : (es fs : List Event) (o : Outcome Y) (w : World) → Kept p f es → FineTo f ok' o w fs → FineTo f ok' o w (es ++ fs)
-    fine_more es fs (Stops e) w k h = (h.0, held_more p f es fs k h.1)
+  module _ {X Y : Type 0} (f : List ℕ) (end : World → Type 0) (ok : X → World → Type 0) (ok' : Y → World → Type 0) (g : X → World → Result Y) where
+    fine_more : (es fs : List Event) (o : Outcome Y) (w : World) → Kept p f es → FineTo f end ok' o w fs → FineTo f end ok' o w (es ++ fs)
+    fine_more es fs (Stops e) w k h = (h.0, held_more p f es fs k h.1, h.2)
     fine_more es fs (Gives a) w k h = (kept_more p f es fs k h.0, h.1)
 
-    carried_fine : (o : Outcome X) (w : World) (es : List Event) (c q : ℕ) → FineTo f ok o w es →
-        ((a : X) (w : World) → ok a w → Fine f ok' (g a w)) → Fine f ok' (carried o w es c q g)
+    carried_fine : (o : Outcome X) (w : World) (es : List Event) (c q : ℕ) → FineTo f end ok o w es →
+        ((a : X) (w : World) → ok a w → Fine f end ok' (g a w)) → Fine f end ok' (carried o w es c q g)
     unfolding added
     carried_fine (Stops e) w es c q h k = record { by = h }
     carried_fine (Gives a) w es c q h k = record { by = fine_more es (g a w).events (g a w).out (g a w).world h.0 (k a w h.1).by }
 
-    bind_fine : (r : Result X) → Fine f ok r → ((a : X) (w : World) → ok a w → Fine f ok' (g a w)) → Fine f ok' (bind r g)
+    bind_fine : (r : Result X) → Fine f end ok r → ((a : X) (w : World) → ok a w → Fine f end ok' (g a w)) → Fine f end ok' (bind r g)
     unfolding bind
     bind_fine r h k = carried_fine r.out r.world r.events r.nodes r.steps h.by k
 
-  tick_fine : {X : Type 0} (f : List ℕ) (ok : X → World → Type 0) (r : Result X) → Fine f ok r → Fine f ok (tick r)
+  tick_fine : {X : Type 0} (f : List ℕ) (end : World → Type 0) (ok : X → World → Type 0) (r : Result X) → Fine f end ok r → Fine f end ok (tick r)
   unfolding tick
-  tick_fine f ok r h = record { by = h.by }
+  tick_fine f end ok r h = record { by = h.by }
 
-  sound_to : {X : Type 0} (now : ℕ) (f : List ℕ) (w0 : World) (ok : X → World → Type 0) (o : Outcome X) (w : World) (es : List Event) →
-      SoundTo p now f w0 ok o w es →
-      FineTo f (λ a w. Extends p now w0.objects w.objects × WellHeap p now w.objects × ok a w) o w es
-  sound_to now f w0 ok (Stops e) w es h = h
-  sound_to now f w0 ok (Gives a) w es h = (h.2, (h.0, h.1, h.3))
+  sound_to : {X : Type 0} (now : ℕ) (f : List ℕ) (end : World → Type 0) (w0 : World) (ok : X → World → Type 0) (o : Outcome X) (w : World) (es : List Event) →
+      ((w : World) → Stays p now w0 w → end w) → SoundTo p now f w0 ok o w es →
+      FineTo f end (λ a w. Extends p now w0.objects w.objects × WellHeap p now w.objects × ok a w) o w es
+  sound_to now f end w0 ok (Stops e) w es keeps h = (h.0, h.1, keeps w h.2)
+  sound_to now f end w0 ok (Gives a) w es keeps h = (h.2, (h.0, h.1, h.3))
 
-  sound_fine : {X : Type 0} (now : ℕ) (f : List ℕ) (w0 : World) (ok : X → World → Type 0) (r : Result X) → Sound p now f w0 ok r →
-      Fine f (λ a w. Extends p now w0.objects w.objects × WellHeap p now w.objects × ok a w) r
-  sound_fine now f w0 ok r h = record { by = sound_to now f w0 ok r.out r.world r.events h.by }
+  sound_fine : {X : Type 0} (now : ℕ) (f : List ℕ) (end : World → Type 0) (w0 : World) (ok : X → World → Type 0) (r : Result X) →
+      ((w : World) → Stays p now w0 w → end w) → Sound p now f w0 ok r →
+      Fine f end (λ a w. Extends p now w0.objects w.objects × WellHeap p now w.objects × ok a w) r
+  sound_fine now f end w0 ok r keeps h = record { by = sound_to now f end w0 ok r.out r.world r.events keeps h.by }
 
   -- where no call is open
   abbrev pub TopTo : (Value → World → Type 0) → Outcome Value → World → List Event → Type 0
@@ -109,19 +110,19 @@ module _ (p : Program) where
     unfolding bind
     bind_top r h k = carried_top r.out r.world r.events r.nodes r.steps h.by k
 
-  whole_to : (f : List ℕ) (x b : List ℕ) (ok : Value → World → Type 0) (o : Outcome Value) (w : World) (es : List Event) (c q : ℕ) →
-      May p (call_of x b) f → FineTo f ok o w es →
+  whole_to : (f : List ℕ) (x b : List ℕ) (end : World → Type 0) (ok : Value → World → Type 0) (o : Outcome Value) (w : World) (es : List Event) (c q : ℕ) →
+      May p (call_of x b) f → FineTo f end ok o w es →
       Top ok (told (Enter x b) (node (carried o w es c q (λ v w. tick (told Leave (give v w))))))
   unfolding told node added tick give
-  whole_to f x b ok (Stops e) w es c q i h = record { by = (h.0, λ g. (held_call p f x b es i h.1).bounded g [] tt) }
-  whole_to f x b ok (Gives a) w es c q i h =
+  whole_to f x b end ok (Stops e) w es c q i h = record { by = (h.0, λ g. (held_call p f x b es i h.1).bounded g [] tt) }
+  whole_to f x b end ok (Gives a) w es c q i h =
       let k = kept_call p f x b es i h.0 in
       record { by = ((λ g. k.bounded g [] tt), k.closes [], h.1) }
 
-  pub whole_top : (f : List ℕ) (x b : List ℕ) (ok : Value → World → Type 0) (r : Result Value) → May p (call_of x b) f → Fine f ok r →
+  pub whole_top : (f : List ℕ) (x b : List ℕ) (end : World → Type 0) (ok : Value → World → Type 0) (r : Result Value) → May p (call_of x b) f → Fine f end ok r →
       Top ok (whole (Enter x b) r)
   unfolding whole bind
-  whole_top f x b ok r i h = whole_to f x b ok r.out r.world r.events r.nodes r.steps i h.by
+  whole_top f x b end ok r i h = whole_to f x b end ok r.out r.world r.events r.nodes r.steps i h.by
 
   ------------------------------------------------------------
   -- From one start to the next
@@ -155,39 +156,24 @@ module _ (p : Program) where
       };
     }
 
-  -- the instances from x on are as they were at the start
-  abbrev pub thing_of : ℕ → Thing
-  thing_of z = record { instance = z; literal = 0; captured = []; fields = [] }
-
-  pub record Rest (x : ℕ) (h : List Thing) : Type 0 where
-    pub by : (z : ℕ) → x ≤ z → z < instance_count p → slice_get h z ≡ Some (thing_of z)
-
 module _ (p : Program) (linked : IsLinked p) where
-  -- instance x with some of its fields set
-  pub record Filling (x : ℕ) (pl : Placed p x) (done : List GroundType) (h : List Thing) : Type 0 where
-    pub heap : WellHeap p x h
-    pub values : List Value
-    pub here : slice_get h x ≡ Some (record { instance = x; literal = 0; captured = []; fields = values })
-    pub typed : AllHave p x h values done
-    pub rest : Rest p (suc x) h
-
   module _ (x : ℕ) (pl : Placed p x) (lt : x < instance_count p) where
     not_ready : (z : ℕ) → x ≤ z → z < instance_count p → Ready p x z → ⊥
     not_ready z le below (inl l) = lt_irrefl x (omega (arith, le, l))
     not_ready z le below (inr ge) = lt_irrefl z (omega (arith, below, ge))
 
-    filling_stays : (done : List GroundType) (h h' : List Thing) → Extends p x h h' → WellHeap p x h' → Filling x pl done h → Filling x pl done h'
+    filling_stays : (done : List GroundType) (h h' : List Thing) → Extends p x h h' → WellHeap p x h' → Filling p x pl done h → Filling p x pl done h'
     filling_stays done h h' e wh q = record {
       heap = wh;
       values = q.values;
       here = e.still x _ q.here (not_ready x (omega arith) lt);
       typed = all_grow p x h h' q.values done e.by q.typed;
-      rest = record { by = λ z le below. e.still z (thing_of p z) (q.rest.by z le below) (not_ready z (omega (arith, le)) below) };
+      rest = record { by = λ z le below. e.still z (unstarted_thing p z) (q.rest.by z le below) (not_ready z (omega (arith, le)) below) };
     }
 
     -- one more field
-    filled_more : (done : List GroundType) (h : List Thing) (v : Value) (k : GroundType) → (q : Filling x pl done h) → ValueHas p x h v k →
-        Filling x pl (done ++ k ∷ []) (slice_set h x (record { instance = x; literal = 0; captured = []; fields = q.values ++ v ∷ [] }))
+    filled_more : (done : List GroundType) (h : List Thing) (v : Value) (k : GroundType) → (q : Filling p x pl done h) → ValueHas p x h v k →
+        Filling p x pl (done ++ k ∷ []) (slice_set h x (record { instance = x; literal = 0; captured = []; fields = q.values ++ v ∷ [] }))
     filled_more done h v k q has =
         let t : Thing = record { instance = x; literal = 0; captured = []; fields = q.values } in
         let u : Thing = record { instance = x; literal = 0; captured = []; fields = q.values ++ v ∷ [] } in
@@ -209,12 +195,12 @@ module _ (p : Program) (linked : IsLinked p) where
           rest = record { by = λ z le below. get_set_other h x z u (λ same. lt_irrefl x (omega (arith, le, same))) ∙ q.rest.by z le below };
         }
 
-    fill_fine : (f : List ℕ) (done : List GroundType) (w : World) (v : Value) (k : GroundType) → Filling x pl done w.objects →
+    fill_fine : (f : List ℕ) (end : World → Type 0) (done : List GroundType) (w : World) (v : Value) (k : GroundType) → Filling p x pl done w.objects →
         ValueHas p x w.objects v k →
-        Fine p f (λ u w. Filling x pl (done ++ k ∷ []) w.objects) (settle (fill_field x v w))
+        Fine p f end (λ u w. Filling p x pl (done ++ k ∷ []) w.objects) (settle (fill_field x v w))
     unfolding settle
-    fill_fine f done w v k q has =
-        subst (λ o. Fine p f (λ u w. Filling x pl (done ++ k ∷ []) w.objects) (settle (field_added x v w o))) (sym q.here)
+    fill_fine f end done w v k q has =
+        subst (λ o. Fine p f end (λ u w. Filling p x pl (done ++ k ∷ []) w.objects) (settle (field_added x v w o))) (sym q.here)
         (record { by = (kept_none p f, filled_more done w.objects v k q has) })
 
     module _ (calls : Calls) (ok : CallsSound p x calls) (f : List ℕ) where
@@ -224,28 +210,32 @@ module _ (p : Program) (linked : IsLinked p) where
       outside_has : (h : List Thing) → SightHas p x h (outside x) pl None []
       outside_has h = record { early = omega arith; this = tt; names = record { by = λ v i. absurd i } }
 
+      -- those of some of the first of these types
+      abbrev PartlyTo : List GroundType → World → Type 0
+      PartlyTo all w = (done : List GroundType) × (left : List GroundType) × (done ++ left ≡ all) × Filling p x pl done w.objects
+
       fill_all_fine : (ds : Derivations GroundType) (es : Values) (ks done all : List GroundType) (w : World) →
           DerivesAll (ground_reading p x pl.instance) pl.scope pl.holds.derivation.locals None ds es ks → Within (effects_of ds) f →
-          ValuesFit p pl.scope None [] es → done ++ ks ≡ all → Filling x pl done w.objects →
-          Fine p f (λ u w. Filling x pl all w.objects) (fill_all p (program_starts p) calls (outside x) x es w)
+          ValuesFit p pl.scope None [] es → done ++ ks ≡ all → Filling p x pl done w.objects →
+          Fine p f (PartlyTo all) (λ u w. Filling p x pl all w.objects) (fill_all p (program_starts p) calls (outside x) x es w)
       unfolding fill_all give
       fill_all_fine no_derivations none [] done all w h v fits e q =
-          record { by = (kept_none p f, subst (λ (ks : List GroundType). Filling x pl ks w.objects) (sym (append-nil done) ∙ e) q) }
+          record { by = (kept_none p f, subst (λ (ks : List GroundType). Filling p x pl ks w.objects) (sym (append-nil done) ∙ e) q) }
       fill_all_fine (one_more d e1 ds) (more e es) (k ∷ ks) done all w h v fits g q =
-          bind_fine p f (λ u w1. Extends p x w.objects w1.objects × WellHeap p x w1.objects × ValueHas p x w1.objects u k)
-          (λ u w. Filling x pl all w.objects) _ _
-          (sound_fine p x f w (Valued p x k) _
+          bind_fine p f (PartlyTo all) (λ u w1. Extends p x w.objects w1.objects × WellHeap p x w1.objects × ValueHas p x w1.objects u k)
+          (λ u w. Filling p x pl all w.objects) _ _
+          (sound_fine p x f (PartlyTo all) w (Valued p x k) _ (λ w1 s. (done, k ∷ ks, g, filling_stays done w.objects w1.objects s.0 s.1 q))
           (value_sound p linked x early calls ok f None d e k e1 [] (outside x) pl w h.0
           (left_within e1 (effects_of ds) (effects_of (one_more d e1 ds)) f refl v) fits.0 (outside_has w.objects) q.heap))
-          (λ u w1 r1. bind_fine p f (λ u w. Filling x pl (done ++ k ∷ []) w.objects) (λ u w. Filling x pl all w.objects) _ _
-          (tick_fine p f (λ u w. Filling x pl (done ++ k ∷ []) w.objects) _
-          (fill_fine f done w1 u k (filling_stays done w.objects w1.objects r1.0 r1.1 q) r1.2))
+          (λ u w1 r1. bind_fine p f (PartlyTo all) (λ u w. Filling p x pl (done ++ k ∷ []) w.objects) (λ u w. Filling p x pl all w.objects) _ _
+          (tick_fine p f (PartlyTo all) (λ u w. Filling p x pl (done ++ k ∷ []) w.objects) _
+          (fill_fine f (PartlyTo all) done w1 u k (filling_stays done w.objects w1.objects r1.0 r1.1 q) r1.2))
           (λ u2 w2 q2. fill_all_fine ds es ks (done ++ k ∷ []) all w2 h.1
           (right_within e1 (effects_of ds) (effects_of (one_more d e1 ds)) f refl v) fits.1 (append_assoc done (k ∷ []) ks ∙ g) q2))
       fill_all_fine ds es ks done all w h v fits g q = absurd h
 
     -- its init has ended: its object is ready
-    pub done_now : (h : List Thing) → Filling x pl (fields_at p x pl 0) h → WellHeap p (suc x) h
+    pub done_now : (h : List Thing) → Filling p x pl (fields_at p x pl 0) h → WellHeap p (suc x) h
     done_now h q =
         let le : x ≤ suc x = omega arith in
         let t : Thing = record { instance = x; literal = 0; captured = []; fields = q.values } in
@@ -290,7 +280,7 @@ module _ (p : Program) (linked : IsLinked p) where
 
     started_fine : x < instance_count p → (d : BodyDerivation GroundType) (values : Values) (w : World) →
         DerivesStart (ground_reading p x pl.instance) pl.scope pl.holds.derivation.locals d (Init values) → ValuesFit p pl.scope None [] values →
-        Filling x pl [] w.objects → Fine p declared (λ u w. Filling x pl (fields_at p x pl 0) w.objects)
+        Filling p x pl [] w.objects → Fine p declared (λ w. PartlyFilled p x pl w.objects) (λ u w. Filling p x pl (fields_at p x pl 0) w.objects)
         (fill_all p (program_starts p) (open_calls p (program_starts p) n) (outside x) x values w)
     started_fine lt (T-Body-Init place ds) values w h fits q =
         fill_all_fine x pl lt (open_calls p (program_starts p) n) (calls_sound p linked x (omega (arith, lt)) n) declared ds values
@@ -299,49 +289,52 @@ module _ (p : Program) (linked : IsLinked p) where
 
     run_fine : x ≤ instance_count p → (d : BodyDerivation GroundType) (block : Block) (w : World) →
         DerivesStart (ground_reading p x pl.instance) pl.scope pl.holds.derivation.locals d (Run block) → BlockFits p pl.scope None [] block →
-        WellHeap p x w.objects → Fine p declared (λ u w. Unit {0})
+        WellHeap p x w.objects → Fine p declared (λ w. WellHeap p x w.objects) (λ u w. WellHeap p x w.objects)
         (eval_block p (program_starts p) (open_calls p (program_starts p) n) (outside x) block w)
     run_fine le (T-Body place d f) block w h fits wh =
         let sound = block_sound p linked x le (open_calls p (program_starts p) n) (calls_sound p linked x le n) declared None d block
         (kind_at p x pl of.Unit) f [] (outside x) pl w h.1 h.2 fits
         (record { early = omega arith; this = tt; names = record { by = λ v i. absurd i } }) wh in
-        forget (sound_fine p x declared w (Valued p x (kind_at p x pl of.Unit)) _ sound)
+        heap_stays w (Valued p x (kind_at p x pl of.Unit)) (sound_fine p x declared (λ w. WellHeap p x w.objects) w (Valued p x (kind_at p x pl of.Unit)) _ (λ w1 s. s.1) sound)
       where
-        forget_to : (f : List ℕ) (ok : Value → World → Type 0) (o : Outcome Value) (w : World) (es : List Event) → FineTo p f ok o w es →
-            FineTo p f (λ v w. Unit {0}) o w es
-        forget_to f ok (Stops e) w es h = h
-        forget_to f ok (Gives a) w es h = (h.0, tt)
+        heap_to : (f : List ℕ) (end : World → Type 0) (ok : Value → World → Type 0) (o : Outcome Value) (w : World) (es : List Event) →
+            ((v : Value) (w : World) → ok v w → WellHeap p x w.objects) → FineTo p f end ok o w es → FineTo p f end (λ v w. WellHeap p x w.objects) o w es
+        heap_to f end ok (Stops e) w es g h = h
+        heap_to f end ok (Gives a) w es g h = (h.0, g a w h.1)
 
-        forget : {f : List ℕ} {ok : Value → World → Type 0} {r : Result Value} → Fine p f ok r → Fine p f (λ v w. Unit {0}) r
-        forget {f} {ok} {r} h = record { by = forget_to f ok r.out r.world r.events h.by }
+        heap_stays : {f : List ℕ} {end : World → Type 0} (w0 : World) (ok : Value → World → Type 0) {r : Result Value} →
+            Fine p f end (λ a w. Extends p x w0.objects w.objects × WellHeap p x w.objects × ok a w) r → Fine p f end (λ v w. WellHeap p x w.objects) r
+        heap_stays {f} {end} w0 ok {r} h = record { by = heap_to f end _ r.out r.world r.events (λ v w q. q.1) h.by }
     run_fine le (T-Body-Init place ds) block w h fits wh = absurd h
 
-    pub init_fine : x < instance_count p → (w : World) → Filling x pl [] w.objects →
-        Fine p declared (λ u w. Filling x pl (fields_at p x pl 0) w.objects)
+    pub init_fine : x < instance_count p → (w : World) → Filling p x pl [] w.objects →
+        Fine p declared (λ w. PartlyFilled p x pl w.objects) (λ u w. Filling p x pl (fields_at p x pl 0) w.objects)
         (run_start p (program_starts p) (open_calls p (program_starts p) n) x w (start_of_scope (scope_of_instance p (program_starts p) x)))
     init_fine lt w q =
         let fits = (scope_fits p linked x pl).starts in
         let i = init_is pl.scope.kind pl.scope.start (λ e. lt_irrefl x (omega (arith, lt, kind_main p linked x pl e))) fits.0 in
-        let Ok : Value → World → Type 0 = λ u w. Filling x pl (fields_at p x pl 0) w.objects in
+        let Ok : Value → World → Type 0 = λ u w. Filling p x pl (fields_at p x pl 0) w.objects in
+        let End : World → Type 0 = λ w. PartlyFilled p x pl w.objects in
         let values_fit : StartFits p pl.scope (Init i.0) = subst (λ s. StartFits p pl.scope s) i.1 fits.1 in
-        subst (λ o. Fine p declared Ok (run_start p (program_starts p) (open_calls p (program_starts p) n) x w (start_of_scope o)))
+        subst (λ o. Fine p declared End Ok (run_start p (program_starts p) (open_calls p (program_starts p) n) x w (start_of_scope o)))
         (sym (scope_there p linked x pl))
-        (subst (λ s. Fine p declared Ok (run_start p (program_starts p) (open_calls p (program_starts p) n) x w (Some s))) (sym i.1)
+        (subst (λ s. Fine p declared End Ok (run_start p (program_starts p) (open_calls p (program_starts p) n) x w (Some s))) (sym i.1)
         (started_fine lt pl.holds.derivation.start i.0 w
         (subst (λ s. DerivesStart (ground_reading p x pl.instance) pl.scope pl.holds.derivation.locals pl.holds.derivation.start s) i.1
         pl.holds.derives.0) values_fit.1 q))
 
     pub main_fine : x ≡ instance_count p → (w : World) → WellHeap p x w.objects →
-        Fine p declared (λ u w. Unit {0})
+        Fine p declared (λ w. WellHeap p x w.objects) (λ u w. WellHeap p x w.objects)
         (run_start p (program_starts p) (open_calls p (program_starts p) n) x w (start_of_scope (scope_of_instance p (program_starts p) x)))
     main_fine e w wh =
         let fits = (scope_fits p linked x pl).starts in
         let r = run_is pl.scope.kind pl.scope.start (main_kind p linked x pl e) fits.0 in
-        let Ok : Value → World → Type 0 = λ u w. Unit {0} in
+        let Ok : Value → World → Type 0 = λ u w. WellHeap p x w.objects in
+        let End : World → Type 0 = λ w. WellHeap p x w.objects in
         let block_fits : StartFits p pl.scope (Run r.0) = subst (λ s. StartFits p pl.scope s) r.1 fits.1 in
-        subst (λ o. Fine p declared Ok (run_start p (program_starts p) (open_calls p (program_starts p) n) x w (start_of_scope o)))
+        subst (λ o. Fine p declared End Ok (run_start p (program_starts p) (open_calls p (program_starts p) n) x w (start_of_scope o)))
         (sym (scope_there p linked x pl))
-        (subst (λ s. Fine p declared Ok (run_start p (program_starts p) (open_calls p (program_starts p) n) x w (Some s))) (sym r.1)
+        (subst (λ s. Fine p declared End Ok (run_start p (program_starts p) (open_calls p (program_starts p) n) x w (Some s))) (sym r.1)
         (run_fine (omega (arith, e)) pl.holds.derivation.start r.0 w
         (subst (λ s. DerivesStart (ground_reading p x pl.instance) pl.scope pl.holds.derivation.locals pl.holds.derivation.start s) r.1
         pl.holds.derives.0) block_fits wh))

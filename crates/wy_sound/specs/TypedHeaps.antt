@@ -1,6 +1,6 @@
 -- Typed heaps: values, objects and sights that have their types, over the types of a run. They are said for the time in which an instance
 -- starts, by its number `now`, or, where that is the number of all instances, in which `main` runs (docs/LANGUAGE.md, "Types of a run").
-use Rattle.std.specs.Prelude.{◌≡◌, ℕ, ◌<◌, ◌≤◌, List, [], ◌∷◌, length, map, ◌⊎◌, Option, Some, None, slice_get}
+use Rattle.std.specs.Prelude.{◌≡◌, ℕ, suc, ◌<◌, ◌≤◌, List, [], ◌∷◌, ◌++◌, length, map, ◌⊎◌, Option, Some, None, slice_get}
 use Rattle.wy_effects.specs.Members.{In}
 use Rattle.wy_types.specs.declared.code.Variable.{Variable}
 use Rattle.wy_types.specs.declared.types.TypeRef.{TypeRef}
@@ -82,7 +82,7 @@ module _ (p : Program) where
     abbrev pub IsFirst : List Thing → ℕ → Type 0
     IsFirst h z = (t : Thing) × (slice_get h z ≡ Some t) × (t.instance ≡ z) × (t.literal ≡ 0)
 
-    -- a typed heap: each object that is ready has its types. Of one that is not, nothing is known
+    -- a typed heap: each object that is ready has its types. Of one that is not, nothing is said here; of the instance that starts, `Filling` says it
     pub record WellHeap (h : List Thing) : Type 0 where
       pub by : (a : ℕ) (t : Thing) → slice_get h a ≡ Some t → Ready a → ThingHas h t
       pub long : instance_count p ≤ length h
@@ -98,3 +98,27 @@ module _ (p : Program) where
       pub early : sight.instance ≤ now
       pub this : ThisHas h sight.instance sight.this owner
       pub names : NamesHave h sight.instance pl seen sight.variables
+
+  ------------------------------------------------------------
+  -- While an instance starts
+
+  -- the object of an instance that has not begun to start
+  abbrev pub unstarted_thing : ℕ → Thing
+  unstarted_thing z = record { instance = z; literal = 0; captured = []; fields = [] }
+
+  -- .. of all instances from a number on
+  pub record AreUnstarted (x : ℕ) (h : List Thing) : Type 0 where
+    pub by : (z : ℕ) → x ≤ z → z < instance_count p → slice_get h z ≡ Some (unstarted_thing z)
+
+  -- the heap is typed while the instance of a number starts; of the fields of the instance's own object those of the first types are set, and
+  -- their values have these
+  pub record Filling (x : ℕ) (pl : Placed p x) (done : List GroundType) (h : List Thing) : Type 0 where
+    pub heap : WellHeap x h
+    pub values : List Value
+    pub here : slice_get h x ≡ Some (record { instance = x; literal = 0; captured = []; fields = values })
+    pub typed : AllHave x h values done
+    pub rest : AreUnstarted (suc x) h
+
+  -- .. those of some of the first types
+  abbrev pub PartlyFilled : (x : ℕ) → Placed p x → List Thing → Type 0
+  PartlyFilled x pl h = (done : List GroundType) × (left : List GroundType) × (done ++ left ≡ fields_at x pl 0) × Filling x pl done h

@@ -1,13 +1,34 @@
 //! The laws of soundness (docs/LANGUAGE.md, "Authority and report"), of programs as resolving makes them. No function
 //! here does anything: what it says is its clause.
 
-ghost use Rattle.wy_sound.specs.Laws.{Preservation, NeverWrong, EventsAreBounded, PureInstancesMayNothing, PureInstancesAreSilent};
+ghost use Rattle.wy_sound.specs.Laws.{Preservation, BlockPreservation, CallPreservation, StartPreservation, FirstHeapIsTyped, NeverWrong, EventsAreBounded, PureInstancesMayNothing, PureInstancesAreSilent};
 
 /// Preservation: evaluation of a value that has a derivation over the types of a run, in a heap that has its types,
-/// ends as the language says or leaves a heap that has its types, and a value of the value's type
+/// leaves a heap that has its types, and ends as the language says or gives a value of the value's type
 /// (docs/LANGUAGE.md, "Types of a run").
 pub fn preservation()
     ensures { Preservation }
+{}
+
+/// So does evaluation of a block.
+pub fn block_preservation()
+    ensures { BlockPreservation }
+{}
+
+/// So does a call of a method of its own type on an object that is ready.
+pub fn call_preservation()
+    ensures { CallPreservation }
+{}
+
+/// The start of an instance in a heap that has its types sets the fields of its object one after the other, each to a
+/// value of its type; where it ends before the last, those that are set have theirs.
+pub fn start_preservation()
+    ensures { StartPreservation }
+{}
+
+/// Before the first instance starts the heap has its types.
+pub fn first_heap_is_typed()
+    ensures { FirstHeapIsTyped }
 {}
 
 /// No run of an accepted program meets a missing value or one of a wrong kind.

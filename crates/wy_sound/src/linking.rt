@@ -1,6 +1,7 @@
 //! Laws of linking (docs/LANGUAGE.md, "Start order and ground sets", "Types of a run"). No function here does
 //! anything: what it says is its clause.
 
+ghost use Rattle.wy_sound.specs.Grounds.{GroundSetsAre, VisitsEnd};
 ghost use Rattle.wy_sound.specs.Linking.{AcceptedInstancesFit, AcceptedArgumentsFit};
 
 /// Each instance of an accepted program is one of its scope: it has a bound where that is a plain module, and sets of
@@ -13,4 +14,16 @@ pub fn accepted_instances_fit()
 /// instance reads it, over the types of the run: a grant of the program, or an instance that starts before.
 pub fn accepted_arguments_fit()
     ensures { AcceptedArgumentsFit }
+{}
+
+/// In an accepted program the ground sets of the atoms of a used module or an instance are the grounds, in it, of what
+/// its module defines; those of bare parameters are the grounds, in the scope of the line, of the members of the
+/// arguments' types; an atom of a grant is itself.
+pub fn ground_sets_are()
+    ensures { GroundSetsAre }
+{}
+
+/// Where no line leads back, a visit that may go through as many scopes as there are is never cut short.
+pub fn visits_end()
+    ensures { VisitsEnd }
 {}

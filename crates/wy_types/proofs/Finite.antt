@@ -1,10 +1,14 @@
 -- Finitely many types are reached: each is in a list that the program and the scope determine.
-use Rattle.std.proofs.Common.{◌≡◌, ℕ, suc, ◌≤◌, List, [], ◌∷◌, ◌++◌, map, ◌⊎◌, inl, inr, length, refl, sym, ap, ◌∙◌, subst, arith, Option, Some, None, Bool as Truth, true, false}
+use Rattle.std.proofs.Common.{◌≡◌, ℕ, zero, suc, ◌+◌, ◌^◌, ◌<◌, ◌≤◌, List, [], ◌∷◌, ◌++◌, map, ◌⊎◌, inl, inr, length, refl, sym, ap, ap₂, ◌∙◌, subst, arith, Option, Some, None, Bool as Truth, true, false, length-append}
 use Rattle.std.specs.Prelude.{slice_get, nat_eq, if◌then◌else◌}
+use Rattle.std.specs.List.{range_with_len}
+use Rattle.std.proofs.Math.ListN.{length-map}
+use Rattle.std.proofs.Math.Nat.{add_assoc, zero-add}
+use Rattle.std.proofs.lemmas.List.FromFn.{length-range_with_len, get_or-range_with_len}
 use Rattle.wy_effects.specs.Members.{In, Apart}
 use Rattle.wy_effects.specs.EffSet.{IsSet, AreSets, replace}
-use Rattle.wy_effects.proofs.Lists.{In-left, In-right, In-map, In-unmap, length-apart}
-use Rattle.wy_effects.proofs.Listing.{sets_from, In-sets_from, tuples, In-tuples, spread, In-spread, pairs_of, In-pairs_of}
+use Rattle.wy_effects.proofs.Lists.{In-left, In-right, In-map, In-unmap, In-read, length-apart}
+use Rattle.wy_effects.proofs.Listing.{sets_from, In-sets_from, length-sets_from, tuples, In-tuples, length-tuples, pairs_of, In-pairs_of}
 use Rattle.wy_effects.proofs.Replacing.{IsSet-replace, AreSets-map}
 use Rattle.wy_types.specs.declared.types.TypeRef.{TypeRef}
 use Rattle.wy_types.specs.declared.types.TypeRef.TheVariants.{Int, Bool, Text, Unit as Nothing, Named, At, Own}
@@ -13,6 +17,7 @@ use Rattle.wy_types.specs.Program.{Program, Scope, Body}
 use Rattle.wy_types.specs.Signature.{Signature, mapped_signature}
 use Rattle.wy_types.specs.Types.{substituted, annotated, erased, signature, declared_methods, methods_of_owner, named_methods, scope_is_plain, scope_bodies, methods_of}
 use Rattle.wy_types.specs.Fitting.{member_count, scope_literals, own_count, FitsType, AllFit, FitsSignature, AllSignaturesFit, SignaturesFit, IsTypeOf}
+use Rattle.wy_types.specs.Few.{declared_count, type_count, type_bound}
 
 length-map' : {X Y : Type 0} (f : X → Y) (xs : List X) → length (map f xs) ≡ length xs
 length-map' f [] = refl
@@ -125,33 +130,57 @@ Fits-written p w scope (Named d members) f = Fits-named p w 0 d (scope_is_plain 
 Fits-written p w scope (At d bound) f = Fits-declared p w 0 d (annotated bound) (λ e. bound) (λ atoms t g. Fits-annotated p 0 atoms bound t f.1 g) (λ e. f.1)
 Fits-written p w scope (Own l) f = absurd (omega arith)
 
-named_types : Program → ℕ → List TypeRef
-named_types p d = Named d [] ∷ map (λ ms. Named d ms) (tuples (member_count (slice_get p.declarations d)) (sets_from 0 512))
+-- all types that the declaration of a number stands for
+types_of : ℕ → TypeDecl → List TypeRef
+types_of k d = (Named k [] ∷ map (λ ms. Named k ms) (tuples (length d.members) (sets_from 0 512))) ++ map (λ e. At k e) (sets_from 0 512)
 
-at_types : ℕ → List TypeRef
-at_types d = map (λ e. At d e) (sets_from 0 512)
+-- .. and those of the next ones
+types_from : ℕ → List TypeDecl → List TypeRef
+types_from k [] = []
+types_from k (d ∷ ds) = types_of k d ++ types_from (k + 1) ds
 
 -- all types in range
 pub all_types : Program → ℕ → List TypeRef
-all_types p owns =
-    (Int ∷ Bool ∷ Text ∷ Nothing ∷ []) ++
-    (spread (named_types p) (length p.declarations) ++ (spread at_types (length p.declarations) ++ spread (λ l. Own l ∷ []) owns))
+all_types p owns = (Int ∷ Bool ∷ Text ∷ Nothing ∷ []) ++ (types_from 0 p.declarations ++ map (λ l. Own l) (range_with_len 0 owns))
 
-In-named : (p : Program) (d : ℕ) (members : List (List ℕ)) → (length members ≡ member_count (slice_get p.declarations d)) ⊎ (members ≡ []) → AreSets 512 members → In (Named d members) (named_types p d)
-unfolding named_types
-In-named p d members (inr e) h = inl (ap (λ ms. Named d ms) (sym e))
-In-named p d members (inl e) h =
-    let P : ℕ → Type 0 = λ n. In (Named d members) (map (λ ms. Named d ms) (tuples n (sets_from 0 512))) in
-    inr (subst P e (In-map (λ ms. Named d ms) members (tuples (length members) (sets_from 0 512)) (In-tuples (sets_from 0 512) members (λ s i. In-sets_from 0 512 512 s refl (h s i)))))
+element : {X : Type 0} (xs : List X) (k : ℕ) → k < length xs → (x : X) × (slice_get xs k ≡ Some x)
+element [] k lt = absurd (omega arith)
+element (x ∷ xs) zero lt = (x, refl)
+element (x ∷ xs) (suc k) lt = element xs k (omega (arith, lt))
 
-In-at : (d : ℕ) (bound : List ℕ) → IsSet 512 bound → In (At d bound) (at_types d)
-unfolding at_types
-In-at d bound h = In-map (λ e. At d e) bound (sets_from 0 512) (In-sets_from 0 512 512 bound refl h)
+In-types_from : (k j : ℕ) (ds : List TypeDecl) (d : TypeDecl) (t : TypeRef) → slice_get ds j ≡ Some d → In t (types_of (j + k) d) → In t (types_from k ds)
+unfolding types_from
+In-types_from k j [] d t e i = absurd (cc)
+In-types_from k zero (x ∷ ds) d t e i = In-left t (types_of k x) (types_from (k + 1) ds) (let same : d ≡ x = cc in let at : 0 + k ≡ k = omega arith in subst (λ n. In t (types_of n x)) at (subst (λ v. In t (types_of (0 + k) v)) same i))
+In-types_from k (suc j) (x ∷ ds) d t e i =
+    In-right t (types_of k x) (types_from (k + 1) ds)
+    (In-types_from (k + 1) j ds d t e (let at : suc j + k ≡ j + (k + 1) = omega arith in subst (λ n. In t (types_of n d)) at i))
+
+In-named : (k : ℕ) (d : TypeDecl) (members : List (List ℕ)) → (length members ≡ length d.members) ⊎ (members ≡ []) → AreSets 512 members → In (Named k members) (types_of k d)
+unfolding types_of
+In-named k d members (inr e) h = inl (ap (λ ms. Named k ms) (sym e))
+In-named k d members (inl e) h =
+    let P : ℕ → Type 0 = λ n. In (Named k members) (map (λ ms. Named k ms) (tuples n (sets_from 0 512))) in
+    inr (In-left (Named k members) (map (λ ms. Named k ms) (tuples (length d.members) (sets_from 0 512))) (map (λ e. At k e) (sets_from 0 512))
+    (subst P e (In-map (λ ms. Named k ms) members (tuples (length members) (sets_from 0 512)) (In-tuples (sets_from 0 512) members (λ s i. In-sets_from 0 512 512 s refl (h s i))))))
+
+In-at : (k : ℕ) (d : TypeDecl) (bound : List ℕ) → IsSet 512 bound → In (At k bound) (types_of k d)
+unfolding types_of
+In-at k d bound h =
+    In-right (At k bound) (Named k [] ∷ map (λ ms. Named k ms) (tuples (length d.members) (sets_from 0 512))) (map (λ e. At k e) (sets_from 0 512))
+    (In-map (λ e. At k e) bound (sets_from 0 512) (In-sets_from 0 512 512 bound refl h))
 
 module _ (p : Program) (owns : ℕ) where
-  later : (t : TypeRef) → In t (spread (named_types p) (length p.declarations) ++ (spread at_types (length p.declarations) ++ spread (λ l. Own l ∷ []) owns)) → In t (all_types p owns)
+  later : (t : TypeRef) → In t (types_from 0 p.declarations ++ map (λ l. Own l) (range_with_len 0 owns)) → In t (all_types p owns)
   unfolding all_types
   later t i = inr (inr (inr (inr i)))
+
+  declared : (k : ℕ) (t : TypeRef) → k < length p.declarations → ((d : TypeDecl) → slice_get p.declarations k ≡ Some d → In t (types_of k d)) → In t (all_types p owns)
+  declared k t lt each =
+      let r = element p.declarations k lt in
+      let at : k ≡ k + 0 = omega arith in
+      later t (In-left t (types_from 0 p.declarations) (map (λ l. Own l) (range_with_len 0 owns))
+      (In-types_from 0 k p.declarations r.0 t r.1 (subst (λ n. In t (types_of n r.0)) at (each r.0 r.1))))
 
   pub In-all_types : (t : TypeRef) → FitsType p 512 owns t → In t (all_types p owns)
   unfolding all_types
@@ -160,21 +189,50 @@ module _ (p : Program) (owns : ℕ) where
   In-all_types Text f = inr (inr (inl refl))
   In-all_types Nothing f = inr (inr (inr (inl refl)))
   In-all_types (Named d members) f =
-      later (Named d members) (In-left (Named d members) (spread (named_types p) (length p.declarations)) _
-      (In-spread (named_types p) (length p.declarations) d (Named d members) f.0 (In-named p d members f.1 f.2)))
-  In-all_types (At d bound) f =
-      later (At d bound) (In-right (At d bound) (spread (named_types p) (length p.declarations)) _
-      (In-left (At d bound) (spread at_types (length p.declarations)) (spread (λ l. Own l ∷ []) owns)
-      (In-spread at_types (length p.declarations) d (At d bound) f.0 (In-at d bound f.1))))
+      declared d (Named d members) f.0
+      (λ x e. In-named d x members (subst (λ o. (length members ≡ member_count o) ⊎ (members ≡ [])) e f.1) f.2)
+  In-all_types (At d bound) f = declared d (At d bound) f.0 (λ x e. In-at d x bound f.1)
   In-all_types (Own l) f =
-      later (Own l) (In-right (Own l) (spread (named_types p) (length p.declarations)) _
-      (In-right (Own l) (spread at_types (length p.declarations)) (spread (λ l. Own l ∷ []) owns)
-      (In-spread (λ l. Own l ∷ []) owns l (Own l) f (inl refl))))
+      later (Own l) (In-right (Own l) (types_from 0 p.declarations) (map (λ l. Own l) (range_with_len 0 owns))
+      (In-map (λ l. Own l) l (range_with_len 0 owns) (In-read (range_with_len 0 owns) l 0 l (rw (length-range_with_len 0 owns) f) (sym (get_or-range_with_len 0 owns l 0 f ∙ zero-add l)))))
 
--- how many types a scope's types can reach at most, how many pairs of them there are, and how many with a truth value beside them
-pub type_bound : Program → ℕ → ℕ
-type_bound p scope = length (all_types p (own_count p scope))
+------------------------------------------------------------
+-- How many there are
 
+one_more : (m n : ℕ) → suc m + n ≡ (1 + m) + n
+one_more m n = omega arith
+
+four_more : (n : ℕ) → suc (suc (suc (suc n))) ≡ 4 + n
+four_more n = omega arith
+
+length-types_of : (k : ℕ) (d : TypeDecl) → length (types_of k d) ≡ (1 + (2 ^ 512) ^ length d.members) + 2 ^ 512
+unfolding types_of
+length-types_of k d =
+    let lists = tuples (length d.members) (sets_from 0 512) in
+    let sets : length (sets_from 0 512) ≡ 2 ^ 512 = length-sets_from 0 512 in
+    let named : length (map (λ ms. Named k ms) lists) ≡ (2 ^ 512) ^ length d.members =
+    length-map lists (λ ms. Named k ms) ∙ length-tuples (length d.members) (sets_from 0 512) ∙ ap (λ n. n ^ length d.members) sets in
+    length-append (Named k [] ∷ map (λ ms. Named k ms) lists) (map (λ e. At k e) (sets_from 0 512)) ∙
+    ap₂ (λ m n. suc m + n) named (length-map (sets_from 0 512) (λ e. At k e) ∙ sets) ∙
+    one_more ((2 ^ 512) ^ length d.members) (2 ^ 512)
+
+length-types_from : (k : ℕ) (ds : List TypeDecl) → length (types_from k ds) ≡ declared_count 512 ds
+unfolding types_from
+length-types_from k [] = refl
+length-types_from k (d ∷ ds) =
+    let here = length-types_of k d in
+    let rest = length-types_from (k + 1) ds in
+    length-append (types_of k d) (types_from (k + 1) ds) ∙ ap₂ (λ m n. m + n) here rest ∙ add_assoc (1 + (2 ^ 512) ^ length d.members) (2 ^ 512) (declared_count 512 ds)
+
+length-all_types : (p : Program) (owns : ℕ) → length (all_types p owns) ≡ type_count p 512 owns
+unfolding all_types
+length-all_types p owns =
+    let declared = length-types_from 0 p.declarations in
+    let own : length (map (λ l. Own l) (range_with_len 0 owns)) ≡ owns = length-map (range_with_len 0 owns) (λ l. Own l) ∙ length-range_with_len 0 owns in
+    four_more (length (types_from 0 p.declarations ++ map (λ l. Own l) (range_with_len 0 owns))) ∙
+    ap (λ n. 4 + n) (length-append (types_from 0 p.declarations) (map (λ l. Own l) (range_with_len 0 owns)) ∙ ap₂ (λ m n. m + n) declared own)
+
+-- how many pairs of types there are in a scope, and how many types with a truth value beside them
 pub pair_bound : Program → ℕ → ℕ
 pair_bound p scope = length (pairs_of (all_types p (own_count p scope)) (all_types p (own_count p scope)))
 
@@ -182,9 +240,9 @@ pub marked_bound : Program → ℕ → ℕ
 marked_bound p scope = length (pairs_of (all_types p (own_count p scope)) (true ∷ false ∷ []))
 
 pub length-le-type_bound : (p : Program) (scope : ℕ) (ts : List TypeRef) → Apart ts → ((t : TypeRef) → In t ts → IsTypeOf p scope t) → length ts ≤ type_bound p scope
-unfolding type_bound
 length-le-type_bound p scope ts d f =
-    length-apart ts (all_types p (own_count p scope)) d (λ t i. In-all_types p (own_count p scope) t (f t i))
+    subst (λ n. length ts ≤ n) (length-all_types p (own_count p scope))
+    (length-apart ts (all_types p (own_count p scope)) d (λ t i. In-all_types p (own_count p scope) t (f t i)))
 
 pub length-le-pair_bound : (p : Program) (scope : ℕ) (ps : List (TypeRef × TypeRef)) → Apart ps → ((q : TypeRef × TypeRef) → In q ps → IsTypeOf p scope q.0 × IsTypeOf p scope q.1) → length ps ≤ pair_bound p scope
 unfolding pair_bound

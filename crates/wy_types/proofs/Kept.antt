@@ -14,7 +14,7 @@ use Rattle.wy_types.specs.Paths.{IsPartOf, Goes, Walks}
 use Rattle.wy_types.specs.Fitting.{FitsType, FitsSignature, AllSignaturesFit, SignaturesFit, IsTypeOf, own_count}
 use Rattle.wy_types.specs.Core.{IsCore, ScopeFits}
 use Rattle.wy_types.specs.Few.{ReachedAreFew}
-use Rattle.wy_types.proofs.Finite.{Fits-methods, type_bound, length-le-type_bound}
+use Rattle.wy_types.proofs.Finite.{Fits-methods, length-le-type_bound}
 
 IsSetFrom-wider : (k m n : ℕ) (xs : List ℕ) → m ≤ n → IsSetFrom k m xs → IsSetFrom k n xs
 IsSetFrom-wider k m n [] le s = tt
@@ -62,5 +62,5 @@ Fits-walks p w scope [] t u f walk = let P : TypeRef → Type 0 = λ v. IsTypeOf
 Fits-walks p w scope (s ∷ path) t u f walk = Fits-walks p w scope path walk.0 u (Fits-goes p w scope t s walk.0 f walk.1) walk.2
 
 pub few : ReachedAreFew
-few p c scope t f =
-    (type_bound p scope, λ us apart reached. length-le-type_bound p scope us apart (λ u i. let r = reached u i in Fits-walks p (core_signatures_fit p c) scope r.0 t u f r.1))
+few p c scope t f us apart reached =
+    length-le-type_bound p scope us apart (λ u i. let r = reached u i in Fits-walks p (core_signatures_fit p c) scope r.0 t u f r.1)

@@ -8,6 +8,7 @@ pub mod Finite
 pub mod Gathered
 pub mod Kept
 pub mod Keyed
+pub mod MemberSets
 pub mod Owning
 pub mod Reaching
 pub mod Reflecting

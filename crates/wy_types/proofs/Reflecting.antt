@@ -16,7 +16,8 @@ use Rattle.wy_types.specs.Subtyping.{ParamsIn, HasCover, IsClosed, IsSubtype, An
 use Rattle.wy_types.specs.Fitting.{IsTypeOf}
 use Rattle.wy_types.specs.Core.{IsCore}
 use Rattle.wy_types.specs.Order.{IsReflexive, IsTransitive}
-use Rattle.wy_types.proofs.Finite.{read, Fits-methods, type_bound, length-le-type_bound}
+use Rattle.wy_types.specs.Few.{type_bound}
+use Rattle.wy_types.proofs.Finite.{read, Fits-methods, length-le-type_bound}
 use Rattle.wy_types.proofs.Deciding.{decide_type}
 use Rattle.wy_types.proofs.Kept.{core_signatures_fit, Fits-part}
 use Rattle.wy_types.proofs.Reaching.{signature_types-part, part_of_signature}

@@ -1,5 +1,5 @@
 -- The definitions tried on worked examples.
-use Rattle.std.proofs.Common.{◌≡◌, ℕ, List, [], ◌∷◌, inl, inr, refl, subst, true, false}
+use Rattle.std.proofs.Common.{◌≡◌, ℕ, ◌+◌, ◌*◌, List, [], ◌∷◌, inl, inr, refl, subst, true, false}
 use Rattle.std.specs.Prelude.{codes}
 use Rattle.wy_effects.specs.Members.{Within}
 use Rattle.wy_types.specs.declared.types.TypeRef.{TypeRef}
@@ -16,6 +16,7 @@ use Rattle.wy_types.specs.Subtyping.{IsClosed, HasCover, IsAnnotatedSubtype, Lea
 use Rattle.wy_types.proofs.Closing.{closed_path}
 use Rattle.wy_types.proofs.Reaching.{no_methods}
 use Rattle.wy_types.specs.Paths.{Goes, IsEffect}
+use Rattle.wy_types.specs.Few.{type_count}
 
 -- a method, and a type declaration of some abstract members
 method : List ℕ → List TypeRef → List ℕ → TypeRef → Method
@@ -102,6 +103,20 @@ turning = record {
       declaration (codes "C") (codes "E" ∷ []) (method (codes "h") [] (0 ∷ []) (Named 0 ((0 ∷ []) ∷ [])) ∷ []) ∷ [];
   scopes = [];
 }
+
+-- where there are two atoms, so four sets: each of the three types is bare, has one of four sets, or stands at one of four bounds; those of one literal have one type more
+types_of_two_atoms : type_count turning 2 0 ≡ 4 + 3 * (1 + 4 + 4)
+unfolding turning declaration method
+types_of_two_atoms = refl
+
+types_with_an_own_one : type_count turning 2 1 ≡ 32
+unfolding turning declaration method
+types_with_an_own_one = refl
+
+-- types without members have one list of no sets
+types_without_members : type_count going_on 2 0 ≡ 4 + 3 * (1 + 1 + 4)
+unfolding going_on declaration method
+types_without_members = refl
 
 step : List ℕ → Part → Step
 step name part = record { method = name; part = part }

@@ -232,6 +232,25 @@ OriginFits p s k n (Use m) = (is_plain s.kind ≡ false) × (m + 1 < length p.sc
 OriginFits p s k n (Instance m arguments) = (is_plain s.kind ≡ false) × (m + 1 < length p.scopes) × ((a : ℕ) → In a arguments → a < k)
 OriginFits p s k n (Import m arguments bound) = (is_plain s.kind ≡ false) × (m + 1 < length p.scopes) × ((a : ℕ) → In a arguments → a < k) × IsSet (length s.atoms) bound
 
+-- how many of some own names are grants, and how many are parameters
+abbrev pub one_grant : Origin → ℕ
+one_grant (Parameter bare) = 0
+one_grant Grant = 1
+one_grant (Use m) = 0
+one_grant (Instance m arguments) = 0
+one_grant (Import m arguments bound) = 0
+
+abbrev pub one_parameter : Origin → ℕ
+one_parameter (Parameter bare) = 1
+one_parameter Grant = 0
+one_parameter (Use m) = 0
+one_parameter (Instance m arguments) = 0
+one_parameter (Import m arguments bound) = 0
+
+abbrev pub origins_count : (Origin → ℕ) → List OwnName → ℕ
+origins_count one [] = 0
+origins_count one (n ∷ ns) = one n.origin + origins_count one ns
+
 ------------------------------------------------------------
 -- Scopes
 
@@ -285,6 +304,8 @@ pub record ScopeFits (p : Program) (s : Scope) : Type 0 where
   pub few_fields : (l : Literal) → In l s.literals → length l.fields ≤ 128
   pub few_methods : (l : ℕ) → length (methods_of_owner l s.bodies) ≤ 128
   pub few_parameters : (b : Body) → In b s.bodies → length b.signature.params ≤ 16
+  pub few_grants : origins_count one_grant s.names ≤ 64
+  pub few_module_parameters : origins_count one_parameter s.names ≤ 16
 
 pub record DeclarationFits (p : Program) (d : TypeDecl) : Type 0 where
   pub written : (m : Signature TypeRef) → In m (map signature d.methods) → FitsSignature p (length d.members) 0 m × ((t : TypeRef) → In t (m.params ++ m.result ∷ []) → HasSets p false t)

@@ -200,6 +200,6 @@ module _ (p : Program) where
   abbrev pub program_sets : List (List ℕ)
   program_sets = program_visited.sets
 
--- the ground set of a set of an instance's scope
-abbrev pub ground_of : Started → List ℕ → List ℕ
-ground_of i set = replace i.ground set
+-- the ground of a set of a scope's atoms, by the ground sets that its instance (or the program) has for them
+abbrev pub ground_of : List (List ℕ) → List ℕ → List ℕ
+ground_of sets set = replace sets set

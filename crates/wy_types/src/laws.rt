@@ -3,8 +3,8 @@
 ghost use Rattle.wy_types.specs.Few.{ReachedAreFew};
 ghost use Rattle.wy_types.specs.Order.{IsReflexive, IsTransitive, AnnotationHolds};
 
-/// For each program, scope and type in range there is a number that no list of distinct types
-/// reached from the type passes in length.
+/// For each program, scope and type in range: no list of distinct types reached from the type is
+/// longer than the number of types that the program's declarations and the scope's literals give.
 pub fn reached_types_are_few()
     ensures { ReachedAreFew }
 {}

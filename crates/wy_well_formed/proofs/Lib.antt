@@ -26,6 +26,7 @@ mod Declared
 mod OwnTypes
 mod OwnNames
 mod OwnApart
+mod OwnCounts
 mod Limits
 mod NamedModules
 mod NoCycles

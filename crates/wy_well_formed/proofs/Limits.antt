@@ -53,6 +53,9 @@ types_limit = inl refl
 modules_limit : In limit.Modules limits
 modules_limit = inr (inl refl)
 
+grants_limit : In limit.Grants limits
+grants_limit = inr (inr (inl refl))
+
 methods_limit : In limit.Methods limits
 methods_limit = inr (inr (inr (inl refl)))
 
@@ -151,3 +154,14 @@ module _ (items : List ItemTree) (h : limit_of items ≡ None) where
       within (declared items) h limit.Atoms atoms_limit (f g)
       (In-right (f g) (abstract_counts types) _
       (In-right (f g) (map (module_count (all_names types) (modules_of items) (type_counts types)) (modules_of items)) _ (In-map f g (programs_of items) i)))
+
+  pub few_module_params : (m : ModuleTree) → In m (modules_of items) → length m.params ≤ 16
+  few_module_params m i =
+      let count : ModuleTree → ℕ = λ v. length v.params in
+      within (declared items) h limit.Parameters parameters_limit (length m.params)
+      (In-right (length m.params) (types_params (types_of items)) _ (In-left (length m.params) (map count (modules_of items)) _ (In-map count m (modules_of items) i)))
+
+  pub few_program_grants : (g : ProgramTree) → In g (programs_of items) → length g.grants ≤ 64
+  few_program_grants g i =
+      let count : ProgramTree → ℕ = λ v. length v.grants in
+      within (declared items) h limit.Grants grants_limit (length g.grants) (In-map count g (programs_of items) i)

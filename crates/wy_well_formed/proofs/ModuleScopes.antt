@@ -34,6 +34,7 @@ use Rattle.wy_well_formed.proofs.Meant.{none_meant, definitions_meant}
 use Rattle.wy_well_formed.proofs.WrittenTypes.{Knows, IsType, number_known, use_stands, effect_below}
 use Rattle.wy_well_formed.proofs.OwnNames.{AllOwn, own_at, own_append, params_own, uses_own, lines_own}
 use Rattle.wy_well_formed.proofs.OwnApart.{param_texts, own_apart, lines_length}
+use Rattle.wy_well_formed.proofs.OwnCounts.{module_grants, module_parameters}
 use Rattle.wy_well_formed.proofs.ModuleForms.{HasForm, is_module, plain_is_bare}
 
 ------------------------------------------------------------
@@ -213,8 +214,8 @@ module _ (p : Program) (heads : List Head) (modules : List ModuleTree) (knows : 
       (ascribed heads modules p the_scope m.kind (module_meanings heads modules m) s.number knows (is_module m.kind m form)
       (ap (definitions_at heads modules (is_plain m.kind) (module_meanings heads modules m)) s.is) known)
 
-  pub module_fits : atom_count ≤ 512 → BodiesFit p the_scope → ScopeFits p the_scope
-  module_fits few b = record {
+  pub module_fits : atom_count ≤ 512 → length m.params ≤ 16 → BodiesFit p the_scope → ScopeFits p the_scope
+  module_fits few few_params b = record {
     ascribed = is_ascribed;
     definitions = definitions_below heads modules atom_count (is_plain m.kind) (module_meanings heads modules m) (type_number (head_names heads) m.sealed.text) holds.meanings;
     names = λ k n e. (let f = own_at p the_scope (is_plain m.kind) (module_own heads modules m) all_own k n e in (f.written, f.origin));
@@ -236,4 +237,6 @@ module _ (p : Program) (heads : List Head) (modules : List ModuleTree) (knows : 
     few_fields = b.few_fields;
     few_methods = b.few_methods;
     few_parameters = b.few_parameters;
+    few_grants = (let c = module_grants heads modules m in omega (arith, c));
+    few_module_parameters = (let c = module_parameters heads modules m in omega (arith, c, few_params));
   }

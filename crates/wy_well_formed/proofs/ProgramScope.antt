@@ -23,6 +23,7 @@ use Rattle.wy_well_formed.proofs.Meant.{none_meant}
 use Rattle.wy_well_formed.proofs.WrittenTypes.{Knows, use_stands, effect_below}
 use Rattle.wy_well_formed.proofs.OwnNames.{AllOwn, own_at, own_append, grants_own, uses_own, lines_own}
 use Rattle.wy_well_formed.proofs.OwnApart.{grant_texts, own_apart, lines_length}
+use Rattle.wy_well_formed.proofs.OwnCounts.{program_grants, program_parameters}
 
 -- the refusals of a program block, part by part
 pub record ProgramNotRefused (heads : List Head) (modules : List ModuleTree) (g : ProgramTree) : Type 0 where
@@ -114,8 +115,8 @@ module _ (p : Program) (heads : List Head) (modules : List ModuleTree) (knows : 
   pub program_body_is : OfBody (program_within heads modules g) g the_scope
   program_body_is = record { literals = refl; start = refl; bodies = refl }
 
-  pub program_fits : atom_count ≤ 512 → BodiesFit p the_scope → ScopeFits p the_scope
-  program_fits few b = record {
+  pub program_fits : atom_count ≤ 512 → length g.grants ≤ 64 → BodiesFit p the_scope → ScopeFits p the_scope
+  program_fits few few_given b = record {
     ascribed = refl;
     definitions = λ s i. absurd i;
     names = λ k n e. (let f = own_at p the_scope false (program_own heads modules g) all_own k n e in (f.written, f.origin));
@@ -137,4 +138,6 @@ module _ (p : Program) (heads : List Head) (modules : List ModuleTree) (knows : 
     few_fields = b.few_fields;
     few_methods = b.few_methods;
     few_parameters = b.few_parameters;
+    few_grants = (let c = program_grants heads modules g in omega (arith, c, few_given));
+    few_module_parameters = (let c = program_parameters heads modules g in omega (arith, c));
   }

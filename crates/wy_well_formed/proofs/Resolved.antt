@@ -30,7 +30,7 @@ use Rattle.wy_well_formed.proofs.WrittenTypes.{Knows}
 use Rattle.wy_well_formed.proofs.Known.{heads_known, head_names_are, declaration_names}
 use Rattle.wy_well_formed.proofs.PrimitiveTypes.{primitive_fits, primitive_names_apart}
 use Rattle.wy_well_formed.proofs.Declared.{NamesDiffer, declaration_fits}
-use Rattle.wy_well_formed.proofs.Limits.{few_types, few_modules, few_module_parts, few_program_parts, few_members, few_module_atoms, few_program_atoms}
+use Rattle.wy_well_formed.proofs.Limits.{few_types, few_modules, few_module_parts, few_program_parts, few_members, few_module_atoms, few_program_atoms, few_module_params, few_program_grants}
 use Rattle.wy_well_formed.proofs.ModuleForms.{HasForm, is_module, modules_have_form}
 use Rattle.wy_well_formed.proofs.NamedModules.{own_named, named_below, params_lead_nowhere, grants_lead_nowhere}
 use Rattle.wy_well_formed.proofs.NoCycles.{LeadAsWritten, no_cycle}
@@ -184,14 +184,14 @@ module _ (items : List ItemTree) (g : ProgramTree) (one : programs_of items ≡ 
     module_scope_fits : (m : ModuleTree) → In m modules → ScopeFits core (scope_of_module heads modules m)
     module_scope_fits m i =
         let s = sound.modules m i in
-        module_fits core heads modules knows scope_count m (form_of m i) s (module_atoms_few m i)
+        module_fits core heads modules knows scope_count m (form_of m i) s (module_atoms_few m i) (few_module_params items within m i)
         (parts_fit core (scope_of_module heads modules m) (module_within heads modules m) m.parts
         (module_reads core heads modules knows scope_count m (form_of m i) s) (module_parts_are core heads modules knows scope_count m (form_of m i) s)
         s.parts_names s.parts (few_module_parts items within m i))
 
     program_scope_fits : ScopeFits core (scope_of_program heads modules g)
     program_scope_fits =
-        program_fits core heads modules knows scope_count g sound.program program_atoms_few
+        program_fits core heads modules knows scope_count g sound.program program_atoms_few (few_program_grants items within g the_program)
         (body_fits core (scope_of_program heads modules g) (program_within heads modules g) g
         (program_reads core heads modules knows scope_count g sound.program) (program_body_is core heads modules knows scope_count g sound.program)
         refl (sound.program).body (few_program_parts items within g the_program))

@@ -8,7 +8,7 @@ use Rattle.wy_subtype.specs.Decided.{About}
 use Rattle.wy_judge.specs.Tables.{IsScopeOf}
 use Rattle.wy_link.specs.Tried.{OfEach, AreWritten, Agrees, Disagrees}
 use Rattle.wy_link.proofs.Premises.{agreed, members_as, types_as, lacks_members, other_types, instance_holds, sets_as}
-use Rattle.wy_link.proofs.Ranges.{parameters_written, arguments_are_sets}
+use Rattle.wy_link.proofs.Ranges.{parameters_written, handed_are_sets}
 use Rattle.wy_link.proofs.instances.instance_premise.Goals as goal
 
 pub returns-then-not-branch-clause-outcome : goal.returns-then-not-branch-clause-outcome
@@ -41,7 +41,7 @@ all_are_arguments-requires-clause-sets c =
     let p = program_of c.args.core.now in
     let names = c.args.scope.now.names in
     let same = sets_as p c.args.pairs.now.about.scope names c.args.target c.args.arguments.now c.names_of.result.now c.as_slice-outer.result.now c.in_ok-sets.sets c.as_slice.result.now c.names_of.ensures c.as_slice-outer.ensures c.in_ok-sets.ensures c.as_slice.ensures in
-    subst (AreSets 512) (sym same) (arguments_are_sets p c.args.pairs.now.about.scope (scope_of c.args.scope.now) c.requires.context _ c.args.arguments.now)
+    subst (AreSets 512) (sym same) (handed_are_sets p c.args.pairs.now.about.scope (scope_of c.args.scope.now) c.requires.context _ c.args.arguments.now)
 
 pub returns-then-not-below-clause-outcome : goal.returns-then-not-below-clause-outcome
 returns-then-not-below-clause-outcome c =
