@@ -228,30 +228,107 @@ fn limits_hold_up_to_their_numbers(rt: HostRuntime) -> Result<(), Fail> {
     Ok(())
 }
 
-/// So many lines, each one wider than the one before it, the first one of a width.
-fn stairs(alloc: Global, from: u32, to: u32, last: &[u8]) -> Result<Vec<u8>, Fail> {
+/// At an In or an Out a limit comes before a refusal at its place; a line's end stands before the next line.
+#[test]
+fn the_limit_on_tokens_comes_where_it_is_passed(rt: HostRuntime) -> Result<(), Fail> {
+    let alloc = rt.alloc();
+    let cases: [(&[u8], &[u8], u32, &[u8], &str); 6] = [
+        (b"a", b" b", 262_141, b"\n #", "BadCharacter 7:2:2"),
+        (b"a", b" b", 262_142, b"\n \xff", "tokens"),
+        (b" a", b" b", 262_140, b"\n#", "BadCharacter 7:2:1"),
+        (b" a", b" b", 262_141, b"\n\xff", "tokens"),
+        (b"a", b" b", 262_142, b"\n#", "BadCharacter 7:2:1"),
+        (b"a", b" b", 262_143, b"\n#", "tokens"),
+    ];
+    for (first, piece, count, last, wanted) in cases {
+        let bytes = built(alloc, first, piece, count, last)?;
+        let found = said(alloc, bytes.as_slice())?;
+        assert_eq!(rt; found.as_str(), wanted);
+    }
+    Ok(())
+}
+
+#[test]
+fn a_word_that_is_refused_is_no_token(rt: HostRuntime) -> Result<(), Fail> {
+    let alloc = rt.alloc();
+    let cases: [(&[u8], &[u8], u32, &[u8], &str); 3] = [
+        (
+            b"",
+            b"b\n",
+            131_072,
+            b"99999999999999999999",
+            "NumberTooLarge 7:131073:1",
+        ),
+        (b"", b"b\n", 131_072, b"\"\\q\"", "BadEscape 7:131073:3"),
+        (b"", b"b\n", 131_072, b"\"q", "OpenText 7:131073:3"),
+    ];
+    for (first, piece, count, last, wanted) in cases {
+        let bytes = built(alloc, first, piece, count, last)?;
+        let found = said(alloc, bytes.as_slice())?;
+        assert_eq!(rt; found.as_str(), wanted);
+    }
+    Ok(())
+}
+
+#[test]
+fn each_mark_is_counted(rt: HostRuntime) -> Result<(), Fail> {
+    let alloc = rt.alloc();
+    let marks: [&[u8]; 18] = [
+        b"== ", b"!= ", b"< ", b"<= ", b"> ", b">= ", b"+ ", b"- ", b"* ", b"/ ", b"% ", b"++ ",
+        b"&& ", b"|| ", b"! ", b". ", b"( ", b"if ",
+    ];
+    for mark in marks {
+        for (count, wanted) in [(128, "130"), (129, "marks")] {
+            let bytes = built(alloc, b"", mark, count, b"")?;
+            let found = said(alloc, bytes.as_slice())?;
+            assert_eq!(rt; found.as_str(), wanted);
+        }
+    }
+    Ok(())
+}
+
+/// So many lines, each one wider than the one before it, the first one of a width; and a last line of a width.
+fn stairs(
+    alloc: Global,
+    from: u32,
+    to: u32,
+    last_width: u32,
+    last: &[u8],
+) -> Result<Vec<u8>, Fail> {
     let mut bytes = Vec::new(alloc);
     for width in from..to {
-        for _ in 0..width {
-            bytes.push(b' ')?;
-        }
-        bytes.extend_from_slice(b"a\n")?;
+        let line = built(alloc, b"", b" ", width, b"a\n")?;
+        bytes.extend_from_slice(line.as_slice())?;
     }
-    bytes.extend_from_slice(last)?;
+    let line = built(alloc, b"", b" ", last_width, last)?;
+    bytes.extend_from_slice(line.as_slice())?;
     Ok(bytes)
 }
 
 #[test]
 fn indents_hold_up_to_their_number(rt: HostRuntime) -> Result<(), Fail> {
     let alloc = rt.alloc();
-    let cases: [(u32, u32, &[u8], &str); 4] = [
-        (0, 65, b"", "259"),
-        (1, 65, b"a\n", "259"),
-        (0, 66, b"", "indents"),
-        (1, 66, b"#", "indents"),
+    let cases: [(u32, u32, u32, &[u8], &str); 8] = [
+        (0, 65, 0, b"", "259"),
+        (1, 65, 0, b"a\n", "259"),
+        (0, 66, 0, b"", "indents"),
+        (1, 66, 0, b"#", "indents"),
+        (0, 65, 64, b"#", "BadCharacter 7:66:65"),
+        (0, 65, 65, b"#", "indents"),
+        (0, 65, 64, b"\xff", "NotUtf8 7:66:65"),
+        (0, 65, 65, b"\xff", "indents"),
     ];
-    for (from, to, last, wanted) in cases {
-        let bytes = stairs(alloc, from, to, last)?;
+    for (from, to, last_width, last, wanted) in cases {
+        let bytes = stairs(alloc, from, to, last_width, last)?;
+        let found = said(alloc, bytes.as_slice())?;
+        assert_eq!(rt; found.as_str(), wanted);
+    }
+    // Where an In passes both limits, that on tokens comes, which stands before that on indents.
+    for (words, wanted) in [(261_948, "indents"), (261_949, "tokens")] {
+        let line = built(alloc, b"", b"b ", words, b"\n")?;
+        let mut bytes = stairs(alloc, 0, 65, 64, line.as_slice())?;
+        let last = built(alloc, b"", b" ", 65, b"\xff")?;
+        bytes.extend_from_slice(last.as_slice())?;
         let found = said(alloc, bytes.as_slice())?;
         assert_eq!(rt; found.as_str(), wanted);
     }

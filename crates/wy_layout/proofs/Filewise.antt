@@ -1,12 +1,12 @@
 -- Reading all lines of a file gives the layout's tokens exactly where there are any, and else the first fault.
-use Rattle.std.proofs.Common.{◌≡◌, ℕ, ◌+◌, ◌<◌, ◌≤◌, ◌==◌, nat_lt, Bool, true, false, cond, List, [], ◌∷◌, length, take, take_all, refl, sym, ap, subst, ◌∙◌, arith, inl, inr, ltb-true, ltb-false, IsUtf8}
+use Rattle.std.proofs.Common.{◌≡◌, ℕ, ◌+◌, ◌<◌, ◌≤◌, ◌==◌, nat_lt, Bool, true, false, cond, ◌&&◌, ◌||◌, List, [], ◌∷◌, length, take, take_all, refl, sym, ap, subst, ◌∙◌, arith, inl, inr, ltb-true, ltb-false, IsUtf8}
 use Rattle.std.proofs.lemmas.Str.{utf8_valid_len-IsUtf8}
 use Rattle.std.specs.Str.Lossy.{utf8_valid_len}
 use Rattle.wy_text.specs.declared.token.Token.{Token}
 use Rattle.wy_layout.specs.Counts.{most_tokens}
 use Rattle.wy_layout.specs.Widths.{opens}
 use Rattle.wy_layout.specs.Lines.{Line, lines, first_row}
-use Rattle.wy_layout.specs.Layout.{LineTokens, widths, closing, Lays, FileFault, rank, Before, valid_text, TextFault, FaultAt, IsLeast, Lexes}
+use Rattle.wy_layout.specs.Layout.{LineTokens, widths, closing, Lays, FileFault, rank, Before, judged_text, TextFault, FaultAt, IsLeast, Lexes}
 use Rattle.wy_layout.specs.Lexed.{LineOut, laid, broken, line_out, Lexed, tokens, refused, join, by_out, end_of, lex_lines, lex_text, or_utf8, lex_bytes}
 use Rattle.wy_layout.specs.declared.row.Row.{Row}
 use Rattle.wy_layout.specs.declared.refusal.Fault.{Fault}
@@ -85,37 +85,60 @@ LexIs file bs (tokens ts) = (length bs ≤ utf8_valid_len bs) × Lays (first_row
 LexIs file bs (refused f o) = IsLeast file bs f o
 
 -- the faults of the text against the first byte that begins no character
-against : (file : ℕ) (bs : List ℕ) → utf8_valid_len bs < length bs → (x : Lexed) → LexedIs (first_row file) (length (valid_text bs)) 0 [] (lines (first_row file) (valid_text bs)) x →
+against : (file : ℕ) (bs : List ℕ) → utf8_valid_len bs < length bs → (x : Lexed) → LexedIs (first_row file) (length (judged_text bs)) 0 [] (lines (first_row file) (judged_text bs)) x →
     LexIs file bs (or_utf8 (utf8_valid_len bs) x)
 against file bs h (tokens ts) w = record { stands = inl (refl, refl, h); least = λ f' o' g. go f' o' g }
   where
     go : (f' : Fault) (o' : ℕ) → FaultAt file bs f' o' → Before (utf8_valid_len bs) fault.NotUtf8 o' f'
     go f' o' (inl g) = inr (sym g.1, let a = ap rank g.0 in omega arith)
-    go f' o' (inr g) = absurd (laid_none (first_row file) (length (valid_text bs)) 0 [] (lines (first_row file) (valid_text bs)) ts w f' o' g.1)
-against file bs h (refused f o) w = pick (nat_lt o (utf8_valid_len bs)) refl
+    go f' o' (inr g) = absurd (laid_none (first_row file) (length (judged_text bs)) 0 [] (lines (first_row file) (judged_text bs)) ts w f' o' g.1)
+against file bs h (refused f o) w = pick (nat_lt o (utf8_valid_len bs)) refl (o == utf8_valid_len bs) refl (nat_lt (rank f) (rank fault.NotUtf8)) refl
   where
-    pick : (b : Bool) → nat_lt o (utf8_valid_len bs) ≡ b → LexIs file bs (cond b (refused f o) (refused fault.NotUtf8 (utf8_valid_len bs)))
-    pick true e = record { stands = inr ((λ k. ltb-true _ _ e), w.stands); least = λ f' o' g. each f' o' g }
-      where
-        each : (f' : Fault) (o' : ℕ) → FaultAt file bs f' o' → Before o f o' f'
-        each f' o' (inl g) = let p = ltb-true _ _ e in let b = g.1 in inl (omega arith)
-        each f' o' (inr g) = w.least f' o' g.1
-    pick false e = record { stands = inl (refl, refl, h); least = λ f' o' g. each f' o' g }
-      where
-        late : (f' : Fault) (o' : ℕ) → o' < utf8_valid_len bs → Before o f o' f' → ⊥
-        late f' o' k (inl a) = let p = ltb-false _ _ e in omega arith
-        late f' o' k (inr a) = let p = ltb-false _ _ e in let q = a.0 in omega arith
+    is_same : (a b : ℕ) → (a == b) ≡ true → a ≡ b
+    is_same a b h = grind arith
 
+    no_same : (a b : ℕ) → (a == b) ≡ false → a ≡ b → ⊥
+    no_same a b h e = grind arith
+
+    itself : o ≤ utf8_valid_len bs → Before o f (utf8_valid_len bs) fault.NotUtf8 → LexIs file bs (refused f o)
+    itself k b = record { stands = inr ((λ q. k), w.stands); least = λ f' o' g. each f' o' g }
+      where
+        at_it : (f' : Fault) (o' : ℕ) → f' ≡ fault.NotUtf8 → o' ≡ utf8_valid_len bs → Before o f (utf8_valid_len bs) fault.NotUtf8 → Before o f o' f'
+        at_it f' o' p q (inl l) = inl (omega arith)
+        at_it f' o' p q (inr e) = let a = ap rank p in let c = e.0 in let d = e.1 in inr (omega arith, omega arith)
+
+        each : (f' : Fault) (o' : ℕ) → FaultAt file bs f' o' → Before o f o' f'
+        each f' o' (inl g) = at_it f' o' g.0 g.1 b
+        each f' o' (inr g) = w.least f' o' g.1
+
+    other : ((f' : Fault) (o' : ℕ) → o' ≤ utf8_valid_len bs → Before o f o' f' → Before (utf8_valid_len bs) fault.NotUtf8 o' f') → LexIs file bs (refused fault.NotUtf8 (utf8_valid_len bs))
+    other late = record { stands = inl (refl, refl, h); least = λ f' o' g. each f' o' g }
+      where
         each : (f' : Fault) (o' : ℕ) → FaultAt file bs f' o' → Before (utf8_valid_len bs) fault.NotUtf8 o' f'
         each f' o' (inl g) = inr (sym g.1, let a = ap rank g.0 in omega arith)
-        each f' o' (inr g) = absurd (late f' o' (g.0 h) (w.least f' o' g.1))
+        each f' o' (inr g) = late f' o' (g.0 h) (w.least f' o' g.1)
+
+    behind : (o ≡ utf8_valid_len bs → ⊥) → utf8_valid_len bs ≤ o → (f' : Fault) (o' : ℕ) → o' ≤ utf8_valid_len bs → Before o f o' f' → Before (utf8_valid_len bs) fault.NotUtf8 o' f'
+    behind n k f' o' l (inl a) = absurd (omega arith)
+    behind n k f' o' l (inr a) = let e = a.0 in absurd (n (omega arith))
+
+    there : o ≡ utf8_valid_len bs → rank fault.NotUtf8 ≤ rank f → (f' : Fault) (o' : ℕ) → o' ≤ utf8_valid_len bs → Before o f o' f' → Before (utf8_valid_len bs) fault.NotUtf8 o' f'
+    there e k f' o' l (inl a) = absurd (omega arith)
+    there e k f' o' l (inr a) = let p = a.0 in let q = a.1 in inr (omega arith, omega arith)
+
+    pick : (a : Bool) → nat_lt o (utf8_valid_len bs) ≡ a → (b : Bool) → (o == utf8_valid_len bs) ≡ b → (c : Bool) → nat_lt (rank f) (rank fault.NotUtf8) ≡ c →
+        LexIs file bs (cond (a || (b && c)) (refused f o) (refused fault.NotUtf8 (utf8_valid_len bs)))
+    pick true p b q c r = let l = ltb-true _ _ p in itself (omega arith) (inl l)
+    pick false p true q true r = let e = is_same _ _ q in let l = ltb-true _ _ r in itself (omega arith) (inr (e, omega arith))
+    pick false p true q false r = let l = ltb-false _ _ r in other (there (is_same _ _ q) l)
+    pick false p false q c r = let l = ltb-false _ _ p in other (behind (no_same _ _ q) l)
 
 whole : (file : ℕ) (bs : List ℕ) → length bs ≤ utf8_valid_len bs → (x : Lexed) → LexedIs (first_row file) (length bs) 0 [] (lines (first_row file) bs) x → LexIs file bs x
 whole file bs h (tokens ts) w = (h, w)
 whole file bs h (refused f o) w = record { stands = inr ((λ k. absurd (omega arith)), subst (λ (z : List ℕ). TextFault file z f o) (sym text) w.stands); least = λ f' o' g. each f' o' g }
   where
-    text : valid_text bs ≡ bs
-    text = take_all (utf8_valid_len bs) bs h
+    text : judged_text bs ≡ bs
+    text = take_all (utf8_valid_len bs + 1) bs (omega arith)
 
     each : (f' : Fault) (o' : ℕ) → FaultAt file bs f' o' → Before o f o' f'
     each f' o' (inl g) = absurd (let a = g.2 in omega arith)
@@ -124,8 +147,8 @@ whole file bs h (refused f o) w = record { stands = inr ((λ k. absurd (omega ar
 pub lex_is : (file : ℕ) (bs : List ℕ) → LexIs file bs (lex_bytes file bs)
 lex_is file bs = go (nat_lt (utf8_valid_len bs) (length bs)) refl
   where
-    go : (b : Bool) → nat_lt (utf8_valid_len bs) (length bs) ≡ b → LexIs file bs (cond b (or_utf8 (utf8_valid_len bs) (lex_text file (valid_text bs))) (lex_text file bs))
-    go true e = against file bs (ltb-true _ _ e) (lex_text file (valid_text bs)) (lexed_is (first_row file) (length (valid_text bs)) 0 [] (lines (first_row file) (valid_text bs)))
+    go : (b : Bool) → nat_lt (utf8_valid_len bs) (length bs) ≡ b → LexIs file bs (cond b (or_utf8 (utf8_valid_len bs) (lex_text file (judged_text bs))) (lex_text file bs))
+    go true e = against file bs (ltb-true _ _ e) (lex_text file (judged_text bs)) (lexed_is (first_row file) (length (judged_text bs)) 0 [] (lines (first_row file) (judged_text bs)))
     go false e = whole file bs (ltb-false _ _ e) (lex_text file bs) (lexed_is (first_row file) (length bs) 0 [] (lines (first_row file) bs))
 
 not_less : (a b : ℕ) → b ≤ a → nat_lt a b ≡ false
@@ -134,7 +157,7 @@ not_less a b h = grind arith
 -- what the layout relates to the file is what is given
 pub lexes_read : (file : ℕ) (bs : List ℕ) (ts : List Token) → Lexes file bs ts → lex_bytes file bs ≡ tokens ts
 lexes_read file bs ts h =
-    ap (λ (b : Bool). cond b (or_utf8 (utf8_valid_len bs) (lex_text file (valid_text bs))) (lex_text file bs)) (not_less (utf8_valid_len bs) (length bs) h.is_text)
+    ap (λ (b : Bool). cond b (or_utf8 (utf8_valid_len bs) (lex_text file (judged_text bs))) (lex_text file bs)) (not_less (utf8_valid_len bs) (length bs) h.is_text)
     ∙ laid_read (first_row file) (length bs) 0 [] (lines (first_row file) bs) ts h.laid
 
 -- a file has one list of tokens at most
@@ -148,7 +171,7 @@ one_list file bs ts us h k = same ts us (sym (lexes_read file bs ts h) ∙ lexes
 pub lexes_none : (file : ℕ) (bs : List ℕ) (ts : List Token) → Lexes file bs ts → (f : Fault) (o : ℕ) → FaultAt file bs f o → ⊥
 lexes_none file bs ts h f o (inl g) = let a = h.is_text in let b = g.2 in absurd (omega arith)
 lexes_none file bs ts h f o (inr g) =
-    laid_none (first_row file) (length bs) 0 [] (lines (first_row file) bs) ts h.laid f o (subst (λ (z : List ℕ). TextFault file z f o) (take_all (utf8_valid_len bs) bs h.is_text) g.1)
+    laid_none (first_row file) (length bs) 0 [] (lines (first_row file) bs) ts h.laid f o (subst (λ (z : List ℕ). TextFault file z f o) (take_all (utf8_valid_len bs + 1) bs (let a = h.is_text in omega arith)) g.1)
 
 rank_one : (f g : Fault) → rank f ≡ rank g → f ≡ g
 rank_one f g e = ranked f ∙ ap fault_ranked e ∙ sym (ranked g)
@@ -185,14 +208,14 @@ one_fault file bs f g o p h k = both (h.least g p k.stands) (k.least f o h.stand
 pub text_read : (file : ℕ) (bs : List ℕ) → IsUtf8 bs → lex_bytes file bs ≡ lex_text file bs
 text_read file bs u =
     let e = utf8_valid_len-IsUtf8 bs u in
-    ap (λ (b : Bool). cond b (or_utf8 (utf8_valid_len bs) (lex_text file (valid_text bs))) (lex_text file bs)) (not_less (utf8_valid_len bs) (length bs) (omega arith))
+    ap (λ (b : Bool). cond b (or_utf8 (utf8_valid_len bs) (lex_text file (judged_text bs))) (lex_text file bs)) (not_less (utf8_valid_len bs) (length bs) (omega arith))
 
 -- a file that is text up to an offset
-pub cut_read : (file : ℕ) (bs z : List ℕ) (v : ℕ) → v ≡ utf8_valid_len bs → v < length bs → z ≡ take v bs → lex_bytes file bs ≡ or_utf8 v (lex_text file z)
+pub cut_read : (file : ℕ) (bs z : List ℕ) (v : ℕ) → v ≡ utf8_valid_len bs → v < length bs → z ≡ take (v + 1) bs → lex_bytes file bs ≡ or_utf8 v (lex_text file z)
 cut_read file bs z v e h p =
     let n : nat_lt (utf8_valid_len bs) (length bs) ≡ true = less (utf8_valid_len bs) (length bs) (omega arith) in
-    ap (λ (b : Bool). cond b (or_utf8 (utf8_valid_len bs) (lex_text file (valid_text bs))) (lex_text file bs)) n
-    ∙ ap (λ (m : ℕ). or_utf8 m (lex_text file (take m bs))) (sym e)
+    ap (λ (b : Bool). cond b (or_utf8 (utf8_valid_len bs) (lex_text file (judged_text bs))) (lex_text file bs)) n
+    ∙ ap (λ (m : ℕ). or_utf8 m (lex_text file (take (m + 1) bs))) (sym e)
     ∙ ap (λ (u : List ℕ). or_utf8 v (lex_text file u)) (sym p)
   where
     less : (a b : ℕ) → a < b → nat_lt a b ≡ true

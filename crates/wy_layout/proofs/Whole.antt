@@ -9,7 +9,7 @@ use Rattle.wy_layout.specs.Words.{Word, name, number, text, fixed, same, lookup,
 use Rattle.wy_layout.specs.Counts.{most_file_bytes, most_tokens, most_indents, most_marks, is_counted, marks_after, braces_after, indents_after, IndentsWithin, is_line_end, MarksWithin, is_end, EndsOnce, IsWhole, counted, passed}
 use Rattle.wy_layout.specs.Widths.{Step, deeper, back, wrong, not_open, step_of, opens, above, rest, is_top}
 use Rattle.wy_layout.specs.Lines.{Line, lines, later_lines, line_at, next_row, first_row, content_of, ends_line, place_at, width, after_spaces, after_blanks, is_done}
-use Rattle.wy_layout.specs.Layout.{mark, marks, begin, finish, off, step, opening, IsNext, IsFull, Words, count_in, HasTokensOr, LineTokens, widths, Lays, FileFault, FaultAt, IsLeast, IsFirst, IsRefused, Lexes, valid_text}
+use Rattle.wy_layout.specs.Layout.{mark, marks, begin, finish, off, step, opening, IsNext, IsFull, Words, count_in, HasTokensOr, LineTokens, widths, Lays, FileFault, FaultAt, IsLeast, IsFirst, IsRefused, Lexes, judged_text}
 use Rattle.wy_layout.specs.Lexed.{Lexed, tokens, refused, lex_bytes, stack_after, pushed}
 use Rattle.wy_layout.specs.Outs.{refusal_of}
 use Rattle.wy_layout.specs.declared.count.Count.{Count}
@@ -319,8 +319,8 @@ fault_end e n ws [] f o k (r, g, p) = omega arith
 fault_end e n ws (l ∷ ls) f o k (inl h) = let a = line_place n ws l f o h in let b = a.1 in let c = k.1 in omega arith
 fault_end e n ws (l ∷ ls) f o k (inr (us, t, h)) = fault_end e (n + length us) (widths ws l) ls f o k.2 h
 
-valid_short : (bs : List ℕ) → length (valid_text bs) ≤ length bs
-valid_short bs = go bs (utf8_valid_len bs)
+judged_short : (bs : List ℕ) → length (judged_text bs) ≤ length bs
+judged_short bs = go bs (utf8_valid_len bs + 1)
   where
     go : (bs : List ℕ) (v : ℕ) → length (take v bs) ≤ length bs
     go bs zero = omega arith
@@ -330,8 +330,8 @@ valid_short bs = go bs (utf8_valid_len bs)
 fault_within : (file : ℕ) (bs : List ℕ) (f : Fault) (o : ℕ) → FaultAt file bs f o → o ≤ length bs
 fault_within file bs f o (inl g) = let a = g.1 in let b = g.2 in omega arith
 fault_within file bs f o (inr g) =
-    let a = fault_end (length (valid_text bs)) 0 [] (lines (first_row file) (valid_text bs)) f o (lines_end (first_row file) (length (valid_text bs)) (valid_text bs) (omega arith)) g.1 in
-    let b = valid_short bs in omega arith
+    let a = fault_end (length (judged_text bs)) 0 [] (lines (first_row file) (judged_text bs)) f o (lines_end (first_row file) (length (judged_text bs)) (judged_text bs) (omega arith)) g.1 in
+    let b = judged_short bs in omega arith
 
 -- ---- what the code gives
 

@@ -203,19 +203,19 @@ rank fault.NumberTooLarge = 10
 abbrev pub Before : ℕ → Fault → ℕ → Fault → Type 0
 Before o f o' f' = (o < o') ⊎ ((o ≡ o') × (rank f ≤ rank f'))
 
--- what stands before the first byte that begins no character
-abbrev pub valid_text : List ℕ → List ℕ
-valid_text bs = take (utf8_valid_len bs) bs
+-- what is judged: all up to the first byte that begins no character, and that byte, which begins no word
+abbrev pub judged_text : List ℕ → List ℕ
+judged_text bs = take (utf8_valid_len bs + 1) bs
 
 -- what is wrong in a text
 abbrev pub TextFault : ℕ → List ℕ → Fault → ℕ → Type 0
 TextFault file text f o = FileFault (length text) 0 [] (lines (first_row file) text) f o
 
--- the first byte that begins no character, or what is wrong before it
+-- the first byte that begins no character, or what is wrong before it or at its place
 abbrev pub FaultAt : ℕ → List ℕ → Fault → ℕ → Type 0
 FaultAt file bs f o =
     ((f ≡ fault.NotUtf8) × (o ≡ utf8_valid_len bs) × (utf8_valid_len bs < length bs)) ⊎
-    ((utf8_valid_len bs < length bs → o < utf8_valid_len bs) × TextFault file (valid_text bs) f o)
+    ((utf8_valid_len bs < length bs → o ≤ utf8_valid_len bs) × TextFault file (judged_text bs) f o)
 
 -- the fault that comes first in the file
 pub record IsLeast (file : ℕ) (bs : List ℕ) (f : Fault) (o : ℕ) : Type 0 where

@@ -1,5 +1,5 @@
 -- Reading lines: a plain program.
-use Rattle.std.specs.Prelude.{ℕ, zero, suc, ◌+◌, ◌==◌, nat_lt, ◌&&◌, cond, List, [], ◌∷◌, ◌++◌, length}
+use Rattle.std.specs.Prelude.{ℕ, zero, suc, ◌+◌, ◌==◌, nat_lt, Bool, ◌&&◌, ◌||◌, cond, List, [], ◌∷◌, ◌++◌, length}
 use Rattle.std.specs.Str.Lossy.{utf8_valid_len}
 use Rattle.wy_text.specs.declared.token.Token.{Token}
 use Rattle.wy_text.specs.declared.token.TokenKind.TheVariants as kind
@@ -9,7 +9,7 @@ use Rattle.wy_layout.specs.declared.count.Count.{Count}
 use Rattle.wy_layout.specs.Read.{Read, yes, bad, next_at}
 use Rattle.wy_layout.specs.Widths.{Step, step_of, is_top, rest, above}
 use Rattle.wy_layout.specs.Lines.{Line, width, after_spaces, after_blanks, is_done, has_tab, lines, first_row}
-use Rattle.wy_layout.specs.Layout.{token, mark, marks, mark_count, off, begin, finish, opening, closing, rank, valid_text}
+use Rattle.wy_layout.specs.Layout.{token, mark, marks, mark_count, off, begin, finish, opening, closing, rank, judged_text}
 use Rattle.wy_layout.specs.declared.refusal.Fault.{Fault}
 use Rattle.wy_layout.specs.declared.refusal.Fault.TheVariants as fault
 use Rattle.wy_layout.specs.declared.row.Row.{Row}
@@ -115,11 +115,15 @@ lex_lines row e n st (l ∷ ls) = by_out (line_out n st l) (λ us s. lex_lines l
 abbrev pub lex_text : ℕ → List ℕ → Lexed
 lex_text file z = lex_lines (first_row file) (length z) 0 (0 ∷ []) (lines (first_row file) z)
 
+-- a fault comes before the byte at an offset that begins no character
+abbrev pub before_utf8 : Fault → ℕ → ℕ → Bool
+before_utf8 f o v = nat_lt o v || ((o == v) && nat_lt (rank f) (rank fault.NotUtf8))
+
 -- what comes first: what is wrong, or the first byte that begins no character
 abbrev pub or_utf8 : ℕ → Lexed → Lexed
 or_utf8 v (tokens ts) = refused fault.NotUtf8 v
-or_utf8 v (refused f o) = cond (nat_lt o v) (refused f o) (refused fault.NotUtf8 v)
+or_utf8 v (refused f o) = cond (before_utf8 f o v) (refused f o) (refused fault.NotUtf8 v)
 
 -- what a file gives
 abbrev pub lex_bytes : ℕ → List ℕ → Lexed
-lex_bytes file bs = cond (nat_lt (utf8_valid_len bs) (length bs)) (or_utf8 (utf8_valid_len bs) (lex_text file (valid_text bs))) (lex_text file bs)
+lex_bytes file bs = cond (nat_lt (utf8_valid_len bs) (length bs)) (or_utf8 (utf8_valid_len bs) (lex_text file (judged_text bs))) (lex_text file bs)

@@ -1,9 +1,9 @@
 -- What the code gives for a line and a file.
-use Rattle.std.specs.Prelude.{◌≡◌, ℕ, nat_lt, cond, List, ◌++◌, length, Result, Ok, Err, Vec}
+use Rattle.std.specs.Prelude.{◌≡◌, ℕ, cond, List, ◌++◌, length, Result, Ok, Err, Vec}
 use Rattle.wy_text.specs.declared.token.Token.{Token}
 use Rattle.wy_layout.specs.Widths.{Step, deeper, back, wrong}
 use Rattle.wy_layout.specs.Lines.{Line}
-use Rattle.wy_layout.specs.Lexed.{LineOut, laid, broken, Lexed, tokens, refused, join, end_of}
+use Rattle.wy_layout.specs.Lexed.{LineOut, laid, broken, Lexed, tokens, refused, join, end_of, before_utf8}
 use Rattle.wy_layout.specs.declared.line.Halt.{Halt}
 use Rattle.wy_layout.specs.declared.line.Halt.TheVariants as halt
 use Rattle.wy_layout.specs.declared.refusal.Fault.{Fault}
@@ -71,9 +71,9 @@ GivesText (Ok v) x = x ≡ tokens v.items
 GivesText (Err (halt.At f o)) x = x ≡ refused f o
 GivesText (Err halt.Memory) x = Unit {0}
 
--- what stands before the first byte that begins no character, or that byte
+-- what comes before the first byte that begins no character, or that byte
 abbrev pub earlier : Halt → ℕ → Halt
-earlier (halt.At f o) v = cond (nat_lt o v) (halt.At f o) (halt.At fault.NotUtf8 v)
+earlier (halt.At f o) v = cond (before_utf8 f o v) (halt.At f o) (halt.At fault.NotUtf8 v)
 earlier halt.Memory v = halt.Memory
 
 -- the refusal of a fault at a place

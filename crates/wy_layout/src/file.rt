@@ -3,12 +3,14 @@ ghost use Rattle.std.specs.Str.Lossy.{utf8_valid_len};
 ghost use Rattle.wy_layout.specs.Counts.{IsWhole};
 ghost use Rattle.wy_layout.specs.Layout.{Lexes, IsRefused};
 ghost use Rattle.wy_layout.specs.Lexed as lexed;
+ghost use Rattle.wy_layout.specs.Lexed.{before_utf8};
 ghost use Rattle.wy_layout.specs.Outs.{GivesText, earlier, refusal_of};
 
 use crate::line::Halt;
 use crate::lines::{close, lay_lines};
 use crate::refusal::{Fault, LexRefusal};
 use crate::row::{first_row, place_at};
+use crate::widths::rank;
 use std::alloc::Global;
 use wy_text::fault::Place;
 use wy_text::limit::LimitName;
@@ -37,12 +39,20 @@ fn lex_text(alloc: Global, file: u16, text: &[u8]) -> Result<Vec<Token>, Halt>
     }
 }
 
+/// Whether a fault at an offset comes before the byte that begins no character: it stands before that byte, or at its
+/// place and first in the order.
+fn before_utf8(fault: Fault, at: usize, valid: usize) -> bool
+    ensures { result ≡ before_utf8 fault at valid }
+{
+    at < valid || (at == valid && rank(fault) < rank(Fault::NotUtf8))
+}
+
 /// What comes first: a fault, or the first byte that begins no character.
 fn earlier(halt: Halt, valid: usize) -> Halt
     ensures { result ≡ earlier halt valid }
 {
     match halt {
-        Halt::At(fault, at) if at < valid => Halt::At(fault, at),
+        Halt::At(fault, at) if before_utf8(fault, at, valid) => Halt::At(fault, at),
         Halt::At(_, _) => Halt::At(Fault::NotUtf8, valid),
         Halt::Memory => Halt::Memory,
     }
@@ -54,7 +64,7 @@ fn lex_before(alloc: Global, file: u16, bytes: &[u8], valid: usize) -> Result<Ve
     requires cut { (valid ≡ utf8_valid_len bytes.now) × (valid < length bytes.now) }
     ensures { GivesText result (lexed.lex_bytes file bytes.now) }
 {
-    match lex_text(alloc, file, &bytes[..valid]) {
+    match lex_text(alloc, file, &bytes[..valid + 1]) {
         Ok(_) => return Err(Halt::At(Fault::NotUtf8, valid)),
         Err(halt) => return Err(earlier(halt, valid)),
     }

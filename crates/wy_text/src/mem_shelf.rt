@@ -1,5 +1,6 @@
 ghost use Rattle.std.specs.Prelude.{◌≡◌, ◌≤◌, ◌⊎◌, take, [], IfOk, OnErr, Err, Some, None, Contains};
 ghost use Rattle.std.specs.Option.{option_copied};
+ghost use Rattle.wy_text.specs.MemShelf.{faults_after};
 ghost use Rattle.wy_text.specs.Outside.{gained, next_count, Rose};
 ghost use Rattle.wy_text.specs.Shelf.{GivesFile, read_well, read_badly, file_named};
 
@@ -74,11 +75,12 @@ impl Shelf for MemShelf {
         ensures counted { self.old.faults ≤ self.new.faults }
         ensures failed { result ≡ Err ReadError.Failed → Rose self.old.faults self.new.faults }
 
-        // It fails exactly at the calls that it was told and where the name is not there.
+        // It fails exactly at the calls that it was told and where the name is not there, and counts a fault exactly where it fails.
         ensures call { self.new.calls ≡ next_count self.old.calls }
         ensures listed { result ≡ Err ReadError.Failed → Contains self.old.fails (next_count self.old.calls) ⊎ (file_named name.now self.old.files ≡ None) }
         ensures served { IfOk result (λ _. ¬ Contains self.old.fails (next_count self.old.calls)) }
         ensures same_list { self.new.fails ≡ self.old.fails }
+        ensures faults { self.new.faults ≡ faults_after result self.old.faults }
     {
         self.calls = self.calls.saturating_add(1);
         let asked = from_bytes(self.alloc, name.as_bytes())?;

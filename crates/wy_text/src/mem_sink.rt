@@ -1,4 +1,5 @@
 ghost use Rattle.std.specs.Prelude.{◌≡◌, ◌≤◌, ◌<◌, ◌↔◌, length, take, [], IfOk, OnErr, Err, Some, Contains};
+ghost use Rattle.wy_text.specs.MemSink.{faults_after};
 ghost use Rattle.wy_text.specs.Outside.{gained, next_count, Rose};
 
 use crate::list::CallList;
@@ -56,11 +57,12 @@ impl Sink for MemSink {
         ensures failed { result ≡ Err WriteError.Failed → Rose self.old.faults self.new.faults }
         ensures stuck { IfOk result (λ n. n ≡ 0 → 0 < length bytes.now → Rose self.old.faults self.new.faults) }
 
-        // It takes each piece whole, and fails exactly at the calls that it was told.
+        // It takes each piece whole, fails exactly at the calls that it was told, and counts a fault exactly where it fails.
         ensures whole { IfOk result (λ n. n ≡ length bytes.now) }
         ensures call { self.new.calls ≡ next_count self.old.calls }
         ensures listed { result ≡ Err WriteError.Failed ↔ Contains self.old.fails (next_count self.old.calls) }
         ensures same_list { self.new.fails ≡ self.old.fails }
+        ensures faults { self.new.faults ≡ faults_after result self.old.faults }
     {
         self.calls = self.calls.saturating_add(1);
         if self.fails.contains(self.calls) {
