@@ -1,6 +1,6 @@
 -- The operations on sets are those on finite sets: what is in their results, and that sets stay sets.
-use Rattle.std.proofs.Common.{◌≡◌, ℕ, zero, suc, ◌+◌, ◌<◌, ◌≤◌, List, [], ◌∷◌, ◌⊎◌, inl, inr, length, get_or, drop, true, false, refl, sym, ap, ◌∙◌, subst, arith}
-use Rattle.std.specs.Prelude.{if◌then◌else◌, insert}
+use Rattle.std.proofs.Common.{◌≡◌, ℕ, ◌+◌, ◌<◌, ◌≤◌, List, [], ◌∷◌, ◌⊎◌, inl, inr, true, false, refl, sym, ap, ◌∙◌, subst, arith}
+use Rattle.std.specs.Prelude.{if◌then◌else◌}
 use Rattle.std.proofs.lemmas.Bool.{cases_lt}
 use Rattle.std.proofs.lemmas.Bool.Decides.{nat_tests}
 use Rattle.wy_effects.specs.Members.{In, Within}
@@ -14,22 +14,6 @@ insert_atom-here a x xs h = grind (arith, nat_tests)
 
 pub insert_atom-before : (a x : ℕ) (xs : List ℕ) → a < x → insert_atom a (x ∷ xs) ≡ a ∷ x ∷ xs
 insert_atom-before a x xs h = grind (arith, nat_tests)
-
--- where each atom before place k is less, and the one there is greater
-pub insert_atom_absent : (a k : ℕ) (xs : List ℕ) → k ≤ length xs → ((j : ℕ) → j < k → get_or xs j 0 < a) → (k < length xs → a < get_or xs k 0) → insert_atom a xs ≡ insert xs k a
-insert_atom_absent a zero [] le below above = refl
-insert_atom_absent a (suc k) [] le below above = absurd (omega arith)
-insert_atom_absent a zero (x ∷ xs) le below above = insert_atom-before a x xs (above (omega arith))
-insert_atom_absent a (suc k) (x ∷ xs) le below above =
-    insert_atom-skip a x xs (below 0 (omega arith)) ∙
-    ap (λ ys. x ∷ ys) (insert_atom_absent a k xs (omega arith) (λ j h. below (suc j) (omega arith)) (λ h. above (omega arith)))
-
-pub insert_atom_present : (a k : ℕ) (xs : List ℕ) → k < length xs → ((j : ℕ) → j < k → get_or xs j 0 < a) → get_or xs k 0 ≡ a → insert_atom a xs ≡ xs
-insert_atom_present a k [] lt below here = absurd (omega arith)
-insert_atom_present a zero (x ∷ xs) lt below here = insert_atom-here a x xs here
-insert_atom_present a (suc k) (x ∷ xs) lt below here =
-    insert_atom-skip a x xs (below 0 (omega arith)) ∙
-    ap (λ ys. x ∷ ys) (insert_atom_present a k xs (omega arith) (λ j h. below (suc j) (omega arith)) here)
 
 pub IsSetFrom-weaken : (j k n : ℕ) (xs : List ℕ) → j ≤ k → IsSetFrom k n xs → IsSetFrom j n xs
 IsSetFrom-weaken j k n [] le s = tt
@@ -58,11 +42,6 @@ IsSetFrom-without k n (x ∷ xs) ys s =
       | true ↦ IsSetFrom-without k n xs ys (IsSetFrom-weaken k (x + 1) n xs (omega (arith, s.0)) s.2)
       | false ↦ (s.0, s.1, IsSetFrom-without (x + 1) n xs ys s.2)
     ]
-
-pub IsSetFrom-drop : (i k n : ℕ) (xs : List ℕ) → IsSetFrom k n xs → IsSetFrom k n (drop i xs)
-IsSetFrom-drop zero k n xs s = s
-IsSetFrom-drop (suc i) k n [] s = tt
-IsSetFrom-drop (suc i) k n (x ∷ xs) s = IsSetFrom-weaken k (x + 1) n (drop i xs) (omega (arith, s.0)) (IsSetFrom-drop i (x + 1) n xs s.2)
 
 -- what is in a set lies from its start on, and below its end
 pub at_least : (k n : ℕ) (xs : List ℕ) (x : ℕ) → IsSetFrom k n xs → In x xs → k ≤ x

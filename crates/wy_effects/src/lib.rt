@@ -2,5 +2,4 @@
 #![tactic(auto)]
 
 pub mod atom;
-pub mod merging;
 pub mod set;

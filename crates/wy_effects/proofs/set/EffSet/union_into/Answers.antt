@@ -1,5 +1,5 @@
-use Rattle.wy_effects.proofs.SetLaws.{IsSetFrom-union}
+use Rattle.wy_effects.proofs.Numbers.{union_is}
 use Rattle.wy_effects.proofs.set.EffSet.union_into.Goals as goal
 
-pub invariant_of-target : goal.invariant_of-target
-invariant_of-target c = rw (c.in_ok-atoms.ensures, c.as_slice.ensures.value, c.as_slice-2.ensures.value) (IsSetFrom-union 0 512 _ _ c.self.invariant c.target.invariant)
+pub returns-clause-ok : goal.returns-clause-ok
+returns-clause-ok c = rw (c.unite.ensures, c.self.view_is, c.target.view_is) (union_is c.args.self.now c.args.target.now)

@@ -1,9 +1,0 @@
-use Rattle.std.proofs.Common.{◌≡◌, ◌+◌, ◌-◌, ◌≤◌, ◌++◌, length, drop}
-use Rattle.wy_effects.specs.EffSet.{union}
-use Rattle.wy_effects.proofs.merging.merge.Given as goal
-
-abbrev pub invariant-loop-i : goal.invariant-loop-i
-invariant-loop-i l = (l.i ≤ length l.left) × (l.j ≤ length l.right) × (l.out.items ++ union (drop l.i l.left) (drop l.j l.right) ≡ union l.left l.right)
-
-abbrev pub decreases-loop-i : goal.decreases-loop-i
-decreases-loop-i l = (length l.left - l.i) + (length l.right - l.j)
