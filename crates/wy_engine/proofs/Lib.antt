@@ -7,7 +7,6 @@ mod Examples
 mod ExamplesNames
 mod FilesRead
 mod Givens
-mod LiteralsMade
 mod NamesJudged
 mod OneAnswer
 mod OneBad

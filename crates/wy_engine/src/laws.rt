@@ -10,11 +10,7 @@ use wy_lower::laws::{accepted_code_follows, accepted_is_never_stuck};
 use wy_meaning::laws::{answers_are_taken_in_order, nodes_cost_four};
 use wy_sound::laws::events_are_bounded;
 use wy_sound::telling::allowed_is_reported;
-use wy_well_formed::{
-    resolved_grants_stand_first, resolved_is_core, resolved_makes_once,
-    resolved_modules_capture_nothing, resolved_names_are_ordinary, resolved_names_are_words,
-    resolved_names_fit,
-};
+use wy_well_formed::resolved_keeps_all;
 
 /// The canonical form of a canonical form is that form: where what `format` wrote has a tree again, it prints as
 /// the same text.
@@ -28,13 +24,7 @@ pub fn format_again()
 pub fn accepted_run_as_meant()
     ensures { AcceptedRunAsMeant }
 {
-    resolved_is_core();
-    resolved_names_fit();
-    resolved_names_are_words();
-    resolved_names_are_ordinary();
-    resolved_grants_stand_first();
-    resolved_modules_capture_nothing();
-    resolved_makes_once();
+    resolved_keeps_all();
     trees_have_words();
     accepted_code_follows();
     accepted_is_never_stuck();

@@ -1,6 +1,7 @@
 -- What resolving makes and is accepted is lowerable, and its code does what it means.
 use Rattle.std.proofs.Common.{◌≡◌, ℕ, zero, suc, List, [], ◌∷◌, map, refl, sym, ap, ◌∙◌, subst, Some, false}
 use Rattle.std.specs.Prelude.{slice_get}
+use Rattle.wy_effects.specs.Members.{Apart}
 use Rattle.wy_effects.proofs.Lists.{In-slice_get}
 use Rattle.wy_types.specs.declared.linked.Instance.{Instance}
 use Rattle.wy_types.specs.declared.resolved.ScopeKind.{ScopeKind}
@@ -17,6 +18,7 @@ use Rattle.wy_sound.proofs.Running.{never_wrong}
 use Rattle.wy_lower.specs.Laws.{AcceptedIsLowerable, AcceptedCodeFollows, AcceptedIsNeverStuck}
 use Rattle.wy_lower.specs.Lowerable.{IsModuleStarted}
 use Rattle.wy_lower.specs.Lowering.{is_program}
+use Rattle.wy_lower.proofs.LiteralsMade.{scope_made}
 use Rattle.wy_lower.proofs.Whole.{compiles, never_stuck}
 
 unmapped : (xs : List Instance) (k : ℕ) (s : Started) → slice_get (map started_of xs) k ≡ Some s →
@@ -42,22 +44,22 @@ grants_first : (p : Program) → IsResolved p → GrantsStandFirst (scope_names 
 grants_first p r =
     let same : scope_names (slice_get p.scopes (last_scope p.scopes)) ≡ names_of (slice_get p.scopes (program_number p)) =
     ap (λ k. scope_names (slice_get p.scopes k)) (last_number p.scopes) ∙ names_same (slice_get p.scopes (program_number p)) in
-    subst GrantsStandFirst (sym same) r.grants
+    subst GrantsStandFirst (sym same) r.keeps.grants
 
 pub accepted_is_lowerable : AcceptedIsLowerable
-accepted_is_lowerable p r once a = record {
-  core = r.core;
-  made = λ k s e. once s (In-slice_get p.scopes k s e);
-  bare = λ k s e. r.captures s (In-slice_get p.scopes k s e);
+accepted_is_lowerable p r a = record {
+  core = r.keeps.core;
+  made = λ k s e. subst (λ (ls : List ℕ). Apart ls) (sym (scope_made s)) (r.keeps.once s (In-slice_get p.scopes k s e));
+  bare = λ k s e. r.keeps.captures s (In-slice_get p.scopes k s e);
   instances = module_started p r a;
   main = refl;
   grants = grants_first p r;
 }
 
 pub accepted_code_follows : AcceptedCodeFollows
-accepted_code_follows p r once a n k tapes =
-    compiles p (program_starts p) (accepted_is_lowerable p r once a) n k tapes (never_wrong p r a n tapes)
+accepted_code_follows p r a n k tapes =
+    compiles p (program_starts p) (accepted_is_lowerable p r a) n k tapes (never_wrong p r a n tapes)
 
 pub accepted_is_never_stuck : AcceptedIsNeverStuck
-accepted_is_never_stuck p r once a =
-    never_stuck p (program_starts p) (accepted_is_lowerable p r once a) (never_wrong p r a)
+accepted_is_never_stuck p r a =
+    never_stuck p (program_starts p) (accepted_is_lowerable p r a) (never_wrong p r a)

@@ -25,6 +25,7 @@ pub mod First
 pub mod Forms
 pub mod Grants
 pub mod Leads
+pub mod LiteralsMade
 pub mod Looking
 pub mod Making
 pub mod NamesFound

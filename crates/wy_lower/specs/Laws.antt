@@ -1,6 +1,6 @@
 -- Laws of lowering. (docs/LANGUAGE.md, "Code of programs")
 use Rattle.std.specs.Prelude.{◌≡◌, ℕ, ◌+◌, List, ◌++◌, Some, length, slice_get}
-use Rattle.wy_effects.specs.Members.{In, Apart}
+use Rattle.wy_effects.specs.Members.{In}
 use Rattle.wy_types.specs.Code.{Block}
 use Rattle.wy_types.specs.Program.{Program, Scope, Body}
 use Rattle.wy_code.specs.declared.code.Scope as code
@@ -14,7 +14,7 @@ use Rattle.wy_lower.specs.Correct.{Follows}
 use Rattle.wy_lower.specs.Counts.{body_count}
 use Rattle.wy_lower.specs.Inside.{Inside}
 use Rattle.wy_lower.specs.Listing.{block_listing}
-use Rattle.wy_lower.specs.Lowerable.{literals_made, Lowerable}
+use Rattle.wy_lower.specs.Lowerable.{Lowerable}
 use Rattle.wy_lower.specs.Lowering.{declared_names, written_names, start_code, body_code, literals_code, lowered}
 use Rattle.wy_lower.specs.Parts.{scopes_parts, texts_in, number_in}
 
@@ -50,20 +50,16 @@ HasFixedLength i b = (at other : ℕ) → length (block_listing i at b) ≡ leng
 ------------------------------------------------------------
 -- Accepted programs
 
--- each object literal is made by one `new`
-abbrev pub MakesOnce : Program → Type 0
-MakesOnce p = (s : Scope) → In s p.scopes → Apart (literals_made s)
-
 -- what resolving makes and is accepted is lowered to code that does what it means, with the instances of its start list
 abbrev pub AcceptedIsLowerable : Type 0
-AcceptedIsLowerable = (p : Program) → IsResolved p → MakesOnce p → Accepted p → Lowerable p (program_starts p)
+AcceptedIsLowerable = (p : Program) → IsResolved p → Accepted p → Lowerable p (program_starts p)
 
 -- whatever depth, bound and answers are
 abbrev pub AcceptedCodeFollows : Type 0
 AcceptedCodeFollows =
-    (p : Program) → IsResolved p → MakesOnce p → Accepted p →
+    (p : Program) → IsResolved p → Accepted p →
     (n k : ℕ) (tapes : Tapes) → Follows (course p n tapes) k (machine (lowered p (program_starts p)) n k tapes)
 
 -- so its code is never stuck
 abbrev pub AcceptedIsNeverStuck : Type 0
-AcceptedIsNeverStuck = (p : Program) → IsResolved p → MakesOnce p → Accepted p → NeverStuck (lowered p (program_starts p))
+AcceptedIsNeverStuck = (p : Program) → IsResolved p → Accepted p → NeverStuck (lowered p (program_starts p))

@@ -5,6 +5,7 @@ pub mod Failing
 pub mod GroundTypes
 pub mod GroundTyping
 pub mod Judging
+pub mod News
 pub mod Nodes
 pub mod Operators
 pub mod OwnNames
@@ -12,5 +13,6 @@ pub mod Polarity
 pub mod Readings
 pub mod Refusals
 pub mod Rereading
+pub mod Resolved
 pub mod Tables
 pub mod Typing

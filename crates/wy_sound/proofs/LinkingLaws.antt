@@ -189,7 +189,7 @@ pub record IsModuleInstance (p : Program) (i : Started) : Type 0 where
 
 pub accepted_modules : (p : Program) → IsResolved p → Accepted p → (x : ℕ) (i : Started) → slice_get (start_list p) x ≡ Some i → IsModuleInstance p i
 accepted_modules p r a x i e =
-    let fit = (program_stands p r.core r.lines r.names a).started x i e in
+    let fit = (program_stands p r.keeps.core r.keeps.lines r.names a).started x i e in
     record {
       scope = fit.scope;
       there = fit.there;
@@ -203,7 +203,7 @@ accepted_instances_fit p c t words a = record { each = instance_fits p c t words
 -- the ground sets of an instance's atoms
 pub ground_sets_are : GroundSetsAre
 ground_sets_are p r a x i s k n e scope at =
-    ground_at p i.ground s.names s.names i.arguments k n (grounds_of p r.core r.lines r.names a x i s e scope) at
+    ground_at p i.ground s.names s.names i.arguments k n (grounds_of p r.keeps.core r.keeps.lines r.names a x i s e scope) at
 
 pub accepted_arguments_fit : AcceptedArgumentsFit
 accepted_arguments_fit p c t words a = record {

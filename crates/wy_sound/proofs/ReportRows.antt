@@ -15,7 +15,7 @@ use Rattle.wy_types.specs.Signature.{Signature}
 use Rattle.wy_types.specs.Types.{signature, methods_of_owner}
 use Rattle.wy_types.specs.Program.{Program, Scope, Body}
 use Rattle.wy_types.specs.Ground.{names_of, program_number, program_sets, start_list}
-use Rattle.wy_rules.specs.OwnNames.{IsMethodName, HasOrdinaryNames}
+use Rattle.wy_rules.specs.OwnNames.{IsMethodName}
 use Rattle.wy_authority.specs.declared.rows.BodyRow.{BodyRow}
 use Rattle.wy_authority.specs.declared.rows.InstanceRow.{InstanceRow}
 use Rattle.wy_authority.specs.Authority.{body_name, body_set, body_row, body_rows, instance_row, main_row, authority_of}
@@ -45,16 +45,16 @@ not_main word (c ∷ cs) h f e =
     let g : false ≡ true = has-In 46 (codes "main") i in absurd (cc)
 
 pub instances_are_told : InstancesAreTold
-instances_are_told p r o =
-    let a = instances_told p r.core r.lines r.names in
-    let main = last_scope p.scopes r.core.program in
+instances_are_told p r =
+    let a = instances_told p r.keeps.core r.keeps.lines r.names in
+    let main = last_scope p.scopes r.keeps.core.program in
     let name_of_instance : Started → List ℕ = λ i. i.name in
     let free : In (codes "main") (instance_names (start_list p)) → ⊥ = λ j. (let x = In-unmap name_of_instance (codes "main") (start_list p) j in
     elim (a.named x.0 x.1) [
       | inl s ↦ (let g : false ≡ true = has-In 32 (codes "main") (subst (λ l. In 32 l) x.2 s) in absurd (cc))
       | inr u ↦
           (let own : In u.0 main.0.names = subst (λ (q : Option Scope). In u.0 (names_of q)) main.1 u.1 in
-          not_main u.0.name u.2.rest u.2.ends (o.own_names main.0 (In-slice_get p.scopes (program_number p) main.0 main.1) u.0 own)
+          not_main u.0.name u.2.rest u.2.ends (r.ordinary.own_names main.0 (In-slice_get p.scopes (program_number p) main.0 main.1) u.0 own)
           (sym x.2 ∙ u.2.is))
     ]) in
     subst Apart (sym (rows_named p (start_list p))) (Apart-push (codes "main") (instance_names (start_list p)) a.apart free)
@@ -162,17 +162,17 @@ not_start : (first : List ℕ) → IsStart first → (o : ℕ) (name : List ℕ)
 not_start first s zero name h e = s.1 name h e
 not_start first s (suc o) name h e = s.0 (subst (λ l. In 46 l) e (has_dot o name))
 
-module _ (p : Program) (r : IsResolved p) (o : HasOrdinaryNames p) where
+module _ (p : Program) (r : IsResolved p) where
   scope_told : (bound : Option (List ℕ)) (sets : List (List ℕ)) (first : List ℕ) → IsStart first → (k : ℕ) (s : Option Scope) → slice_get p.scopes k ≡ s →
       Apart (body_names (body_rows bound sets first s))
   scope_told bound sets first start k None e = tt
   scope_told bound sets first start k (Some s) e =
       let among = In-slice_get p.scopes k s e in
       let ordinary : (b : Body) → In b s.bodies → IsOrdinary b = λ b i. (let at = In-at b s.bodies i in
-      let owner = ((r.core.scopes s among).bodies at.0 b at.2).0 in
-      record { owner = (let few = o.literals s among in omega (arith, owner, few)); name = o.methods s among b i }) in
+      let owner = ((r.keeps.core.scopes s among).bodies at.0 b at.2).0 in
+      record { owner = (let few = r.ordinary.literals s among in omega (arith, owner, few)); name = r.ordinary.methods s among b i }) in
       let named = bodies_named (λ b. body_set bound sets b.signature.effect) s.bodies in
-      let apart = bodies_apart s.bodies ordinary (r.core.scopes s among).method_names in
+      let apart = bodies_apart s.bodies ordinary (r.keeps.core.scopes s among).method_names in
       let not : In first (map body_name s.bodies) → ⊥ = λ i. (let b = In-unmap body_name first s.bodies i in
       not_start first start b.0.owner b.0.signature.name (ordinary b.0 b.1).name b.2) in
       subst (λ l. Apart (first ∷ l)) (sym named) (not, apart)
@@ -191,7 +191,7 @@ module _ (p : Program) (r : IsResolved p) (o : HasOrdinaryNames p) where
       ]
 
 pub bodies_are_told : BodiesAreTold
-bodies_are_told p r o = row_told p r o
+bodies_are_told p r = row_told p r
 
 ------------------------------------------------------------
 -- What a call may do
@@ -242,6 +242,6 @@ module _ (atoms : List AtomName) where
       one_row rs h.1 r i name
 
 pub allowed_is_reported : AllowedIsReported
-allowed_is_reported p r o row i b j =
+allowed_is_reported p r row i b j =
     let atoms = (authority_of p).atoms in
-    one_row atoms (authority_of p).rows (instances_are_told p r o) row i b.name ∙ one_body atoms row.bodies (bodies_are_told p r o row i) b j
+    one_row atoms (authority_of p).rows (instances_are_told p r) row i b.name ∙ one_body atoms row.bodies (bodies_are_told p r row i) b j

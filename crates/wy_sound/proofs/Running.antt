@@ -150,12 +150,12 @@ top_bounded p ok (Gives v) w es g h = h.0 g
 -- an accepted program that resolving makes is linked
 linked : (p : Program) → IsResolved p → Accepted p → IsLinked p
 linked p r a = record {
-  core = r.core;
+  core = r.keeps.core;
   accepted = a;
-  instances = accepted_instances_fit p r.core r.lines r.names a;
-  arguments = accepted_arguments_fit p r.core r.lines r.names a;
-  main = main_fits p r.core r.lines r.names;
-  captures = r.captures;
+  instances = accepted_instances_fit p r.keeps.core r.keeps.lines r.names a;
+  arguments = accepted_arguments_fit p r.keeps.core r.keeps.lines r.names a;
+  main = main_fits p r.keeps.core r.keeps.lines r.names;
+  captures = r.keeps.captures;
 }
 
 pub linked_never_wrong : (p : Program) → IsLinked p → (n : ℕ) (tapes : Tapes) → (course p n tapes).end ≢ Wrong
@@ -170,7 +170,7 @@ pub never_wrong : NeverWrong
 never_wrong p r a = linked_never_wrong p (linked p r a)
 
 pub events_are_bounded : EventsAreBounded
-events_are_bounded p r a = linked_bounded p (linked p r a) (grants_fit p r.core r.lines r.grants)
+events_are_bounded p r a = linked_bounded p (linked p r a) (grants_fit p r.keeps.core r.keeps.lines r.keeps.grants)
 
 -- what is sound keeps the heap typed
 sound_keeps : (p : Program) (now : ℕ) (f : List ℕ) (w0 : World) (t : GroundType) (o : Outcome Value) (w : World) (es : List Event) →

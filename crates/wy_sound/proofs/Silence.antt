@@ -191,13 +191,13 @@ main_spaceless i = let f : false ≡ true = has-In 32 (codes "main") i in cc
 module _ (p : Program) (resolved : IsResolved p) (accepted : Accepted p) where
   quiet : (i : Started) → In i (start_list p) → IsQuiet p resolved.names accepted i
   unfolding AllQuiet
-  quiet i j = let m = last_scope p.scopes resolved.core.program in all_quiet p resolved.names accepted m.0 m.1 i j
+  quiet i j = let m = last_scope p.scopes resolved.keeps.core.program in all_quiet p resolved.names accepted m.0 m.1 i j
 
   -- an instance of a pure module has no bound
   no_bound : (i : Started) → In i (start_list p) → (s : Scope) → slice_get p.scopes i.scope ≡ Some s → s.kind ≡ Pure → i.bound ≡ None
   no_bound i j s at kind =
       let x = In-at i (start_list p) j in
-      let f = (accepted_instances_fit p resolved.core resolved.lines resolved.names accepted).each x.0 i (read_first (start_list p) _ x.0 i x.2) in
+      let f = (accepted_instances_fit p resolved.keeps.core resolved.keeps.lines resolved.names accepted).each x.0 i (read_first (start_list p) _ x.0 i x.2) in
       let same : f.scope ≡ s = some_same (sym f.is.scope ∙ at) in
       of_bound i.bound (subst (λ b. BoundFits b i.bound) (ap (λ (s : Scope). is_plain s.kind) same ∙ ap is_plain kind) f.is.bound)
     where

@@ -1,18 +1,16 @@
--- A program's run with its start list, what each call in it may do, and what resolving gives of a program.
+-- A program's run with its start list, and what each call in it may do.
 -- (docs/LANGUAGE.md, "Starting a program" and "Authority and report")
 use Rattle.std.specs.Prelude.{List, [], ◌∷◌, ◌++◌, ℕ, map, bytes_eq, if◌then◌else◌}
 use Rattle.wy_text.specs.declared.fault.AtomName.{AtomName}
 use Rattle.wy_types.specs.Program.{Program}
-use Rattle.wy_types.specs.Core.{IsCore}
 use Rattle.wy_types.specs.Ground.{start_list}
-use Rattle.wy_rules.specs.OwnNames.{LinesAreTyped, HavePlainNames, GrantsStandFirst, ModulesCaptureNothing}
+pub use Rattle.wy_rules.specs.Resolved.{IsResolved}
 use Rattle.wy_authority.specs.declared.rows.BodyRow.{BodyRow}
 use Rattle.wy_authority.specs.declared.rows.InstanceRow.{InstanceRow}
 use Rattle.wy_authority.specs.Authority.{authority_of}
 use Rattle.wy_authority.specs.Report.{named_atoms}
 use Rattle.wy_meaning.specs.Starts.{Starts, starts_of, started_of}
 use Rattle.wy_meaning.specs.Bounds.{Call}
-use Rattle.wy_sound.specs.Arguments.{program_names}
 
 -- the instances of the start list, and `main` after them
 abbrev pub program_starts : Program → Starts
@@ -35,14 +33,3 @@ call_atoms atoms call (r ∷ rs) =
 -- the authority of a call's body in its instance
 abbrev pub allowed : Program → Call → List AtomName
 allowed p call = call_atoms (authority_of p).atoms call (authority_of p).rows
-
-------------------------------------------------------------
--- What resolving gives
-
--- a program as resolving makes it: a core, whose own names have their types and names that no hidden instance has, the program's grants first
-pub record IsResolved (p : Program) : Type 0 where
-  pub core : IsCore p
-  pub lines : LinesAreTyped p
-  pub names : HavePlainNames p
-  pub grants : GrantsStandFirst (program_names p)
-  pub captures : ModulesCaptureNothing p

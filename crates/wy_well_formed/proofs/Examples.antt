@@ -26,7 +26,7 @@ use Rattle.wy_types.specs.Program.{Program, Scope, Init, Run}
 use Rattle.wy_types.specs.Ground.{single_sets}
 use Rattle.wy_types.specs.Core.{literal_captures}
 use Rattle.wy_rules.specs.OwnNames.{opened_count, HasItsType, HaveTheirTypes, IsPlainName, GrantsStandFirst, ModulesCaptureNothing}
-use Rattle.wy_well_formed.specs.News.{scope_news}
+use Rattle.wy_rules.specs.News.{scope_news}
 use Rattle.wy_well_formed.specs.OwnWords.{IsWord}
 
 nowhere : Place

@@ -2,13 +2,12 @@
 -- stand first, its modules capture nothing, and each object literal is made at one place (docs/LANGUAGE.md, "Names", "Modules and lines").
 use Rattle.std.specs.Prelude.{List, slice_get}
 use Rattle.wy_syntax.specs.Trees.{ItemTree}
-use Rattle.wy_effects.specs.Members.{In, Apart}
-use Rattle.wy_types.specs.Program.{Program, Scope}
+use Rattle.wy_types.specs.Program.{Program}
 use Rattle.wy_types.specs.Core.{IsCore}
 use Rattle.wy_types.specs.Ground.{names_of, program_number}
 use Rattle.wy_rules.specs.OwnNames.{LinesAreTyped, HavePlainNames, HasOrdinaryNames, GrantsStandFirst, ModulesCaptureNothing}
 use Rattle.wy_names.specs.Names.{Resolves}
-use Rattle.wy_well_formed.specs.News.{scope_news}
+use Rattle.wy_rules.specs.Resolved.{MakesOnce, CoreKeeps, IsResolved}
 use Rattle.wy_well_formed.specs.OwnWords.{HaveWords}
 
 -- names that resolve make a core
@@ -38,4 +37,11 @@ ResolvedModulesCaptureNothing = (items : List ItemTree) (p : Program) → Resolv
 
 -- no scope makes a literal at two places
 abbrev pub ResolvedMakesOnce : Type 0
-ResolvedMakesOnce = (items : List ItemTree) (p : Program) → Resolves items p → (s : Scope) → In s p.scopes → Apart (scope_news s)
+ResolvedMakesOnce = (items : List ItemTree) (p : Program) → Resolves items p → MakesOnce p
+
+-- all of this: what every core keeps, and what one keeps whose items are of words
+abbrev pub ResolvedIsKept : Type 0
+ResolvedIsKept = (items : List ItemTree) (p : Program) → Resolves items p → CoreKeeps p
+
+abbrev pub ResolvedKeepsAll : Type 0
+ResolvedKeepsAll = (items : List ItemTree) (p : Program) → Resolves items p → HaveWords items → IsResolved p

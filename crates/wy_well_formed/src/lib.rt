@@ -2,7 +2,7 @@
 //! clause.
 #![tactic(auto)]
 
-ghost use Rattle.wy_well_formed.specs.WellFormed.{ResolvedGrantsStandFirst, ResolvedIsCore, ResolvedMakesOnce, ResolvedModulesCaptureNothing, ResolvedNamesAreOrdinary, ResolvedNamesAreWords, ResolvedNamesFit};
+ghost use Rattle.wy_well_formed.specs.WellFormed.{ResolvedGrantsStandFirst, ResolvedIsCore, ResolvedIsKept, ResolvedKeepsAll, ResolvedMakesOnce, ResolvedModulesCaptureNothing, ResolvedNamesAreOrdinary, ResolvedNamesAreWords, ResolvedNamesFit};
 
 /// A program whose names resolve is a core: its numbers are in range, its names differ, its types, effects and bodies
 /// have the forms that their kinds of scope ask, and no module leads back to itself.
@@ -43,3 +43,23 @@ pub fn resolved_modules_capture_nothing()
 pub fn resolved_makes_once()
     ensures { ResolvedMakesOnce }
 {}
+
+/// A program whose names resolve has what every core keeps: all of this but for what its names are.
+pub fn resolved_is_kept()
+    ensures { ResolvedIsKept }
+{
+    resolved_is_core();
+    resolved_names_fit();
+    resolved_grants_stand_first();
+    resolved_modules_capture_nothing();
+    resolved_makes_once();
+}
+
+/// All of this, where the items are spelled by tokens whose names are words, no more than a file may have.
+pub fn resolved_keeps_all()
+    ensures { ResolvedKeepsAll }
+{
+    resolved_is_kept();
+    resolved_names_are_words();
+    resolved_names_are_ordinary();
+}

@@ -5,7 +5,7 @@ use Rattle.wy_types.specs.Code.{Expr, Number, Quoted, Truth, Nothing, This, Name
 use Rattle.wy_types.specs.Program.{Scope, Body, Start, Init, Run}
 use Rattle.wy_lower.specs.Lowerable.{literal_made, literals_made, literals_made_in}
 use Rattle.wy_lower.specs.Parts.{block_parts, bodies_parts, expr_parts, start_parts, value_parts, values_parts}
-use Rattle.wy_well_formed.specs.News.{block_news, bodies_news, expr_news, scope_news, start_news, value_news, values_news}
+use Rattle.wy_rules.specs.News.{block_news, bodies_news, expr_news, scope_news, start_news, value_news, values_news}
 
 made-append : (xs ys : List Expr) → literals_made_in (xs ++ ys) ≡ literals_made_in xs ++ literals_made_in ys
 made-append [] ys = refl
