@@ -50,6 +50,9 @@ type_once (Own l) (Own k) xs ys e = (cc, cc)
 type_once s t xs ys e = absurd (cc)
 
 -- equal keys are those of equal types
+pub alone_once : (s t : TypeRef) → type_key s ≡ type_key t → s ≡ t
+alone_once s t e = (type_once s t [] [] (ap (λ l. l ++ []) e)).0
+
 pub pair_once : (p q : TypeRef × TypeRef) → pair_key p.0 p.1 ≡ pair_key q.0 q.1 → p ≡ q
 pair_once p q e =
     let r = type_once p.0 q.0 (type_key p.1) (type_key q.1) e in

@@ -108,6 +108,15 @@ fn add_type(out: &mut Vec<u32>, t: &TypeRef) -> Result<(), Memory>
     Ok(())
 }
 
+/// The key of a type.
+pub fn key_of_type(alloc: Global, t: &TypeRef) -> Result<Key, Memory>
+    ensures { IfOk result (λ k. k ≡ type_key t.now) }
+{
+    let mut numbers = Vec::new(alloc);
+    add_type(&mut numbers, t)?;
+    Ok(Key { numbers })
+}
+
 /// The key of two types, in their order.
 pub fn key_of_pair(alloc: Global, left: &TypeRef, right: &TypeRef) -> Result<Key, Memory>
     ensures { IfOk result (λ k. k ≡ pair_key left.now right.now) }

@@ -12,5 +12,6 @@ pub mod primitive;
 pub mod reach;
 pub mod reading;
 pub mod resolved;
+mod type_set;
 pub mod types;
 pub mod written;

@@ -1,7 +1,7 @@
-ghost use Rattle.std.specs.Prelude.{◌≡◌, ◌++◌, ◌∷◌, [], ◌≤◌, ◌-◌, IsTrue, OnOk, IfOk, false, map, length, slice_get};
-ghost use Rattle.wy_effects.specs.Members.{In, Apart};
+ghost use Rattle.std.specs.Prelude.{◌≡◌, ◌++◌, ◌≤◌, ◌-◌, OnOk, IfOk, map, length, slice_get};
+ghost use Rattle.wy_effects.specs.Members.{Apart};
 ghost use Rattle.wy_types.specs.Program.{program_of, scope_of, body_of, start_of};
-ghost use Rattle.wy_types.specs.Types.{IsObject, signature};
+ghost use Rattle.wy_types.specs.Types.{signature};
 ghost use Rattle.wy_types.specs.Signature.{signature_types};
 ghost use Rattle.wy_types.specs.Reached.{Reach, sealed_types, own_types, field_types, start_types, body_types, first_types, scope_first_types};
 ghost use Rattle.std.specs.List.{range_with_len};
@@ -9,11 +9,12 @@ ghost use Rattle.wy_types.specs.Gathering.{Gathers, Begins};
 
 use crate::methods::methods;
 use crate::resolved::{Body, Core, Literal, OwnName, Scope, ScopeKind, Start};
+use crate::type_set::TypeSet;
 use crate::types::{Method, TypeList, TypeRef};
 use crate::written::{add_block, add_values};
 use std::alloc::Global;
 use wy_effects::set::copy_sets;
-use wy_text::limit::{LimitName, MOST_REACHED_TYPES};
+use wy_text::limit::LimitName;
 use wy_text::list::Items;
 use wy_text::text::Memory;
 
@@ -36,60 +37,27 @@ impl From<Memory> for ReachRefusal {
     }
 }
 
-/// Whether the type is in the list.
-fn has(seen: &[TypeRef], t: &TypeRef) -> bool
-    ensures yes { IsTrue result → In t.now seen.now }
-    ensures no { result ≡ false → In t.now seen.now → ⊥ }
-{
-    for u in seen {
-        if u.same(t) {
-            return true;
-        }
-    }
-    false
-}
-
-/// Adds an object type that isn't there.
-fn add(alloc: Global, seen: &mut TypeList, t: &TypeRef) -> Result<(), ReachRefusal>
-    requires apart { Apart seen.old }
-    requires small { length seen.old ≤ 1024 }
-    ensures { Gathers seen.old (t.now ∷ []) seen.new result }
-{
-    if !t.is_object() || has(seen.as_slice(), t) {
-        return Ok(());
-    }
-    if seen.len() >= MOST_REACHED_TYPES {
-        return Err(ReachRefusal::Limit(LimitName::ReachedTypes));
-    }
-    seen.push(t.copy(alloc)?)?;
-    Ok(())
-}
-
 /// Adds each object type that isn't there.
-fn add_all(alloc: Global, seen: &mut TypeList, types: &[TypeRef]) -> Result<(), ReachRefusal>
+fn add_all(seen: &mut TypeSet, types: &[TypeRef]) -> Result<(), ReachRefusal>
     requires apart { Apart seen.old }
     requires small { length seen.old ≤ 1024 }
     ensures { Gathers seen.old types.now seen.new result }
 {
     for t in types {
-        add(alloc, seen, t)?;
+        seen.add(t)?;
     }
     Ok(())
 }
 
 /// Adds the types in signatures.
-fn add_signatures(
-    alloc: Global,
-    seen: &mut TypeList,
-    methods: &[Method],
-) -> Result<(), ReachRefusal>
+fn add_signatures(seen: &mut TypeSet, methods: &[Method]) -> Result<(), ReachRefusal>
     requires apart { Apart seen.old }
     requires small { length seen.old ≤ 1024 }
     ensures { Gathers seen.old (signature_types (map signature methods.now)) seen.new result }
 {
     for m in methods {
-        add_all(alloc, seen, m.params.as_slice())?;
-        add(alloc, seen, &m.result)?;
+        add_all(seen, m.params.as_slice())?;
+        seen.add(&m.result)?;
     }
     Ok(())
 }
@@ -186,15 +154,15 @@ fn firsts(alloc: Global, scope: &Scope) -> Result<TypeList, Memory>
 }
 
 /// The object types among those from which reaching begins, each once.
-fn begin(alloc: Global, core: &Core, scope: u16) -> Result<TypeList, ReachRefusal>
+fn begin(alloc: Global, core: &Core, scope: u16) -> Result<TypeSet, ReachRefusal>
     ensures { Begins (scope_first_types (slice_get (program_of core.now).scopes scope)) result }
 {
-    let mut seen = Items::new(alloc);
+    let mut seen = TypeSet::new(alloc);
     match core.scopes.get(scope as usize) {
         None => Ok(seen),
         Some(s) => {
             let types = firsts(alloc, s)?;
-            add_all(alloc, &mut seen, types.as_slice())?;
+            add_all(&mut seen, types.as_slice())?;
             Ok(seen)
         }
     }
@@ -209,8 +177,8 @@ pub fn reach(alloc: Global, core: &Core, scope: u16) -> Result<TypeList, ReachRe
     let mut next = 0;
     while next < seen.len() {
         let found = methods(alloc, core, scope, &seen.as_slice()[next])?;
-        add_signatures(alloc, &mut seen, found.as_slice())?;
+        add_signatures(&mut seen, found.as_slice())?;
         next += 1;
     }
-    Ok(seen)
+    Ok(seen.into_list()?)
 }

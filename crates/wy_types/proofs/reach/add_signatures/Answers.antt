@@ -13,10 +13,10 @@ loop-m-preserved c =
     let m = c.m-item.result in
     let old : List TypeRef = signature_types (map signature (take c.loop-m.m-index c.args.methods.now)) in
     let params : IsGathered c.loop-m.seen m.params c.add_all.new.seen = rw (← c.as_slice.ensures) c.in_ok-add_all.ensures in
-    let P : List TypeRef → Type 0 = λ l. IsGathered c.args.seen.now l c.add.new.seen in
+    let P : List TypeRef → Type 0 = λ l. IsGathered c.args.seen.now l c.add.new.self in
     subst P (sym (signature_types-take c.args.methods.now m c.loop-m.m-index c.loop-m-test.true c.m-item.is))
-    (gathered_more c.args.seen.now old c.loop-m.seen (m.params ++ m.result ∷ []) c.add.new.seen c.loop-m.invariant
-    (gathered_more c.loop-m.seen m.params c.add_all.new.seen (m.result ∷ []) c.add.new.seen params c.in_ok-add.ensures))
+    (gathered_more c.args.seen.now old c.loop-m.seen (m.params ++ m.result ∷ []) c.add.new.self c.loop-m.invariant
+    (gathered_more c.loop-m.seen m.params c.add_all.new.seen (m.result ∷ []) c.add.new.self params c.in_ok-add.ensures))
 
 pub returns-in_err-add_all : goal.returns-in_err-add_all
 returns-in_err-add_all c =
@@ -36,9 +36,9 @@ returns-in_err-add c =
     let old : List TypeRef = signature_types (map signature (take c.loop-m.m-index c.args.methods.now)) in
     let whole : List TypeRef = signature_types (map signature c.args.methods.now) in
     let e : c.from_residual-in_err-add.result ≡ Err c.in_err-add.field-0.0 = search rules in
-    let P : Result (Unit {0}) ReachRefusal → Type 0 = λ r. Gathers c.args.seen.now whole c.add.new.seen r in
+    let P : Result (Unit {0}) ReachRefusal → Type 0 = λ r. Gathers c.args.seen.now whole c.add.new.self r in
     let params : IsGathered c.loop-m.seen m.params c.add_all.new.seen = rw (← c.as_slice.ensures) c.in_ok-add_all.ensures in
     subst P (sym e)
-    (gathers_refused c.args.seen.now (old ++ m.params) c.add_all.new.seen (m.result ∷ []) whole c.add.new.seen c.in_err-add.field-0.0
+    (gathers_refused c.args.seen.now (old ++ m.params) c.add_all.new.seen (m.result ∷ []) whole c.add.new.self c.in_err-add.field-0.0
     (gathered_more c.args.seen.now old c.loop-m.seen m.params c.add_all.new.seen c.loop-m.invariant params)
-    (result_within c.args.methods.now m c.loop-m.m-index c.loop-m-test.true c.m-item.is) c.in_err-add.ensures c.add.new.seen)
+    (result_within c.args.methods.now m c.loop-m.m-index c.loop-m-test.true c.m-item.is) c.in_err-add.ensures c.add.new.self)

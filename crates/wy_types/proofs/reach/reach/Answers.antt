@@ -1,4 +1,4 @@
-use Rattle.std.proofs.Common.{◌≡◌, ◌<◌, List, map, length, get_or, Err, sym, ap, ◌∙◌, subst, arith, rules}
+use Rattle.std.proofs.Common.{◌≡◌, ◌<◌, List, map, length, get_or, Ok, Err, sym, ap, ◌∙◌, subst, arith, rules}
 use Rattle.std.specs.Prelude.{Result}
 use Rattle.wy_types.specs.declared.types.TypeRef.{TypeRef}
 use Rattle.wy_types.specs.declared.reach.ReachRefusal.{ReachRefusal}
@@ -45,4 +45,7 @@ loop-next-preserved c =
     work_more p c.args.scope c.loop-next.seen c.add_signatures.new.seen c.loop-next.next t c.loop-next.invariant below there (subst Q found c.in_ok-add_signatures.ensures)
 
 pub returns : goal.returns
-returns c = work_done (program_of c.args.core.now) c.args.scope c.loop-next.seen c.loop-next.next c.loop-next.invariant (omega (arith, c.loop-next-test.false, c.len.ensures))
+returns c =
+    let P : List TypeRef → Type 0 = λ l. Reach (program_of c.args.core.now) c.args.scope (Ok l) in
+    subst P (sym c.in_ok-into_list.ensures)
+    (work_done (program_of c.args.core.now) c.args.scope c.loop-next.seen c.loop-next.next c.loop-next.invariant (omega (arith, c.loop-next-test.false, c.len.ensures)))
