@@ -2,7 +2,6 @@ mod CodeRuns
 mod CompletenessLaws
 mod Deeds
 mod Doing
-mod EndOnce
 mod Examples
 mod ExamplesNames
 mod FilesRead
@@ -10,7 +9,6 @@ mod Givens
 mod LiteralsMade
 mod NamesJudged
 mod OneAnswer
-mod OneBad
 mod OneItem
 mod OneTree
 mod OutWritten
