@@ -16,8 +16,8 @@ use wy_well_formed::{
     resolved_names_fit,
 };
 
-/// The canonical form of a canonical form is that form: where what `format` wrote has a tree again, it prints as
-/// the same text.
+/// What `format` wrote is written again: the canonical form of a file's tree has one tree, and prints as the same text,
+/// unless it passes a limit of layout.
 pub fn format_again()
     ensures { FormatAgain }
 {}
