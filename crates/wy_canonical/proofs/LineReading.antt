@@ -6,7 +6,8 @@ use Rattle.wy_text.specs.declared.token.TokenKind.{TokenKind}
 use Rattle.wy_text.specs.declared.token.TokenKind.TheVariants as kind
 use Rattle.wy_layout.specs.Words.{Word, kind_of, Within, fits, passes}
 use Rattle.wy_layout.specs.Printed.{Apart}
-use Rattle.wy_layout.specs.Counts.{counted_from, most_tokens, most_indents}
+use Rattle.wy_text.specs.TokenLists.{most_indents}
+use Rattle.wy_layout.specs.Counts.{counted_from, most_tokens}
 use Rattle.wy_layout.specs.Widths.{Step, deeper, back, wrong, not_open, step_of, is_top, rest, above}
 use Rattle.wy_layout.specs.Lines.{Line, lines, later_lines, line_at, next_row, content_of, width, after_spaces, after_blanks, is_done, has_tab}
 use Rattle.wy_layout.specs.Layout.{mark, marks, mark_count, begin, finish, opening, wrong_step, closing, rank}

@@ -6,7 +6,8 @@ use Rattle.wy_text.specs.declared.token.TokenKind.TheVariants as kind
 use Rattle.wy_layout.specs.Words.{Word, kind_of, Within, fits, passes}
 use Rattle.wy_layout.specs.Faults.{IsWithin}
 use Rattle.wy_layout.specs.Printed.{Apart}
-use Rattle.wy_layout.specs.Counts.{counted, passed, is_counted, most_tokens, most_marks}
+use Rattle.wy_text.specs.TokenLists.{is_counted, most_marks}
+use Rattle.wy_layout.specs.Counts.{counted, passed, most_tokens}
 use Rattle.wy_layout.specs.Lines.{lines, later_lines, content_of, after_blanks, is_done}
 use Rattle.wy_layout.specs.Layout.{token, off}
 use Rattle.wy_layout.specs.Read.{Read, next_at}

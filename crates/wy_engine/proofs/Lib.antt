@@ -2,14 +2,12 @@ mod CodeRuns
 mod CompletenessLaws
 mod Deeds
 mod Doing
-mod EndOnce
 mod Examples
 mod ExamplesNames
 mod FilesRead
 mod Givens
 mod NamesJudged
 mod OneAnswer
-mod OneBad
 mod OneItem
 mod OneTree
 mod OutWritten

@@ -14,12 +14,12 @@ use Rattle.wy_syntax.specs.Tokens.{toks}
 use Rattle.wy_syntax.specs.Trees.{ItemTree}
 use Rattle.wy_parser.specs.Refusals.{IsFirstBad}
 use Rattle.wy_parser.proofs.FileReader.{one_tree}
+use Rattle.wy_parser.proofs.FirstBad.{no_tree, one_bad}
 use Rattle.wy_canonical.specs.Printed.{HasTree}
 use Rattle.wy_engine.specs.FileTrees.{FirstNoTree, HasNoTree, HaveTrees, IsUnexpected}
 use Rattle.wy_engine.specs.declared.status.Status.{Status}
 use Rattle.wy_engine.specs.declared.status.Status.TheVariants as status
 use Rattle.wy_engine.specs.declared.status.SyntaxKind.TheVariants as syntax
-use Rattle.wy_engine.proofs.OneBad.{bad_spells_none, one_bad}
 
 -- why a file has no tree: what is wrong first in its text, its size, or a token that fits nothing
 pub data Why : Type 0 where
@@ -141,7 +141,7 @@ no_why file bytes tree (wrong f p) has is = lexes_none file bytes has.tokens has
 no_why file bytes tree large has is = let h = has.lexed.short in omega arith
 no_why file bytes tree (unexpected p) has is =
     let same : has.tokens ≡ is.tokens = one_list file bytes has.tokens is.tokens has.lexed is.lexed in
-    bad_spells_none (toks is.tokens) (record { kind = is.kind; place = p }) is.first tree (subst (λ (ts : List Token). Spells (toks ts) tree) same has.spelled)
+    no_tree (toks is.tokens) (record { kind = is.kind; place = p }) tree is.first (subst (λ (ts : List Token). Spells (toks ts) tree) same has.spelled)
 
 tree_or_none : (file : ℕ) (bytes : List ℕ) (tree : List ItemTree) (end : Status) → HasTree file bytes tree → HasNoTree file bytes end → ⊥
 tree_or_none file bytes tree end has none = let w = reason_of file bytes end none in no_why file bytes tree w.why has w.is

@@ -12,8 +12,8 @@ use wy_sound::laws::events_are_bounded;
 use wy_sound::telling::allowed_is_reported;
 use wy_well_formed::resolved_keeps_all;
 
-/// The canonical form of a canonical form is that form: where what `format` wrote has a tree again, it prints as
-/// the same text.
+/// What `format` wrote is written again: the canonical form of a file's tree has one tree, and prints as the same text,
+/// unless it passes a limit of layout.
 pub fn format_again()
     ensures { FormatAgain }
 {}

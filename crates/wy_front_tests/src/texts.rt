@@ -17,6 +17,7 @@ use wy_text::writing::write_all;
 struct Trickle {
     taken: Vec<u8>,
     room: usize,
+    calls: u32,
     faults: u64,
 }
 
@@ -24,6 +25,7 @@ impl Sink for Trickle {
     ghost state = { λ s. record { taken = Some s.taken.items; faults = s.faults } };
 
     fn write(&mut self, bytes: &[u8]) -> Result<usize, WriteError> {
+        self.calls = self.calls.saturating_add(1);
         let size = bytes.len().min(3).min(self.room);
         if size == 0 {
             self.faults = self.faults.saturating_add(1);
@@ -97,17 +99,20 @@ fn a_text_is_written_whole_or_up_to_a_fault(rt: HostRuntime) -> Result<(), Fail>
     fails.push(2)?;
     let mut sink = MemSink::new(alloc, fails)?;
     assert!(rt; write_all(&mut sink, b"abc").is_ok());
+    assert!(rt; write_all(&mut sink, b"").is_ok());
     assert!(rt; matches!(write_all(&mut sink, b"def"), Err(WriteError::Failed)));
     assert!(rt; write_all(&mut sink, b"ghi").is_ok());
     assert_eq!(rt; sink.bytes(), b"abcghi".as_slice());
-    for (room, whole) in [(10, true), (7, false), (0, false)] {
+    for (room, whole, calls) in [(10, true, 4), (7, false, 4), (0, false, 1)] {
         let mut trickle = Trickle {
             taken: Vec::new(alloc),
             room,
+            calls: 0,
             faults: 0,
         };
         assert_eq!(rt; write_all(&mut trickle, b"0123456789").is_ok(), whole);
         assert_eq!(rt; trickle.taken.len(), room);
+        assert_eq!(rt; trickle.calls, calls);
     }
     Ok(())
 }

@@ -5,7 +5,7 @@ use Rattle.wy_text.specs.declared.token.TokenKind.{TokenKind}
 use Rattle.wy_text.specs.declared.token.TokenKind.TheVariants as kind
 use Rattle.wy_layout.specs.Lines.{place_at}
 use Rattle.wy_layout.specs.Read.{word_at, next_at}
-use Rattle.wy_layout.specs.Lexed.{tokens, refused, words_of, line_out, lex_text}
+use Rattle.wy_layout.specs.Lexed.{tokens, refused, words_of, line_out, lex_text, or_utf8}
 use Rattle.wy_layout.specs.declared.refusal.Fault.TheVariants as fault
 
 at : TokenKind → ℕ → ℕ → ℕ → ℕ → Token
@@ -41,3 +41,13 @@ open_text = refl
 edges : lex_text 7 (codes "9223372036854775808 9223372036854775809") ≡ refused fault.NumberTooLarge 20
 unfolding word_at next_at words_of line_out
 edges = refl
+
+-- at the place of a byte that begins no character a limit comes before it, and a width that isn't open behind it; what stands behind that byte does not count
+limit_first : or_utf8 7 (refused fault.Indents 7) ≡ refused fault.Indents 7
+limit_first = refl
+
+byte_first : or_utf8 7 (refused fault.BadDedent 7) ≡ refused fault.NotUtf8 7
+byte_first = refl
+
+nothing_behind : or_utf8 7 (refused fault.Tokens 8) ≡ refused fault.NotUtf8 7
+nothing_behind = refl

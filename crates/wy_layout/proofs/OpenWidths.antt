@@ -1,14 +1,10 @@
 -- The open widths, by the stack and by the lines before.
 use Rattle.std.proofs.Common.{◌≡◌, ◌↔◌, ℕ, zero, suc, ◌+◌, ◌<◌, ◌≤◌, ◌==◌, nat_lt, Bool, true, false, cond, List, [], ◌∷◌, ◌++◌, length, refl, sym, ap, subst, ◌∙◌, arith, inl, inr, ◌⊎◌, ltb-true, ltb-false}
-use Rattle.std.specs.List.{AllByRecursion}
+use Rattle.std.specs.List.{AllByRecursion, filter}
 use Rattle.wy_layout.specs.Widths.{IsOpen, below, opens, above, rest, is_top, Step, deeper, back, wrong, not_open, step_of, Stands}
-use Rattle.wy_layout.specs.Laws.{Has}
+use Rattle.wy_layout.specs.Laws.{Has, Descend}
 use Rattle.wy_layout.specs.Lexed.{pushed, stack_after}
 use Rattle.wy_layout.proofs.Scanning.{eq_is}
-
-abbrev pub Falls : List ℕ → Type 0
-Falls [] = Unit {0}
-Falls (x ∷ st) = ((v : ℕ) → Has v st → v < x) × Falls st
 
 below_keeps : (w v : ℕ) (st : List ℕ) → Has v st → v < w → Has v (below w st)
 below_keeps w v [] h lt = h
@@ -27,7 +23,7 @@ below_from w v (x ∷ st) h = go (nat_lt x w) h (λ k. below_from w v st k)
     go true h ih = h
     go false h ih = inr (ih h)
 
-below_less : (w v : ℕ) (st : List ℕ) → Falls st → Has v (below w st) → v < w
+below_less : (w v : ℕ) (st : List ℕ) → Descend st → Has v (below w st) → v < w
 below_less w v [] f h = absurd h
 below_less w v (x ∷ st) f h = go (nat_lt x w) refl h (λ k. below_less w v st f.1 k)
   where
@@ -36,17 +32,40 @@ below_less w v (x ∷ st) f h = go (nat_lt x w) refl h (λ k. below_less w v st 
     go true e (inr h) ih = let lt : x < w = ltb-true x w e in let k = f.0 v h in omega arith
     go false e h ih = ih h
 
-below_falls : (w : ℕ) (st : List ℕ) → Falls st → Falls (below w st)
-below_falls w [] f = f
-below_falls w (x ∷ st) f = go (nat_lt x w) (below_falls w st f.1)
+below_descends : (w : ℕ) (st : List ℕ) → Descend st → Descend (below w st)
+below_descends w [] f = f
+below_descends w (x ∷ st) f = go (nat_lt x w) (below_descends w st f.1)
   where
-    go : (b : Bool) → Falls (below w st) → Falls (cond b (x ∷ st) (below w st))
+    go : (b : Bool) → Descend (below w st) → Descend (cond b (x ∷ st) (below w st))
     go true ih = f
     go false ih = ih
 
-pub opens_fall : (ws : List ℕ) → Falls (opens ws)
-opens_fall [] = ((λ (v : ℕ) (h : Has v []). absurd h), tt)
-opens_fall (w ∷ ws) = ((λ (v : ℕ) (h : Has v (below w (opens ws))). below_less w v (opens ws) (opens_fall ws) h), below_falls w (opens ws) (opens_fall ws))
+pub opens_descend : (ws : List ℕ) → Descend (opens ws)
+opens_descend [] = ((λ (v : ℕ) (h : Has v []). absurd h), tt)
+opens_descend (w ∷ ws) = ((λ (v : ℕ) (h : Has v (below w (opens ws))). below_less w v (opens ws) (opens_descend ws) h), below_descends w (opens ws) (opens_descend ws))
+
+-- where no width is greater none is left
+none_greater : (w : ℕ) (st : List ℕ) → ((v : ℕ) → Has v st → v ≤ w) → filter (λ v. nat_lt w v) st ≡ []
+none_greater w [] h = refl
+none_greater w (x ∷ st) h = go (nat_lt w x) refl (none_greater w st (λ v k. h v (inr k)))
+  where
+    go : (b : Bool) → nat_lt w x ≡ b → filter (λ v. nat_lt w v) st ≡ [] → cond b (x ∷ filter (λ v. nat_lt w v) st) (filter (λ v. nat_lt w v) st) ≡ []
+    go true e ih = absurd (let lt : w < x = ltb-true w x e in let le = h x (inl refl) in omega arith)
+    go false e ih = ih
+
+-- of descending widths the greater ones stand first
+greater_first : (w : ℕ) (st : List ℕ) → Descend st → above w st ≡ length (filter (λ v. nat_lt w v) st)
+greater_first w [] d = refl
+greater_first w (x ∷ st) d = go (nat_lt w x) refl (greater_first w st d.1)
+  where
+    go : (b : Bool) → nat_lt w x ≡ b → above w st ≡ length (filter (λ v. nat_lt w v) st) → cond b (suc (above w st)) 0 ≡ length (cond b (x ∷ filter (λ v. nat_lt w v) st) (filter (λ v. nat_lt w v) st))
+    go true e ih = ap (λ (n : ℕ). suc n) ih
+    go false e ih =
+        let le : x ≤ w = ltb-false w x e in
+        sym (ap (λ (u : List ℕ). length u) (none_greater w st (λ v k. let lt = d.0 v k in omega arith)))
+
+pub one_out_for_each : (w : ℕ) (ws : List ℕ) → above w (opens ws) ≡ length (filter (λ v. nat_lt w v) (opens ws))
+one_out_for_each w ws = greater_first w (opens ws) (opens_descend ws)
 
 apart_cases : (a b : ℕ) → a ≤ b → (a ≡ b) ⊎ (a < b)
 apart_cases a b h = grind arith
@@ -87,7 +106,7 @@ pub open_has : (v : ℕ) (ws : List ℕ) → Has v (opens ws) → IsOpen v ws
 open_has v [] (inl e) = inl e
 open_has v [] (inr h) = absurd h
 open_has v (w ∷ ws) (inl e) = inr ([], ws, ap (λ (z : ℕ). z ∷ ws) (sym e), tt)
-open_has v (w ∷ ws) (inr h) = longer (below_less w v (opens ws) (opens_fall ws) h) (open_has v ws (below_from w v (opens ws) h))
+open_has v (w ∷ ws) (inr h) = longer (below_less w v (opens ws) (opens_descend ws) h) (open_has v ws (below_from w v (opens ws) h))
   where
     longer : v < w → IsOpen v ws → IsOpen v (w ∷ ws)
     longer lt (inl e) = inl e
@@ -109,7 +128,7 @@ top_has w (x ∷ st) e = go (nat_lt w x) e (λ k. top_has w st k)
     go true e ih = inr (ih e)
     go false e ih = inl (eq_is w x e)
 
-has_top : (w : ℕ) (st : List ℕ) → Falls st → Has w st → is_top w (rest w st) ≡ true
+has_top : (w : ℕ) (st : List ℕ) → Descend st → Has w st → is_top w (rest w st) ≡ true
 has_top w [] f h = absurd h
 has_top w (x ∷ st) f h = go (nat_lt w x) refl h (λ k. has_top w st f.1 k)
   where
@@ -126,7 +145,7 @@ has_top w (x ∷ st) f h = go (nat_lt w x) refl h (λ k. has_top w st f.1 k)
 pub step_stands : (w : ℕ) (ws : List ℕ) → Stands (step_of w (opens ws)) w ws
 step_stands w ws = go (is_top w (rest w (opens ws))) refl (above w (opens ws)) refl
   where
-    head_low : (st : List ℕ) → Falls st → above w st ≡ 0 → (is_top w (rest w st) ≡ false) → (v : ℕ) → Has v st → v < w
+    head_low : (st : List ℕ) → Descend st → above w st ≡ 0 → (is_top w (rest w st) ≡ false) → (v : ℕ) → Has v st → v < w
     head_low [] f a t v h = absurd h
     head_low (x ∷ st) f a t v h = low (nat_lt w x) refl a t h
       where
@@ -148,9 +167,9 @@ step_stands w ws = go (is_top w (rest w (opens ws))) refl (above w (opens ws)) r
 
     go : (b : Bool) → is_top w (rest w (opens ws)) ≡ b → (n : ℕ) → above w (opens ws) ≡ n → Stands (cond b (back n) (not_open n)) w ws
     go true t n a = record { is_open = open_has w ws (top_has w (opens ws) t); count = sym a }
-    go false t zero a = record { wider = λ v o. head_low (opens ws) (opens_fall ws) a t v (has_open v ws o) }
+    go false t zero a = record { wider = λ v o. head_low (opens ws) (opens_descend ws) a t v (has_open v ws o) }
     go false t (suc n) a = let k = head_high (opens ws) n a in record {
-      closed = λ o. let e = has_top w (opens ws) (opens_fall ws) (has_open w ws o) in cc;
+      closed = λ o. let e = has_top w (opens ws) (opens_descend ws) (has_open w ws o) in cc;
       wider = (k.0, open_has k.0 ws k.1, k.2);
       count = sym a;
     }
@@ -158,14 +177,14 @@ step_stands w ws = go (is_top w (rest w (opens ws))) refl (above w (opens ws)) r
 -- ---- the stack behind a line
 
 -- under a width that is open stand the lesser ones
-top_below : (w : ℕ) (st : List ℕ) → Falls st → is_top w (rest w st) ≡ true → rest w st ≡ w ∷ below w st
+top_below : (w : ℕ) (st : List ℕ) → Descend st → is_top w (rest w st) ≡ true → rest w st ≡ w ∷ below w st
 top_below w [] f h = absurd (let t : false ≡ true = h in cc)
 top_below w (v ∷ st) f h = go (nat_lt w v) refl (nat_lt v w) refl h (λ k. top_below w st f.1 k)
   where
     less : (u : ℕ) → u < w → nat_lt u w ≡ true
     less u h = grind arith
 
-    under : (st : List ℕ) → Falls (v ∷ st) → w ≡ v → st ≡ below w st
+    under : (st : List ℕ) → Descend (v ∷ st) → w ≡ v → st ≡ below w st
     under [] f e = refl
     under (u ∷ st) f e = let l : nat_lt u w ≡ true = less u (let a : u < v = f.0 u (inl refl) in omega arith) in rw l refl
 
@@ -201,7 +220,7 @@ stack_is w ws ok = go (is_top w (rest w (opens ws))) refl (above w (opens ws)) r
   where
     go : (b : Bool) → is_top w (rest w (opens ws)) ≡ b → (n : ℕ) → above w (opens ws) ≡ n → (IsClosed (cond b (back n) (not_open n)) → ⊥) →
         cond b (rest w (opens ws)) (pushed n w (rest w (opens ws))) ≡ w ∷ below w (opens ws)
-    go true t n a ok = top_below w (opens ws) (opens_fall ws) t
+    go true t n a ok = top_below w (opens ws) (opens_descend ws) t
     go false t zero a ok = ap (λ (z : List ℕ). w ∷ z) (all_below w (opens ws) a t)
     go false t (suc n) a ok = absurd (ok tt)
 

@@ -3,7 +3,8 @@ use Rattle.std.proofs.Common.{◌≡◌, ℕ, suc, ◌+◌, ◌-◌, ◌<◌, �
 use Rattle.wy_text.specs.declared.token.Token.{Token}
 use Rattle.wy_text.specs.declared.token.TokenKind.{TokenKind}
 use Rattle.wy_layout.specs.Words.{Word, kind_of, Within, fits, passes}
-use Rattle.wy_layout.specs.Counts.{counted, passed, is_counted, most_tokens, most_marks}
+use Rattle.wy_text.specs.TokenLists.{is_counted, most_marks}
+use Rattle.wy_layout.specs.Counts.{counted, passed, most_tokens}
 use Rattle.wy_layout.specs.Read.{Read, yes, bad, word_at, next_at, by_count, by_limit}
 use Rattle.wy_layout.specs.Faults.{IsWithin}
 use Rattle.wy_layout.specs.Lines.{after_blanks, is_done}

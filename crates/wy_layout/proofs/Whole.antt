@@ -6,7 +6,8 @@ use Rattle.wy_text.specs.declared.token.TokenKind.{TokenKind}
 use Rattle.wy_text.specs.declared.token.TokenKind.TheVariants as kind
 use Rattle.wy_text.specs.Spelling.{spelling_of}
 use Rattle.wy_layout.specs.Words.{Word, name, number, text, fixed, same, lookup, is_some, among, reserved, symbols, or_else, kind_of, edge, IsWord, fits, passes}
-use Rattle.wy_layout.specs.Counts.{most_file_bytes, most_tokens, most_indents, most_marks, is_counted, marks_after, braces_after, indents_after, IndentsWithin, is_line_end, MarksWithin, is_end, EndsOnce, IsWhole, counted, passed}
+use Rattle.wy_text.specs.TokenLists.{most_indents, most_marks, is_counted, marks_after, braces_after, indents_after, IndentsWithin, is_line_end, MarksWithin, is_end, EndsOnce}
+use Rattle.wy_layout.specs.Counts.{most_file_bytes, most_tokens, IsWhole, counted, passed}
 use Rattle.wy_layout.specs.Widths.{Step, deeper, back, wrong, not_open, step_of, opens, above, rest, is_top}
 use Rattle.wy_layout.specs.Lines.{Line, lines, later_lines, line_at, next_row, first_row, content_of, ends_line, place_at, width, after_spaces, after_blanks, is_done}
 use Rattle.wy_layout.specs.Layout.{mark, marks, begin, finish, off, step, opening, IsNext, IsFull, Words, count_in, HasTokensOr, LineTokens, widths, Lays, FileFault, FaultAt, IsLeast, IsFirst, IsRefused, Lexes, judged_text}

@@ -1,9 +1,9 @@
 -- Laws of the definition.
-use Rattle.std.specs.Prelude.{◌≡◌, ◌↔◌, ◌≤◌, ℕ, List, [], ◌∷◌, length, ◌⊎◌}
-use Rattle.std.specs.List.{AllByRecursion}
+use Rattle.std.specs.Prelude.{◌≡◌, ◌↔◌, ◌<◌, ◌≤◌, nat_lt, ℕ, List, [], ◌∷◌, length, ◌⊎◌}
+use Rattle.std.specs.List.{AllByRecursion, filter}
 use Rattle.wy_text.specs.declared.token.Token.{Token}
 use Rattle.wy_layout.specs.Counts.{most_file_bytes}
-use Rattle.wy_layout.specs.Widths.{IsOpen, Stands, step_of, opens}
+use Rattle.wy_layout.specs.Widths.{IsOpen, Stands, step_of, above, opens}
 use Rattle.wy_layout.specs.Lines.{place_at}
 use Rattle.wy_layout.specs.Layout.{Lexes, FaultAt, IsLeast}
 use Rattle.wy_layout.specs.declared.refusal.Fault.{Fault}
@@ -40,3 +40,16 @@ OpenByLines = (v : ℕ) (ws : List ℕ) → Has v (opens ws) ↔ IsOpen v ws
 -- and so is what stands before a line
 abbrev pub StepByLines : Type 0
 StepByLines = (w : ℕ) (ws : List ℕ) → Stands (step_of w (opens ws)) w ws
+
+-- each of the widths is greater than those behind it
+abbrev pub Descend : List ℕ → Type 0
+Descend [] = Unit {0}
+Descend (w ∷ st) = ((v : ℕ) → Has v st → v < w) × Descend st
+
+-- the open widths descend, so none of them is there twice
+abbrev pub OpenDescend : Type 0
+OpenDescend = (ws : List ℕ) → Descend (opens ws)
+
+-- so the Outs that are counted before a line are one for each open width that is greater than its own
+abbrev pub OneOutForEach : Type 0
+OneOutForEach = (w : ℕ) (ws : List ℕ) → above w (opens ws) ≡ length (filter (λ v. nat_lt w v) (opens ws))

@@ -9,7 +9,8 @@ use Rattle.wy_text.specs.declared.limit.LimitName.{LimitName}
 use Rattle.wy_text.specs.declared.limit.LimitName.TheVariants as limit
 use Rattle.wy_layout.specs.Words.{Word, kind_of, Within, fits, passes}
 use Rattle.wy_layout.specs.Faults.{IsWordFault, IsWithin}
-use Rattle.wy_layout.specs.Counts.{counted, counted_from, passed, most_tokens, most_indents, most_file_bytes}
+use Rattle.wy_text.specs.TokenLists.{most_indents}
+use Rattle.wy_layout.specs.Counts.{counted, counted_from, passed, most_tokens, most_file_bytes}
 use Rattle.wy_layout.specs.declared.count.Count.{Count}
 use Rattle.wy_layout.specs.Widths.{Step, deeper, back, wrong, step_of, opens}
 use Rattle.wy_layout.specs.Lines.{Line, spot, lines, first_row, place_at, width, after_spaces, after_blanks, is_done, has_tab}

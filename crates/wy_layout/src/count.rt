@@ -1,4 +1,5 @@
 ghost use Rattle.std.specs.Prelude.{◌≡◌, ◌≤◌, ◌<◌, ◌^◌, true};
+ghost use Rattle.wy_text.specs.TokenLists as token_lists;
 ghost use Rattle.wy_layout.specs.Counts as spec;
 ghost use Rattle.wy_layout.specs.Gives.{within_of, IsCalm};
 ghost use Rattle.wy_layout.specs.Words.{fits};
@@ -25,7 +26,7 @@ pub struct Count {
 
 /// Whether a token is a mark.
 fn is_mark(kind: &TokenKind) -> bool
-    ensures { result ≡ spec.is_mark kind.now }
+    ensures { result ≡ token_lists.is_mark kind.now }
 {
     matches!(
         kind,
@@ -51,14 +52,14 @@ fn is_mark(kind: &TokenKind) -> bool
 }
 
 fn is_counted(open_braces: usize, kind: &TokenKind) -> bool
-    ensures { result ≡ spec.is_counted open_braces kind.now }
+    ensures { result ≡ token_lists.is_counted open_braces kind.now }
 {
     is_mark(kind) && open_braces == 0
 }
 
 fn braces_after(open_braces: usize, kind: &TokenKind) -> usize
     requires { open_braces < 2 ^ 63 }
-    ensures { result ≡ spec.braces_after open_braces kind.now }
+    ensures { result ≡ token_lists.braces_after open_braces kind.now }
 {
     match kind {
         TokenKind::SymOpenBrace => open_braces + 1,
@@ -69,7 +70,7 @@ fn braces_after(open_braces: usize, kind: &TokenKind) -> usize
 
 fn marks_after(marks: usize, open_braces: usize, kind: &TokenKind) -> usize
     requires { marks < 2 ^ 63 }
-    ensures { result ≡ spec.marks_after marks open_braces kind.now }
+    ensures { result ≡ token_lists.marks_after marks open_braces kind.now }
 {
     if is_counted(open_braces, kind) {
         marks + 1

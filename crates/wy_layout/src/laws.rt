@@ -3,7 +3,7 @@
 ghost use Rattle.wy_layout.specs.Printed.{PrintedWords, QuotedTexts, SpelledKinds};
 ghost use Rattle.wy_layout.specs.Characters.{NamesByCharacters};
 ghost use Rattle.wy_layout.specs.Spans.{SpansInOrder};
-ghost use Rattle.wy_layout.specs.Laws.{Decided, NothingWrong, OneFault, OneList, OpenByLines, PlacesOfOffsets, StepByLines};
+ghost use Rattle.wy_layout.specs.Laws.{Decided, NothingWrong, OneFault, OneList, OneOutForEach, OpenByLines, OpenDescend, PlacesOfOffsets, StepByLines};
 
 /// A file has at most one list of tokens.
 pub fn one_list()
@@ -33,6 +33,16 @@ pub fn places_of_offsets()
 /// The open widths before a line are 0 and the widths of earlier lines, where no line between is narrower.
 pub fn open_by_lines()
     ensures { OpenByLines }
+{}
+
+/// The open widths descend, so none of them is there twice.
+pub fn open_descend()
+    ensures { OpenDescend }
+{}
+
+/// The Outs before a line are one for each open width that is greater than its own.
+pub fn one_out_for_each()
+    ensures { OneOutForEach }
 {}
 
 /// What stands before a line is as its width and the open widths say.

@@ -24,7 +24,7 @@ use Rattle.wy_parser.specs.Parsing.{atom, set, member_set, object_rest, object, 
 use Rattle.wy_parser.specs.ExprParsing.{atomic, built, built1, built2, built3, one_argument, parens, ascription, call_part, post, minus, bang, unary, product, sum, compare, conj, disj, choice_rest, choice_of, p_unary}
 use Rattle.wy_parser.specs.StmtParsing.{part, method_of, field_of, tail, block_of, stmt, assign_of, val_of, untyped_val, typed_val, untyped_rhs, rhs, expr_line, if_of, branch_rest, indented_block, literal_of, parts_inside, p_rhs}
 use Rattle.wy_parser.specs.ItemParsing.{items, item, type_of, pure_of, resource_of, plain_of, program_of, p_file, inside_lines, inside_of, grant_of, init_of, define_of, line_of, import_of, instance_of, use_of, members_inside, member_of, method_member, effect_member}
-use Rattle.wy_parser.specs.Refusals.{EndsOnce, NoEnd}
+use Rattle.wy_parser.proofs.OneEnd.{NoEnd, OneEnd}
 use Rattle.wy_parser.proofs.FileReader.{Result', whole_is}
 
 abbrev at : ℕ → ℕ → Place
@@ -52,7 +52,7 @@ abbrev grant : Name → Name → Grant
 grant named1 kind1 = record { name = named1; kind = kind1 }
 
 -- what reading gives is spelled
-spelled_by : (ts : List Tok) (tree : List ItemTree) → EndsOnce ts → p_file (length ts + 2) ts ≡ Yes tree [] → Spells ts tree
+spelled_by : (ts : List Tok) (tree : List ItemTree) → OneEnd ts → p_file (length ts + 2) ts ≡ Yes tree [] → Spells ts tree
 spelled_by ts tree ends e = subst (λ (o : Out Tok (List ItemTree)). Result' ts o) e (whole_is (length ts + 2) ts ends (omega arith))
 
 --     program

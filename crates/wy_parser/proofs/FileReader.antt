@@ -9,7 +9,8 @@ use Rattle.wy_syntax.specs.Languages.{Each}
 use Rattle.wy_syntax.specs.Grammar.{SpellsItem, Spells}
 use Rattle.wy_parser.specs.Reading.{Out, Yes, No, Deep, and_then, one_of}
 use Rattle.wy_parser.specs.ItemParsing.{item_first, items, p_file}
-use Rattle.wy_parser.specs.Refusals.{NoEnd, EndsOnce, IsFirstBad}
+use Rattle.wy_parser.specs.Refusals.{IsFirstBad}
+use Rattle.wy_parser.proofs.OneEnd.{NoEnd, OneEnd}
 use Rattle.wy_parser.proofs.KindNumbers.{kind_is, kind_at, is_fixed}
 use Rattle.wy_parser.proofs.Exact.{Clean}
 use Rattle.wy_parser.proofs.Made.{is_member, token_at}
@@ -173,7 +174,7 @@ Result' ts (No []) = ⊥
 Result' ts (No (x ∷ r)) = IsFirstBad ts x
 Result' ts Deep = ⊥
 
-pub whole_is : (n : ℕ) (ts : List Tok) → EndsOnce ts → length ts + 2 ≤ n → Result' ts (p_file n ts)
+pub whole_is : (n : ℕ) (ts : List Tok) → OneEnd ts → length ts + 2 ≤ n → Result' ts (p_file n ts)
 unfolding p_file
 whole_is n ts ends h = go (items n ts) refl
   where

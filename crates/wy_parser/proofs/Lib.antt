@@ -9,7 +9,9 @@ pub mod Levels
 pub mod ExprReaders
 pub mod StmtReaders
 pub mod ItemReaders
+pub mod OneEnd
 pub mod FileReader
+pub mod FirstBad
 pub mod Numbers
 pub mod Turns
 pub mod Depths

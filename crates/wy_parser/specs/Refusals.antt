@@ -1,22 +1,8 @@
 -- What it says that there is no tree, and where.
-use Rattle.std.specs.Prelude.{◌≡◌, List, [], ◌∷◌, ◌++◌}
-use Rattle.wy_text.specs.declared.token.TokenKind.TheVariants as kind
+use Rattle.std.specs.Prelude.{◌≡◌, List, ◌∷◌, ◌++◌}
 use Rattle.wy_syntax.specs.Tokens.{Tok}
 use Rattle.wy_syntax.specs.Trees.{ItemTree}
 use Rattle.wy_syntax.specs.Grammar.{Spells}
-
--- no token is the end
-abbrev pub NoEnd : List Tok → Type 0
-NoEnd [] = Unit {0}
-NoEnd (x ∷ u) = (x.kind ≡ kind.End → ⊥) × NoEnd u
-
--- the last token and no other is the end
-pub record EndsOnce (ts : List Tok) : Type 0 where
-  pub front : List Tok
-  pub last : Tok
-  pub parts : ts ≡ front ++ last ∷ []
-  pub is : last.kind ≡ kind.End
-  pub before : NoEnd front
 
 -- x is the first token such that no list that spells a tree begins with the tokens up to it and with it
 pub record IsFirstBad (ts : List Tok) (x : Tok) : Type 0 where

@@ -5,6 +5,7 @@ mod copying;
 mod cursor;
 mod expressions;
 mod items;
+pub mod laws;
 mod lines;
 mod lists;
 mod operators;

@@ -6,4 +6,5 @@ pub mod Quoted
 pub mod RuleName
 pub mod Shelf
 pub mod Spelling
+pub mod TokenLists
 pub mod Writing

@@ -1,5 +1,6 @@
-use Rattle.wy_engine.proofs.EndOnce.{ends_once}
 use Rattle.wy_engine.proofs.parsing.parse_file.Goals as goal
 
 pub parse-requires : goal.parse-requires
-parse-requires c = record { ends = rw c.as_slice.ensures.value (ends_once c.in-Ok.tokens.items c.in-Ok.ensures.whole.ends) }
+parse-requires c =
+    let whole = c.in-Ok.ensures.whole in
+    record { ends = rw c.as_slice.ensures.value whole.ends; indents = rw c.as_slice.ensures.value whole.indents; marks = rw c.as_slice.ensures.value whole.marks }
