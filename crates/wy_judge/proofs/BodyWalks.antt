@@ -67,6 +67,7 @@ module _ (p : Program) (k : ℕ) (s : Scope) (c : IsScopeOf p k s) (bodies : Lis
         range = w.range;
         known = λ n h. w.known n (subst (λ (l : List Body). In n (start_vals s.start ++ bodies_vals l)) (sym all) h);
         only = λ n h. subst (λ (l : List Body). In n (start_vals s.start ++ bodies_vals l)) all (w.only n h);
+        ends = w.ends;
       }
 
   pub bodies_walked_end : (old table : Table) (i : ℕ) → length bodies ≤ i → BodiesWalked p k s bodies old table i → BodiesTo p k s old table None

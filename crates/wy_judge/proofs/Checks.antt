@@ -39,7 +39,7 @@ module _ (p : Program) where
   pub checked_goes_on : (k : ℕ) (s : Scope) (c : Checked) → slice_get p.scopes k ≡ Some s → IsChecked p k c → ScopeGoesOn p (record { number = k; scope = s })
   checked_goes_on k s c there h =
       let same : h.scope ≡ s = (let e = sym h.there ∙ there in cc) in
-      subst (λ v. ScopeGoesOn p (record { number = k; scope = v })) same (record { within = h.within; passes = record { locals = _; nodes = h.passes } })
+      subst (λ v. ScopeGoesOn p (record { number = k; scope = v })) same (record { within = h.within; passes = record { locals = _; nodes = h.passes.nodes } })
 
   pub fault_there : (k : ℕ) (s : Scope) (fault : Fault) → slice_get p.scopes k ≡ Some s → ((t : Scope) × (slice_get p.scopes k ≡ Some t) × IsScopeFault p k t fault) → IsScopeFault p k s fault
   fault_there k s fault there h =

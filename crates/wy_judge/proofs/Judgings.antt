@@ -1,8 +1,11 @@
 -- What judging a whole scope comes to, from its four parts: it passes over the types that are known in the end, or the first part that
 -- has a fault gives the scope's.
-use Rattle.std.proofs.Common.{◌≡◌, ℕ, zero, suc, List, [], ◌∷◌, ap, subst, Option, Some, None, map, Bool as Truth}
+use Rattle.std.proofs.Common.{◌≡◌, ℕ, zero, suc, List, [], ◌∷◌, ◌++◌, length, take, ap, subst, Option, Some, None, map, Bool as Truth, arith}
+use Rattle.std.proofs.lemmas.List.{take_all}
 use Rattle.wy_text.specs.declared.fault.Fault.{Fault}
-use Rattle.wy_types.specs.Program.{Program, Scope}
+use Rattle.wy_effects.specs.Members.{In}
+use Rattle.wy_types.specs.Core.{start_vals, bodies_vals, scope_vals}
+use Rattle.wy_types.specs.Program.{Program, Scope, Body}
 use Rattle.wy_rules.specs.Readings.{Reading}
 use Rattle.wy_rules.specs.Typing.{fields_of}
 use Rattle.wy_rules.specs.Acceptance.{scope_reading}
@@ -10,8 +13,9 @@ use Rattle.wy_rules.specs.Nodes.{start_nodes, pure_nodes, seal_nodes, scope_node
 use Rattle.wy_judge.specs.declared.scopes.Judged.TheVariants.{Passes, Fails}
 use Rattle.wy_judge.specs.Outcomes.{pure_fault, ascribed_fault}
 use Rattle.wy_judge.specs.Judged.{NodesJudged, IsSealed}
-use Rattle.wy_judge.specs.Tables.{Table, Agrees}
+use Rattle.wy_judge.specs.Tables.{Table, IsKnown, Agrees}
 use Rattle.wy_judge.specs.Walking.{settled_types, StartsTo, BodiesTo, IsJudged}
+use Rattle.wy_judge.proofs.Rooms.{known_room}
 use Rattle.wy_judge.proofs.Whole.{pure_judged, seal_judged, scope_judged, pure_fails, start_fails, body_fails, scope_fault}
 
 -- the types that are known, in a list of types for all `val`s
@@ -49,7 +53,13 @@ module _ (p : Program) (k : ℕ) (s : Scope) where
 
   pub judged_passes : (a b : Table) (below : Truth) → pure_fault s.kind (fields_of s 0) s.names ≡ None → StartsTo p k s [] a None → BodiesTo p k s a b None → IsSealed p k s s.ascribed below →
       ascribed_fault s.place s.ascribed below ≡ None → IsJudged p k s (Passes (settled_types b))
-  judged_passes a b below pure starts bodies sealed e = all_parts a b below None pure starts bodies sealed e
+  judged_passes a b below pure starts bodies sealed e = record {
+    nodes = all_parts a b below None pure starts bodies sealed e;
+    size =
+        let all : take (length s.bodies) s.bodies ≡ s.bodies = take_all (length s.bodies) s.bodies (omega arith) in
+        let w = subst (λ (l : List Body). ((n : ℕ) → In n (start_vals s.start ++ bodies_vals l) → IsKnown b n) × ((n : ℕ) → IsKnown b n → In n (start_vals s.start ++ bodies_vals l))) all (bodies.walked.known, bodies.walked.only) in
+        known_room b (scope_vals s) w.0 w.1 bodies.walked.ends;
+  }
 
   pub judged_pure : (fault : Fault) → pure_fault s.kind (fields_of s 0) s.names ≡ Some fault → IsJudged p k s (Fails fault)
   judged_pure fault e = scope_fault p k s [] fault (pure_fails p k s [] fault (pure_part [] (Some fault) e))

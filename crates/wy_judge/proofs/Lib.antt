@@ -18,6 +18,7 @@ pub mod Carrying
 pub mod Checks
 pub mod Choosing
 pub mod Contexts
+pub mod Deciding
 pub mod Dropping
 pub mod Ending
 pub mod FirstAndOthers
@@ -33,8 +34,10 @@ pub mod Operating
 pub mod PartVals
 pub mod Programs
 pub mod Putting
+pub mod ReachDecided
 pub mod ReadTypes
 pub mod Refitting
+pub mod Rooms
 pub mod ScopeParts
 pub mod Several
 pub mod Simple

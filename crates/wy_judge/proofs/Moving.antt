@@ -30,6 +30,7 @@ module _ (p : Program) (k : ℕ) (s : Scope) where
     only = λ n i. inl i;
     range = r;
     settled = λ h n i. absurd i;
+    ends = λ known. known;
   }
 
   -- a part of which more is asked before it passes
@@ -39,6 +40,7 @@ module _ (p : Program) (k : ℕ) (s : Scope) where
     only = m.only;
     range = m.range;
     settled = λ h n i. m.settled (f h) n i;
+    ends = m.ends;
   }
 
   -- two parts, one after the other
@@ -54,6 +56,7 @@ module _ (p : Program) (k : ℕ) (s : Scope) where
       | inl first ↦ stays_known b c ys Q n i (m.settled (f h) i first)
       | inr second ↦ n.settled (g h) i second
     ];
+    ends = λ known. n.ends (m.ends known);
   }
 
   -- the first part alone, where the whole does not pass
@@ -63,6 +66,7 @@ module _ (p : Program) (k : ℕ) (s : Scope) where
     only = λ n i. elim (m.only n i) [ inl before ↦ inl before | inr first ↦ inr (In-left n xs ys first) ];
     range = m.range;
     settled = λ h n i. absurd (f h);
+    ends = m.ends;
   }
 
   ------------------------------------------------------------

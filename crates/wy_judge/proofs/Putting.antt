@@ -1,6 +1,5 @@
 -- The type of a `val` put into the table, after what its initialiser made known.
-use Rattle.std.proofs.Common.{◌≡◌, ℕ, zero, suc, ◌<◌, List, [], ◌∷◌, ◌⊎◌, inl, inr, refl, sym, ◌∙◌, ap, subst, Some, length, arith}
-use Rattle.std.proofs.Math.ListN.{set}
+use Rattle.std.proofs.Common.{◌≡◌, ℕ, List, ◌∷◌, ◌⊎◌, inl, inr, sym, subst, Some}
 use Rattle.std.specs.Prelude.{slice_get}
 use Rattle.wy_effects.specs.Members.{In}
 use Rattle.wy_effects.proofs.SetLaws.{cases_equal}
@@ -11,27 +10,6 @@ use Rattle.wy_types.specs.Program.{Program, Scope}
 use Rattle.wy_types.specs.Fitting.{IsTypeOf}
 use Rattle.wy_rules.specs.Readings.{Reading}
 use Rattle.wy_judge.specs.Tables.{Table, IsKnown, Agrees, AllInRange, IsPut, Moves, IsReady}
-
-------------------------------------------------------------
--- A table with one type set
-
-set_here : {X : Type 0} (xs : List X) (n : ℕ) (x : X) → n < length xs → slice_get (set xs n x) n ≡ Some x
-set_here [] n x lt = absurd (omega arith)
-set_here (y ∷ xs) zero x lt = refl
-set_here (y ∷ xs) (suc n) x lt = set_here xs n x (omega arith)
-
-set_other : {X : Type 0} (xs : List X) (n m : ℕ) (x : X) → (m ≡ n → ⊥) → slice_get (set xs n x) m ≡ slice_get xs m
-set_other [] n m x other = refl
-set_other (y ∷ xs) zero zero x other = absurd (other refl)
-set_other (y ∷ xs) zero (suc m) x other = refl
-set_other (y ∷ xs) (suc n) zero x other = refl
-set_other (y ∷ xs) (suc n) (suc m) x other = set_other xs n m x (λ e. other (ap suc e))
-
-pub put_set : (table : Table) (n : ℕ) (t : TypeRef) → n < length table → IsPut table (set table n (Some t)) n t
-put_set table n t lt = record {
-  here = set_here table n (Some t) lt;
-  others = λ m u other. (let same = set_other table n m (Some t) other in (λ e. sym same ∙ e, λ e. same ∙ e));
-}
 
 ------------------------------------------------------------
 -- What is known then
@@ -57,6 +35,7 @@ module _ (p : Program) (k : ℕ) (s : Scope) where
     only = λ n known. elim (m.only n known) [ inl before ↦ inl before | inr inside ↦ inr (among n inside) ];
     range = m.range;
     settled = λ r n i. absurd (never r);
+    ends = m.ends;
   }
 
   put_range : (old new : Table) (n : ℕ) (t : TypeRef) → IsPut old new n t → IsTypeOf p k t → AllInRange p k s old → AllInRange p k s new
@@ -82,6 +61,7 @@ module _ (p : Program) (k : ℕ) (s : Scope) where
       | inl same ↦ (t, subst (λ j. slice_get new j ≡ Some (Some t)) same put.here)
       | inr inside ↦ (let known = m.settled (passes q) i inside in (known.0, put_keeps mid new n t put fresh i known.0 known.1))
     ];
+    ends = λ known. put.ends (m.ends known);
   }
 
   -- a known `val` may be in sight

@@ -23,6 +23,7 @@ module _ (p : Program) (k : ℕ) (s : Scope) (c : IsScopeOf p k s) where
     range = h.moves.range;
     known = λ n i. elim (In-cases n (start_vals s.start) [] i) [ inl there ↦ h.moves.settled tt n there | inr none ↦ absurd none ];
     only = λ n i. elim (h.moves.only n i) [ inl before ↦ absurd (none_known n before) | inr there ↦ In-left n (start_vals s.start) [] there ];
+    ends = h.moves.ends (λ n e. absurd (cc));
   }
 
   ------------------------------------------------------------
@@ -85,4 +86,5 @@ module _ (p : Program) (k : ℕ) (s : Scope) (c : IsScopeOf p k s) where
         ]
         | inr here ↦ In-right n (start_vals s.start) (bodies_vals (take (i + 1) s.bodies)) (vals_here n s.bodies i b e here)
       ];
+      ends = h.moves.ends w.ends;
     }

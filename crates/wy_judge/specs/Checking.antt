@@ -1,26 +1,27 @@
 -- What checking comes to: of a scope by itself, of modules in their turns, and of a whole program.
-use Rattle.std.specs.Prelude.{◌≡◌, ℕ, List, Some, map, slice_get, Bool as Truth, true, false}
+use Rattle.std.specs.Prelude.{◌≡◌, ℕ, List, Some, slice_get, Bool as Truth, true, false}
 use Rattle.wy_text.specs.declared.limit.LimitName.TheVariants.{ReachedTypes}
 use Rattle.wy_types.specs.Program.{Program, Scope}
-use Rattle.wy_rules.specs.Acceptance.{scope_reading, Accepted}
-use Rattle.wy_rules.specs.Nodes.{scope_nodes}
-use Rattle.wy_rules.specs.Failing.{AllPass, IsScopeFault}
+use Rattle.wy_rules.specs.Acceptance.{Accepted}
+use Rattle.wy_rules.specs.Failing.{IsScopeFault}
 use Rattle.wy_rules.specs.Refusals.{Turn, plain_modules, other_modules, Numbered}
 use Rattle.wy_rules.specs.Ends.{limited, refused, ReachesTooMany, IsWithinLimits, FirstEnd, IsEnd}
 use Rattle.wy_judge.specs.declared.checking.Checked.{Checked}
 use Rattle.wy_judge.specs.declared.checking.CheckRefusal.{CheckRefusal}
 use Rattle.wy_judge.specs.declared.checking.CheckRefusal.TheVariants.{Fails, Limit, Memory}
+use Rattle.wy_judge.specs.Walking.{PassesOver}
 
 ------------------------------------------------------------
 -- Scopes
 
--- the scope of a number is within the limit, and every node of it passes over the types of its `val`s
+-- the scope of a number is within the limit, and every node of it passes over the types of its `val`s, which go as far
+-- as the `val` of the greatest number
 pub record IsChecked (p : Program) (k : ℕ) (c : Checked) : Type 0 where
   pub number : c.scope ≡ k
   pub scope : Scope
   pub there : slice_get p.scopes k ≡ Some scope
   pub within : ReachesTooMany p k → ⊥
-  pub passes : AllPass p k scope (map (scope_reading p k scope).read c.locals) (scope_nodes scope)
+  pub passes : PassesOver p k scope c.locals
 
 -- it passes the limit
 abbrev pub IsLimitRefusal : Program → ℕ → CheckRefusal → Type 0

@@ -1,5 +1,5 @@
 -- The types of `val`s that are known so far, by their numbers, and which parts of a scope can be judged over them.
-use Rattle.std.specs.Prelude.{◌≡◌, ℕ, ◌<◌, ◌↔◌, List, ◌⊎◌, Option, Some, None, length, slice_get}
+use Rattle.std.specs.Prelude.{◌≡◌, ℕ, suc, ◌+◌, max, ◌<◌, ◌↔◌, List, [], ◌∷◌, ◌⊎◌, Option, Some, None, length, slice_get}
 use Rattle.wy_effects.specs.Members.{In, Apart}
 use Rattle.wy_types.specs.declared.types.TypeRef.{TypeRef}
 use Rattle.wy_types.specs.declared.code.Variable.{Variable}
@@ -16,6 +16,15 @@ Table = List (Option TypeRef)
 abbrev pub IsKnown : Table → ℕ → Type 0
 IsKnown table n = (t : TypeRef) × (slice_get table n ≡ Some (Some t))
 
+-- a table goes no further than the types that are known
+abbrev pub EndsKnown : Table → Type 0
+EndsKnown table = (n : ℕ) → length table ≡ suc n → IsKnown table n
+
+-- how many types there are room for up to the greatest of these numbers
+abbrev pub room_for : List ℕ → ℕ
+room_for [] = 0
+room_for (n ∷ ns) = max (n + 1) (room_for ns)
+
 -- the same types are known
 abbrev pub IsKept : Table → Table → Type 0
 IsKept old new = (n : ℕ) (t : TypeRef) → slice_get new n ≡ Some (Some t) ↔ (slice_get old n ≡ Some (Some t))
@@ -24,6 +33,7 @@ IsKept old new = (n : ℕ) (t : TypeRef) → slice_get new n ≡ Some (Some t) �
 pub record IsPut (old new : Table) (n : ℕ) (t : TypeRef) : Type 0 where
   pub here : slice_get new n ≡ Some (Some t)
   pub others : (m : ℕ) (u : TypeRef) → (m ≡ n → ⊥) → slice_get new m ≡ Some (Some u) ↔ (slice_get old m ≡ Some (Some u))
+  pub ends : EndsKnown old → EndsKnown new
 
 -- types of all `val`s that go on from those that are known
 abbrev pub Agrees : (y : Reading) → List y.Kind → Table → Type 0
@@ -50,6 +60,7 @@ module _ (p : Program) (k : ℕ) (s : Scope) where
     pub only : (n : ℕ) → IsKnown new n → IsKnown old n ⊎ In n vals
     pub range : AllInRange new
     pub settled : Passes → (n : ℕ) → In n vals → IsKnown new n
+    pub ends : EndsKnown old → EndsKnown new
 
   -- what is in sight is known, and the `val`s of the part, which differ, are not
   pub record IsReady (table : Table) (seen : List Variable) (vals : List ℕ) : Type 0 where

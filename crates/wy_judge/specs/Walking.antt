@@ -6,7 +6,7 @@ use Rattle.wy_types.specs.declared.types.TypeRef.{TypeRef}
 use Rattle.wy_types.specs.declared.types.TypeRef.TheVariants.{Unit as Nothing}
 use Rattle.wy_types.specs.declared.resolved.Body as b
 use Rattle.wy_types.specs.Program.{Program, Scope, Body}
-use Rattle.wy_types.specs.Core.{start_vals, bodies_vals, block_vals}
+use Rattle.wy_types.specs.Core.{start_vals, bodies_vals, block_vals, scope_vals}
 use Rattle.wy_rules.specs.Acceptance.{scope_reading}
 use Rattle.wy_rules.specs.Nodes.{start_nodes, body_nodes, bodies_nodes, scope_nodes}
 use Rattle.wy_rules.specs.Failing.{AllPass, IsScopeFault}
@@ -15,7 +15,7 @@ use Rattle.wy_judge.specs.declared.scopes.Judged.TheVariants.{Passes, Fails}
 use Rattle.wy_judge.specs.Judged.{NodesJudged, BodiesPassed, IsSealed}
 use Rattle.wy_judge.specs.Outcomes.{ascribed_fault}
 use Rattle.wy_judge.specs.Judging.{NoFault}
-use Rattle.wy_judge.specs.Tables.{Table, IsKnown, Agrees, AllInRange, Moves}
+use Rattle.wy_judge.specs.Tables.{Table, EndsKnown, room_for, IsKnown, Agrees, AllInRange, Moves}
 
 -- a list of types for all `val`s: those that are not known have none that matters
 abbrev pub settled : Option TypeRef → TypeRef
@@ -31,6 +31,7 @@ module _ (p : Program) (k : ℕ) (s : Scope) where
     pub range : AllInRange p k s table
     pub known : (n : ℕ) → In n (start_vals s.start ++ bodies_vals (take i s.bodies)) → IsKnown table n
     pub only : (n : ℕ) → IsKnown table n → In n (start_vals s.start ++ bodies_vals (take i s.bodies))
+    pub ends : EndsKnown table
 
   -- the start, and a body: the first failing node of it
   pub record StartsTo (old new : Table) (o : Option Fault) : Type 0 where
@@ -70,9 +71,14 @@ module _ (p : Program) (k : ℕ) (s : Scope) where
   abbrev pub RestTo : Table → Table → Option Fault → Type 0
   RestTo old new o = (bodies : Option Fault) × BodiesTo old new bodies × SealAfter bodies o
 
-  -- a scope whose nodes all pass over these types of its `val`s, or its fault
+  -- every node passes over these types of the `val`s, which go as far as the `val` of the greatest number
+  pub record PassesOver (types : List TypeRef) : Type 0 where
+    pub nodes : AllPass p k s (map (scope_reading p k s).read types) (scope_nodes s)
+    pub size : length types ≡ room_for (scope_vals s)
+
+  -- a scope that passes over the types of its `val`s, or its fault
   abbrev pub IsJudged : Judged → Type 0
-  IsJudged (Passes types) = AllPass p k s (map (scope_reading p k s).read types) (scope_nodes s)
+  IsJudged (Passes types) = PassesOver types
   IsJudged (Fails fault) = IsScopeFault p k s fault
 
 -- .. the scope of a number

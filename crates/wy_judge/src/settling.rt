@@ -1,6 +1,6 @@
 //! The table of the types of `val`s that are known so far, and what names and statements come to over it.
 
-ghost use Rattle.std.specs.Prelude.{◌≡◌, ◌<◌, [], IfOk, OnOk, length};
+ghost use Rattle.std.specs.Prelude.{◌≡◌, ◌+◌, ◌<◌, [], IfOk, OnOk, length, max};
 ghost use Rattle.wy_text.specs.declared.fault.RuleName.TheVariants.{TSeq};
 ghost use Rattle.wy_types.specs.Program.{scope_of};
 ghost use Rattle.wy_types.specs.Core.{HasThis};
@@ -148,6 +148,7 @@ pub fn untyped(place: Place, value: Option<Fault>) -> Step
 /// Makes room for the type of the `val` of a number.
 fn make_room(table: &mut Vec<Option<TypeRef>>, number: usize) -> Result<(), Memory>
     ensures room { OnOk result (number < length table.new.items) }
+    ensures size { OnOk result (length table.new.items ≡ max (length table.old.items) (number + 1)) }
     ensures kept { OnOk result (IsKept table.old.items table.new.items) }
 {
     while table.len() <= number {

@@ -1,35 +1,24 @@
 -- A whole program, once its modules go on: what a limit, a line or its own block make of it.
-use Rattle.std.proofs.Common.{◌≡◌, ℕ, zero, suc, ◌+◌, List, [], ◌∷◌, inl, inr, refl, sym, subst, ◌∙◌, Some, arith}
-use Rattle.std.specs.Prelude.{slice_get}
+use Rattle.std.proofs.Common.{◌≡◌, ℕ, List, inl, inr, sym, subst, ◌∙◌}
 use Rattle.wy_text.specs.declared.fault.Fault.{Fault}
 use Rattle.wy_text.specs.declared.limit.LimitName.{LimitName}
 use Rattle.wy_types.specs.declared.types.TypeRef.{TypeRef}
-use Rattle.wy_types.specs.Program.{Program, Scope}
-use Rattle.wy_rules.specs.Nodes.{lines_nodes}
-use Rattle.wy_rules.specs.Failing.{AllPass, IsLineFault}
-use Rattle.wy_rules.specs.Refusals.{Turn, plain_modules, other_modules, the_program, turn_of, scopes_of, ScopePasses, FirstFault, LinesPassFrom}
-use Rattle.wy_rules.specs.Ends.{ReachesTooMany, StartsTooMany, AllGoOn, SomeReachTooMany, KeepsLimits}
-use Rattle.wy_rules.proofs.Passing.{passing_is_accepted}
+use Rattle.wy_types.specs.Program.{Program}
+use Rattle.wy_rules.specs.Failing.{IsLineFault}
+use Rattle.wy_rules.specs.Refusals.{plain_modules, other_modules, the_program, scopes_of, ScopePasses, FirstFault, LinesPassFrom}
+use Rattle.wy_rules.specs.Ends.{ReachesTooMany, StartsTooMany, AllGoOn, SomeReachTooMany}
 use Rattle.wy_judge.specs.declared.checking.CheckRefusal.{CheckRefusal}
 use Rattle.wy_judge.specs.declared.checking.CheckRefusal.TheVariants.{Fails, Limit, Memory}
 use Rattle.wy_judge.specs.declared.scopes.Judged.TheVariants as judged
 use Rattle.wy_judge.specs.Checking.{IsLimitRefusal, IsAccepted, IsRefusalOf}
 use Rattle.wy_judge.specs.Walking.{IsJudgedAt}
-use Rattle.wy_judge.proofs.Programs.{IsLastAt, each_goes_on}
-use Rattle.wy_judge.proofs.Checks.{its_turn, fault_there}
+use Rattle.wy_judge.proofs.Checks.{fault_there}
+use Rattle.wy_judge.proofs.Deciding.{accepted_by}
+use Rattle.wy_judge.proofs.Programs.{IsLastAt}
 use Rattle.wy_link.specs.declared.linking.LinkRefusal.{LinkRefusal}
 use Rattle.wy_link.specs.declared.linking.LinkRefusal.TheVariants as linking
 use Rattle.wy_link.specs.Linking.{IsLinkRefusal}
 use Rattle.wy_link.specs.Checking.{IsBeforeLines}
-
--- the lines of one scope, where those of all pass
-lines_pass_from : (p : Program) (j : ℕ) (ss : List Scope) → LinesPassFrom p j ss → (i : ℕ) (s : Scope) (n : ℕ) → slice_get ss i ≡ Some s → n ≡ j + i → AllPass p n s [] (lines_nodes s.names)
-lines_pass_from p j [] h i s n there e = cc
-lines_pass_from p j (t ∷ ss) h zero s n there e =
-    let same : t ≡ s = cc in
-    let number : j ≡ n = omega arith in
-    subst (λ v. AllPass p v s [] (lines_nodes s.names)) number (subst (λ (v : Scope). AllPass p j v [] (lines_nodes v.names)) same h.0)
-lines_pass_from p j (t ∷ ss) h (suc i) s n there e = lines_pass_from p (j + 1) ss h.1 i s n there (omega arith)
 
 module _ (p : Program) (k : ℕ) (last : IsLastAt p k) where
   ------------------------------------------------------------
@@ -68,20 +57,8 @@ module _ (p : Program) (k : ℕ) (last : IsLastAt p k) where
     block_passes : (types : List TypeRef) → IsJudgedAt p k (judged.Passes types) → ScopePasses p k last.scope
     block_passes types h =
         let same : h.0 ≡ last.scope = (let e = sym h.1 ∙ last.there in cc) in
-        subst (ScopePasses p k) same (record { locals = _; nodes = h.2 })
+        subst (ScopePasses p k) same (record { locals = _; nodes = h.2.nodes })
 
     pub all_accepted : LinesPassFrom p 0 p.scopes → (types : List TypeRef) → IsJudgedAt p k (judged.Passes types) → IsAccepted p
     all_accepted lines types h =
-        let all = λ (turn : Turn). elim turn as (λ v. AllGoOn p (scopes_of v 0 p.scopes)) [
-          | plain_modules ↦ before.plain
-          | other_modules ↦ before.others
-          | the_program ↦ subst (AllGoOn p) (sym last.alone) (record { within = program_within; passes = block_passes types h }, tt)
-        ] in
-        let goes_on = λ (i : ℕ) (t : Scope) (at : slice_get p.scopes i ≡ Some t). each_goes_on p (turn_of t.kind) (all (turn_of t.kind)) i t at (its_turn t.kind) in
-        record {
-          accepted = passing_is_accepted p (record {
-            bodies = λ i t at. (let passes = (goes_on i t at).passes in (passes.locals, passes.nodes));
-            lines = λ i t at. lines_pass_from p 0 p.scopes lines i t i at (omega arith);
-          });
-          within = record { types = λ i t at. (goes_on i t at).within; instances = before.limits.1 };
-        }
+        accepted_by p before.plain before.others (subst (AllGoOn p) (sym last.alone) (record { within = program_within; passes = block_passes types h }, tt)) lines before.limits.1
