@@ -5,16 +5,8 @@ ghost use Rattle.wy_layout.specs.Gives.{within_of, IsCalm};
 ghost use Rattle.wy_layout.specs.Words.{fits};
 
 use crate::refusal::Fault;
+use wy_text::limit::{MOST_MARKS, MOST_TOKENS};
 use wy_text::token::TokenKind;
-
-/// The most tokens of a file.
-pub const MOST_TOKENS: usize = 262_144;
-
-/// The most open widths, but for 0.
-pub const MOST_INDENTS: usize = 64;
-
-/// The most marks of a line.
-pub const MOST_MARKS: usize = 128;
 
 /// The tokens of the file so far, and the marks and the open braces of the line.
 #[derive(Clone, Copy)]

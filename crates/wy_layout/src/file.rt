@@ -13,11 +13,8 @@ use crate::row::{first_row, place_at};
 use crate::widths::rank;
 use std::alloc::Global;
 use wy_text::fault::Place;
-use wy_text::limit::LimitName;
+use wy_text::limit::{LimitName, MOST_FILE_BYTES};
 use wy_text::token::Token;
-
-/// The most bytes of a file.
-const MOST_FILE_BYTES: usize = 1_048_576;
 
 /// The tokens of a text.
 fn lex_text(alloc: Global, file: u16, text: &[u8]) -> Result<Vec<Token>, Halt>

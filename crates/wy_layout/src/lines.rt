@@ -8,12 +8,12 @@ ghost use Rattle.wy_layout.specs.Lexed.{end_of, lex_lines, line_out, sooner, wit
 ghost use Rattle.wy_layout.specs.Lines as lines;
 ghost use Rattle.wy_layout.specs.Outs.{GivesAdded, GivesEnd, GivesLines, GivesOut, Halts, line_of, step_is};
 
-use crate::count::MOST_TOKENS;
 use crate::line::{Halt, is_done, line_tokens, push_token, token};
 use crate::refusal::Fault;
 use crate::row::{Row, next_row};
 use crate::widths::{Before, mark_count, next_line, opening, rank};
 use std::alloc::Global;
+use wy_text::limit::MOST_TOKENS;
 use wy_text::token::{Token, TokenKind};
 
 fn after_spaces(text: &[u8]) -> &[u8]

@@ -5,8 +5,8 @@ ghost use Rattle.wy_layout.specs.Lexed.{stack_after};
 ghost use Rattle.wy_layout.specs.Outs.{step_is};
 ghost use Rattle.wy_layout.specs.Widths.{step_of};
 
-use crate::count::{MOST_INDENTS, MOST_TOKENS};
 use crate::refusal::Fault;
+use wy_text::limit::{MOST_INDENTS, MOST_TOKENS};
 use wy_text::text::Memory;
 
 /// What stands before a line: an In, so many Outs, or so many Outs behind which the width is not open.

@@ -11,11 +11,9 @@ use crate::kinds::{one_kind, reserved_kind, two_kind};
 use crate::names::{first_len, starts};
 use crate::refusal::Fault;
 use std::alloc::Global;
+use wy_text::limit::MOST_NAME_BYTES;
 use wy_text::text::{Memory, from_bytes, from_vec};
 use wy_text::token::TokenKind;
-
-/// The longest name, in bytes.
-const MOST_NAME_BYTES: usize = 64;
 
 /// Why there is no word: what is wrong, and the text from there on; or want of memory.
 #[derive(Drop)]

@@ -4,6 +4,9 @@ ghost use Rattle.wy_text.specs.LimitName.{limit_text, limit_number};
 /// The most bytes of a file.
 pub const MOST_FILE_BYTES: usize = 1_048_576;
 
+/// The most bytes of a name.
+pub const MOST_NAME_BYTES: usize = 64;
+
 /// The most tokens of a file.
 pub const MOST_TOKENS: usize = 262_144;
 
@@ -86,7 +89,7 @@ impl LimitName {
         match self {
             LimitName::Files => 64,
             LimitName::FileBytes => MOST_FILE_BYTES as u64,
-            LimitName::NameBytes => 64,
+            LimitName::NameBytes => MOST_NAME_BYTES as u64,
             LimitName::Tokens => MOST_TOKENS as u64,
             LimitName::Indents => MOST_INDENTS as u64,
             LimitName::Marks => MOST_MARKS as u64,
