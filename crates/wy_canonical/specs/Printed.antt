@@ -27,7 +27,7 @@ pub record HasTreeAgain (file : ℕ) (bs : List ℕ) (items : List ItemTree) : T
   pub has_tree : HasTree file bs tree
   pub same : unplaced tree ≡ unplaced items
 
--- the canonical form of a file's tree has the same tree, or it passes a limit: nothing else is wrong in it
+-- the canonical form of a file's tree has the same tree, or a limit comes first in it
 abbrev pub PrintedOrLimited : Type 0
 PrintedOrLimited = (file file' : ℕ) (bs : List ℕ) (items : List ItemTree) → HasTree file bs items →
     HasTreeAgain file' (canonical_form items) items ⊎ ((limit : LimitName) × IsLimit file' (canonical_form items) limit)

@@ -5,8 +5,8 @@
 ghost use Rattle.wy_canonical.specs.OwnWords.{TreesHaveWords};
 ghost use Rattle.wy_canonical.specs.Printed.{PrintedAgain, PrintedOrLimited, PrintedTrees, TokensWithinLimits};
 
-/// The canonical form of a file's tree has tokens that spell the same tree but for places, or it passes a limit of
-/// layout: nothing else is wrong in it.
+/// The canonical form of a file's tree has tokens that spell the same tree but for places, or a limit of layout comes
+/// first in it.
 pub fn printed_or_limited()
     ensures { PrintedOrLimited }
 {}
