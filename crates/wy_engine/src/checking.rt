@@ -23,7 +23,7 @@ use wy_syntax::items::Tree;
 use wy_text::sink::Sink;
 use wy_text::text::{Memory, Text};
 use wy_types::resolved::Core;
-use wy_well_formed::resolved_is_core;
+use wy_well_formed::resolved_is_kept;
 
 /// A program that is accepted, with its links.
 #[derive(Drop)]
@@ -50,7 +50,7 @@ pub fn judge_trees(alloc: Global, trees: &[Tree]) -> Result<Accepted, Status>
     ensures accepted { IfOk result (λ a. IsCheckedProgram (program_of a.core) a.links) }
     ensures fails { IfErr result (λ end. FailsCheck (map file_tree trees.now) end) }
 {
-    resolved_is_core();
+    resolved_is_kept();
     let core = match resolve(alloc, trees) {
         Ok(core) => core,
         Err(why) => return Err(names_status(why)),

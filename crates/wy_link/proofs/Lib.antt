@@ -4,6 +4,7 @@ pub mod MemberSets
 pub mod Premises
 pub mod Programs
 pub mod Ranges
+pub mod Rooms
 pub mod ScopeKinds
 pub mod Trying
 pub mod Visits

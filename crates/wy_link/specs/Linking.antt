@@ -1,10 +1,13 @@
 -- The start list of a program.
-use Rattle.std.specs.Prelude.{◌≡◌, ◌<◌, ◌≤◌, List, [], ◌∷◌, ◌++◌, length, Result, Ok, Err}
+use Rattle.std.specs.Prelude.{◌≡◌, ℕ, ◌+◌, ◌<◌, ◌≤◌, List, [], ◌∷◌, ◌++◌, length, Result, Ok, Err}
 use Rattle.wy_text.specs.declared.limit.LimitName.TheVariants.{Instances}
 use Rattle.wy_types.specs.Program.{Program}
 use Rattle.wy_types.specs.declared.linked.Instance.{Instance}
 use Rattle.wy_types.specs.declared.linked.Actual.TheVariants as actual
-use Rattle.wy_types.specs.Ground.{Visited, start_list, program_sets}
+use Rattle.wy_types.specs.declared.resolved.Origin.{Origin}
+use Rattle.wy_types.specs.declared.resolved.Origin.TheVariants.{Parameter, Grant, Use, Instance as InstanceLine, Import}
+use Rattle.wy_types.specs.declared.resolved.OwnName.{OwnName}
+use Rattle.wy_types.specs.Ground.{Visited, members_of, start_list, program_sets}
 use Rattle.wy_rules.specs.Ends.{StartsTooMany}
 use Rattle.wy_link.specs.declared.linking.Links.{Links}
 use Rattle.wy_link.specs.declared.linking.Settled.{Settled}
@@ -20,6 +23,34 @@ pub record IsLinked (p : Program) (l : Links) : Type 0 where
 abbrev pub IsLinkRefusal : Program → LinkRefusal → Type 0
 IsLinkRefusal p (Limit name) = (name ≡ Instances) × StartsTooMany p
 IsLinkRefusal p Memory = Unit {0}
+
+------------------------------------------------------------
+-- Room for grants
+
+module _ (p : Program) where
+  -- the own name can be settled where so many own names and sets are settled before it: a grant has a number and its atoms have, and a line is of a module
+  abbrev pub CanSettle : OwnName → Origin → ℕ → ℕ → Type 0
+  CanSettle n (Parameter bare) names sets = Unit {0}
+  CanSettle n Grant names sets = (names < 65536) × (sets + length (members_of p n.typ) ≤ 512)
+  CanSettle n (Use m) names sets = Unit {0}
+  CanSettle n (InstanceLine m arguments) names sets = m + 1 < length p.scopes
+  CanSettle n (Import m arguments bound) names sets = m + 1 < length p.scopes
+
+  -- .. and then the rest: behind a grant by the numbers that it leaves, and behind another name whatever numbers are settled by then
+  abbrev pub CanSettleRest : OwnName → Origin → (ℕ → ℕ → Type 0) → ℕ → ℕ → Type 0
+  CanSettleRest n (Parameter bare) rest names sets = (a s : ℕ) → rest a s
+  CanSettleRest n Grant rest names sets = rest (names + 1) (sets + length (members_of p n.typ))
+  CanSettleRest n (Use m) rest names sets = (a s : ℕ) → rest a s
+  CanSettleRest n (InstanceLine m arguments) rest names sets = (a s : ℕ) → rest a s
+  CanSettleRest n (Import m arguments bound) rest names sets = (a s : ℕ) → rest a s
+
+  -- so it is for own names one after the other
+  abbrev pub CanSettleAll : List OwnName → ℕ → ℕ → Type 0
+  CanSettleAll [] names sets = Unit {0}
+  CanSettleAll (n ∷ ns) names sets = CanSettle n n.origin names sets × CanSettleRest n n.origin (CanSettleAll ns) names sets
+
+------------------------------------------------------------
+-- Visits
 
 -- what visits have come to: the instances so far, and what is settled of the scope that is visited
 abbrev pub visited : List Instance → Settled → Visited

@@ -4,6 +4,7 @@
 ghost use Rattle.std.specs.Prelude.{◌≡◌, ◌-◌, length, OnOk, IfOk, IfErr};
 ghost use Rattle.wy_types.specs.Program.{program_of};
 ghost use Rattle.wy_types.specs.Core.{IsCore};
+ghost use Rattle.wy_rules.specs.Resolved.{CoreKeeps};
 ghost use Rattle.wy_judge.specs.Checking.{IsAccepted, IsRefusalOf};
 ghost use Rattle.wy_link.specs.Checking.{IsBeforeLines, IsCheckedProgram};
 
@@ -38,7 +39,7 @@ fn check_rest(alloc: Global, core: &Core, last: u16) -> Result<(), CheckRefusal>
 /// are given; else the refusal is the first one's, `Fails` with a fault or `Limit` (docs/LANGUAGE.md, "First failing
 /// node" and "Limits").
 pub fn check(alloc: Global, core: &Core) -> Result<Links, CheckRefusal>
-    requires { IsCore (program_of core.now) }
+    requires { CoreKeeps (program_of core.now) }
     ensures accepted { IfOk result (λ l. IsCheckedProgram (program_of core.now) l) }
     ensures refusal { IfErr result (λ r. IsRefusalOf (program_of core.now) r) }
 {

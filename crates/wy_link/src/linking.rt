@@ -1,14 +1,15 @@
 //! Start order: the instances of a program in the order in which they start, each with its ground sets
 //! (docs/LANGUAGE.md, "Start order and ground sets").
 
-ghost use Rattle.std.specs.Prelude.{◌≡◌, ◌≤◌, ◌++◌, ◌∷◌, [], length, map, codes, slice_get, slice_index_or, Some, None, OnOk, IfOk, IfErr};
+ghost use Rattle.std.specs.Prelude.{◌≡◌, ◌+◌, ◌<◌, ◌≤◌, ◌++◌, ◌∷◌, [], length, map, codes, slice_get, slice_index_or, Some, None, OnOk, IfOk, IfErr};
 ghost use Rattle.std.specs.Option.{option_copied};
 ghost use Rattle.wy_effects.specs.EffSet.{replace};
 ghost use Rattle.wy_types.specs.declared.linked.Actual.TheVariants as actual;
 ghost use Rattle.wy_types.specs.Program.{program_of};
 ghost use Rattle.wy_types.specs.Core.{IsCore};
 ghost use Rattle.wy_types.specs.Ground.{arguments_sets, members_of, names_of, visit, visit_name, used, lined, number_from, single_sets, defined_sets, definitions_of, instance_of, program_number, uses_among, ground_sets};
-ghost use Rattle.wy_link.specs.Linking.{IsLinked, IsLinkRefusal, ComesTo, visited, with_instance};
+ghost use Rattle.wy_rules.specs.Resolved.{CoreKeeps};
+ghost use Rattle.wy_link.specs.Linking.{IsLinked, IsLinkRefusal, ComesTo, CanSettle, CanSettleAll, visited, with_instance};
 
 use crate::members::{arguments_sets, members_of, names_of};
 use std::alloc::Global;
@@ -61,14 +62,11 @@ struct Settled {
 
 /// Adds a set for each member, of one atom each. The atoms are counted on from the number of sets.
 fn add_single_sets(alloc: Global, sets: &mut SetList, members: &[Text]) -> Result<(), Memory>
+    requires { length sets.old + length members.now ≤ 512 }
     ensures { OnOk result (sets.new ≡ sets.old ++ single_sets (length sets.old) members.now) }
 {
     for _member in members {
         let number = sets.len();
-        // a program has at most 512 atoms: only a core that no text gives has more
-        if number >= 512 {
-            return Err(Memory);
-        }
         let mut set = EffSet::empty(alloc);
         set.insert(Atom(number as u16))?;
         sets.push(set)?;
@@ -78,14 +76,13 @@ fn add_single_sets(alloc: Global, sets: &mut SetList, members: &[Text]) -> Resul
 
 /// Settles a grant: it stands for itself, and each of its atoms too.
 fn settle_grant(alloc: Global, core: &Core, name: &OwnName, own: &mut Settled) -> Result<(), Memory>
+    requires number { length own.old.actuals < 65536 }
+    requires atoms { length own.old.sets + length (members_of (program_of core.now) name.now.typ) ≤ 512 }
     ensures actuals { OnOk result (own.new.actuals ≡ own.old.actuals ++ actual.Grant (length own.old.actuals) ∷ []) }
     ensures sets { OnOk result (own.new.sets ≡ own.old.sets ++ single_sets (length own.old.sets) (members_of (program_of core.now) name.now.typ)) }
 {
-    // a program has at most 64 grants, which stand first: only a core that no text gives has this one so late
-    let Ok(number) = u16::try_from(own.actuals.len()) else {
-        return Err(Memory);
-    };
-    own.actuals.push(Actual::Grant(number))?;
+    let number = own.actuals.len();
+    own.actuals.push(Actual::Grant(number as u16))?;
     add_single_sets(alloc, &mut own.sets, members_of(core, &name.typ))
 }
 
@@ -272,7 +269,9 @@ fn visit(
     started: &mut Linked,
     own: &mut Settled,
 ) -> Result<(), LinkRefusal>
-    requires { length started.old ≤ 1024 }
+    requires core { IsCore (program_of core.now) }
+    requires few { length started.old ≤ 1024 }
+    requires room { CanSettleAll (program_of core.now) outer.now (length own.old.actuals) (length own.old.sets) }
     ensures { ComesTo (visit (program_of core.now) scopes outer.now prefix.now outer.now (visited started.old own.old)) started.new own.new result }
 {
     if scopes == 0 {
@@ -297,7 +296,9 @@ fn visit_name(
     started: &mut Linked,
     own: &mut Settled,
 ) -> Result<(), LinkRefusal>
-    requires { length started.old ≤ 1024 }
+    requires core { IsCore (program_of core.now) }
+    requires few { length started.old ≤ 1024 }
+    requires room { CanSettle (program_of core.now) name.now name.now.origin (length own.old.actuals) (length own.old.sets) }
     ensures { ComesTo (visit_name (program_of core.now) (visit (program_of core.now) scopes) outer.now prefix.now name.now name.now.origin (visited started.old own.old)) started.new own.new result }
 {
     match &name.origin {
@@ -391,7 +392,7 @@ fn program_names(core: &Core) -> &[OwnName]
 /// The instances of a program in start order, whether or not the rules for its lines hold. `Limit` comes exactly
 /// where there are more than 1,024 (docs/LANGUAGE.md, "Start order and ground sets" and "Limits").
 pub fn link(alloc: Global, core: &Core) -> Result<Links, LinkRefusal>
-    requires { IsCore (program_of core.now) }
+    requires { CoreKeeps (program_of core.now) }
     ensures links { IfOk result (λ l. IsLinked (program_of core.now) l) }
     ensures refusal { IfErr result (λ r. IsLinkRefusal (program_of core.now) r) }
 {

@@ -8,7 +8,7 @@ pub returns-in_err-keep_limit-clause-refusal : goal.returns-in_err-keep_limit-cl
 returns-in_err-keep_limit-clause-refusal c =
     let p = program_of c.args.core.now in
     let same : length c.args.core.now.scopes - 1 ≡ c.len.result - 1 = omega arith in
-    let last = subst (IsLastAt p) same (last_of c.args.core.now c.requires) in
+    let last = subst (IsLastAt p) same (last_of c.args.core.now c.requires.core) in
     let e : c.from_residual-in_err-keep_limit.result ≡ Err c.in_err-keep_limit.field-0.0 = search rules in
     rw e (types_refused p _ last c.in_ok-check_modules.ensures.all c.in_ok-check_modules-2.ensures.all c.in_err-keep_limit.field-0.0 c.in_err-keep_limit.ensures.refusal)
 
@@ -16,12 +16,12 @@ pub returns-in-Err-Limit-clause-refusal : goal.returns-in-Err-Limit-clause-refus
 returns-in-Err-Limit-clause-refusal c =
     let p = program_of c.args.core.now in
     let same : length c.args.core.now.scopes - 1 ≡ c.len.result - 1 = omega arith in
-    let last = subst (IsLastAt p) same (last_of c.args.core.now c.requires) in
+    let last = subst (IsLastAt p) same (last_of c.args.core.now c.requires.core) in
     rw c.in-Err-Limit.name-is (instances_refused p _ last c.in_ok-check_modules.ensures.all c.in_ok-check_modules-2.ensures.all _ c.in-Err-Limit.field-0 c.in-Err-Limit.field-0-is c.in_ok-keep_limit.ensures.within c.in-Err-Limit.ensures.refusal)
 
 pub check_rest-requires-clause-before : goal.check_rest-requires-clause-before
 check_rest-requires-clause-before c =
     let p = program_of c.args.core.now in
     let same : length c.args.core.now.scopes - 1 ≡ c.len.result - 1 = omega arith in
-    let last = subst (IsLastAt p) same (last_of c.args.core.now c.requires) in
+    let last = subst (IsLastAt p) same (last_of c.args.core.now c.requires.core) in
     before_lines p _ last c.in_ok-check_modules.ensures.all c.in_ok-check_modules-2.ensures.all c.in_ok-keep_limit.ensures.within (λ many. (let few = c.in-Ok.ensures.links.few in omega arith))

@@ -1,9 +1,10 @@
-use Rattle.std.proofs.Common.{◌≡◌, ◌-◌, Err, rules, sym, subst}
+use Rattle.std.proofs.Common.{◌≡◌, ◌-◌, Err, length, rules, sym, subst}
 use Rattle.std.specs.Prelude.{Result}
 use Rattle.wy_types.specs.Program.{program_of}
 use Rattle.wy_types.specs.Ground.{visit, visit_name}
 use Rattle.wy_link.specs.declared.linking.LinkRefusal.{LinkRefusal}
-use Rattle.wy_link.specs.Linking.{ComesTo, visited}
+use Rattle.wy_link.specs.Linking.{ComesTo, CanSettle, visited}
+use Rattle.wy_link.proofs.Rooms.{next_visited, next_room, module_room_of}
 use Rattle.wy_link.proofs.Visits.{name_refused, instance_comes, instance_refused, import_comes, import_refused}
 use Rattle.wy_link.proofs.linking.+visiting.Goals as goal
 
@@ -68,3 +69,35 @@ visit_name-returns-in_ok-line-in-Import t c =
     (c.in_ok-inner-in-Import.ensures.actuals) (c.in_ok-inner-in-Import.ensures.sets)
     c.visit-in-Import.new.started c.settle_import.new.started c.visit-in-Import.new.own c.settle_import.new.own n.origin c.in-Import.bound c.settle_import.result c.in_ok-line-in-Import.line c.in_ok-line-in-Import.ensures c.in-Import.is
     c.in_ok-visit-in-Import.ensures.0 c.settle_import.ensures
+
+pub visit-loop-name-preserved : goal.visit-loop-name-preserved
+visit-loop-name-preserved t c =
+    let p = program_of c.args.core.now in
+    let inside = visit p (c.args.scopes - 1) in
+    let v = visited c.loop-name.started c.loop-name.own in
+    let w = visited c.visit_name.new.started c.visit_name.new.own in
+    let done = c.in_ok-visit_name.ensures in (
+      next_visited p inside c.args.outer.now c.args.prefix.now c.loop-name.name-index c.name-item.result v w _ c.loop-name-test.true c.name-item.is c.loop-name.invariant.0 done.0,
+      done.1,
+      next_room p inside c.args.outer.now c.args.prefix.now c.loop-name.name-index c.name-item.result v w c.loop-name-test.true c.name-item.is c.loop-name.invariant.2 done.0,
+    )
+
+pub visit_name-visit-requires : goal.visit_name-visit-requires
+visit_name-visit-requires t c =
+    let p = program_of c.args.core.now in
+    let n = c.args.name.now in
+    let own = c.args.own.now in
+    let of = subst (λ o. CanSettle p n o (length own.actuals) (length own.sets)) c.in-Instance.is c.requires.room in
+    let inner = c.in_ok-inner-in-Instance.inner in
+    let room = module_room_of p c.requires.core c.in-Instance.module c.names_of-names.result.now (length inner.actuals) (length inner.sets) of c.names_of-names.ensures in
+    (search rules, (c.requires.core, (c.requires.few, room)))
+
+pub visit_name-visit-requires-in-Import : goal.visit_name-visit-requires-in-Import
+visit_name-visit-requires-in-Import t c =
+    let p = program_of c.args.core.now in
+    let n = c.args.name.now in
+    let own = c.args.own.now in
+    let of = subst (λ o. CanSettle p n o (length own.actuals) (length own.sets)) c.in-Import.is c.requires.room in
+    let inner = c.in_ok-inner-in-Import.inner in
+    let room = module_room_of p c.requires.core c.in-Import.module c.names_of-names-in-Import.result.now (length inner.actuals) (length inner.sets) of c.names_of-names-in-Import.ensures in
+    (search rules, (c.requires.core, (c.requires.few, room)))
