@@ -15,7 +15,7 @@ use crate::members::{arguments_sets, members_of, names_of};
 use std::alloc::Global;
 use wy_effects::atom::Atom;
 use wy_effects::set::{EffSet, SetList, substitute_sets};
-use wy_text::limit::LimitName;
+use wy_text::limit::{LimitName, MOST_INSTANCES};
 use wy_text::list::Items;
 use wy_text::text::{Memory, Text, from_bytes};
 use wy_types::linked::{Actual, ActualList, Instance, Linked};
@@ -163,7 +163,7 @@ fn add_instance(
     ensures { ComesTo (with_instance (visited started.old own.old) (instance_of name scope inner.actuals bound inner.sets)) started.new own.new result }
 {
     let number = started.len();
-    if number >= 1024 {
+    if number >= MOST_INSTANCES {
         return Err(LinkRefusal::Limit(LimitName::Instances));
     }
     started.push(Instance {
