@@ -5,7 +5,7 @@ use Rattle.wy_effects.specs.Members.{Apart}
 use Rattle.wy_types.specs.Program.{Program}
 use Rattle.wy_canonical.specs.OwnWords as files
 use Rattle.wy_names.specs.Declarations.{all_items}
-use Rattle.wy_well_formed.specs.OwnWords.{HaveWords}
+use Rattle.wy_syntax.specs.OwnWords.{HaveWords}
 use Rattle.wy_well_formed.specs.WellFormed.{ResolvedGrantsStandFirst, ResolvedIsCore, ResolvedMakesOnce, ResolvedModulesCaptureNothing, ResolvedNamesAreOrdinary, ResolvedNamesAreWords, ResolvedNamesFit}
 use Rattle.wy_rules.specs.OwnNames.{HasOrdinaryNames}
 use Rattle.wy_lower.specs.Laws.{MakesOnce}
