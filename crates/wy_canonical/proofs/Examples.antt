@@ -9,7 +9,7 @@ use Rattle.wy_syntax.specs.Tokens.{Tok}
 use Rattle.wy_syntax.specs.Trees.{ExprTree, name, text, yes, no, call, none, more, value, run, no_stmts, more_stmts, long, ItemTree, type_item, program_item}
 use Rattle.wy_syntax.specs.Canonical.{canonical_form}
 use Rattle.wy_canonical.specs.Unplaced.{unplaced}
-use Rattle.wy_canonical.specs.OwnWords.{IsWord, HasWords}
+use Rattle.wy_syntax.specs.OwnWords.{IsWord, HasWords}
 
 abbrev at : ℕ → ℕ → Place
 at line column = record { file = 1; line = line; column = column }

@@ -10,7 +10,8 @@ use Rattle.wy_syntax.specs.Tokens.{Tok, tok_of, toks}
 use Rattle.wy_syntax.specs.Trees.{ItemTree}
 use Rattle.wy_syntax.specs.Languages.{Each}
 use Rattle.wy_syntax.specs.Grammar.{SpellsItem}
-use Rattle.wy_canonical.specs.OwnWords.{IsWord, AreWords, HaveWords, TreesHaveWords}
+use Rattle.wy_syntax.specs.OwnWords.{IsWord, AreWords, HaveWords}
+use Rattle.wy_canonical.specs.OwnWords.{TreesHaveWords}
 use Rattle.wy_canonical.proofs.PrintedNames.{name_unbroken}
 use Rattle.wy_canonical.proofs.Source.{Fair, AllFair, lexed_fair}
 use Rattle.wy_canonical.proofs.Printing.{fair_front, fair_back}

@@ -3,6 +3,7 @@ pub mod ExprGrammar
 pub mod Grammar
 pub mod Languages
 pub mod Nodes
+pub mod OwnWords
 pub mod Printing
 pub mod StmtGrammar
 pub mod Tokens

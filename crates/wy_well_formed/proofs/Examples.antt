@@ -27,7 +27,7 @@ use Rattle.wy_types.specs.Ground.{single_sets}
 use Rattle.wy_types.specs.Core.{literal_captures}
 use Rattle.wy_rules.specs.OwnNames.{opened_count, HasItsType, HaveTheirTypes, IsPlainName, GrantsStandFirst, ModulesCaptureNothing}
 use Rattle.wy_rules.specs.News.{scope_news}
-use Rattle.wy_well_formed.specs.OwnWords.{IsWord}
+use Rattle.wy_syntax.specs.OwnWords.{IsWord}
 
 nowhere : Place
 nowhere = record { file = 0; line = 0; column = 0 }

@@ -14,7 +14,7 @@ use Rattle.wy_syntax.specs.TypeGrammar.{SpellsModuleParam}
 use Rattle.wy_syntax.specs.Grammar.{SpellsUse, SpellsLine, SpellsGrant, SpellsInside, SpellsItem}
 use Rattle.wy_names.specs.TypeUses.{param_names}
 use Rattle.wy_names.specs.Scopes.{grant_names, line_words}
-use Rattle.wy_well_formed.specs.OwnWords.{IsWord, AreWords, HasWords}
+use Rattle.wy_syntax.specs.OwnWords.{IsWord, AreWords, HasWords}
 
 abbrev pub own_words : ItemTree → List Name
 own_words (type_item d) = []

@@ -14,7 +14,7 @@ use Rattle.wy_names.specs.Atoms.{heads_of}
 use Rattle.wy_names.specs.Scopes.{module_within, program_within, scope_of_module, scope_of_program}
 use Rattle.wy_names.specs.Sight.{outermost, inside}
 use Rattle.wy_names.specs.Bodies.{Within, at_start, literal_of, parts_literals, parts_bodies, tail_literals, tail_bodies}
-use Rattle.wy_well_formed.specs.OwnWords.{HasWords, HaveWords}
+use Rattle.wy_syntax.specs.OwnWords.{HasWords, HaveWords}
 use Rattle.wy_well_formed.specs.WellFormed.{ResolvedNamesAreOrdinary}
 use Rattle.wy_well_formed.proofs.EachScope.{each_scope}
 use Rattle.wy_well_formed.proofs.NamesAreWords.{no_stop, own_names}

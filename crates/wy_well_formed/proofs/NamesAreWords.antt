@@ -15,7 +15,7 @@ use Rattle.wy_names.specs.TypeUses.{param_names}
 use Rattle.wy_names.specs.Lines.{param_name, grant_name}
 use Rattle.wy_names.specs.Names.{Resolves}
 use Rattle.wy_names.specs.Scopes.{grant_names, line_words, param_scope, module_own, module_atoms, early_owners, program_scope, program_own, program_atoms, grant_owners}
-use Rattle.wy_well_formed.specs.OwnWords.{IsWord, HaveWords}
+use Rattle.wy_syntax.specs.OwnWords.{IsWord, HaveWords}
 use Rattle.wy_well_formed.specs.WellFormed.{ResolvedNamesAreWords}
 use Rattle.wy_well_formed.proofs.EachScope.{each_scope}
 use Rattle.wy_well_formed.proofs.OwnApart.{own_texts, param_texts, grant_texts, all_texts}

@@ -1,2 +1,1 @@
-pub mod OwnWords
 pub mod WellFormed

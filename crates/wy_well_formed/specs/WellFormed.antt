@@ -8,7 +8,7 @@ use Rattle.wy_types.specs.Ground.{names_of, program_number}
 use Rattle.wy_rules.specs.OwnNames.{LinesAreTyped, HavePlainNames, HasOrdinaryNames, GrantsStandFirst, ModulesCaptureNothing}
 use Rattle.wy_names.specs.Names.{Resolves}
 use Rattle.wy_rules.specs.Resolved.{MakesOnce, CoreKeeps, IsResolved}
-use Rattle.wy_well_formed.specs.OwnWords.{HaveWords}
+use Rattle.wy_syntax.specs.OwnWords.{HaveWords}
 
 -- names that resolve make a core
 abbrev pub ResolvedIsCore : Type 0
