@@ -1,4 +1,5 @@
-ghost use Rattle.std.specs.Prelude.{◌≡◌, ◌<◌};
+ghost use Rattle.std.specs.Prelude.{◌≡◌, ◌<◌, ◌≤◌, true, IfOk};
+ghost use Rattle.wy_types.specs.Fitting.{IsTypeOf};
 
 use crate::ranges::{is_in_range, type_fits};
 use std::alloc::Global;
@@ -371,5 +372,74 @@ fn a_table_unfolds_each_pair_once(rt: HostRuntime) -> Result<(), Fail> {
         (true, 4),
     ]?;
     assert!(rt; answers(alloc, &core, asked.as_slice())? == Some(yes));
+    Ok(())
+}
+
+/// Asks a table for a pair, and counts steps: the answer, and whether no pair was unfolded for it. Then no step was
+/// counted.
+fn asked_of_table<L: Ledger>(
+    table: &mut PairTable<'_>,
+    s: &TypeRef,
+    t: &TypeRef,
+    steps: &mut Steps<L>,
+) -> Result<(bool, bool), Memory>
+    requires left { IsTypeOf table.old.about.program table.old.about.scope s.now }
+    requires right { IsTypeOf table.old.about.program table.old.about.scope t.now }
+    ensures none { IfOk result (λ r. r.1 ≡ true → steps.new ≤ steps.old) }
+    ensures same { table.new.about ≡ table.old.about }
+{
+    let before = table.pairs();
+    let verdict = table.decide(s, t, steps)?;
+    let holds = matches!(verdict, Verdict::Yes);
+    Ok((holds, table.pairs() == before))
+}
+
+/// Asks one table for pairs of declared types in turn, each of them twice, and gives what comes of the second time;
+/// `None` where a type is not in range.
+fn asked_twice<L: Ledger>(
+    alloc: Global,
+    core: &Core,
+    asked: &[(u16, u16)],
+    blank: Blank,
+) -> Result<Option<Vec<(bool, bool)>>, Memory>
+    requires name { blank.name ≡ L.name }
+    requires parts { blank.parts ≡ L.parts }
+    requires some { 0 < blank.parts }
+{
+    if !is_in_range(core)? {
+        return Ok(None);
+    }
+    let mut steps = Steps::<L>::new(blank);
+    let mut table = PairTable::new(alloc, core, 0, Mode::Annotated);
+    let mut answers = Vec::new(alloc);
+    for pair in asked {
+        let s = named(alloc, pair.0, None)?;
+        let t = named(alloc, pair.1, None)?;
+        if !type_fits(core, 512, &s)? {
+            return Ok(None);
+        }
+        if !type_fits(core, 512, &t)? {
+            return Ok(None);
+        }
+        let _first = asked_of_table(&mut table, &s, &t, &mut steps)?;
+        answers.push(asked_of_table(&mut table, &s, &t, &mut steps)?)?;
+    }
+    Ok(Some(answers))
+}
+
+#[test]
+fn what_is_asked_again_takes_no_step(rt: HostRuntime) -> Result<(), Fail> {
+    let alloc = rt.alloc();
+    let core = core_of_types(alloc, ScopeKind::Program)?;
+    let asked = [(4, 5), (5, 4), (6, 4), (4, 6), (7, 10)];
+    let again = vec![in alloc;
+        (true, true),
+        (true, true),
+        (true, true),
+        (false, true),
+        (false, true),
+    ]?;
+    let answers = asked_twice::<Brand>(alloc, &core, asked.as_slice(), Blank::new(1))?;
+    assert!(rt; answers == Some(again));
     Ok(())
 }
