@@ -1,5 +1,5 @@
 -- The types of a run are finitely many, their methods name such types, and each is a subtype of itself.
-use Rattle.std.proofs.Common.{◌≡◌, ℕ, zero, suc, ◌+◌, ◌<◌, ◌≤◌, List, [], ◌∷◌, ◌++◌, map, ◌⊎◌, inl, inr, length, refl, sym, ap, ap₂, ◌∙◌, subst, arith, Option, Some, None, Bool as Truth, true, false, length-append}
+use Rattle.std.proofs.Common.{◌≡◌, ℕ, zero, suc, ◌+◌, ◌<◌, ◌≤◌, List, [], ◌∷◌, ◌++◌, map, ◌⊎◌, inl, inr, length, refl, sym, ap₂, ◌∙◌, subst, arith, Option, Some, None, false, length-append}
 use Rattle.std.specs.Prelude.{slice_get}
 use Rattle.std.specs.List.{range_with_len}
 use Rattle.std.proofs.Math.ListN.{length-map}
@@ -19,17 +19,15 @@ use Rattle.wy_types.specs.Signature.{Signature, mapped_signature, signature_type
 use Rattle.wy_types.specs.Types.{signature, substituted, annotated, declared_methods, named_methods, bounded_methods, methods_of_owner, scope_bodies}
 use Rattle.wy_types.specs.Subtyping.{IsSubtype}
 use Rattle.wy_types.specs.Paths.{IsPartOf}
-use Rattle.wy_types.specs.Fitting.{FitsType, FitsSignature, AllSignaturesFit, SignaturesFit, own_count}
+use Rattle.wy_types.specs.Fitting.{FitsType, AllSignaturesFit, own_count}
 use Rattle.wy_types.specs.Core.{IsCore}
-use Rattle.wy_types.specs.Few.{declared_count, type_count}
-use Rattle.wy_types.proofs.Finite.{all_types, In-all_types, length-all_types, Fits-substituted, Fits-annotated, Fits-declared, Fits-named, owner_among, read}
+use Rattle.wy_types.specs.Few.{declared_count}
+use Rattle.wy_types.proofs.Finite.{all_types, In-all_types, length-all_types, Fits-substituted, Fits-annotated, Fits-declared, Fits-named, owner_among}
 use Rattle.wy_types.proofs.Itself.{names_of, names_of-mapped, subtype_itself}
 use Rattle.wy_types.proofs.Kept.{core_signatures_fit}
 use Rattle.wy_types.proofs.Reaching.{part_of_signature}
-use Rattle.wy_rules.specs.Acceptance.{Accepted}
 use Rattle.wy_rules.specs.GroundTypes.{GroundType, Int, Bool, Text, Nothing, Named, At, Own, IsGroundObject, type_at, read_by, effect_by, run_instances, own_methods, ground_methods}
 use Rattle.wy_sound.specs.GroundRange.{owns_of, owns_among, IsOfRun, ground_bound, GroundTypesAreFew, GroundTypesStay, GroundBelowIsSubtype}
-use Rattle.wy_sound.specs.Programs.{IsResolved}
 use Rattle.wy_sound.proofs.LinkingLaws.{RunSets, run_sets}
 use Rattle.wy_sound.proofs.LinkingTables.{decide_ground}
 
