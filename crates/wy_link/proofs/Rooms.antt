@@ -1,5 +1,5 @@
 -- Grants have numbers, and so have their atoms: they are few and stand first among the program's own names, and modules have none.
-use Rattle.std.proofs.Common.{◌≡◌, ℕ, zero, suc, ◌+◌, ◌-◌, ◌<◌, ◌≤◌, List, [], ◌∷◌, ◌++◌, ◌⊎◌, inl, inr, length, get_or, drop, refl, sym, ap, ap₂, ◌∙◌, subst, arith, Option, Some, None, Bool as Truth, true, false, length-append}
+use Rattle.std.proofs.Common.{◌≡◌, ℕ, zero, suc, ◌+◌, ◌-◌, ◌<◌, ◌≤◌, List, [], ◌∷◌, ◌⊎◌, inl, inr, length, get_or, drop, refl, sym, ap, ◌∙◌, subst, arith, Option, Some, None, true, false, length-append}
 use Rattle.std.specs.Prelude.{slice_get, if◌then◌else◌}
 use Rattle.std.proofs.lemmas.List.{at_drop_more}
 use Rattle.wy_effects.specs.Members.{In}

@@ -6,6 +6,7 @@ pub mod Calling
 pub mod Effects
 pub mod Evaluating
 mod Examples
+pub mod GroundRange
 pub mod Heaps
 pub mod Linked
 mod LinkingAdded

@@ -20,6 +20,9 @@ use Rattle.wy_types.specs.Fitting.{FitsType}
 use Rattle.wy_types.specs.Primitive.{primitive_types, primitive_type}
 use Rattle.wy_types.specs.Program.{Program, Scope, Init}
 use Rattle.wy_types.specs.Ground.{number_from, instance_of, program_sets, program_visited, visit, ground_of}
+use Rattle.wy_rules.specs.GroundTypes as ground
+use Rattle.wy_rules.specs.GroundTypes.{run_instances}
+use Rattle.wy_sound.specs.GroundRange.{owns_among, IsOfRun}
 use Rattle.wy_sound.specs.Grounds.{IsGround}
 use Rattle.wy_rules.specs.OwnNames.{HaveTheirTypes, OwnNamesFit, LinesAreTyped, IsPlainName, HavePlainNames, GrantsStandFirst}
 
@@ -201,3 +204,18 @@ of_import = (
 goes_through_all :
     visit imported 5 (main_names (At 5 (2 ∷ []))) [] (main_names (At 5 (2 ∷ []))) (record { started = []; actuals = []; sets = [] }) ≡ program_visited imported
 goes_through_all = refl
+
+-- of the types of its run, declared types with a set for each member are such, and no own type of a literal, since its modules have none here
+of_run : IsOfRun imported (ground.Named 0 two)
+of_run = (omega arith, inl refl, λ s i. two_in_range s i)
+  where
+    two_in_range : AreSets 512 two
+    two_in_range s (inl e) = subst (IsSet 512) e (omega arith, omega arith, tt)
+    two_in_range s (inr (inl e)) = subst (IsSet 512) e (omega arith, omega arith, tt)
+    two_in_range s (inr (inr i)) = absurd i
+
+not_of_run : IsOfRun imported (ground.Own 0 1) → ⊥
+not_of_run h = absurd (omega (arith, h))
+
+no_own_types : owns_among imported (run_instances imported) ≡ 0
+no_own_types = refl

@@ -1,6 +1,7 @@
 -- The laws of linking, by the visits from the program's scope on.
 use Rattle.std.proofs.Common.{◌≡◌, ℕ, zero, suc, List, [], ◌∷◌, ◌++◌, inl, inr, length, refl, sym, ap, ◌∙◌, subst, arith, Some, None, append_assoc, append-nil}
 use Rattle.std.specs.Prelude.{codes, slice_get}
+use Rattle.wy_effects.specs.EffSet.{IsSet, AreSets}
 use Rattle.wy_effects.proofs.Lists.{In-slice_get}
 use Rattle.wy_types.specs.declared.linked.Instance.{Instance as Started}
 use Rattle.wy_types.specs.declared.resolved.Origin.{Origin}
@@ -28,6 +29,10 @@ use Rattle.wy_sound.proofs.LinkingWays.{Way, way_ends, way_begins}
 use Rattle.wy_sound.proofs.LinkingScopes.{names_at, Facts, facts_at, program_typed}
 use Rattle.wy_sound.proofs.LinkingNames.{grant_stands}
 use Rattle.wy_sound.proofs.LinkingLines.{Visiting, VisitStands, instance_stands, import_stands, use_stands}
+
+-- each instance of the run has sets for its atoms, and a bound that is one
+abbrev pub RunSets : Program → Type 0
+RunSets p = (x : ℕ) (i : Started) → slice_get (run_instances p) x ≡ Some i → AreSets 512 i.ground × ((b : List ℕ) → i.bound ≡ Some b → IsSet 512 b)
 
 module _ (p : Program) (c : IsCore p) (t : LinesAreTyped p) (words : HavePlainNames p) (a : Accepted p) where
   module _ (k : ℕ) (inside : VisitStands p k) (m : ℕ) (s : Scope) (path prefix : List ℕ) (top : List (List ℕ)) (at : Visiting p m s prefix top)
@@ -101,6 +106,17 @@ module _ (p : Program) (c : IsCore p) (t : LinesAreTyped p) (words : HavePlainNa
 
   program : Started
   program = instance_of (codes "main") (program_number p) (program_visited p).actuals None (program_sets p)
+
+  -- the sets that an instance reads types and effects by
+  pub run_sets : RunSets p
+  unfolding program
+  run_sets x i e =
+      elim (read_last (start_list p) program x i e) [
+        | inl there ↦ (let fit = program_stands.started x i there in (fit.sets, fit.bound_set))
+        | inr last ↦
+            let P : Started → Type 0 = λ j. AreSets 512 j.ground × ((b : List ℕ) → j.bound ≡ Some b → IsSet 512 b) in
+            subst P last.1 (program_stands.sets, λ b none. absurd (cc))
+      ]
 
   instance_fits : (x : ℕ) (i : Started) → slice_get (run_instances p) x ≡ Some i → InstanceFits p x i
   unfolding program

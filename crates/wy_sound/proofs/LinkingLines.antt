@@ -4,6 +4,7 @@ use Rattle.std.specs.Prelude.{codes, slice_get, slice_index_or}
 use Rattle.wy_effects.specs.Members.{In}
 use Rattle.wy_effects.specs.EffSet.{IsSet, replace}
 use Rattle.wy_effects.proofs.Lists.{In-slice_get}
+use Rattle.wy_effects.proofs.Replacing.{IsSet-replace}
 use Rattle.wy_types.specs.declared.linked.Actual.TheVariants as actual
 use Rattle.wy_types.specs.declared.linked.Instance.{Instance as Started}
 use Rattle.wy_types.specs.declared.resolved.Origin.TheVariants.{Use, Instance, Import}
@@ -59,14 +60,15 @@ handed_in (n ∷ ns) (a ∷ arguments) h (inr i) = let r = handed_in ns argument
 
 -- the instance of a module that has been visited
 new_fits : (p : Program) (j : ℕ) (z : Scope) (name : List ℕ) (bound : Option (List ℕ)) (inner : Visited) → Facts p j z → (z.kind ≡ Main → ⊥) →
-    BoundFits (is_plain z.kind) bound →
+    BoundFits (is_plain z.kind) bound → ((b : List ℕ) → bound ≡ Some b → IsSet 512 b) →
     ((word : List ℕ) → name ≡ codes "pure " ++ word → z.name ≡ word) → Stands p (names_at p j) bound inner.sets (names_at p j) inner →
     Fits p (length inner.started) (instance_of name j inner.actuals bound inner.sets)
-new_fits p j z name bound inner f is_module fits called s = record {
+new_fits p j z name bound inner f is_module fits is_set called s = record {
   scope = z;
   there = f.there;
   is_module = is_module;
   bound = fits;
+  bound_set = is_set;
   sets = s.sets;
   actuals = subst (λ l. AreActuals p (length inner.started) bound inner.sets l inner.actuals) f.names s.actuals;
   grounds = subst (λ l. AreGround p inner.sets l l inner.actuals) f.names s.grounds;
@@ -139,7 +141,7 @@ module _ (p : Program) (c : IsCore p) (t : LinesAreTyped p) (words : HavePlainNa
       Stands p (names_at p m) None top (done ++ n ∷ []) (lined p v inner name j)
   lined_stands j z name inner f plain is_module called longer opened opening goes further visited ground =
       let i = instance_of name j inner.actuals None inner.sets in
-      let new = new_fits p j z name None inner f is_module (annotated_bound (is_plain z.kind) plain) called visited in
+      let new = new_fits p j z name None inner f is_module (annotated_bound (is_plain z.kind) plain) (λ b e. absurd (cc)) called visited in
       sealed_stands p c (names_at p m) top done v n stands (length s.atoms) written (inner.started ++ i ∷ []) (length inner.started) i z (defined_sets p j inner.sets)
       (goes_on_further v.started inner.started _ longer (goes_on_more inner.started (i ∷ []))) goes (all_more p inner.started i visited.started new)
       (read_next inner.started [] i) f plain
@@ -282,6 +284,7 @@ module _ (p : Program) (c : IsCore p) (t : LinesAreTyped p) (words : HavePlainNa
         subst (λ l. Stands p (names_at p j) (Some ground) hand.sets l hand) (sym all) taken in
         let new =
         new_fits p j z name (Some ground) hand f (not_main z.kind plain) (plain_bound (is_plain z.kind) ground plain)
+        (λ b e. (let same : ground ≡ b = cc in subst (IsSet 512) same (IsSet-replace 512 v.sets bound stands.sets)))
         (λ word e. absurd (not_pure name word line_name e)) visited in
         let before_it : IsSet (length v.sets) bound = subst (λ x. IsSet x bound) (sym stands.count) of_atoms in
         let one =

@@ -2,7 +2,7 @@
 use Rattle.std.proofs.Common.{◌≡◌, ℕ, zero, suc, ◌+◌, ◌≤◌, List, [], ◌∷◌, ◌++◌, inl, inr, length, refl, sym, ap, ◌∙◌, subst, arith, Option, Some, true, length-append}
 use Rattle.std.specs.Prelude.{codes, slice_get, slice_index_or}
 use Rattle.wy_effects.specs.Members.{In}
-use Rattle.wy_effects.specs.EffSet.{AreSets}
+use Rattle.wy_effects.specs.EffSet.{IsSet, AreSets}
 use Rattle.wy_effects.proofs.Lists.{In-cases, In-slice_get}
 use Rattle.wy_types.specs.declared.types.TypeRef.{TypeRef}
 use Rattle.wy_types.specs.declared.linked.Actual.{Actual}
@@ -129,6 +129,7 @@ module _ (p : Program) where
     pub there : slice_get p.scopes i.scope ≡ Some scope
     pub is_module : scope.kind ≡ Main → ⊥
     pub bound : BoundFits (is_plain scope.kind) i.bound
+    pub bound_set : (bound : List ℕ) → i.bound ≡ Some bound → IsSet 512 bound
     pub sets : AreSets 512 i.ground
     pub actuals : AreActuals y i.bound i.ground scope.names i.arguments
     pub grounds : AreGround i.ground scope.names scope.names i.arguments

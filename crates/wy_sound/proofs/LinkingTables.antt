@@ -27,7 +27,7 @@ use Rattle.wy_sound.proofs.LinkingReads.{subtype_kept}
 ------------------------------------------------------------
 -- Types of a run are equal or not, and a subtype of a subtype is one
 
-decide_ground : (s t : GroundType) → Decided (s ≡ t)
+pub decide_ground : (s t : GroundType) → Decided (s ≡ t)
 decide_ground Int Int = inl refl
 decide_ground Bool Bool = inl refl
 decide_ground Text Text = inl refl

@@ -1,4 +1,5 @@
 pub mod Arguments
+pub mod GroundRange
 pub mod Grounds
 pub mod Laws
 pub mod Linking

@@ -1,6 +1,7 @@
 //! The laws of soundness (docs/LANGUAGE.md, "Authority and report"), of programs as resolving makes them. No function
 //! here does anything: what it says is its clause.
 
+ghost use Rattle.wy_sound.specs.GroundRange.{GroundTypesAreFew, GroundTypesStay, GroundBelowIsSubtype};
 ghost use Rattle.wy_sound.specs.Laws.{Preservation, BlockPreservation, CallPreservation, StartPreservation, FirstHeapIsTyped, NeverWrong, EventsAreBounded, PureInstancesMayNothing, PureInstancesAreSilent};
 
 /// Preservation: evaluation of a value that has a derivation over the types of a run, in a heap that has its types,
@@ -49,4 +50,19 @@ pub fn pure_instances_may_nothing()
 /// No operation is done while a call of a pure module's instance is open.
 pub fn pure_instances_are_silent()
     ensures { PureInstancesAreSilent }
+{}
+
+/// No list of distinct types of a run is longer than a number that the program and its instances give.
+pub fn ground_types_are_few()
+    ensures { GroundTypesAreFew }
+{}
+
+/// The methods of a type of a run name types of the run.
+pub fn ground_types_stay()
+    ensures { GroundTypesStay }
+{}
+
+/// A type of a run that is equal to another or a subtype of it is a subtype of it: each is one of itself.
+pub fn ground_below_is_subtype()
+    ensures { GroundBelowIsSubtype }
 {}

@@ -24,7 +24,7 @@ length-map' f [] = refl
 length-map' f (x ∷ xs) = ap suc (length-map' f xs)
 
 module _ (p : Program) (owns : ℕ) where
-  Fits-substituted : (atoms : ℕ) (by : List (List ℕ)) (t : TypeRef) → AreSets 512 by → FitsType p atoms 0 t → FitsType p 512 owns (substituted by t)
+  pub Fits-substituted : (atoms : ℕ) (by : List (List ℕ)) (t : TypeRef) → AreSets 512 by → FitsType p atoms 0 t → FitsType p 512 owns (substituted by t)
   Fits-substituted atoms by Int h f = tt
   Fits-substituted atoms by Bool h f = tt
   Fits-substituted atoms by Text h f = tt
@@ -34,7 +34,7 @@ module _ (p : Program) (owns : ℕ) where
   Fits-substituted atoms by (At d bound) h f = (f.0, IsSet-replace 512 by bound h)
   Fits-substituted atoms by (Own l) h f = absurd (omega arith)
 
-  Fits-annotated : (atoms : ℕ) (e : List ℕ) (t : TypeRef) → IsSet 512 e → FitsType p atoms 0 t → FitsType p 512 owns (annotated e t)
+  pub Fits-annotated : (atoms : ℕ) (e : List ℕ) (t : TypeRef) → IsSet 512 e → FitsType p atoms 0 t → FitsType p 512 owns (annotated e t)
   Fits-annotated atoms e Int h f = tt
   Fits-annotated atoms e Bool h f = tt
   Fits-annotated atoms e Text h f = tt
@@ -78,7 +78,7 @@ pub read : {X : Type 0} (o : Option X) → (o ≡ None) ⊎ ((x : X) × (o ≡ S
 read None = inl refl
 read (Some x) = inr (x, refl)
 
-Fits-declared : (p : Program) (w : SignaturesFit p) (owns k : ℕ) (kind : TypeRef → TypeRef) (effect : List ℕ → List ℕ) →
+pub Fits-declared : (p : Program) (w : SignaturesFit p) (owns k : ℕ) (kind : TypeRef → TypeRef) (effect : List ℕ → List ℕ) →
     ((atoms : ℕ) (t : TypeRef) → FitsType p atoms 0 t → FitsType p 512 owns (kind t)) → ((e : List ℕ) → IsSet 512 (effect e)) →
     AllSignaturesFit p 512 owns (map (mapped_signature kind effect) (declared_methods (slice_get p.declarations k)))
 Fits-declared p w owns k kind effect g h =
@@ -88,13 +88,13 @@ Fits-declared p w owns k kind effect g h =
       | inr r ↦ subst P (sym r.1) (Fits-mapped p owns (length r.0.members) kind effect (map signature r.0.methods) (g (length r.0.members)) (λ e s. h e) (w.declarations k r.0 r.1))
     ]
 
-Fits-named : (p : Program) (w : SignaturesFit p) (owns k : ℕ) (plain : Truth) (by : List (List ℕ)) → AreSets 512 by →
+pub Fits-named : (p : Program) (w : SignaturesFit p) (owns k : ℕ) (plain : Truth) (by : List (List ℕ)) → AreSets 512 by →
     AllSignaturesFit p 512 owns (named_methods plain by (declared_methods (slice_get p.declarations k)))
 Fits-named p w owns k true by h = Fits-declared p w owns k erased (λ e. []) (Fits-erased p owns) (λ e. tt)
 Fits-named p w owns k false by h =
     Fits-declared p w owns k (substituted by) (replace by) (λ atoms t f. Fits-substituted p owns atoms by t h f) (λ e. IsSet-replace 512 by e h)
 
-owner_among : (l : ℕ) (bs : List Body) (m : Signature TypeRef) → In m (methods_of_owner l bs) → In m (map (λ (b : Body). signature b.signature) bs)
+pub owner_among : (l : ℕ) (bs : List Body) (m : Signature TypeRef) → In m (methods_of_owner l bs) → In m (map (λ (b : Body). signature b.signature) bs)
 owner_among l [] m i = absurd i
 owner_among l (b ∷ bs) m i =
     elim (nat_eq b.owner l) as (λ t. In m (if t then (signature b.signature ∷ methods_of_owner l bs) else methods_of_owner l bs) → In m (map (λ (b : Body). signature b.signature) (b ∷ bs))) [
@@ -224,7 +224,8 @@ length-types_from k (d ∷ ds) =
     let rest = length-types_from (k + 1) ds in
     length-append (types_of k d) (types_from (k + 1) ds) ∙ ap₂ (λ m n. m + n) here rest ∙ add_assoc (1 + (2 ^ 512) ^ length d.members) (2 ^ 512) (declared_count 512 ds)
 
-length-all_types : (p : Program) (owns : ℕ) → length (all_types p owns) ≡ type_count p 512 owns
+-- .. of each kind
+pub length-all_types : (p : Program) (owns : ℕ) → length (all_types p owns) ≡ type_count p 512 owns
 unfolding all_types
 length-all_types p owns =
     let declared = length-types_from 0 p.declarations in

@@ -6,6 +6,7 @@ pub mod Deciding
 pub mod FindingMethods
 pub mod Finite
 pub mod Gathered
+pub mod Itself
 pub mod Kept
 pub mod Keyed
 pub mod MemberSets
