@@ -38,23 +38,23 @@ module _ (p : Program) where
 
   -- the ground sets of the name's atoms are the grounds, in the instance that it stands for, of what the module defines
   abbrev pub GroundIsDefined : List (List ℕ) → OwnName → Started → Type 0
-  GroundIsDefined ground n y = map (ground_of ground) (member_sets n.typ) ≡ map (ground_of y.ground) (definitions_of (slice_get p.scopes y.scope))
+  GroundIsDefined sets n y = map (ground_of sets) (member_sets n.typ) ≡ map (ground_of y.ground) (definitions_of (slice_get p.scopes y.scope))
 
   -- the first ground sets of a line's instance, those of its bare parameters' atoms, are the grounds, in the instance or program that has the
   -- line, of the members of the arguments' types
   abbrev pub GroundIsHanded : List (List ℕ) → List OwnName → List ℕ → Started → Type 0
-  GroundIsHanded ground outer arguments y =
-      (others : List (List ℕ)) × (y.ground ≡ map (ground_of ground) (arguments_sets p outer (names_of (slice_get p.scopes y.scope)) arguments) ++ others)
+  GroundIsHanded sets outer arguments y =
+      (others : List (List ℕ)) × (y.ground ≡ map (ground_of sets) (arguments_sets p outer (names_of (slice_get p.scopes y.scope)) arguments) ++ others)
 
   -- one own name of an instance (or of the program) with these ground sets and own names, by where it comes from and what stands for it
   abbrev pub IsGround : List (List ℕ) → List OwnName → OwnName → Origin → Actual → Type 0
-  IsGround ground outer n (Parameter bare) a = Unit {0}
+  IsGround sets outer n (Parameter bare) a = Unit {0}
   -- a grant's atom is itself
-  IsGround ground outer n Grant a = map (ground_of ground) (member_sets n.typ) ≡ member_sets n.typ
-  IsGround ground outer n (Use m) a = (y : Started) × StandsFor a y m × GroundIsDefined ground n y
-  IsGround ground outer n (Instance m arguments) a = (y : Started) × StandsFor a y m × GroundIsDefined ground n y × GroundIsHanded ground outer arguments y
-  IsGround ground outer n (Import m arguments bound) a =
-      (y : Started) × StandsFor a y m × GroundIsHanded ground outer arguments y × (y.bound ≡ Some (ground_of ground bound))
+  IsGround sets outer n Grant a = map (ground_of sets) (member_sets n.typ) ≡ member_sets n.typ
+  IsGround sets outer n (Use m) a = (y : Started) × StandsFor a y m × GroundIsDefined sets n y
+  IsGround sets outer n (Instance m arguments) a = (y : Started) × StandsFor a y m × GroundIsDefined sets n y × GroundIsHanded sets outer arguments y
+  IsGround sets outer n (Import m arguments bound) a =
+      (y : Started) × StandsFor a y m × GroundIsHanded sets outer arguments y × (y.bound ≡ Some (ground_of sets bound))
 
 -- each own name of each instance of an accepted program, and of the program, which is the last, stands for something, and its atoms for the ground of it
 abbrev pub GroundSetsAre : Type 0
