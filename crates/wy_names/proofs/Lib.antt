@@ -1,6 +1,6 @@
 pub mod AtomsPut
 mod Blocks
-mod CyclesFound
+pub mod CyclesFound
 mod Cycling
 mod EdgesOnce
 mod ExamplesCycles
@@ -14,7 +14,7 @@ mod Fronts
 mod InSights
 mod Judging
 mod Latests
-mod Leasts
+pub mod Leasts
 mod Marks
 mod MarksPut
 pub mod Mosts
