@@ -47,4 +47,6 @@ mod NamesAreWords
 mod NamesAreOrdinary
 mod GrantsFirst
 mod NothingCaptured
+mod ReachedMarks
+pub mod NamesDecided
 mod Examples

@@ -1,12 +1,14 @@
 -- What resolving makes: a program whose names resolve has what every core keeps, its own names have their types and plain names, its grants
 -- stand first, its modules capture nothing, and each object literal is made at one place (docs/LANGUAGE.md, "Names", "Modules and lines").
-use Rattle.std.specs.Prelude.{List, slice_get}
+use Rattle.std.specs.Prelude.{◌≢◌, ◌⊎◌, List, slice_get}
 use Rattle.wy_syntax.specs.Trees.{ItemTree}
 use Rattle.wy_types.specs.Program.{Program}
 use Rattle.wy_types.specs.Core.{IsCore}
 use Rattle.wy_types.specs.Ground.{names_of, program_number}
 use Rattle.wy_rules.specs.OwnNames.{LinesAreTyped, HavePlainNames, HasOrdinaryNames, GrantsStandFirst, ModulesCaptureNothing}
-use Rattle.wy_names.specs.Names.{Resolves}
+use Rattle.wy_names.specs.declared.refusal.NameRefusal.{NameRefusal}
+use Rattle.wy_names.specs.declared.refusal.NameRefusal.TheVariants.{Memory}
+use Rattle.wy_names.specs.Names.{Resolves, Refused}
 use Rattle.wy_rules.specs.Resolved.{MakesOnce, CoreKeeps, IsResolved}
 use Rattle.wy_syntax.specs.OwnWords.{HaveWords}
 
@@ -45,3 +47,14 @@ ResolvedIsKept = (items : List ItemTree) (p : Program) → Resolves items p → 
 
 abbrev pub ResolvedKeepsAll : Type 0
 ResolvedKeepsAll = (items : List ItemTree) (p : Program) → Resolves items p → HaveWords items → IsResolved p
+
+-- the names are refused for a cause
+abbrev pub RefusedFor : List ItemTree → Type 0
+RefusedFor items = (why : NameRefusal) × (why ≢ Memory) × Refused items why
+
+-- the names resolve, or are refused for a cause
+abbrev pub IsDecided : List ItemTree → Type 0
+IsDecided items = ((p : Program) × Resolves items p) ⊎ RefusedFor items
+
+abbrev pub NamesAreDecided : Type 0
+NamesAreDecided = (items : List ItemTree) → IsDecided items

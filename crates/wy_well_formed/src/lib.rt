@@ -2,7 +2,7 @@
 //! clause.
 #![tactic(auto)]
 
-ghost use Rattle.wy_well_formed.specs.WellFormed.{ResolvedGrantsStandFirst, ResolvedIsCore, ResolvedIsKept, ResolvedKeepsAll, ResolvedMakesOnce, ResolvedModulesCaptureNothing, ResolvedNamesAreOrdinary, ResolvedNamesAreWords, ResolvedNamesFit};
+ghost use Rattle.wy_well_formed.specs.WellFormed.{NamesAreDecided, ResolvedGrantsStandFirst, ResolvedIsCore, ResolvedIsKept, ResolvedKeepsAll, ResolvedMakesOnce, ResolvedModulesCaptureNothing, ResolvedNamesAreOrdinary, ResolvedNamesAreWords, ResolvedNamesFit};
 
 /// A program whose names resolve is a core: its numbers are in range, its names differ, its types, effects and bodies
 /// have the forms that their kinds of scope ask, and no module leads back to itself.
@@ -63,3 +63,8 @@ pub fn resolved_keeps_all()
     resolved_names_are_words();
     resolved_names_are_ordinary();
 }
+
+/// Of any items the names resolve, or they are refused for a cause that is not want of memory.
+pub fn names_are_decided()
+    ensures { NamesAreDecided }
+{}
