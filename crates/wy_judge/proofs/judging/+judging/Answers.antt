@@ -629,8 +629,8 @@ probe_block-returns-in-Done-clause-outcome t c =
     (λ r e. block_probes p k s c.requires.context o c.args.block.now.statements.items last c.args.table.now.items mid new c.in-Done.field-0 r stepped (subst (λ x. ProbesTo p k s o mid new (value_of x) r) c.deref.ensures e))
     c.probe.ensures.outcome
 
-pub probe_block-returns-clause-outcome : goal.probe_block-returns-clause-outcome
-probe_block-returns-clause-outcome t c =
+pub probe_block-returns-in-Fails-clause-outcome : goal.probe_block-returns-in-Fails-clause-outcome
+probe_block-returns-in-Fails-clause-outcome t c =
     let p = program_of c.args.core.now in
     let s = scope_of c.args.scope.now in
     let last = value_of c.args.block.now.last.value in
