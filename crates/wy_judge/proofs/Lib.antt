@@ -44,6 +44,7 @@ pub mod Simple
 pub mod Statements
 pub mod Starting
 pub mod Stepping
+pub mod SubtypesDecided
 pub mod Tabled
 pub mod Tables
 pub mod Telling
