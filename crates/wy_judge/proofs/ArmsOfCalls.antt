@@ -73,7 +73,7 @@ module _ (p : Program) (k : ℕ) (s : Scope) (c : IsScopeOf p k s) (owner : Opti
   -- There is no method for so many arguments
 
   -- one of the first three premises is false
-  no_call : (t : TypeRef) (e : List ℕ) (name : List ℕ) (arity n : ℕ) → IsTargetOf p k (inferred.Least t e) name arity (Without n) → (m : Signature TypeRef) → IsObject t →
+  pub no_call : (t : TypeRef) (e : List ℕ) (name : List ℕ) (arity n : ℕ) → IsTargetOf p k (inferred.Least t e) name arity (Without n) → (m : Signature TypeRef) → IsObject t →
       find_method name (methods_of p k t) ≡ Some m → length m.params ≡ arity → ⊥
   no_call t e name arity n target m o f g = elim target [
     | inl a ↦ a.1 o
@@ -90,7 +90,7 @@ module _ (p : Program) (k : ℕ) (s : Scope) (c : IsScopeOf p k s) (owner : Opti
       same_found a b f h = cc
 
   -- .. which one, by its number
-  uncalled_by : (locals : List (scope_reading p k s).Kind) (q : Place) (x : Expr) (name : List ℕ) (xs : Values) (t : TypeRef) (e : List ℕ) (n : ℕ) (o : Option Fault) →
+  pub uncalled_by : (locals : List (scope_reading p k s).Kind) (q : Place) (x : Expr) (name : List ℕ) (xs : Values) (t : TypeRef) (e : List ℕ) (n : ℕ) (o : Option Fault) →
       Inferred p k s locals owner x (inferred.Least t e) → IsTargetOf p k (inferred.Least t e) name (value_count xs) (Without n) →
       AllProbed p k s locals owner (argument_spots x name (value_count xs)) xs o → Inferred p k s locals owner (Call q x name xs) (uncalled_outcome q n o)
   uncalled_by locals q x name xs t e n o h target a = elim target [
@@ -110,11 +110,11 @@ module _ (p : Program) (k : ℕ) (s : Scope) (c : IsScopeOf p k s) (owner : Opti
       uncalled_by locals q x name (values_of xs) t e n o h (subst (λ z. IsTargetOf p k (inferred.Least t e) name z (Without n)) (sym (count_values xs)) target)
       (subst (λ z. AllProbed p k s locals owner (argument_spots x name z) (values_of xs) o) (sym (count_values xs)) a)
 
-  uncalled_in_range : (q : Place) (n : ℕ) (o : Option Fault) → IsInRangeOf p k (uncalled_outcome q n o)
+  pub uncalled_in_range : (q : Place) (n : ℕ) (o : Option Fault) → IsInRangeOf p k (uncalled_outcome q n o)
   uncalled_in_range q n None = tt
   uncalled_in_range q n (Some fault) = tt
 
-  uncalled_stands_not : (q : Place) (n : ℕ) (o : Option Fault) → InferenceStands (uncalled_outcome q n o) → ⊥
+  pub uncalled_stands_not : (q : Place) (n : ℕ) (o : Option Fault) → InferenceStands (uncalled_outcome q n o) → ⊥
   uncalled_stands_not q n None h = h
   uncalled_stands_not q n (Some fault) h = h
 
@@ -147,12 +147,12 @@ module _ (p : Program) (k : ℕ) (s : Scope) (c : IsScopeOf p k s) (owner : Opti
   found_count (inferred.Least t f) name arity e m target = sym target.3
   found_count (inferred.Fails fault) name arity e m target = absurd (found_not_failed e m fault target)
 
-  call_stands : (q : Place) (result : TypeRef) (effect e : List ℕ) (u : Fits) → InferenceStands (call_outcome q result effect e u) → NoneFails u
+  pub call_stands : (q : Place) (result : TypeRef) (effect e : List ℕ) (u : Fits) → InferenceStands (call_outcome q result effect e u) → NoneFails u
   call_stands q result effect e (fits.Have f) h = tt
   call_stands q result effect e (fits.Misfit n) h = tt
   call_stands q result effect e (fits.Fails fault) h = h
 
-  call_in_range : (q : Place) (result : TypeRef) (effect e : List ℕ) (u : Fits) → IsTypeOf p k result → IsInRangeOf p k (call_outcome q result effect e u)
+  pub call_in_range : (q : Place) (result : TypeRef) (effect e : List ℕ) (u : Fits) → IsTypeOf p k result → IsInRangeOf p k (call_outcome q result effect e u)
   call_in_range q result effect e (fits.Have f) r = r
   call_in_range q result effect e (fits.Misfit n) r = tt
   call_in_range q result effect e (fits.Fails fault) r = tt

@@ -54,12 +54,12 @@ module _ (p : Program) (k : ℕ) (s : Scope) (c : IsScopeOf p k s) (owner : Opti
   pub new_count : (table : Table) (q : Place) (l : ℕ) (xs : List v.Value) → ExprReady p k s owner table (New q l (values_of xs)) → length xs ≡ length (field_types s l)
   new_count table q l xs h = sym (count_values xs) ∙ h.1.2 ∙ sym (length-map (fields_of s l) (λ (f : Field). f.typ))
 
-  new_stands : (q : Place) (l : ℕ) (u : Fits) → InferenceStands (new_outcome q l u) → NoneFails u
+  pub new_stands : (q : Place) (l : ℕ) (u : Fits) → InferenceStands (new_outcome q l u) → NoneFails u
   new_stands q l (fits.Have e) h = tt
   new_stands q l (fits.Misfit n) h = tt
   new_stands q l (fits.Fails fault) h = h
 
-  new_in_range : (q : Place) (l : ℕ) (u : Fits) → l < length s.literals → IsInRangeOf p k (new_outcome q l u)
+  pub new_in_range : (q : Place) (l : ℕ) (u : Fits) → l < length s.literals → IsInRangeOf p k (new_outcome q l u)
   new_in_range q l (fits.Have e) below = own_in_range p k s c l below
   new_in_range q l (fits.Misfit n) below = tt
   new_in_range q l (fits.Fails fault) below = tt

@@ -40,7 +40,7 @@ few_types Code = omega arith
 few_types Byte = omega arith
 few_types Show = omega arith
 
-as_many_types : (op : TextOperator) → text_arity op ≡ length (text_operands op)
+pub as_many_types : (op : TextOperator) → text_arity op ≡ length (text_operands op)
 as_many_types Size = refl
 as_many_types Part = refl
 as_many_types Code = refl
@@ -75,7 +75,7 @@ module _ (p : Program) (k : ℕ) (s : Scope) (c : IsScopeOf p k s) (owner : Opti
   pub text_count : (table : Table) (q : Place) (op : TextOperator) (xs : List v.Value) → ExprReady p k s owner table (TextCall q op (values_of xs)) → length xs ≡ length (text_operands op)
   text_count table q op xs h = sym (count_values xs) ∙ h.1.0 ∙ as_many_types op
 
-  text_expected : (locals : List (scope_reading p k s).Kind) (op : TextOperator) → AreExpected p k s owner locals (written_spots (row_types (text_rows op))) (text_operands op)
+  pub text_expected : (locals : List (scope_reading p k s).Kind) (op : TextOperator) → AreExpected p k s owner locals (written_spots (row_types (text_rows op))) (text_operands op)
   text_expected locals Size = written_expected p k s owner locals (text_operands Size)
   text_expected locals Part = written_expected p k s owner locals (text_operands Part)
   text_expected locals Code = written_expected p k s owner locals (text_operands Code)
@@ -110,7 +110,7 @@ module _ (p : Program) (k : ℕ) (s : Scope) (c : IsScopeOf p k s) (owner : Opti
   ------------------------------------------------------------
   -- The operation
 
-  text_stands : (q : Place) (op : TextOperator) (u : Fits) → InferenceStands (text_outcome q op u) → NoneFails u
+  pub text_stands : (q : Place) (op : TextOperator) (u : Fits) → InferenceStands (text_outcome q op u) → NoneFails u
   text_stands q op (fits.Have e) h = tt
   text_stands q op (fits.Misfit n) h = tt
   text_stands q op (fits.Fails fault) h = h
@@ -122,7 +122,7 @@ module _ (p : Program) (k : ℕ) (s : Scope) (c : IsScopeOf p k s) (owner : Opti
   result_in_range Byte = tt
   result_in_range Show = tt
 
-  text_in_range : (q : Place) (op : TextOperator) (u : Fits) → IsInRangeOf p k (text_outcome q op u)
+  pub text_in_range : (q : Place) (op : TextOperator) (u : Fits) → IsInRangeOf p k (text_outcome q op u)
   text_in_range q op (fits.Have e) = result_in_range op
   text_in_range q op (fits.Misfit n) = tt
   text_in_range q op (fits.Fails fault) = tt

@@ -27,7 +27,7 @@ use Rattle.wy_judge.proofs.Putting.{moves_among}
 use Rattle.wy_judge.proofs.Stepping.{steps_start, steps_more, steps_fail, steps_fitted, steps_probed}
 use Rattle.wy_judge.proofs.ValueParts.{lawful}
 
-followed_stands : (e : List ℕ) (u : Fit) → FitStands (followed_fit e u) → FitStands u
+pub followed_stands : (e : List ℕ) (u : Fit) → FitStands (followed_fit e u) → FitStands u
 followed_stands e (fit.Has f) h = tt
 followed_stands e fit.Misfit h = tt
 followed_stands e (fit.Fails fault) h = absurd h

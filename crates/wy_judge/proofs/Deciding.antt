@@ -8,7 +8,7 @@ use Rattle.wy_effects.specs.Members.{In}
 use Rattle.wy_types.specs.Ground.{start_list}
 use Rattle.wy_types.specs.Program.{Program, Scope}
 use Rattle.wy_rules.specs.Nodes.{lines_nodes}
-use Rattle.wy_rules.specs.Failing.{AllPass}
+use Rattle.wy_rules.specs.Failing.{AllPass, IsLineFault}
 use Rattle.wy_rules.specs.Refusals.{Turn, plain_modules, other_modules, the_program, turn_of, Numbered, scopes_of, FirstFault, AllScopesPass, LinesPassFrom}
 use Rattle.wy_rules.specs.Ends.{End, limited, refused, StartsTooMany, FirstEnd, AllGoOn, SomeReachTooMany, IsEnd}
 use Rattle.wy_rules.proofs.Passing.{passing_is_accepted}
@@ -89,30 +89,34 @@ module _ (p : Program) where
   ------------------------------------------------------------
   -- The program
 
-  of_turn_decided : IsDecided p → (turn : Turn) → AreDecided (scopes_of turn 0 p.scopes)
-  of_turn_decided d turn =
-      each_of_turn (IsScopeDecided p) turn 0 p.scopes
-      (λ j s e. (let same : j ≡ 0 + j = omega arith in subst (λ v. IsScopeDecided p v s) same (d.nodes j s e)))
+  -- .. of which each scope is decided, and the lines where the plain modules go on
+  module _ (nodes : (k : ℕ) (s : Scope) → slice_get p.scopes k ≡ Some s → IsScopeDecided p k s)
+      (lines : AllGoOn p (scopes_of plain_modules 0 p.scopes) → LinesPassFrom p 0 p.scopes ⊎ ((fault : Fault) × IsLineFault p fault)) where
+    of_turn_decided : (turn : Turn) → AreDecided (scopes_of turn 0 p.scopes)
+    of_turn_decided turn = each_of_turn (IsScopeDecided p) turn 0 p.scopes (λ j s e. (let same : j ≡ 0 + j = omega arith in subst (λ v. IsScopeDecided p v s) same (nodes j s e)))
 
-  pub accepted_or_ends : IsDecided p → IsAccepted p ⊎ ((end : End) × IsEnd p end)
-  accepted_or_ends d = elim (goes_on_or_ends (scopes_of plain_modules 0 p.scopes) (of_turn_decided d plain_modules)) [
-    | inr end ↦ inr (end.0, inl end.1)
-    | inl plain ↦ elim (goes_on_or_ends (scopes_of other_modules 0 p.scopes) (of_turn_decided d other_modules)) [
-      | inr end ↦ inr (end.0, inr (plain, inl end.1))
-      | inl others ↦ elim (some_reach_or_none (scopes_of the_program 0 p.scopes)) [
-        | inl many ↦ inr (limited ReachedTypes, inr (plain, inr (others, inl (inl (refl, many)))))
-        | inr few ↦ elim (cases_lt 1024 (length (start_list p))) [
-          | inl starts ↦ inr (limited Instances, inr (plain, inr (others, inl (inr (few, refl, starts)))))
-          | inr within ↦
-              let limits : StartsTooMany p → ⊥ = λ starts. omega arith in
-              elim d.lines [
-                | inr fault ↦ inr (refused fault.0, inr (plain, inr (others, inr ((few, limits), inl fault.1))))
-                | inl lines ↦ elim (pass_or_fault (scopes_of the_program 0 p.scopes) (of_turn_decided d the_program)) [
-                  | inr fault ↦ inr (refused fault.0, inr (plain, inr (others, inr ((few, limits), inr (lines, fault.1)))))
-                  | inl passes ↦ inl (accepted_by plain others (all_go_on_within (scopes_of the_program 0 p.scopes) few passes) lines limits)
+    pub decided_by : IsAccepted p ⊎ ((end : End) × IsEnd p end)
+    decided_by = elim (goes_on_or_ends (scopes_of plain_modules 0 p.scopes) (of_turn_decided plain_modules)) [
+      | inr end ↦ inr (end.0, inl end.1)
+      | inl plain ↦ elim (goes_on_or_ends (scopes_of other_modules 0 p.scopes) (of_turn_decided other_modules)) [
+        | inr end ↦ inr (end.0, inr (plain, inl end.1))
+        | inl others ↦ elim (some_reach_or_none (scopes_of the_program 0 p.scopes)) [
+          | inl many ↦ inr (limited ReachedTypes, inr (plain, inr (others, inl (inl (refl, many)))))
+          | inr few ↦ elim (cases_lt 1024 (length (start_list p))) [
+            | inl starts ↦ inr (limited Instances, inr (plain, inr (others, inl (inr (few, refl, starts)))))
+            | inr within ↦
+                let limits : StartsTooMany p → ⊥ = λ starts. omega arith in
+                elim (lines plain) [
+                  | inr fault ↦ inr (refused fault.0, inr (plain, inr (others, inr ((few, limits), inl fault.1))))
+                  | inl lines ↦ elim (pass_or_fault (scopes_of the_program 0 p.scopes) (of_turn_decided the_program)) [
+                    | inr fault ↦ inr (refused fault.0, inr (plain, inr (others, inr ((few, limits), inr (lines, fault.1)))))
+                    | inl passes ↦ inl (accepted_by plain others (all_go_on_within (scopes_of the_program 0 p.scopes) few passes) lines limits)
+                  ]
                 ]
-              ]
+          ]
         ]
       ]
     ]
-  ]
+
+  pub accepted_or_ends : IsDecided p → IsAccepted p ⊎ ((end : End) × IsEnd p end)
+  accepted_or_ends d = decided_by d.nodes (λ plain. d.lines)

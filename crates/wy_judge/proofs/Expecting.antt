@@ -43,7 +43,7 @@ count_values [] = refl
 count_values (x ∷ xs) = (let rest : value_count (values_of xs) ≡ length xs = count_values xs in omega arith)
 
 -- two spots at one number
-spot_same : (spots : List Spot) (i : ℕ) (a b : Spot) → slice_get spots i ≡ Some a → slice_get spots i ≡ Some b → a ≡ b
+pub spot_same : (spots : List Spot) (i : ℕ) (a b : Spot) → slice_get spots i ≡ Some a → slice_get spots i ≡ Some b → a ≡ b
 spot_same spots i a b e g = cc
 
 module _ (p : Program) (k : ℕ) (s : Scope) (owner : Option ℕ) (locals : List (scope_reading p k s).Kind) where
@@ -55,7 +55,7 @@ module _ (p : Program) (k : ℕ) (s : Scope) (owner : Option ℕ) (locals : List
         subst (λ (z : Spot). IsExpected (scope_reading p k s) s locals owner z (Some ((scope_reading p k s).read t))) (spot_same (written_spots ts) i (written t) spot (written_spot_at ts i t g) e) refl;
   }
 
-  many_arguments : (x : Expr) (name : List ℕ) (arity : ℕ) → length (argument_spots x name arity) ≡ arity
+  pub many_arguments : (x : Expr) (name : List ℕ) (arity : ℕ) → length (argument_spots x name arity) ≡ arity
   many_arguments x name arity = length-map-range_with_len (λ i. argument x name arity i) 0 arity
 
   -- parameters of the method

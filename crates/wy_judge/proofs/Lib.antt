@@ -7,8 +7,10 @@ pub mod ArmsOfObjects
 pub mod ArmsOfOperators
 pub mod ArmsOfTexts
 pub mod Asked
+pub mod AtOnce
 pub mod Bases
 pub mod Blocks
+pub mod BlocksAtOnce
 pub mod BlockWalks
 pub mod Bodies
 pub mod BodyVals
@@ -31,6 +33,7 @@ pub mod Making
 pub mod Moving
 pub mod Naming
 pub mod Operating
+pub mod PartsDecided
 pub mod PartVals
 pub mod Programs
 pub mod Putting
@@ -39,11 +42,13 @@ pub mod ReadTypes
 pub mod Refitting
 pub mod Rooms
 pub mod ScopeParts
+pub mod ScopesDecided
 pub mod Several
 pub mod Simple
 pub mod Statements
 pub mod Starting
 pub mod Stepping
+pub mod SubtypesDecided
 pub mod Tabled
 pub mod Tables
 pub mod Telling

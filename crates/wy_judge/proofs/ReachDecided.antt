@@ -19,7 +19,7 @@ use Rattle.wy_types.proofs.Reaching.{IsWork, work_start, work_more, work_done, w
 use Rattle.wy_rules.specs.Ends.{ReachesTooMany}
 use Rattle.wy_judge.proofs.Checks.{reached_within}
 
-object_or_not : (t : TypeRef) → IsObject t ⊎ (IsObject t → ⊥)
+pub object_or_not : (t : TypeRef) → IsObject t ⊎ (IsObject t → ⊥)
 object_or_not Int = inr (λ h. h)
 object_or_not Bool = inr (λ h. h)
 object_or_not Text = inr (λ h. h)

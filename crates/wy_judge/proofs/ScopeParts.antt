@@ -46,12 +46,12 @@ module _ (p : Program) (k : ℕ) (s : Scope) where
   lacks_as false f declared None e h = within_lacks_none p k s f declared h
   lacks_as false f declared (Some a) e h = lacks_atom p k s f declared a e h
 
-  fit_lacks : (u : Fit) (declared : List ℕ) (lack : Option ℕ) → FitLacksIn (mode_of (is_plain s.kind)) u declared lack → FitLacks p k s u declared lack
+  pub fit_lacks : (u : Fit) (declared : List ℕ) (lack : Option ℕ) → FitLacksIn (mode_of (is_plain s.kind)) u declared lack → FitLacks p k s u declared lack
   fit_lacks (fit.Has f) declared lack h = lacks_as (is_plain s.kind) f declared lack refl h
   fit_lacks fit.Misfit declared lack h = tt
   fit_lacks (fit.Fails fault) declared lack h = tt
 
-  fits_lack : (u : Fits) (declared : List ℕ) (lack : Option ℕ) → FitsLackIn (mode_of (is_plain s.kind)) u declared lack → FitsLack p k s u declared lack
+  pub fits_lack : (u : Fits) (declared : List ℕ) (lack : Option ℕ) → FitsLackIn (mode_of (is_plain s.kind)) u declared lack → FitsLack p k s u declared lack
   fits_lack (fits.Have f) declared lack h = lacks_as (is_plain s.kind) f declared lack refl h
   fits_lack (fits.Misfit n) declared lack h = tt
   fits_lack (fits.Fails fault) declared lack h = tt
@@ -122,7 +122,7 @@ module _ (p : Program) (k : ℕ) (s : Scope) where
   pub fails_at_start : (new : Table) (o : Option Fault) (fault : Fault) → o ≡ Some fault → pure_fault s.kind (fields_of s 0) s.names ≡ None → StartsTo p k s [] new o → IsJudged p k s (Fails fault)
   fails_at_start new o fault e pure h = judged_start p k s new fault pure (subst (StartsTo p k s [] new) e h)
 
-  fails_after : (a z : Table) (bodies : Option Fault) (fault : Fault) → pure_fault s.kind (fields_of s 0) s.names ≡ None → StartsTo p k s [] a None → BodiesTo p k s a z bodies → SealAfter p k s bodies (Some fault) →
+  pub fails_after : (a z : Table) (bodies : Option Fault) (fault : Fault) → pure_fault s.kind (fields_of s 0) s.names ≡ None → StartsTo p k s [] a None → BodiesTo p k s a z bodies → SealAfter p k s bodies (Some fault) →
       IsJudged p k s (Fails fault)
   fails_after a z None fault pure starts h seal = judged_seal p k s a z seal.0 fault pure starts h seal.1 (sym seal.2)
   fails_after a z (Some g) fault pure starts h seal = (let same : g ≡ fault = cc in judged_body p k s a z fault pure starts (subst (λ (f : Fault). BodiesTo p k s a z (Some f)) same h))
@@ -130,7 +130,7 @@ module _ (p : Program) (k : ℕ) (s : Scope) where
   pub fails_at_rest : (a z : Table) (o : Option Fault) (fault : Fault) → o ≡ Some fault → pure_fault s.kind (fields_of s 0) s.names ≡ None → StartsTo p k s [] a None → RestTo p k s a z o → IsJudged p k s (Fails fault)
   fails_at_rest a z o fault e pure starts rest = fails_after a z rest.0 fault pure starts rest.1 (subst (SealAfter p k s rest.0) e rest.2)
 
-  passes_after : (a z : Table) (bodies : Option Fault) → pure_fault s.kind (fields_of s 0) s.names ≡ None → StartsTo p k s [] a None → BodiesTo p k s a z bodies → SealAfter p k s bodies None →
+  pub passes_after : (a z : Table) (bodies : Option Fault) → pure_fault s.kind (fields_of s 0) s.names ≡ None → StartsTo p k s [] a None → BodiesTo p k s a z bodies → SealAfter p k s bodies None →
       IsJudged p k s (Passes (settled_types z))
   passes_after a z None pure starts h seal = judged_passes p k s a z seal.0 pure starts h seal.1 (sym seal.2)
   passes_after a z (Some g) pure starts h seal = absurd (cc)

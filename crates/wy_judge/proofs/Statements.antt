@@ -34,12 +34,12 @@ use Rattle.wy_judge.proofs.Putting.{put_keeps, put_agrees, put_moves, sees_known
 use Rattle.wy_judge.proofs.ValueParts.{lawful}
 
 -- a statement and its outcome in the words of either layer
-stated_step_fit : (place : Place) (rule : RuleName) (u : Fit) → stated_fit place rule u ≡ step_fit (stated_step place rule u)
+pub stated_step_fit : (place : Place) (rule : RuleName) (u : Fit) → stated_fit place rule u ≡ step_fit (stated_step place rule u)
 stated_step_fit place rule (fit.Has e) = refl
 stated_step_fit place rule fit.Misfit = refl
 stated_step_fit place rule (fit.Fails fault) = refl
 
-stated_stands : (place : Place) (rule : RuleName) (u : Fit) → StepStands (stated_step place rule u) → FitStands u
+pub stated_stands : (place : Place) (rule : RuleName) (u : Fit) → StepStands (stated_step place rule u) → FitStands u
 stated_stands place rule (fit.Has e) h = tt
 stated_stands place rule fit.Misfit h = absurd h
 stated_stands place rule (fit.Fails fault) h = absurd h

@@ -1,5 +1,6 @@
 pub mod Accepting
 pub mod Checking
+pub mod Deciding
 pub mod Judged
 pub mod Judging
 pub mod Lacks

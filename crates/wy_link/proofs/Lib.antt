@@ -1,9 +1,11 @@
 pub mod Bounds
 pub mod LineNodes
+pub mod LinesDecided
 pub mod MemberSets
 pub mod Premises
 pub mod Programs
 pub mod Ranges
+pub mod ReachListed
 pub mod Rooms
 pub mod ScopeKinds
 pub mod Trying

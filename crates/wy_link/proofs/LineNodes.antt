@@ -95,12 +95,12 @@ module _ (p : Program) (k : ℕ) (s : Scope) where
   ------------------------------------------------------------
   -- One name more
 
-  all_then : (ns ms : List Node) (o : Option Fault) → AllPass p k s [] ns → NodesComeTo p k s ms o → NodesComeTo p k s (ns ++ ms) o
+  pub all_then : (ns ms : List Node) (o : Option Fault) → AllPass p k s [] ns → NodesComeTo p k s ms o → NodesComeTo p k s (ns ++ ms) o
   all_then [] ms o a h = h
   all_then (n ∷ ns) ms None a h = (a.0, all_then ns ms None a.1 h)
   all_then (n ∷ ns) ms (Some f) a h = inr (a.0, all_then ns ms (Some f) a.1 h)
 
-  fails_then : (ns ms : List Node) (f : Fault) → FirstFailing p k s [] ns f → FirstFailing p k s [] (ns ++ ms) f
+  pub fails_then : (ns ms : List Node) (f : Fault) → FirstFailing p k s [] ns f → FirstFailing p k s [] (ns ++ ms) f
   fails_then [] ms f h = absurd h
   fails_then (n ∷ ns) ms f h = elim h [ inl g ↦ inl g | inr g ↦ inr (g.0, fails_then ns ms f g.1) ]
 

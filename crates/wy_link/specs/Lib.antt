@@ -1,4 +1,5 @@
 pub mod Checking
+pub mod Deciding
 pub mod Lines
 pub mod Linking
 pub mod Sets

@@ -5,6 +5,7 @@
 mod checking;
 mod imports;
 mod instances;
+pub mod laws;
 mod lines;
 mod linking;
 mod members;
