@@ -3,7 +3,7 @@ use Rattle.std.proofs.Common.{◌≡◌, ℕ, List, [], ◌∷◌, length, map, 
 use Rattle.std.specs.Prelude.{slice_get}
 use Rattle.std.proofs.Math.ListN.{length-map}
 use Rattle.wy_effects.specs.Members.{In}
-use Rattle.wy_effects.specs.EffSet.{IsSet, AreSets, replace}
+use Rattle.wy_effects.specs.EffSet.{AreSets, replace}
 use Rattle.wy_effects.proofs.Lists.{In-slice_get, In-at}
 use Rattle.wy_effects.proofs.Replacing.{IsSet-replace, AreSets-map}
 use Rattle.wy_types.specs.declared.types.TypeRef.{TypeRef}
