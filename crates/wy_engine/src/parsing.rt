@@ -1,5 +1,4 @@
-ghost use Rattle.std.specs.Prelude.{ℕ, ◌≡◌, ◌≢◌, ◌≤◌, ◌+◌, ◌++◌, List, length, map, IfOk, IfErr, OnOk};
-ghost use Rattle.wy_syntax.specs.Trees.{ItemTree};
+ghost use Rattle.std.specs.Prelude.{◌≡◌, ◌≤◌, ◌+◌, length, map, IfOk, IfErr, OnOk};
 ghost use Rattle.wy_syntax.specs.Views.{file_tree};
 ghost use Rattle.wy_canonical.specs.Printed.{HasTree};
 ghost use Rattle.wy_engine.specs.FileTrees.{FirstNoTree, HasNoTree, HaveTrees};

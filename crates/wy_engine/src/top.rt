@@ -1,4 +1,4 @@
-ghost use Rattle.std.specs.Prelude.{◌≡◌, ◌≤◌, List, None, Some, ℕ, length, map, false, string_bytes, true};
+ghost use Rattle.std.specs.Prelude.{◌≡◌, List, None, Some, ℕ, map, false, string_bytes, true};
 ghost use Rattle.wy_device.specs.Devices.{IsInOrder};
 ghost use Rattle.wy_machine.specs.Devices.{states};
 ghost use Rattle.wy_settings.specs.Settings.{settings_of, takes};
@@ -6,7 +6,7 @@ ghost use Rattle.wy_engine.specs.Answering.{Answered};
 ghost use Rattle.wy_engine.specs.Headline.{Closes, Headline, Settles};
 ghost use Rattle.wy_engine.specs.LastLine.{line_words};
 ghost use Rattle.wy_engine.specs.Status.{refusal_status};
-ghost use Rattle.wy_engine.specs.TopCall.{TopCall, sampled, takes_files};
+ghost use Rattle.wy_engine.specs.TopCall.{sampled, takes_files};
 
 use crate::answering::answer;
 use crate::last_line::{LineWords, last_line_of};

@@ -2,9 +2,9 @@
 
 ghost use Rattle.std.specs.Prelude.{◌≡◌, ◌<◌, length, OnOk, IfOk, IfErr};
 ghost use Rattle.wy_types.specs.Program.{program_of};
-ghost use Rattle.wy_types.specs.Core.{IsCore};
 ghost use Rattle.wy_rules.specs.Refusals.{turn_of, is_its_turn, scopes_of};
 ghost use Rattle.wy_rules.specs.Ends.{ReachesTooMany, AllGoOn};
+ghost use Rattle.wy_rules.specs.Resolved.{CoreKeeps};
 ghost use Rattle.wy_judge.specs.Checking.{IsChecked, IsLimitRefusal, IsCheckRefusal, module_turn, IsFirstRefusal};
 
 use crate::scopes::{Judged, judge_scope};
@@ -53,7 +53,7 @@ pub fn keep_limit(alloc: Global, core: &Core, scope: u16) -> Result<(), CheckRef
 /// it reaches more than 1,024 object types, and before `Fails`, which comes exactly where some node has no derivation
 /// and carries the first such node (docs/LANGUAGE.md, "First failing node" and "Limits").
 pub fn check_scope(alloc: Global, core: &Core, scope: u16) -> Result<Checked, CheckRefusal>
-    requires core { IsCore (program_of core.now) }
+    requires keeps { CoreKeeps (program_of core.now) }
     requires there { scope < length core.now.scopes }
     ensures passes { IfOk result (λ c. IsChecked (program_of core.now) scope c) }
     ensures refusal { IfErr result (λ r. IsCheckRefusal (program_of core.now) scope r) }
@@ -80,7 +80,7 @@ fn is_its_turn(kind: ScopeKind, plain: bool) -> bool
 /// Checks the plain modules, or the annotated ones, in file order. The refusal is that of the first which is refused; the
 /// limit on a module's types comes before its faults (docs/LANGUAGE.md, "First failing node" and "Limits").
 pub fn check_modules(alloc: Global, core: &Core, plain: bool) -> Result<(), CheckRefusal>
-    requires { IsCore (program_of core.now) }
+    requires { CoreKeeps (program_of core.now) }
     ensures all { OnOk result (AllGoOn (program_of core.now) (scopes_of (module_turn plain) 0 (program_of core.now).scopes)) }
     ensures first { IfErr result (λ r. IsFirstRefusal (program_of core.now) (scopes_of (module_turn plain) 0 (program_of core.now).scopes) r) }
 {

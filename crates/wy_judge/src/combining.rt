@@ -1,8 +1,7 @@
 //! What judging a form comes to, by what judging its parts came to.
 
-ghost use Rattle.std.specs.Prelude.{◌≡◌, IfOk, ◌+◌, ◌≤◌, ◌∷◌};
+ghost use Rattle.std.specs.Prelude.{◌≡◌, IfOk, ◌+◌};
 ghost use Rattle.wy_effects.specs.EffSet.{union};
-ghost use Rattle.wy_types.specs.Program.{program_of};
 ghost use Rattle.wy_judge.specs.Outcomes.{fault_at, if_int, if_bool, if_text, if_equated, unary_result, binary_result, text_operands, text_result, operation_outcome, unary_outcome, second_outcome, IsBoth, IsSecond, text_outcome, FewOperands, call_outcome, uncalled_outcome, new_outcome, ascribed_outcome, assigned_outcome, unassigned_outcome, probed_outcome, unless_failing, chosen_second, chosen_first, misfit_condition, chosen_fit, fault_or, fit_fault, chosen_fault};
 
 use crate::outcomes::{Fit, Fits, Inference};

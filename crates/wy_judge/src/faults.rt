@@ -1,7 +1,7 @@
 //! Faults of bodies, by what their blocks come to, and of pure modules.
 
 ghost use Rattle.std.specs.Prelude.{◌≡◌, IfOk, IfSome, IfNone, slice_get};
-ghost use Rattle.std.specs.Option.{option_copied, option_map};
+ghost use Rattle.std.specs.Option.{option_map};
 ghost use Rattle.wy_effects.specs.Members.{Within};
 ghost use Rattle.wy_types.specs.Program.{scope_of};
 ghost use Rattle.wy_rules.specs.Typing.{fields_of};

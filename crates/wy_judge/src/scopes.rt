@@ -4,7 +4,7 @@ ghost use Rattle.std.specs.Prelude.{◌≡◌, ◌<◌, [], IfOk, Some, length};
 ghost use Rattle.wy_effects.specs.Members.{In};
 ghost use Rattle.wy_types.specs.Program.{program_of, scope_of, body_of};
 ghost use Rattle.wy_types.specs.Types.{is_plain};
-ghost use Rattle.wy_types.specs.Core.{IsCore};
+ghost use Rattle.wy_rules.specs.Resolved.{CoreKeeps};
 ghost use Rattle.wy_judge.specs.Outcomes.{seal_fault};
 ghost use Rattle.wy_judge.specs.Tables.{IsScopeOf, BlockReady};
 ghost use Rattle.wy_judge.specs.Targets.{mode_of, about_of};
@@ -236,7 +236,7 @@ fn settled_types(alloc: Global, table: &[Option<TypeRef>]) -> Result<TypeList, M
 /// false at its least types, and for an effect the least missing atom. The one error is want of memory
 /// (docs/LANGUAGE.md, "First failing node").
 pub fn judge_scope(alloc: Global, core: &Core, number: u16) -> Result<Judged, Memory>
-    requires core { IsCore (program_of core.now) }
+    requires keeps { CoreKeeps (program_of core.now) }
     requires there { number < length core.now.scopes }
     ensures { IfOk result (λ j. IsJudgedAt (program_of core.now) number j) }
 {

@@ -3,7 +3,6 @@
 
 ghost use Rattle.std.specs.Prelude.{◌≡◌, ◌-◌, length, OnOk, IfOk, IfErr};
 ghost use Rattle.wy_types.specs.Program.{program_of};
-ghost use Rattle.wy_types.specs.Core.{IsCore};
 ghost use Rattle.wy_rules.specs.Resolved.{CoreKeeps};
 ghost use Rattle.wy_judge.specs.Checking.{IsAccepted, IsRefusalOf};
 ghost use Rattle.wy_link.specs.Checking.{IsBeforeLines, IsCheckedProgram};
@@ -16,7 +15,7 @@ use wy_types::resolved::Core;
 
 /// Checks all lines and then the program's own block.
 fn check_rest(alloc: Global, core: &Core, last: u16) -> Result<(), CheckRefusal>
-    requires core { IsCore (program_of core.now) }
+    requires keeps { CoreKeeps (program_of core.now) }
     requires before { IsBeforeLines (program_of core.now) }
     requires last { last ≡ length core.now.scopes - 1 }
     ensures accepted { OnOk result (IsAccepted (program_of core.now)) }

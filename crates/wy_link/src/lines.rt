@@ -2,9 +2,9 @@
 
 ghost use Rattle.std.specs.Prelude.{◌≡◌, IfOk};
 ghost use Rattle.wy_types.specs.Program.{program_of, scope_of};
-ghost use Rattle.wy_types.specs.Core.{IsCore};
 ghost use Rattle.wy_rules.specs.Refusals.{plain_modules, scopes_of};
 ghost use Rattle.wy_rules.specs.Ends.{AllGoOn};
+ghost use Rattle.wy_rules.specs.Resolved.{CoreKeeps};
 ghost use Rattle.wy_judge.specs.Tables.{IsScopeOf};
 ghost use Rattle.wy_judge.specs.Targets.{about_in};
 ghost use Rattle.wy_link.specs.Tried.{missing_atom};
@@ -188,7 +188,7 @@ fn scope_fault(
 /// exactly where all lines are as the rules ask. The plain modules have derivations, so that the last premise of
 /// I-Import holds (docs/LANGUAGE.md, "Modules and lines" and "First failing node").
 pub fn judge_lines(alloc: Global, core: &Core) -> Result<Option<Fault>, Memory>
-    requires core { IsCore (program_of core.now) }
+    requires keeps { CoreKeeps (program_of core.now) }
     requires plain { AllGoOn (program_of core.now) (scopes_of plain_modules 0 (program_of core.now).scopes) }
     ensures { IfOk result (λ o. LinesComeTo (program_of core.now) o) }
 {

@@ -2,7 +2,6 @@
 //! (docs/LANGUAGE.md, "Start order and ground sets").
 
 ghost use Rattle.std.specs.Prelude.{◌≡◌, ◌+◌, ◌<◌, ◌≤◌, ◌++◌, ◌∷◌, [], length, map, codes, slice_get, slice_index_or, Some, None, OnOk, IfOk, IfErr};
-ghost use Rattle.std.specs.Option.{option_copied};
 ghost use Rattle.wy_effects.specs.EffSet.{replace};
 ghost use Rattle.wy_types.specs.declared.linked.Actual.TheVariants as actual;
 ghost use Rattle.wy_types.specs.Program.{program_of};

@@ -19,7 +19,7 @@ returns-in-Some c =
     let scopes = c.as_slice.result.now in
     let below : k < length scopes = subst (λ (l : List Scope). k < length l) (sym c.as_slice.ensures) c.requires.there in
     let there = ap (λ (l : List Scope). slice_get l k) (sym c.as_slice.ensures) ∙ slice_get_read scopes _ k x refl below c.index-as_slice-number.is in
-    let h = scope_there c.args.core.now k x c.requires.core there in
+    let h = scope_there c.args.core.now k x c.requires.keeps.core there in
     let s = scope_of x in
     (s, h.there, judged_pure p k s c.in-Some.fault (sym c.pure_fault.ensures ∙ c.in-Some.is))
 
@@ -31,7 +31,7 @@ new-pairs-requires c =
     let scopes = c.as_slice.result.now in
     let below : k < length scopes = subst (λ (l : List Scope). k < length l) (sym c.as_slice.ensures) c.requires.there in
     let there = ap (λ (l : List Scope). slice_get l k) (sym c.as_slice.ensures) ∙ slice_get_read scopes _ k x refl below c.index-as_slice-number.is in
-    let h = scope_there c.args.core.now k x c.requires.core there in
+    let h = scope_there c.args.core.now k x c.requires.keeps.core there in
     record { core = in_range p k (scope_of x) h }
 
 pub judge_start-requires-clause-context : goal.judge_start-requires-clause-context
@@ -41,7 +41,7 @@ judge_start-requires-clause-context c =
     let scopes = c.as_slice.result.now in
     let below : k < length scopes = subst (λ (l : List Scope). k < length l) (sym c.as_slice.ensures) c.requires.there in
     let there = ap (λ (l : List Scope). slice_get l k) (sym c.as_slice.ensures) ∙ slice_get_read scopes _ k x refl below c.index-as_slice-number.is in
-    let h = scope_there c.args.core.now k x c.requires.core there in
+    let h = scope_there c.args.core.now k x c.requires.keeps.core there in
     h
 
 pub returns-in-Some-start : goal.returns-in-Some-start
@@ -52,7 +52,7 @@ returns-in-Some-start c =
     let scopes = c.as_slice.result.now in
     let below : k < length scopes = subst (λ (l : List Scope). k < length l) (sym c.as_slice.ensures) c.requires.there in
     let there = ap (λ (l : List Scope). slice_get l k) (sym c.as_slice.ensures) ∙ slice_get_read scopes _ k x refl below c.index-as_slice-number.is in
-    let h = scope_there c.args.core.now k x c.requires.core there in
+    let h = scope_there c.args.core.now k x c.requires.keeps.core there in
     let s = scope_of x in
     let pure = sym c.pure_fault.ensures ∙ c.in_default.is in
     (s, h.there, fails_at_start p k s c.judge_start.new.table.items c.in_ok-start.start c.in-Some-start.fault c.in-Some-start.is pure c.in_ok-start.ensures.outcome)
@@ -64,7 +64,7 @@ judge_rest-requires-clause-context c =
     let scopes = c.as_slice.result.now in
     let below : k < length scopes = subst (λ (l : List Scope). k < length l) (sym c.as_slice.ensures) c.requires.there in
     let there = ap (λ (l : List Scope). slice_get l k) (sym c.as_slice.ensures) ∙ slice_get_read scopes _ k x refl below c.index-as_slice-number.is in
-    let h = scope_there c.args.core.now k x c.requires.core there in
+    let h = scope_there c.args.core.now k x c.requires.keeps.core there in
     h
 
 pub judge_rest-requires-clause-walked : goal.judge_rest-requires-clause-walked
@@ -75,7 +75,7 @@ judge_rest-requires-clause-walked c =
     let scopes = c.as_slice.result.now in
     let below : k < length scopes = subst (λ (l : List Scope). k < length l) (sym c.as_slice.ensures) c.requires.there in
     let there = ap (λ (l : List Scope). slice_get l k) (sym c.as_slice.ensures) ∙ slice_get_read scopes _ k x refl below c.index-as_slice-number.is in
-    let h = scope_there c.args.core.now k x c.requires.core there in
+    let h = scope_there c.args.core.now k x c.requires.keeps.core there in
     let s = scope_of x in
     let start = c.judge_start.new.table.items in
     walked_start p k s h start (subst (StartsTo p k s [] start) c.in_default-start.is c.in_ok-start.ensures.outcome)
@@ -88,7 +88,7 @@ returns-in-Some-rest c =
     let scopes = c.as_slice.result.now in
     let below : k < length scopes = subst (λ (l : List Scope). k < length l) (sym c.as_slice.ensures) c.requires.there in
     let there = ap (λ (l : List Scope). slice_get l k) (sym c.as_slice.ensures) ∙ slice_get_read scopes _ k x refl below c.index-as_slice-number.is in
-    let h = scope_there c.args.core.now k x c.requires.core there in
+    let h = scope_there c.args.core.now k x c.requires.keeps.core there in
     let s = scope_of x in
     let start = c.judge_start.new.table.items in
     let pure = sym c.pure_fault.ensures ∙ c.in_default.is in
@@ -103,7 +103,7 @@ returns c =
     let scopes = c.as_slice.result.now in
     let below : k < length scopes = subst (λ (l : List Scope). k < length l) (sym c.as_slice.ensures) c.requires.there in
     let there = ap (λ (l : List Scope). slice_get l k) (sym c.as_slice.ensures) ∙ slice_get_read scopes _ k x refl below c.index-as_slice-number.is in
-    let h = scope_there c.args.core.now k x c.requires.core there in
+    let h = scope_there c.args.core.now k x c.requires.keeps.core there in
     let s = scope_of x in
     let start = c.judge_start.new.table.items in
     let end = c.judge_rest.new.table.items in

@@ -1,4 +1,4 @@
-use Rattle.std.proofs.Common.{◌≡◌, ◌≤◌, ◌-◌, Err, length, subst, arith, rules}
+use Rattle.std.proofs.Common.{◌≡◌, ◌-◌, Err, length, subst, arith, rules}
 use Rattle.wy_types.specs.Program.{program_of}
 use Rattle.wy_judge.proofs.Programs.{IsLastAt, last_of}
 use Rattle.wy_link.proofs.Programs.{types_refused, instances_refused, before_lines}

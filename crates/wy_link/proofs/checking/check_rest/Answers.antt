@@ -9,13 +9,13 @@ use Rattle.wy_link.proofs.checking.check_rest.Goals as goal
 pub returns-in-Ok-Passes-clause-accepted : goal.returns-in-Ok-Passes-clause-accepted
 returns-in-Ok-Passes-clause-accepted c =
     let p = program_of c.args.core.now in
-    let last = subst (IsLastAt p) (sym c.requires.last) (last_of c.args.core.now c.requires.core) in
+    let last = subst (IsLastAt p) (sym c.requires.last) (last_of c.args.core.now c.requires.keeps.core) in
     let lines = subst (LinesComeTo p) c.in-Ok-None.field-0-is c.in-Ok-None.ensures in
     all_accepted p c.args.last last c.requires.before lines _ (subst (IsJudgedAt p c.args.last) c.in-Ok-Passes.field-0-is c.in-Ok-Passes.ensures)
 
 pub returns-in-Ok-Fails-clause-refusal : goal.returns-in-Ok-Fails-clause-refusal
 returns-in-Ok-Fails-clause-refusal c =
     let p = program_of c.args.core.now in
-    let last = subst (IsLastAt p) (sym c.requires.last) (last_of c.args.core.now c.requires.core) in
+    let last = subst (IsLastAt p) (sym c.requires.last) (last_of c.args.core.now c.requires.keeps.core) in
     let lines = subst (LinesComeTo p) c.in-Ok-None.field-0-is c.in-Ok-None.ensures in
     block_refused p c.args.last last c.requires.before _ lines (subst (IsJudgedAt p c.args.last) c.in-Ok-Fails.field-0-is c.in-Ok-Fails.ensures)

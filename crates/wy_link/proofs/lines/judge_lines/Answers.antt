@@ -16,7 +16,7 @@ scope_fault-requires-clause-context c =
     let k = c.loop-number.number in
     let x = c.index-scopes-number.result in
     let scopes = c.as_slice-scopes.result.now in
-    scope_there c.args.core.now k x c.requires.core
+    scope_there c.args.core.now k x c.requires.keeps.core
     (ap (λ (l : List Scope). slice_get l k) (sym c.as_slice-scopes.ensures) ∙ slice_get_read scopes _ k x refl c.loop-number-test.true c.index-scopes-number.is)
 
 pub returns-then-is_some : goal.returns-then-is_some
