@@ -246,6 +246,21 @@ fn recursive_types_are_subtypes(rt: HostRuntime) -> Result<(), Fail> {
     Ok(())
 }
 
+/// Whether of two bare types the first is no subtype of the second, by this path and this cause.
+fn fails(
+    alloc: Global,
+    core: &Core,
+    types: (u16, u16),
+    mode: Mode,
+    steps: &[(&[u8], Part)],
+    cause: Cause,
+) -> Result<bool, Memory> {
+    let wanted = no(alloc, steps, cause)?;
+    let left = named(alloc, types.0, None)?;
+    let right = named(alloc, types.1, None)?;
+    Ok(verdict(alloc, core, &left, &right, mode)? == wanted)
+}
+
 #[test]
 fn a_path_leads_to_the_pair_that_fails(rt: HostRuntime) -> Result<(), Fail> {
     let alloc = rt.alloc();
@@ -254,23 +269,33 @@ fn a_path_leads_to_the_pair_that_fails(rt: HostRuntime) -> Result<(), Fail> {
         (ScopeKind::Plain, Mode::Plain),
     ] {
         let core = core_of_types(alloc, kind)?;
-        let more = no(
-            alloc,
-            &[],
-            Cause::MissingMethod(from_bytes(alloc, b"more")?),
-        )?;
-        let (p, r) = (named(alloc, 4, None)?, named(alloc, 6, None)?);
-        assert!(rt; verdict(alloc, &core, &p, &r, mode)? == more);
-        let (s, u) = (named(alloc, 7, None)?, named(alloc, 10, None)?);
+        let more = Cause::MissingMethod(from_bytes(alloc, b"more")?);
+        assert!(rt; fails(alloc, &core, (4, 6), mode, &[], more)?);
         let next: (&[u8], Part) = (b"next", Part::Result);
-        let base = no(alloc, &[next, next, next], Cause::Base)?;
-        assert!(rt; verdict(alloc, &core, &s, &u, mode)? == base);
-        let arity = no(alloc, &[], Cause::Arity(from_bytes(alloc, b"next")?))?;
-        let (f, g) = (named(alloc, 13, None)?, named(alloc, 14, None)?);
-        assert!(rt; verdict(alloc, &core, &f, &g, mode)? == arity);
         assert!(rt;
-            verdict(alloc, &core, &TypeRef::Int, &p, mode)? == no(alloc, &[], Cause::Base)?
+            fails(
+                alloc,
+                &core,
+                (7, 10),
+                mode,
+                &[next, next, next],
+                Cause::Base
+            )?
         );
+        let arity = Cause::Arity(from_bytes(alloc, b"next")?);
+        assert!(rt; fails(alloc, &core, (13, 14), mode, &[], arity)?);
+    }
+    Ok(())
+}
+
+#[test]
+fn a_base_type_is_no_subtype_of_an_object_type(rt: HostRuntime) -> Result<(), Fail> {
+    let alloc = rt.alloc();
+    let base = no(alloc, &[], Cause::Base)?;
+    let core = core_of_types(alloc, ScopeKind::Program)?;
+    let p = named(alloc, 4, None)?;
+    for mode in [Mode::Annotated, Mode::Plain] {
+        assert!(rt; verdict(alloc, &core, &TypeRef::Int, &p, mode)? == base);
     }
     Ok(())
 }

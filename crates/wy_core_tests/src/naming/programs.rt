@@ -69,8 +69,8 @@ fn blocks(alloc: Global, counts: &[u32]) -> Result<Vec<Tree>, Memory> {
         let mut grants = Items::new(alloc);
         for number in 0..*count {
             grants.push(Grant {
-                name: name(alloc, "g", number + 10)?,
-                kind: name(alloc, "Clock", number + 10)?,
+                name: name(alloc, "g", number.saturating_add(10))?,
+                kind: name(alloc, "Clock", number.saturating_add(10))?,
             })?;
         }
         items.push(block(alloc, grants, Items::new(alloc), nothing()))?;
