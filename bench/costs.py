@@ -44,7 +44,7 @@ def atoms(n: int) -> str:
     lines = ["type T"] + [f"  effect E{e}" for e in range(n)] + [f"  def f(): {{{', '.join(f'E{e}' for e in range(n))}}} Int"]
     lines += ["type U", "  effect E", "  def g(): {E} Int", "resource module m(t: T): U"]
     lines += [f"  effect E = {{{', '.join(f't.E{e}' for e in range(n))}}}", "  def g(): {E} Int"]
-    lines += ["    t.f()"] * 2000
+    lines += [f"    val v{call} = t.f()" for call in range(2000)] + ["    0"]
     return program(lines, "{}", ["()"])
 
 
@@ -53,7 +53,7 @@ def literals(n: int) -> str:
     lines = ["type T", *[f"  def m{m}(): {{}} Int" for m in range(16)], "type U", "  def go(): {} Int", "plain module p(): U", "  def go(): Int"]
     for number in range(n):
         lines += [f"    val x{number} = new", *[f"      def m{m}(): Int = {m}" for m in range(16)]]
-        lines += [f"    x{number}.m{call}()" for call in range(8)]
+        lines += [f"    val y{number * 8 + call} = x{number}.m{call}()" for call in range(8)]
     return program(lines + ["    0"], "{}", ["()"])
 
 
@@ -106,20 +106,20 @@ def methods(n: int) -> str:
 def recursion(n: int) -> str:
     """A method that calls itself twice, 2^n calls in all."""
     lines = ["type T", "  def go(n: Int): {} Int", "module m: T", "  def go(n: Int): {} Int = if n < 1 then 1 else this.go(n - 1) + this.go(n - 1)"]
-    return program(lines, "{}", [f"m.go({n - 1})", "()"], ["use m"])
+    return program(lines, "{}", [f"val n = m.go({n - 1})", "()"], ["use m"])
 
 
 def objects(n: int) -> str:
     """2^n objects, made and asked once each."""
     lines = ["type Box", "  def get(): {} Int", "type T", "  def go(n: Int): {} Int", "module m: T", "  def box(n: Int): {} Box", "    new", "      def get(): {} Int = n"]
     lines += ["  def go(n: Int): {} Int = if n < 1 then this.box(n).get() else this.go(n - 1) + this.go(n - 1)"]
-    return program(lines, "{}", [f"m.go({n})", "()"], ["use m"])
+    return program(lines, "{}", [f"val n = m.go({n})", "()"], ["use m"])
 
 
 def texts(n: int) -> str:
     """2^n small texts."""
     lines = ["type T", "  def go(n: Int): {} Int", "module m: T", "  def go(n: Int): {} Int = if n < 1 then text_size(text_show(n)) else this.go(n - 1) + this.go(n - 1)"]
-    return program(lines, "{}", [f"m.go({n})", "()"], ["use m"])
+    return program(lines, "{}", [f"val n = m.go({n})", "()"], ["use m"])
 
 
 def program(lines: list[str], effect: str, body: list[str], top: list[str] = ()) -> str:
@@ -134,7 +134,7 @@ KINDS = {
     "atoms": (atoms, ["check"], (125, 250, 500)),
     "literals": (literals, ["check"], (250, 500, 1000)),
     "uses": (uses, ["check"], (64, 128, 255)),
-    "instances": (instances, ["check"], (256, 512, 1024)),
+    "instances": (instances, ["check"], (127, 255, 511)),
     "methods": (methods, ["check"], (32, 64, 128)),
     "report": (report, ["authority"], (64, 128, 256)),
     "recursion": (recursion, RUN, (19, 21, 23)),
