@@ -16,4 +16,5 @@ pub mod Cut
 pub mod Laws
 pub mod Printed
 pub mod Characters
+pub mod Identifiers
 pub mod Spans

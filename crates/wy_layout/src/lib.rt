@@ -5,6 +5,7 @@
 pub mod count;
 mod escape;
 mod file;
+mod identifiers;
 mod kinds;
 pub mod laws;
 mod line;
@@ -16,5 +17,6 @@ mod widths;
 mod words;
 
 pub use file::lex;
+pub use identifiers::is_identifier;
 pub use refusal::LexRefusal;
 pub use wy_text::token::{Token, TokenKind};

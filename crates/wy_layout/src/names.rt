@@ -59,7 +59,7 @@ fn first(text: &str) -> char
 }
 
 /// The first character, and the text after it.
-fn first_char(text: &str) -> Option<(char, &str)>
+pub fn first_char(text: &str) -> Option<(char, &str)>
     ensures { MatchOption result (chars text.now ≡ []) (λ p. chars text.now ≡ p.0 ∷ chars p.1.now) }
 {
     let mut it = text.chars();

@@ -4,7 +4,6 @@ mod Examples
 pub mod JudgingLaws
 pub mod LineTurns
 pub mod NameBytes
-pub mod NameLaws
 pub mod PolicyLaws
 pub mod RowLaws
 pub mod SetLaws

@@ -8,7 +8,7 @@ use Rattle.unicode_ident.specs.Ident.{is_xid_start, is_xid_continue}
 use Rattle.unicode_ident.proofs.IdentLemmas.{is_xid_continue-ascii, is_xid_start-is_xid_continue}
 use Rattle.wy_layout.specs.Characters.{all_continue, is_name_of}
 use Rattle.wy_layout.specs.Words.{among, reserved}
-use Rattle.wy_policy.specs.Policy.{is_name}
+use Rattle.wy_layout.specs.Identifiers.{is_identifier}
 
 -- the byte, or the character, is nowhere
 abbrev pub Lacks : ℕ → List ℕ → Type 0
@@ -62,17 +62,17 @@ characters_lack s [] stops under h = tt
 characters_lack s (c ∷ cs) stops under h =
     (begins s c stops under (and_left (is_xid_start c || (c == 95)) (all_continue cs) h), all_lack s cs stops (and_right (is_xid_start c || (c == 95)) (all_continue cs) h))
 
-pub name_lacks : (s : ℕ) (w : List ℕ) → s < 128 → is_xid_continue s ≡ false → (s == 95) ≡ false → is_name w ≡ true → Lacks s w
+pub name_lacks : (s : ℕ) (w : List ℕ) → s < 128 → is_xid_continue s ≡ false → (s == 95) ≡ false → is_identifier w ≡ true → Lacks s w
 name_lacks s w small stops under h =
     let text = IsUtf8-from_is_utf8 w (and_left (is_utf8 w) (is_name_of (chars w) && not (among w reserved)) h) in
     let named = and_left (is_name_of (chars w)) (not (among w reserved)) (and_right (is_utf8 w) (is_name_of (chars w) && not (among w reserved)) h) in
     subst (Lacks s) (encodes-chars w text) (encodes_lacks s (chars w) small (characters_lack s (chars w) stops under named))
 
-pub no_star : (w : List ℕ) → is_name w ≡ true → Lacks 42 w
+pub no_star : (w : List ℕ) → is_identifier w ≡ true → Lacks 42 w
 no_star w h = name_lacks 42 w (omega arith) (is_xid_continue-ascii 42 (omega arith)) refl h
 
-pub no_comma : (w : List ℕ) → is_name w ≡ true → Lacks 44 w
+pub no_comma : (w : List ℕ) → is_identifier w ≡ true → Lacks 44 w
 no_comma w h = name_lacks 44 w (omega arith) (is_xid_continue-ascii 44 (omega arith)) refl h
 
-pub no_dot : (w : List ℕ) → is_name w ≡ true → Lacks 46 w
+pub no_dot : (w : List ℕ) → is_identifier w ≡ true → Lacks 46 w
 no_dot w h = name_lacks 46 w (omega arith) (is_xid_continue-ascii 46 (omega arith)) refl h

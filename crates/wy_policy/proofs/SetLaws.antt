@@ -4,7 +4,8 @@ use Rattle.std.specs.List.{AllByRecursion, join_with_byte}
 use Rattle.std.specs.Option.{option_and_then, option_map}
 use Rattle.std.specs.Str.{bytes_eq}
 use Rattle.std.proofs.lemmas.Slice.Eq.{bytes_eq-Decides}
-use Rattle.wy_policy.specs.Policy.{IsEntry, IsMember, entries_after, entry_text, is_name, member_text, set_text}
+use Rattle.wy_layout.specs.Identifiers.{is_identifier}
+use Rattle.wy_policy.specs.Policy.{IsEntry, IsMember, entries_after, entry_text, member_text, set_text}
 use Rattle.wy_policy.specs.Reading.{Cut, cut, entries_read, entry_of, entry_parts, entry_read, first_longer, member_read, onto, pieces, pieces_in, set_read}
 use Rattle.wy_policy.specs.declared.policy.Entry.{Entry}
 use Rattle.wy_policy.specs.declared.policy.Member.{Member}
@@ -78,9 +79,9 @@ star_is : (w : List ℕ) → bytes_eq w (codes "*") ≡ true → w ≡ codes "*"
 star_is w e = (bytes_eq-Decides w (codes "*")).0 e
 
 pub member_found : (text : List ℕ) (m : Member) → member_read text ≡ Some m → (text ≡ member_text m) × IsMember m
-member_found text m h = go (bytes_eq text (codes "*")) refl (is_name text) refl h
+member_found text m h = go (bytes_eq text (codes "*")) refl (is_identifier text) refl h
   where
-    go : (t : Bool) → bytes_eq text (codes "*") ≡ t → (u : Bool) → is_name text ≡ u → cond t (Some member.Every) (cond u (Some (member.Named text)) None) ≡ Some m → (text ≡ member_text m) × IsMember m
+    go : (t : Bool) → bytes_eq text (codes "*") ≡ t → (u : Bool) → is_identifier text ≡ u → cond t (Some member.Every) (cond u (Some (member.Named text)) None) ≡ Some m → (text ≡ member_text m) × IsMember m
     go true e u f h = subst (λ (x : Member). (text ≡ member_text x) × IsMember x) (some_same member.Every m h) (star_is text e, tt)
     go false e true f h = subst (λ (x : Member). (text ≡ member_text x) × IsMember x) (some_same (member.Named text) m h) (refl, f)
     go false e false f h = absurd cc
@@ -89,22 +90,22 @@ pub member_again : (m : Member) → IsMember m → member_read (member_text m) �
 member_again member.Every h = refl
 member_again (member.Named name) h = go (bytes_eq name (codes "*")) refl (no_star name h)
   where
-    go : (t : Bool) → bytes_eq name (codes "*") ≡ t → Lacks 42 name → cond t (Some member.Every) (cond (is_name name) (Some (member.Named name)) None) ≡ Some (member.Named name)
+    go : (t : Bool) → bytes_eq name (codes "*") ≡ t → Lacks 42 name → cond t (Some member.Every) (cond (is_identifier name) (Some (member.Named name)) None) ≡ Some (member.Named name)
     go true e l = absurd ((subst (Lacks 42) (star_is name e) l).0 refl)
     go false e l = rw h refl
 
-member_lacks : (s : ℕ) (m : Member) → (42 ≡ s → ⊥) → ((w : List ℕ) → is_name w ≡ true → Lacks s w) → IsMember m → Lacks s (member_text m)
+member_lacks : (s : ℕ) (m : Member) → (42 ≡ s → ⊥) → ((w : List ℕ) → is_identifier w ≡ true → Lacks s w) → IsMember m → Lacks s (member_text m)
 member_lacks s member.Every star names h = (star, tt)
 member_lacks s (member.Named name) star names h = names name h
 
-entry_built : (grant : List ℕ) (m : Member) → is_name grant ≡ true → IsMember m → IsEntry (entry_of grant m)
+entry_built : (grant : List ℕ) (m : Member) → is_identifier grant ≡ true → IsMember m → IsEntry (entry_of grant m)
 entry_built grant m g h = record { grant = g; member = h }
 
 parts_found : (grant : List ℕ) (behind : Option (List ℕ)) (e : Entry) → entry_parts grant behind ≡ Some e → (text : List ℕ) × ((behind ≡ Some text) × (grant ++ 46 ∷ text ≡ entry_text e) × IsEntry e)
 parts_found grant None e h = absurd cc
-parts_found grant (Some text) e h = go (is_name grant) refl (member_read text) refl h
+parts_found grant (Some text) e h = go (is_identifier grant) refl (member_read text) refl h
   where
-    go : (t : Bool) → is_name grant ≡ t → (o : Option Member) → member_read text ≡ o → cond t (option_map (entry_of grant) o) None ≡ Some e → (text' : List ℕ) × ((Some text ≡ Some text') × (grant ++ 46 ∷ text' ≡ entry_text e) × IsEntry e)
+    go : (t : Bool) → is_identifier grant ≡ t → (o : Option Member) → member_read text ≡ o → cond t (option_map (entry_of grant) o) None ≡ Some e → (text' : List ℕ) × ((Some text ≡ Some text') × (grant ++ 46 ∷ text' ≡ entry_text e) × IsEntry e)
     go true g None f h = absurd cc
     go true g (Some m) f h =
         let found = member_found text m f in

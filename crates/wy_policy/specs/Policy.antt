@@ -1,12 +1,10 @@
 -- The text of a policy: rows that say what the instances of some names may do (docs/LANGUAGE.md, "Policies").
 use Rattle.std.specs.Prelude.{codes, ◌≡◌, ◌≢◌, ◌⊎◌, ◌<◌, ◌≤◌, ℕ, nat_le, ◌==◌, not, ◌&&◌, Bool, true, false, List, [], ◌∷◌, ◌++◌, length}
 use Rattle.std.specs.List.{AllByRecursion, list_all}
-use Rattle.std.specs.Str.{chars, is_utf8}
-use Rattle.wy_layout.specs.Characters.{is_name_of}
+use Rattle.wy_layout.specs.Identifiers.{is_identifier}
 use Rattle.wy_text.specs.LimitName.{limit_number}
 use Rattle.wy_text.specs.declared.limit.LimitName.TheVariants as limit
 use Rattle.wy_layout.specs.Lines.{Line, first_row, lines}
-use Rattle.wy_layout.specs.Words.{among, reserved}
 use Rattle.wy_policy.specs.declared.policy.Entry.{Entry}
 use Rattle.wy_policy.specs.declared.policy.Member.{Member}
 use Rattle.wy_policy.specs.declared.policy.Member.TheVariants as member
@@ -51,16 +49,12 @@ abbrev pub IsPattern : Pattern → Type 0
 IsPattern (pattern.Whole name) = (list_all is_plain name ≡ true) × (name ≢ [])
 IsPattern (pattern.Front front) = list_all is_plain front ≡ true
 
--- a name of the language: its characters are a name's, and it is no reserved word
-abbrev pub is_name : List ℕ → Bool
-is_name w = is_utf8 w && (is_name_of (chars w) && not (among w reserved))
-
 abbrev pub IsMember : Member → Type 0
 IsMember member.Every = Unit {0}
-IsMember (member.Named name) = is_name name ≡ true
+IsMember (member.Named name) = is_identifier name ≡ true
 
 pub record IsEntry (e : Entry) : Type 0 where
-  pub grant : is_name e.grant ≡ true
+  pub grant : is_identifier e.grant ≡ true
   pub member : IsMember e.member
 
 -- ---- lines

@@ -4,7 +4,8 @@ use Rattle.std.specs.Option.{option_and_then, option_map, option_or}
 use Rattle.std.specs.Str.{bytes_eq}
 use Rattle.wy_layout.specs.Lines.{Line, lines}
 use Rattle.wy_layout.specs.declared.row.Row.{Row}
-use Rattle.wy_policy.specs.Policy.{is_blank, is_comment, is_name, is_plain}
+use Rattle.wy_layout.specs.Identifiers.{is_identifier}
+use Rattle.wy_policy.specs.Policy.{is_blank, is_comment, is_plain}
 use Rattle.wy_policy.specs.declared.policy.Entry.{Entry}
 use Rattle.wy_policy.specs.declared.policy.Member.{Member}
 use Rattle.wy_policy.specs.declared.policy.Member.TheVariants as member
@@ -28,7 +29,7 @@ cut stop (b ∷ bs) = cond (b == stop) (record { front = []; behind = Some bs })
 -- ---- a set
 
 abbrev pub member_read : List ℕ → Option Member
-member_read text = cond (bytes_eq text (codes "*")) (Some member.Every) (cond (is_name text) (Some (member.Named text)) None)
+member_read text = cond (bytes_eq text (codes "*")) (Some member.Every) (cond (is_identifier text) (Some (member.Named text)) None)
 
 abbrev pub entry_of : List ℕ → Member → Entry
 entry_of grant m = record { grant = grant; member = m }
@@ -36,7 +37,7 @@ entry_of grant m = record { grant = grant; member = m }
 -- a grant before a dot, and a member behind it
 abbrev pub entry_parts : List ℕ → Option (List ℕ) → Option Entry
 entry_parts grant None = None
-entry_parts grant (Some text) = cond (is_name grant) (option_map (entry_of grant) (member_read text)) None
+entry_parts grant (Some text) = cond (is_identifier grant) (option_map (entry_of grant) (member_read text)) None
 
 -- an entry with a space before it
 abbrev pub entry_read : List ℕ → Option Entry

@@ -5,7 +5,6 @@
 mod cutting;
 mod judging;
 pub mod laws;
-mod names;
 mod policy;
 mod reading;
 mod rows;

@@ -3,9 +3,9 @@ ghost use Rattle.wy_policy.specs.Policy.{is_plain};
 ghost use Rattle.wy_policy.specs.Reading.{Pushes, entries_read, entry_read, member_read, pieces, plain_len, row_parts, row_read, row_with, set_read};
 
 use crate::cutting::cut;
-use crate::names::is_name;
 use crate::policy::{Entry, Member, Pattern, PolicyRow};
 use std::alloc::Global;
+use wy_layout::is_identifier;
 use wy_text::list::Items;
 use wy_text::text::{Memory, from_bytes};
 
@@ -16,7 +16,7 @@ fn member_of(alloc: Global, text: &[u8]) -> Result<Option<Member>, Memory>
     if text == b"*".as_slice() {
         return Ok(Some(Member::Every));
     }
-    if !is_name(text) {
+    if !is_identifier(text) {
         return Ok(None);
     }
     Ok(Some(Member::Named(from_bytes(alloc, text)?)))
@@ -32,7 +32,7 @@ fn entry_of(alloc: Global, piece: &[u8]) -> Result<Option<Entry>, Memory>
     let (grant, Some(behind)) = cut(b'.', text) else {
         return Ok(None);
     };
-    if !is_name(grant) {
+    if !is_identifier(grant) {
         return Ok(None);
     }
     let Some(member) = member_of(alloc, behind)? else {

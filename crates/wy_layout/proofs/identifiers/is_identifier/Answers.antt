@@ -2,8 +2,8 @@ use Rattle.std.proofs.Common.{◌≡◌, Bool, true, false, not, List, ℕ, char
 use Rattle.std.specs.Str.{is_utf8}
 use Rattle.std.proofs.lemmas.Str.{IsUtf8-from_is_utf8, is_utf8-from_IsUtf8}
 use Rattle.wy_layout.specs.Characters.{is_name_of}
-use Rattle.wy_policy.specs.Policy.{is_name}
-use Rattle.wy_policy.proofs.names.is_name.Goals as goal
+use Rattle.wy_layout.specs.Identifiers.{is_identifier}
+use Rattle.wy_layout.proofs.identifiers.is_identifier.Goals as goal
 
 pub returns-then-has_name_characters : goal.returns-then-has_name_characters
 returns-then-has_name_characters c =
@@ -14,6 +14,6 @@ returns-then-has_name_characters c =
 pub returns-in-Err : goal.returns-in-Err
 returns-in-Err c = go (is_utf8 c.args.word.now) refl
   where
-    go : (b : Bool) → is_utf8 c.args.word.now ≡ b → false ≡ is_name c.args.word.now
+    go : (b : Bool) → is_utf8 c.args.word.now ≡ b → false ≡ is_identifier c.args.word.now
     go true e = absurd (c.in-Err.ensures.cases.0 (IsUtf8-from_is_utf8 c.args.word.now e))
     go false e = rw e refl
