@@ -1,7 +1,7 @@
 use std::alloc::Global;
 use std::test::Fail;
-use wy_layout::lex;
 use wy_layout::refusal::LexRefusal;
+use wy_layout::{is_identifier, lex};
 use wy_text::token::{Token, TokenKind};
 
 /// Each token as its bytes, or as the name of a token of the layout, and its place.
@@ -438,5 +438,18 @@ fn names_and_texts_have_their_bytes(rt: HostRuntime) -> Result<(), Fail> {
         };
         assert_eq!(rt; found, wanted);
     }
+    Ok(())
+}
+
+#[test]
+fn identifiers_are_told_from_reserved_words(rt: HostRuntime) -> Result<(), Fail> {
+    for word in "a _ x9 text_sizes résumé _type İ".split(' ') {
+        assert!(rt; is_identifier(word.as_bytes()), "{word}");
+    }
+    for word in "9a a-b type text_size Int main a.b ·a".split(' ') {
+        assert!(rt; !is_identifier(word.as_bytes()), "{word}");
+    }
+    assert!(rt; !is_identifier(b""));
+    assert!(rt; !is_identifier(b"a\xff"));
     Ok(())
 }
