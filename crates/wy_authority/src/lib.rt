@@ -2,6 +2,10 @@
 //! in `specs/`; the types here are those that they speak of.
 #![tactic(auto)]
 
-pub mod authority;
-pub mod report;
-pub mod rows;
+mod body_rows;
+mod report_text;
+mod rows;
+
+pub use body_rows::{authority, bound};
+pub use report_text::report;
+pub use rows::{Authority, BodyRow, InstanceRow};

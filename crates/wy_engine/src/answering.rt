@@ -13,8 +13,7 @@ use crate::status::Status;
 use std::alloc::Global;
 use wy_device::device::Device;
 use wy_machine::devices::Devices;
-use wy_settings::command_line::{Command, CommandLine};
-use wy_settings::settings::sample_number;
+use wy_settings::{Command, CommandLine, sample_number};
 use wy_text::sink::Sink;
 use wy_text::text::Text;
 

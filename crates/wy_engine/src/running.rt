@@ -21,7 +21,7 @@ use wy_lower::{LowerRefusal, lower};
 use wy_machine::devices::Devices;
 use wy_machine::run::{Image, load, run, run_traced};
 use wy_machine::run_end::RunEnd;
-use wy_sample::sample::summary;
+use wy_sample::summary;
 use wy_syntax::items::Tree;
 use wy_text::sink::{Sink, WriteError};
 use wy_text::text::{Memory, Text, from_bytes};

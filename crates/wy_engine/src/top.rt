@@ -16,9 +16,10 @@ use crate::status::Status;
 use std::alloc::Global;
 use wy_device::device::Device;
 use wy_machine::devices::Devices;
-use wy_sample::sample::sample;
-use wy_settings::command_line::{Command, CommandLine, SettingsRefusal, USUAL_DEPTH, USUAL_STEPS};
-use wy_settings::settings::{sample_number, settings};
+use wy_sample::sample;
+use wy_settings::{
+    Command, CommandLine, SettingsRefusal, USUAL_DEPTH, USUAL_STEPS, sample_number, settings,
+};
 use wy_text::limit::LimitName;
 use wy_text::shelf::Shelf;
 use wy_text::sink::{Sink, WriteError};

@@ -7,7 +7,7 @@ ghost use Rattle.wy_policy.specs.Judging as judging;
 
 use crate::policy::{Entry, Judgement, Member, Pattern, Policy, PolicyRow};
 use std::alloc::Global;
-use wy_authority::rows::{Authority, BodyRow, InstanceRow};
+use wy_authority::{Authority, BodyRow, InstanceRow};
 use wy_effects::atom::Atom;
 use wy_effects::set::EffSet;
 use wy_text::fault::AtomName;

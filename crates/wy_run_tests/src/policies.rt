@@ -1,6 +1,6 @@
 use std::alloc::Global;
 use std::test::Fail;
-use wy_authority::rows::{Authority, BodyRow, InstanceRow};
+use wy_authority::{Authority, BodyRow, InstanceRow};
 use wy_effects::atom::Atom;
 use wy_effects::set::EffSet;
 use wy_policy::{

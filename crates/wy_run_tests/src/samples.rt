@@ -1,5 +1,5 @@
 use std::test::Fail;
-use wy_sample::sample::{sample, summary};
+use wy_sample::{sample, summary};
 
 const ONE: &str = r#"type Step
   effect E

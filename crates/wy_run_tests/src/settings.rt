@@ -1,7 +1,6 @@
 use std::alloc::Global;
 use std::test::Fail;
-use wy_settings::command_line::{Command, Settings, SettingsRefusal};
-use wy_settings::settings::settings;
+use wy_settings::{Command, Settings, SettingsRefusal, settings};
 
 /// The settings of these words.
 fn settings_of(alloc: Global, words: &[&str]) -> Result<Result<Settings, SettingsRefusal>, Fail> {

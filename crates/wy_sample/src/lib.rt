@@ -1,4 +1,6 @@
 //! Programs that are made from a number, so that a large one can be tried with no file at hand.
 #![tactic(auto)]
 
-pub mod sample;
+mod making;
+
+pub use making::{sample, summary};

@@ -1,7 +1,13 @@
 //! What the words of a call ask for (docs/LANGUAGE.md, "The command line").
 #![tactic(auto)]
 
-pub mod command_line;
+mod command_line;
 mod matching;
 mod numerals;
-pub mod settings;
+mod reading;
+
+pub use command_line::{
+    Command, CommandLine, MOST_DEPTH, MOST_STEPS, Settings, SettingsRefusal, USUAL_DEPTH,
+    USUAL_STEPS,
+};
+pub use reading::{sample_number, settings};

@@ -1,5 +1,0 @@
-use Rattle.std.proofs.Common.{◌≡◌, map, string_bytes, take}
-use Rattle.wy_settings.proofs.settings.copied.Given as goal
-
-abbrev pub invariant-loop-word : goal.invariant-loop-word
-invariant-loop-word l = map string_bytes l.copies.items ≡ map (λ s. s.now) (take l.word-index l.words)
