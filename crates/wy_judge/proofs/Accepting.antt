@@ -1,20 +1,17 @@
 -- What a scope's judgement says of the rules: a scope that passes keeps them all but for its lines, which are judged by themselves, and
 -- a scope that fails does not.
-use Rattle.std.proofs.Common.{◌≡◌, ℕ, List, length, map, ◌∙◌}
+use Rattle.std.proofs.Common.{ℕ, List, map}
 use Rattle.wy_text.specs.declared.fault.Fault.{Fault}
 use Rattle.wy_types.specs.declared.types.TypeRef.{TypeRef}
 use Rattle.wy_types.specs.Program.{Program, Scope}
-use Rattle.wy_types.specs.Core.{scope_vals}
 use Rattle.wy_rules.specs.Typing.{ScopeHolds}
 use Rattle.wy_rules.specs.Acceptance.{scope_reading, PureHolds, SealHolds}
 use Rattle.wy_rules.proofs.Holding.{holding_scope_stands}
 use Rattle.wy_rules.proofs.Passing.{scope_holds}
 use Rattle.wy_judge.specs.declared.scopes.Judged.TheVariants.{Passes, Fails}
-use Rattle.wy_judge.specs.Accepting.{AreNumbered}
 use Rattle.wy_judge.specs.Tables.{IsScopeOf}
 use Rattle.wy_judge.specs.Walking.{IsJudged}
 use Rattle.wy_judge.proofs.Contexts.{scope_fits}
-use Rattle.wy_judge.proofs.Rooms.{room_as_many}
 
 module _ (p : Program) (k : ℕ) (s : Scope) where
   pub passing_holds : (types : List TypeRef) → IsJudged p k s (Passes types) → PureHolds s.kind s × ScopeHolds (scope_reading p k s) s × SealHolds (scope_reading p k s) s s.ascribed
@@ -22,6 +19,3 @@ module _ (p : Program) (k : ℕ) (s : Scope) where
 
   pub failing_refutes : IsScopeOf p k s → (fault : Fault) → IsJudged p k s (Fails fault) → PureHolds s.kind s → ScopeHolds (scope_reading p k s) s → SealHolds (scope_reading p k s) s s.ascribed → ⊥
   failing_refutes c fault h pure holds seal = holding_scope_stands p k s fault (scope_fits p k s c) pure holds seal h
-
-  pub types_as_many : (types : List TypeRef) → IsScopeOf p k s → AreNumbered (scope_vals s) → IsJudged p k s (Passes types) → length types ≡ length (scope_vals s)
-  types_as_many types c numbered h = h.size ∙ room_as_many (scope_vals s) (scope_fits p k s c).vals numbered

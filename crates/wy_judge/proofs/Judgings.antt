@@ -4,7 +4,7 @@ use Rattle.std.proofs.Common.{◌≡◌, ℕ, zero, suc, List, [], ◌∷◌, �
 use Rattle.std.proofs.lemmas.List.{take_all}
 use Rattle.wy_text.specs.declared.fault.Fault.{Fault}
 use Rattle.wy_effects.specs.Members.{In}
-use Rattle.wy_types.specs.Core.{start_vals, bodies_vals, scope_vals}
+use Rattle.wy_types.specs.Core.{AreNumbered, start_vals, bodies_vals, scope_vals}
 use Rattle.wy_types.specs.Program.{Program, Scope, Body}
 use Rattle.wy_rules.specs.Readings.{Reading}
 use Rattle.wy_rules.specs.Typing.{fields_of}
@@ -51,14 +51,14 @@ module _ (p : Program) (k : ℕ) (s : Scope) where
   ------------------------------------------------------------
   -- The scope
 
-  pub judged_passes : (a b : Table) (below : Truth) → pure_fault s.kind (fields_of s 0) s.names ≡ None → StartsTo p k s [] a None → BodiesTo p k s a b None → IsSealed p k s s.ascribed below →
+  pub judged_passes : (a b : Table) (below : Truth) → AreNumbered (scope_vals s) → pure_fault s.kind (fields_of s 0) s.names ≡ None → StartsTo p k s [] a None → BodiesTo p k s a b None → IsSealed p k s s.ascribed below →
       ascribed_fault s.place s.ascribed below ≡ None → IsJudged p k s (Passes (settled_types b))
-  judged_passes a b below pure starts bodies sealed e = record {
+  judged_passes a b below numbered pure starts bodies sealed e = record {
     nodes = all_parts a b below None pure starts bodies sealed e;
     size =
         let all : take (length s.bodies) s.bodies ≡ s.bodies = take_all (length s.bodies) s.bodies (omega arith) in
         let w = subst (λ (l : List Body). ((n : ℕ) → In n (start_vals s.start ++ bodies_vals l) → IsKnown b n) × ((n : ℕ) → IsKnown b n → In n (start_vals s.start ++ bodies_vals l))) all (bodies.walked.known, bodies.walked.only) in
-        known_room b (scope_vals s) w.0 w.1 bodies.walked.ends;
+        known_room b (scope_vals s) numbered w.0 w.1 bodies.walked.ends;
   }
 
   pub judged_pure : (fault : Fault) → pure_fault s.kind (fields_of s 0) s.names ≡ Some fault → IsJudged p k s (Fails fault)

@@ -130,13 +130,13 @@ module _ (p : Program) (k : ℕ) (s : Scope) where
   pub fails_at_rest : (a z : Table) (o : Option Fault) (fault : Fault) → o ≡ Some fault → pure_fault s.kind (fields_of s 0) s.names ≡ None → StartsTo p k s [] a None → RestTo p k s a z o → IsJudged p k s (Fails fault)
   fails_at_rest a z o fault e pure starts rest = fails_after a z rest.0 fault pure starts rest.1 (subst (SealAfter p k s rest.0) e rest.2)
 
-  pub passes_after : (a z : Table) (bodies : Option Fault) → pure_fault s.kind (fields_of s 0) s.names ≡ None → StartsTo p k s [] a None → BodiesTo p k s a z bodies → SealAfter p k s bodies None →
+  pub passes_after : (a z : Table) (bodies : Option Fault) → IsScopeOf p k s → pure_fault s.kind (fields_of s 0) s.names ≡ None → StartsTo p k s [] a None → BodiesTo p k s a z bodies → SealAfter p k s bodies None →
       IsJudged p k s (Passes (settled_types z))
-  passes_after a z None pure starts h seal = judged_passes p k s a z seal.0 pure starts h seal.1 (sym seal.2)
-  passes_after a z (Some g) pure starts h seal = absurd (cc)
+  passes_after a z None c pure starts h seal = judged_passes p k s a z seal.0 (scope_fits p k s c).numbered pure starts h seal.1 (sym seal.2)
+  passes_after a z (Some g) c pure starts h seal = absurd (cc)
 
-  pub passes_all : (a z : Table) (o : Option Fault) → o ≡ None → pure_fault s.kind (fields_of s 0) s.names ≡ None → StartsTo p k s [] a None → RestTo p k s a z o → IsJudged p k s (Passes (settled_types z))
-  passes_all a z o e pure starts rest = passes_after a z rest.0 pure starts rest.1 (subst (SealAfter p k s rest.0) e rest.2)
+  pub passes_all : (a z : Table) (o : Option Fault) → IsScopeOf p k s → o ≡ None → pure_fault s.kind (fields_of s 0) s.names ≡ None → StartsTo p k s [] a None → RestTo p k s a z o → IsJudged p k s (Passes (settled_types z))
+  passes_all a z o c e pure starts rest = passes_after a z rest.0 c pure starts rest.1 (subst (SealAfter p k s rest.0) e rest.2)
 
 -- the scope of a number, as the code has it
 pub scope_there : (core : Core) (k : ℕ) (x : sc.Scope) → IsCore (program_of core) → slice_get core.scopes k ≡ Some x → IsScopeOf (program_of core) k (scope_of x)

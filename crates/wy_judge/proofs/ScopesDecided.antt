@@ -205,7 +205,7 @@ module _ (p : Program) (k : ℕ) (s : Scope) (c : IsScopeOf p k s) where
   Whole = ((types : List TypeRef) × IsJudged p k s (Passes types)) ⊎ ((fault : Fault) × IsJudged p k s (Fails fault))
 
   after_seal : (a z : Table) (bodies o : Option Fault) → pure_fault s.kind (fields_of s 0) s.names ≡ None → StartsTo p k s [] a None → BodiesTo p k s a z bodies → SealAfter p k s bodies o → Whole
-  after_seal a z bodies None pure starts h seal = inl (settled_types z, passes_after p k s a z bodies pure starts h seal)
+  after_seal a z bodies None pure starts h seal = inl (settled_types z, passes_after p k s a z bodies c pure starts h seal)
   after_seal a z bodies (Some fault) pure starts h seal = inr (fault, fails_after p k s a z bodies fault pure starts h seal)
 
   after_bodies : (a z : Table) (bodies : Option Fault) → pure_fault s.kind (fields_of s 0) s.names ≡ None → StartsTo p k s [] a None → BodiesTo p k s a z bodies → Whole

@@ -1,11 +1,9 @@
 -- What the judgement of a scope says of the rules: one that passes keeps them all but for its instance and import lines, which are
 -- judged by themselves, and one that fails does not.
-use Rattle.std.specs.Prelude.{◌≡◌, ℕ, ◌<◌, List, ◌⊎◌, Some, length, slice_get}
-use Rattle.wy_effects.specs.Members.{In}
+use Rattle.std.specs.Prelude.{◌≡◌, ℕ, List, ◌⊎◌, Some, slice_get}
 use Rattle.wy_text.specs.declared.fault.Fault.{Fault}
 use Rattle.wy_types.specs.declared.types.TypeRef.{TypeRef}
 use Rattle.wy_types.specs.Program.{Program, Scope}
-use Rattle.wy_types.specs.Core.{scope_vals}
 use Rattle.wy_rules.specs.Typing.{ScopeHolds}
 use Rattle.wy_rules.specs.Acceptance.{scope_reading, PureHolds, SealHolds}
 use Rattle.wy_rules.specs.Ends.{End, IsEnd}
@@ -25,14 +23,6 @@ PassingKeepsRules = (p : Program) (k : ℕ) (s : Scope) (types : List TypeRef) �
 
 abbrev pub FailingBreaksRules : Type 0
 FailingBreaksRules = (p : Program) (k : ℕ) (s : Scope) (fault : Fault) → IsScopeOf p k s → IsJudged p k s (Fails fault) → KeepsRules p k s → ⊥
-
--- numbers from 0 on that leave none out, where they differ
-abbrev pub AreNumbered : List ℕ → Type 0
-AreNumbered ns = (n : ℕ) → In n ns → n < length ns
-
--- a scope that passes, whose `val`s have the numbers from 0 on, has a type for each of them and no more
-abbrev pub TypesAreAsMany : Type 0
-TypesAreAsMany = (p : Program) (k : ℕ) (s : Scope) (types : List TypeRef) → IsScopeOf p k s → AreNumbered (scope_vals s) → IsJudged p k s (Passes types) → length types ≡ length (scope_vals s)
 
 -- it is known of a scope whether it passes or has a fault
 abbrev pub IsScopeDecided : Program → ℕ → Scope → Type 0

@@ -14,8 +14,7 @@ use Rattle.wy_judge.specs.Walking.{PassesOver}
 ------------------------------------------------------------
 -- Scopes
 
--- the scope of a number is within the limit, and every node of it passes over the types of its `val`s, which go as far
--- as the `val` of the greatest number
+-- the scope of a number is within the limit, and every node of it passes over the types of its `val`s, one for each
 pub record IsChecked (p : Program) (k : ℕ) (c : Checked) : Type 0 where
   pub number : c.scope ≡ k
   pub scope : Scope

@@ -1,5 +1,5 @@
 -- The types of `val`s that are known so far, by their numbers, and which parts of a scope can be judged over them.
-use Rattle.std.specs.Prelude.{◌≡◌, ℕ, suc, ◌+◌, max, ◌<◌, ◌↔◌, List, [], ◌∷◌, ◌⊎◌, Option, Some, None, length, slice_get}
+use Rattle.std.specs.Prelude.{◌≡◌, ℕ, suc, ◌<◌, ◌↔◌, List, ◌⊎◌, Option, Some, None, length, slice_get}
 use Rattle.wy_effects.specs.Members.{In, Apart}
 use Rattle.wy_types.specs.declared.types.TypeRef.{TypeRef}
 use Rattle.wy_types.specs.declared.code.Variable.{Variable}
@@ -19,11 +19,6 @@ IsKnown table n = (t : TypeRef) × (slice_get table n ≡ Some (Some t))
 -- a table goes no further than the types that are known
 abbrev pub EndsKnown : Table → Type 0
 EndsKnown table = (n : ℕ) → length table ≡ suc n → IsKnown table n
-
--- how many types there are room for up to the greatest of these numbers
-abbrev pub room_for : List ℕ → ℕ
-room_for [] = 0
-room_for (n ∷ ns) = max (n + 1) (room_for ns)
 
 -- the same types are known
 abbrev pub IsKept : Table → Table → Type 0

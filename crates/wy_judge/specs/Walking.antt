@@ -15,7 +15,7 @@ use Rattle.wy_judge.specs.declared.scopes.Judged.TheVariants.{Passes, Fails}
 use Rattle.wy_judge.specs.Judged.{NodesJudged, BodiesPassed, IsSealed}
 use Rattle.wy_judge.specs.Outcomes.{ascribed_fault}
 use Rattle.wy_judge.specs.Judging.{NoFault}
-use Rattle.wy_judge.specs.Tables.{Table, EndsKnown, room_for, IsKnown, Agrees, AllInRange, Moves}
+use Rattle.wy_judge.specs.Tables.{Table, EndsKnown, IsKnown, Agrees, AllInRange, Moves}
 
 -- a list of types for all `val`s: those that are not known have none that matters
 abbrev pub settled : Option TypeRef → TypeRef
@@ -71,10 +71,10 @@ module _ (p : Program) (k : ℕ) (s : Scope) where
   abbrev pub RestTo : Table → Table → Option Fault → Type 0
   RestTo old new o = (bodies : Option Fault) × BodiesTo old new bodies × SealAfter bodies o
 
-  -- every node passes over these types of the `val`s, which go as far as the `val` of the greatest number
+  -- every node passes over these types of the `val`s, one for each, by their numbers
   pub record PassesOver (types : List TypeRef) : Type 0 where
     pub nodes : AllPass p k s (map (scope_reading p k s).read types) (scope_nodes s)
-    pub size : length types ≡ room_for (scope_vals s)
+    pub size : length types ≡ length (scope_vals s)
 
   -- a scope that passes over the types of its `val`s, or its fault
   abbrev pub IsJudged : Judged → Type 0

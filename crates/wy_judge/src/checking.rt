@@ -21,7 +21,7 @@ use wy_types::types::TypeList;
 pub struct Checked {
     /// The scope's number among the scopes of the program.
     pub scope: u16,
-    /// The types of its `val`s, by their numbers.
+    /// The types of its `val`s, one for each, by their numbers.
     pub locals: TypeList,
 }
 

@@ -1,6 +1,6 @@
 //! Laws on judging a scope. No function here does anything: what it says is its clause.
 
-ghost use Rattle.wy_judge.specs.Accepting.{PassingKeepsRules, FailingBreaksRules, TypesAreAsMany, DecidedHasAnEnd};
+ghost use Rattle.wy_judge.specs.Accepting.{PassingKeepsRules, FailingBreaksRules, DecidedHasAnEnd};
 ghost use Rattle.wy_judge.specs.Deciding.{SubtypingIsDecided, ScopesAreDecided};
 
 /// A scope that passes keeps M-Pure, the rules for its start and its bodies, and M-Ascribe.
@@ -11,11 +11,6 @@ pub fn passing_scopes_keep_the_rules()
 /// A scope of a core that fails does not keep them.
 pub fn failing_scopes_break_a_rule()
     ensures { FailingBreaksRules }
-{}
-
-/// A scope that passes has a type for each of its `val`s and no more, where these have the numbers from 0 on.
-pub fn types_are_as_many()
-    ensures { TypesAreAsMany }
 {}
 
 /// A program of which it is known of each scope whether it passes or has a fault, and of its lines whether they pass or

@@ -26,7 +26,7 @@ use wy_types::types::{TypeList, TypeRef};
 /// What judging a scope comes to.
 #[derive(Drop)]
 pub enum Judged {
-    /// No node fails. The types of its `val`s, by their numbers.
+    /// No node fails. The types of its `val`s, one for each, by their numbers.
     Passes(TypeList),
     /// The first failing node.
     Fails(Fault),

@@ -1,5 +1,5 @@
 -- What every core keeps: numbers in range, names that differ, and the forms of each kind of scope.
-use Rattle.std.specs.Prelude.{◌≡◌, ℕ, ◌+◌, ◌<◌, ◌≤◌, List, [], ◌∷◌, ◌++◌, Option, Some, None, Bool as Truth, true, false, length, map, take, slice_get}
+use Rattle.std.specs.Prelude.{◌≡◌, ℕ, ◌+◌, ◌<◌, ◌≤◌, ◌↔◌, List, [], ◌∷◌, ◌++◌, Option, Some, None, Bool as Truth, true, false, length, map, take, slice_get}
 use Rattle.std.specs.List.{range_with_len}
 use Rattle.wy_effects.specs.Members.{In, Within, Apart}
 use Rattle.wy_effects.specs.EffSet.{IsSet, AreSets}
@@ -181,6 +181,10 @@ bodies_vals (b ∷ bs) = block_vals b.block ++ bodies_vals bs
 abbrev pub scope_vals : Scope → List ℕ
 scope_vals s = start_vals s.start ++ bodies_vals s.bodies
 
+-- the numbers 0, 1, .. in some order, where they differ: those below how many they are
+abbrev pub AreNumbered : List ℕ → Type 0
+AreNumbered ns = (n : ℕ) → In n ns ↔ (n < length ns)
+
 -- of `val` statements the methods of a literal capture those alone that stand before them, in the scope's start or in an earlier body
 abbrev pub CapturesBefore : Scope → List ℕ → List Body → Type 0
 CapturesBefore s before [] = Unit {0}
@@ -292,7 +296,11 @@ pub record ScopeFits (p : Program) (s : Scope) : Type 0 where
   pub fields : (l : Literal) → In l s.literals → AllWritten p s (map (λ (f : Field). f.typ) l.fields)
   pub no_effect : BodiesHaveNoEffect s.kind s.start_effect s.bodies
   pub own_literal : 0 < length s.literals
+  -- the program's own body is its start, so none is a method of its own object
+  pub no_own_body : s.kind ≡ Main → methods_of_owner 0 s.bodies ≡ []
+  -- the `val`s are numbered from 0 on
   pub vals : Apart (scope_vals s)
+  pub numbered : AreNumbered (scope_vals s)
   pub captured : CapturesBefore s (start_vals s.start) s.bodies
   pub captured_parameters : (l : Literal) → In l s.literals → (k i : ℕ) → In (Param k i) l.captures → HasParameter s k i
   -- names that differ

@@ -1,5 +1,5 @@
--- A small program resolved by hand: what its own names open, which types they have and that they are plain, where its grant stands, and which
--- literals its bodies make and capture.
+-- A small program resolved by hand: what its own names open, which types they have and that they are plain, where its grant stands, which
+-- literals its bodies make and capture, and that none of these is the program's own; and how `val`s are numbered.
 --
 --   type Log
 --     effect Put
@@ -8,12 +8,15 @@
 --     grant disk: Folder
 --     instance lg = log(disk)
 --     import pl = log(disk) at {lg.Put}
-use Rattle.std.proofs.Common.{◌≡◌, ℕ, List, [], ◌∷◌, ◌++◌, true, Some, None, inl, inr, refl, ap, ◌∙◌, subst, arith}
-use Rattle.std.specs.Prelude.{codes, slice_get}
+use Rattle.std.proofs.Common.{◌≡◌, ℕ, zero, suc, ◌<◌, List, [], ◌∷◌, ◌++◌, true, Some, None, inl, inr, refl, ap, ◌∙◌, subst, arith}
+use Rattle.std.specs.Prelude.{codes, slice_get, pos}
 use Rattle.wy_text.specs.declared.fault.Place.{Place}
+use Rattle.wy_syntax.specs.declared.types.Name.{Name}
+use Rattle.wy_syntax.specs.declared.types.Signature.{Signature}
+use Rattle.wy_syntax.specs.Trees as t
 use Rattle.wy_effects.specs.Members.{In}
 use Rattle.wy_types.specs.declared.types.TypeRef.{TypeRef}
-use Rattle.wy_types.specs.declared.types.TypeRef.TheVariants.{Named, At}
+use Rattle.wy_types.specs.declared.types.TypeRef.TheVariants.{Int, Named, At}
 use Rattle.wy_types.specs.declared.resolved.ScopeKind.TheVariants.{Resource, Program as Main}
 use Rattle.wy_types.specs.declared.resolved.Origin.{Origin}
 use Rattle.wy_types.specs.declared.resolved.Origin.TheVariants.{Parameter, Grant, Instance, Import}
@@ -22,12 +25,15 @@ use Rattle.wy_types.specs.declared.resolved.Literal.{Literal}
 use Rattle.wy_types.specs.declared.code.Variable.TheVariants.{Local}
 use Rattle.wy_types.specs.Primitive.{primitive_type, primitive_types}
 use Rattle.wy_types.specs.Code.{Plain, New, Nothing, none, more, Block, Last, Then, Val}
-use Rattle.wy_types.specs.Program.{Program, Scope, Init, Run}
+use Rattle.wy_types.specs.Program.{Program, Scope, Body, Init, Run}
 use Rattle.wy_types.specs.Ground.{single_sets}
-use Rattle.wy_types.specs.Core.{literal_captures}
+use Rattle.wy_types.specs.Core.{AreNumbered, ScopeFits, literal_captures, scope_vals}
+use Rattle.wy_names.specs.Sight.{outermost}
+use Rattle.wy_names.specs.Bodies.{Within, at_start, stmts_block, stmts_bodies}
 use Rattle.wy_rules.specs.OwnNames.{opened_count, HasItsType, HaveTheirTypes, IsPlainName, GrantsStandFirst, ModulesCaptureNothing}
 use Rattle.wy_rules.specs.News.{scope_news}
 use Rattle.wy_syntax.specs.OwnWords.{IsWord}
+use Rattle.wy_well_formed.specs.ValPlaces.{val_at, stmts_val_places, block_vals_at, bodies_vals_at}
 
 nowhere : Place
 nowhere = record { file = 0; line = 0; column = 0 }
@@ -76,8 +82,9 @@ log = log_with nothing
 abbrev made : Block
 made = Then (Plain (New nowhere 1 (more (Plain (New nowhere 2 none)) none))) (Val nowhere 0 None (Plain (New nowhere 3 none)) (Last (Plain (Nothing nowhere))))
 
-abbrev main : Scope
-main = record {
+-- the program's scope with these bodies
+abbrev main_with : List Body → Scope
+main_with methods = record {
   kind = Main;
   name = codes "main";
   place = nowhere;
@@ -89,8 +96,11 @@ main = record {
   start_place = nowhere;
   start_effect = [];
   start = Run made;
-  bodies = [];
+  bodies = methods;
 }
+
+abbrev main : Scope
+main = main_with []
 
 abbrev program : Program
 program = record { declarations = primitive_types ++ primitive_type (codes "Log") (codes "Put" ∷ []) [] ∷ []; scopes = log ∷ main ∷ [] }
@@ -161,3 +171,61 @@ program_is_none h = h.1 refl
 
 start_is_none : IsWord (codes "init") → ⊥
 start_is_none h = h.2 refl
+
+------------------------------------------------------------
+-- The program's own body is its start
+
+own_method : Body
+own_method = record { owner = 0; place = nowhere; signature = record { name = codes "f"; params = []; effect = []; result = Int }; block = Last (Plain (Nothing nowhere)) }
+
+own_method_fits_not : ScopeFits program (main_with (own_method ∷ [])) → ⊥
+unfolding own_method
+own_method_fits_not h = absurd (let e = h.no_own_body refl in cc)
+
+------------------------------------------------------------
+-- The numbers of `val`s
+
+one_val_there : scope_vals main ≡ 0 ∷ []
+one_val_there = refl
+
+mixed_are_numbered : AreNumbered (0 ∷ 2 ∷ 1 ∷ [])
+mixed_are_numbered n = (below n, there n)
+  where
+    below : (n : ℕ) → In n (0 ∷ 2 ∷ 1 ∷ []) → n < 3
+    below n (inl e) = omega (arith, e)
+    below n (inr (inl e)) = omega (arith, e)
+    below n (inr (inr (inl e))) = omega (arith, e)
+    below n (inr (inr (inr i))) = absurd i
+
+    there : (n : ℕ) → n < 3 → In n (0 ∷ 2 ∷ 1 ∷ [])
+    there zero l = inl refl
+    there (suc zero) l = inr (inr (inl refl))
+    there (suc (suc zero)) l = inr (inl refl)
+    there (suc (suc (suc n))) l = absurd (omega (arith, l))
+
+one_is_left_out : AreNumbered (0 ∷ 2 ∷ []) → ⊥
+one_is_left_out h = (let l = (h 2).0 (inr (inl refl)) in omega (arith, l))
+
+-- those of a literal stand where it stands: of the `val`s
+--
+--   val a = new
+--     def f(): {} Int
+--       val b = 1
+--       b
+--   val c = 2
+--   c
+--
+-- `a` has the number 0, `b` has 1 and `c` has 2, though `b` is in a method and the others are in one block
+module _ (w : Within) (f : Signature) (a b c : Name) where
+  abbrev tree : t.StmtTrees
+  tree = t.more_stmts (t.val a None (t.literal nowhere (t.more_parts (t.method f (t.long (t.more_stmts (t.val b None (t.value (t.number (pos 1) nowhere))) (t.more_stmts (t.run (t.value (t.name b))) t.no_stmts)))) t.no_parts)))
+      (t.more_stmts (t.val c None (t.value (t.number (pos 2) nowhere))) (t.more_stmts (t.run (t.value (t.name c))) t.no_stmts))
+
+  written : stmts_val_places tree ≡ a.place ∷ b.place ∷ c.place ∷ []
+  written = refl
+
+  in_the_block : block_vals_at (stmts_block w nowhere outermost at_start tree) ≡ val_at 0 a.place ∷ val_at 2 c.place ∷ []
+  in_the_block = refl
+
+  in_the_method : bodies_vals_at (stmts_bodies w outermost at_start tree) ≡ val_at 1 b.place ∷ []
+  in_the_method = refl

@@ -1,14 +1,14 @@
 -- The bodies of a module and of the program, where none of their names is refused, are what a core asks.
-use Rattle.std.proofs.Common.{◌≡◌, ℕ, ◌<◌, List, [], ◌∷◌, ◌++◌, length, inl, inr, false, Option, Some, None, refl, sym, ap₂, subst, arith}
+use Rattle.std.proofs.Common.{◌≡◌, ℕ, ◌<◌, List, [], ◌∷◌, ◌++◌, length, inl, inr, false, Option, Some, None, refl, sym, ap, ap₂, ◌∙◌, subst, arith}
 use Rattle.std.specs.Prelude.{slice_get}
 use Rattle.wy_syntax.specs.Trees as t
 use Rattle.wy_effects.specs.Members.{In, Apart}
 use Rattle.wy_effects.proofs.Lists.{In-at}
 use Rattle.wy_types.specs.declared.resolved.Literal.{Literal}
 use Rattle.wy_types.specs.declared.code.Variable.TheVariants.{Local}
-use Rattle.wy_types.specs.Types.{is_plain}
+use Rattle.wy_types.specs.Types.{is_plain, methods_of_owner}
 use Rattle.wy_types.specs.Program.{Program, Scope, Body, Start, Init, Run}
-use Rattle.wy_types.specs.Core.{StartFits, CapturesBefore, start_vals, bodies_vals, block_vals, values_vals, value_count, literal_fields, literal_captures}
+use Rattle.wy_types.specs.Core.{StartFits, AreNumbered, CapturesBefore, start_vals, bodies_vals, block_vals, values_vals, value_count, literal_fields, literal_captures}
 use Rattle.wy_names.specs.Declarations.{ProgramTree}
 use Rattle.wy_names.specs.Counts as counts
 use Rattle.wy_names.specs.Sight.{outermost, inside, parts_write, tail_writes}
@@ -20,7 +20,7 @@ use Rattle.wy_well_formed.proofs.Seeing.{sees_nothing}
 use Rattle.wy_well_formed.proofs.Values.{value_for_each, initials_fit, tail_fits}
 use Rattle.wy_well_formed.proofs.Methods.{BodyHolds, parts_hold, tail_hold}
 use Rattle.wy_well_formed.proofs.Literals.{LiteralHolds, literal_holds, literals_more, parts_literals_hold, tail_literals_hold}
-use Rattle.wy_well_formed.proofs.Spreads.{Spread, spread_apart}
+use Rattle.wy_well_formed.proofs.Spreads.{Spread, spread_apart, spread_numbered}
 use Rattle.wy_well_formed.proofs.Vals.{parts_spread, tail_spread}
 use Rattle.wy_well_formed.proofs.Owners.{Owned, Any, module_owned, tail_owned}
 use Rattle.wy_well_formed.proofs.Captured.{captured_before, locals_inside, parts_captured, tail_captured}
@@ -49,6 +49,8 @@ assembled p s literals start bodies l a b h =
     let Q : List Literal → Type 0 = λ ls. 0 < length ls in
     let owned : Owned Any h.first h.after s.bodies = subst (Owned Any h.first h.after) (sym b) h.owned in
     let A : List ℕ → Type 0 = λ ks. Apart ks in
+    let N : List ℕ → Type 0 = λ ks. AreNumbered ks in
+    let same : start_vals start ++ bodies_vals bodies ≡ start_vals s.start ++ bodies_vals s.bodies = ap₂ (λ c d. start_vals c ++ bodies_vals d) (sym a) (sym b) in
     record {
       starts = subst (StartFits p s) (sym a) h.starts;
       bodies = λ k x e. (holds_at (BodyHolds p s) s.bodies all k x e).fits;
@@ -56,7 +58,8 @@ assembled p s literals start bodies l a b h =
       no_effect = λ plain x i. (each x i).1.no_effect plain;
       fields = λ x i. (of x i).written;
       own_literal = subst Q (sym l) h.own_literal;
-      vals = subst A (ap₂ (λ c d. start_vals c ++ bodies_vals d) (sym a) (sym b)) (spread_apart 0 h.last (start_vals start) (bodies_vals bodies) h.spread);
+      vals = subst A same (spread_apart 0 h.last (start_vals start) (bodies_vals bodies) h.spread);
+      numbered = subst N same (spread_numbered h.last (start_vals start) (bodies_vals bodies) h.spread);
       captured = subst (λ c. CapturesBefore s (start_vals c) s.bodies) (sym a) (subst (λ d. CapturesBefore s (start_vals start) d) (sym b) h.captured);
       captured_parameters = subst (λ c. CaptureThere s c) (sym l) h.captured_parameters;
       field_names = λ x i. (of x i).apart;
@@ -100,7 +103,10 @@ parts_fit p s w parts read is apart e few =
       owned = module_owned w at_start parts outermost 0 refl apart e own below;
     })
 
--- the program, whose own literal has no fields
+-- the program, whose own literal has no fields and no methods
+pub no_own_bodies : (s : Scope) (w : Within) (g : ProgramTree) → OfBody w g s → tail_refusals w outermost at_start g.body ≡ [] → AllFew (counts.tail_literals g.body) → methods_of_owner 0 s.bodies ≡ []
+no_own_bodies s w g is e few = ap (methods_of_owner 0) is.bodies ∙ (tail_owned w outermost at_start g.body e few).below 0 tt (omega arith)
+
 pub body_fits : (p : Program) (s : Scope) (w : Within) (g : ProgramTree) → ReadsIn p s w → OfBody w g s → is_plain s.kind ≡ false → tail_refusals w outermost at_start g.body ≡ [] → AllFew (counts.tail_literals g.body) → BodiesFit p s
 body_fits p s w g read is unplain e few =
     let mine : Literal = record { captures = []; fields = [] } in

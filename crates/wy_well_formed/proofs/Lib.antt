@@ -41,6 +41,9 @@ mod SealedModules
 mod NamesFit
 mod EachScope
 mod MadeOnce
+mod ValsAsWritten
+mod SpelledVals
+mod ValsInOrder
 mod ItemWords
 mod SpelledBodies
 mod NamesAreWords

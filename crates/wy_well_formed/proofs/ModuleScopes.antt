@@ -225,7 +225,9 @@ module _ (p : Program) (heads : List Head) (modules : List ModuleTree) (knows : 
     fields = b.fields;
     no_effect = no_effects m.kind (start_effect heads modules (module_scope heads modules m) m.init) _ start_bare b.no_effect;
     own_literal = b.own_literal;
+    no_own_body = λ e. absurd (is_module m.kind m form e);
     vals = b.vals;
+    numbered = b.numbered;
     captured = b.captured;
     captured_parameters = b.captured_parameters;
     own_names =

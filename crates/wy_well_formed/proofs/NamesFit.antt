@@ -30,7 +30,7 @@ use Rattle.wy_names.specs.Atoms.{AtomScope, head_names, opened_names, params_own
 use Rattle.wy_names.specs.Lines.{param_name, grant_name, use_name, uses_refusals, line_names, lines_refusals}
 use Rattle.wy_names.specs.Scopes.{atom_scope, use_owners, line_owners, param_owners, module_owners, module_atoms, param_scope, module_own, program_owners, program_atoms, program_scope, program_own, scope_of_module, scope_of_program, refusals_of, resolved}
 use Rattle.wy_well_formed.specs.WellFormed.{ResolvedNamesFit}
-use Rattle.wy_well_formed.proofs.FittingBodies.{parts_fit, body_fits}
+use Rattle.wy_well_formed.proofs.FittingBodies.{parts_fit, body_fits, no_own_bodies}
 use Rattle.wy_well_formed.proofs.Sets.{AllOpen}
 use Rattle.wy_well_formed.proofs.Meant.{none_meant}
 use Rattle.wy_well_formed.proofs.WrittenTypes.{Knows, use_stands}
@@ -259,7 +259,7 @@ scopes_fit items g sound core s i =
 
 pub names_fit : ResolvedNamesFit
 names_fit items p r =
-    let core = resolved_core parts_fit body_fits items p r in
+    let core = resolved_core parts_fit body_fits no_own_bodies items p r in
     let nothing : refusals_of items ≡ [] = nothing_in (refusals_of items) (λ x i. r.sound x (inl i)) in
     let P : Program → Type 0 = λ v. IsCore v → LinesAreTyped v in
     (subst P (sym r.bound) (scopes_fit items r.program (items_not_refused items r.program r.one nothing))) core

@@ -5,6 +5,7 @@ use Rattle.wy_effects.specs.Members.{Within}
 use Rattle.wy_effects.proofs.Lists.{In-left, In-right}
 use Rattle.wy_types.specs.declared.resolved.OwnName.{OwnName}
 use Rattle.wy_types.specs.Program.{Program, Scope}
+use Rattle.wy_types.specs.Types.{methods_of_owner}
 use Rattle.wy_types.specs.Core.{ScopeFits}
 use Rattle.wy_names.specs.declared.scoping.Head.{Head}
 use Rattle.wy_names.specs.declared.scoping.Owner.{Owner}
@@ -115,8 +116,8 @@ module _ (p : Program) (heads : List Head) (modules : List ModuleTree) (knows : 
   pub program_body_is : OfBody (program_within heads modules g) g the_scope
   program_body_is = record { literals = refl; start = refl; bodies = refl }
 
-  pub program_fits : atom_count ≤ 512 → length g.grants ≤ 64 → BodiesFit p the_scope → ScopeFits p the_scope
-  program_fits few few_given b = record {
+  pub program_fits : atom_count ≤ 512 → length g.grants ≤ 64 → methods_of_owner 0 (the_scope.bodies) ≡ [] → BodiesFit p the_scope → ScopeFits p the_scope
+  program_fits few few_given none b = record {
     ascribed = refl;
     definitions = λ s i. absurd i;
     names = λ k n e. (let f = own_at p the_scope false (program_own heads modules g) all_own k n e in (f.written, f.origin));
@@ -126,7 +127,9 @@ module _ (p : Program) (heads : List Head) (modules : List ModuleTree) (knows : 
     fields = b.fields;
     no_effect = tt;
     own_literal = b.own_literal;
+    no_own_body = λ e. none;
     vals = b.vals;
+    numbered = b.numbered;
     captured = b.captured;
     captured_parameters = b.captured_parameters;
     own_names =

@@ -8,7 +8,7 @@ use Rattle.wy_effects.proofs.Lists.{In-cases, In-unmap}
 use Rattle.wy_types.specs.declared.resolved.TypeDecl.{TypeDecl}
 use Rattle.wy_types.specs.Primitive.{primitive_types}
 use Rattle.wy_types.specs.Program.{Program, Scope}
-use Rattle.wy_types.specs.Types.{is_plain}
+use Rattle.wy_types.specs.Types.{is_plain, methods_of_owner}
 use Rattle.wy_types.specs.Core.{IsCore, DeclarationFits, ScopeFits}
 use Rattle.wy_names.specs.declared.refusal.Refusal.{Refusal}
 use Rattle.wy_names.specs.declared.scoping.Head.{Head}
@@ -49,6 +49,11 @@ abbrev pub BodyFits : Type 0
 BodyFits =
     (p : Program) (s : Scope) (w : Within) (g : ProgramTree) → ReadsIn p s w → OfBody w g s → is_plain s.kind ≡ false →
     tail_refusals w outermost at_start g.body ≡ [] → AllFew (tail_literals g.body) → BodiesFit p s
+
+abbrev pub HasNoOwnBodies : Type 0
+HasNoOwnBodies =
+    (s : Scope) (w : Within) (g : ProgramTree) → OfBody w g s → tail_refusals w outermost at_start g.body ≡ [] → AllFew (tail_literals g.body) →
+    methods_of_owner 0 s.bodies ≡ []
 
 each_declaration : (heads : List Head) (types : List tree.TypeDecl) → declarations_refusals heads types ≡ [] → (d : tree.TypeDecl) → In d types → declaration_refusals heads d ≡ []
 each_declaration heads [] e d i = absurd i
@@ -180,7 +185,7 @@ module _ (items : List ItemTree) (g : ProgramTree) (one : programs_of items ≡ 
         (grants_lead_nowhere (program_scope heads modules g) g.grants) (sound.program).uses (sound.program).lines j i);
   }
 
-  module _ (parts_fit : PartsFit) (body_fits : BodyFits) where
+  module _ (parts_fit : PartsFit) (body_fits : BodyFits) (no_own_bodies : HasNoOwnBodies) where
     module_scope_fits : (m : ModuleTree) → In m modules → ScopeFits core (scope_of_module heads modules m)
     module_scope_fits m i =
         let s = sound.modules m i in
@@ -191,10 +196,13 @@ module _ (items : List ItemTree) (g : ProgramTree) (one : programs_of items ≡ 
 
     program_scope_fits : ScopeFits core (scope_of_program heads modules g)
     program_scope_fits =
+        let s = scope_of_program heads modules g in
+        let w = program_within heads modules g in
+        let is = program_body_is core heads modules knows scope_count g sound.program in
+        let few = few_program_parts items within g the_program in
         program_fits core heads modules knows scope_count g sound.program program_atoms_few (few_program_grants items within g the_program)
-        (body_fits core (scope_of_program heads modules g) (program_within heads modules g) g
-        (program_reads core heads modules knows scope_count g sound.program) (program_body_is core heads modules knows scope_count g sound.program)
-        refl (sound.program).body (few_program_parts items within g the_program))
+        (no_own_bodies s w g is (sound.program).body few)
+        (body_fits core s w g (program_reads core heads modules knows scope_count g sound.program) is refl (sound.program).body few)
 
     scopes_fit : (s : Scope) → In s (core.scopes) → ScopeFits core s
     scopes_fit s i =
@@ -219,8 +227,8 @@ module _ (items : List ItemTree) (g : ProgramTree) (one : programs_of items ≡ 
       few_scopes = let f = few_modules items within in let l = scope_count in omega (arith, f, l);
     }
 
-pub resolved_core : PartsFit → BodyFits → ResolvedIsCore
-resolved_core parts_fit body_fits items p r =
+pub resolved_core : PartsFit → BodyFits → HasNoOwnBodies → ResolvedIsCore
+resolved_core parts_fit body_fits no_own_bodies items p r =
     let nothing : refusals_of items ≡ [] = nothing_in (refusals_of items) (λ x i. r.sound x (inl i)) in
     let P : Program → Type 0 = λ v. IsCore v in
-    subst P (sym r.bound) (is_core items r.program r.one r.within (items_not_refused items r.program r.one nothing) parts_fit body_fits r.sound)
+    subst P (sym r.bound) (is_core items r.program r.one r.within (items_not_refused items r.program r.one nothing) parts_fit body_fits no_own_bodies r.sound)

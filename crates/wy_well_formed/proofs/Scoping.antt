@@ -13,7 +13,7 @@ use Rattle.wy_types.specs.declared.resolved.Literal.{Literal}
 use Rattle.wy_types.specs.Signature.{Signature}
 use Rattle.wy_types.specs.Types.{is_plain, methods_of_owner}
 use Rattle.wy_types.specs.Program.{Program, Scope, Body, Init, Run}
-use Rattle.wy_types.specs.Core.{IsWritten, AllWritten, StartFits, BodyFits, HasParameter, CapturesBefore, scope_vals, start_vals}
+use Rattle.wy_types.specs.Core.{IsWritten, AllWritten, StartFits, BodyFits, HasParameter, AreNumbered, CapturesBefore, scope_vals, start_vals}
 use Rattle.wy_names.specs.Declarations.{ProgramTree}
 use Rattle.wy_names.specs.TypeUses.{type_ref, use_refusals, effect_of, effect_refusals}
 use Rattle.wy_names.specs.Sight.{outermost, inside}
@@ -57,6 +57,7 @@ pub record BodiesFit (p : Program) (s : Scope) : Type 0 where
   pub fields : (l : Literal) → In l s.literals → AllWritten p s (map (λ (f : Field). f.typ) l.fields)
   pub own_literal : 0 < length s.literals
   pub vals : Apart (scope_vals s)
+  pub numbered : AreNumbered (scope_vals s)
   pub captured : CapturesBefore s (start_vals s.start) s.bodies
   pub captured_parameters : (l : Literal) → In l s.literals → (k i : ℕ) → In (Parameter k i) l.captures → HasParameter s k i
   pub field_names : (l : Literal) → In l s.literals → Apart (map (λ (f : Field). f.name) l.fields)

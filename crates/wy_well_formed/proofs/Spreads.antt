@@ -1,9 +1,11 @@
--- Numbers between two counts, each at most once: those of a value, and those of the bodies in it.
-use Rattle.std.proofs.Common.{◌≡◌, ℕ, ◌+◌, ◌<◌, ◌≤◌, List, [], ◌∷◌, ◌++◌, inl, inr, refl, sym, ap, ◌∙◌, subst, arith, append_assoc}
+-- Numbers between two counts, each once: those of a value, and those of the bodies in it.
+use Rattle.std.proofs.Common.{◌≡◌, ℕ, ◌+◌, ◌<◌, ◌≤◌, List, [], ◌∷◌, ◌++◌, ◌⊎◌, inl, inr, length, refl, sym, ap, ◌∙◌, subst, arith, append_assoc}
+use Rattle.std.proofs.lemmas.Bool.{cases_lt}
+use Rattle.std.proofs.lemmas.List.{length-append}
 use Rattle.wy_effects.specs.Members.{In, Apart}
-use Rattle.wy_effects.proofs.Lists.{In-cases}
+use Rattle.wy_effects.proofs.Lists.{In-cases, In-left, In-right}
 use Rattle.wy_types.specs.Program.{Body}
-use Rattle.wy_types.specs.Core.{block_vals, bodies_vals}
+use Rattle.wy_types.specs.Core.{AreNumbered, block_vals, bodies_vals}
 
 -- lists that share nothing
 pub apart_append : {X : Type 0} (xs ys : List X) → Apart xs → Apart ys → ((x : X) → In x xs → In x ys → ⊥) → Apart (xs ++ ys)
@@ -24,6 +26,8 @@ pub record Spread (low high : ℕ) (values bodies : List ℕ) : Type 0 where
   pub apart_values : Apart values
   pub apart_bodies : Apart bodies
   pub distinct : (k : ℕ) → In k values → In k bodies → ⊥
+  pub filled : (k : ℕ) → low ≤ k → k < high → In k values ⊎ In k bodies
+  pub count : low + (length values + length bodies) ≡ high
 
 pub spread_as : (low high : ℕ) (vs vs' bs bs' : List ℕ) → vs ≡ vs' → bs ≡ bs' → Spread low high vs bs → Spread low high vs' bs'
 spread_as low high vs vs' bs bs' e f h = subst (λ l. Spread low high vs' l) f (subst (λ l. Spread low high l bs) e h)
@@ -42,6 +46,8 @@ spread_none low = record {
   apart_values = tt;
   apart_bodies = tt;
   distinct = λ k i j. i;
+  filled = λ k l u. absurd (omega (arith, l, u));
+  count = omega arith;
 }
 
 module _ (low mid high : ℕ) (vs bs vs' bs' : List ℕ) (h : Spread low mid vs bs) (g : Spread mid high vs' bs') where
@@ -65,6 +71,12 @@ module _ (low mid high : ℕ) (vs bs vs' bs' : List ℕ) (h : Spread low mid vs 
               | inl a ↦ elim (In-cases k bs bs' j) [ inl b ↦ h.distinct k a b | inr b ↦ parted vs bs' h.in_values g.in_bodies k a b ]
               | inr a ↦ elim (In-cases k bs bs' j) [ inl b ↦ parted bs vs' h.in_bodies g.in_values k b a | inr b ↦ g.distinct k a b ]
             ];
+        filled = λ k l u.
+            elim (cases_lt k mid) [
+              | inl below ↦ elim (h.filled k l below) [ inl i ↦ inl (In-left k vs vs' i) | inr i ↦ inr (In-left k bs bs' i) ]
+              | inr above ↦ elim (g.filled k above u) [ inl i ↦ inl (In-right k vs vs' i) | inr i ↦ inr (In-right k bs bs' i) ]
+            ];
+        count = (let a = h.count in let b = g.count in let c = length-append vs vs' in let d = length-append bs bs' in omega (arith, a, b, c, d));
       }
 
 -- a number before those behind it
@@ -78,6 +90,12 @@ spread_first low high vs bs h =
       apart_values = (λ i. (let r = h.in_values low i in omega (arith, r.0)), h.apart_values);
       apart_bodies = h.apart_bodies;
       distinct = λ k i j. elim i [ inl e ↦ (let r = h.in_bodies k j in omega (arith, e, r.0)) | inr a ↦ h.distinct k a j ];
+      filled = λ k l u.
+          elim (cases_lt low k) [
+            | inl below ↦ elim (h.filled k (omega (arith, below)) u) [ inl i ↦ inl (inr i) | inr i ↦ inr i ]
+            | inr above ↦ inl (inl (omega (arith, l, above)))
+          ];
+      count = (let a = h.count in omega (arith, a));
     }
 
 -- a method with the bodies in it
@@ -89,10 +107,24 @@ spread_method low high vs bs h = record {
   apart_values = tt;
   apart_bodies = apart_append vs bs h.apart_values h.apart_bodies h.distinct;
   distinct = λ k i j. i;
+  filled = λ k l u. inr (elim (h.filled k l u) [ inl i ↦ In-left k vs bs i | inr i ↦ In-right k vs bs i ]);
+  count = (let a = h.count in let b = length-append vs bs in omega (arith, a, b));
 }
 
 pub spread_apart : (low high : ℕ) (vs bs : List ℕ) → Spread low high vs bs → Apart (vs ++ bs)
 spread_apart low high vs bs h = apart_append vs bs h.apart_values h.apart_bodies h.distinct
+
+-- from 0 on
+pub spread_numbered : (high : ℕ) (vs bs : List ℕ) → Spread 0 high vs bs → AreNumbered (vs ++ bs)
+spread_numbered high vs bs h n =
+    let all = h.count in
+    let split = length-append vs bs in (
+      λ i. elim (In-cases n vs bs i) [
+        | inl j ↦ (let r = h.in_values n j in omega (arith, r.1, all, split))
+        | inr j ↦ (let r = h.in_bodies n j in omega (arith, r.1, all, split))
+      ],
+      λ l. elim (h.filled n (omega arith) (omega (arith, l, all, split))) [ inl i ↦ In-left n vs bs i | inr i ↦ In-right n vs bs i ],
+    )
 
 pub bodies_vals_append : (xs ys : List Body) → bodies_vals (xs ++ ys) ≡ bodies_vals xs ++ bodies_vals ys
 bodies_vals_append [] ys = refl

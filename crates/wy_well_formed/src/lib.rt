@@ -2,6 +2,7 @@
 //! clause.
 #![tactic(auto)]
 
+ghost use Rattle.wy_well_formed.specs.ValPlaces.{ResolvedValsAreAsWritten, ResolvedValsAreInOrder};
 ghost use Rattle.wy_well_formed.specs.WellFormed.{NamesAreDecided, ResolvedGrantsStandFirst, ResolvedIsCore, ResolvedIsKept, ResolvedKeepsAll, ResolvedMakesOnce, ResolvedModulesCaptureNothing, ResolvedNamesAreOrdinary, ResolvedNamesAreWords, ResolvedNamesFit};
 
 /// A program whose names resolve is a core: its numbers are in range, its names differ, its types, effects and bodies
@@ -42,6 +43,18 @@ pub fn resolved_modules_capture_nothing()
 /// Each object literal is made at one place of its scope.
 pub fn resolved_makes_once()
     ensures { ResolvedMakesOnce }
+{}
+
+/// The `val`s of a scope are numbered as they are written: they are as many as those of its tree, and the one of a number
+/// has the place of that number among theirs.
+pub fn resolved_vals_are_as_written()
+    ensures { ResolvedValsAreAsWritten }
+{}
+
+/// Where the items are spelled by tokens whose names stand in the order of their places, the numbers of a scope's `val`s
+/// ascend with their places.
+pub fn resolved_vals_are_in_order()
+    ensures { ResolvedValsAreInOrder }
 {}
 
 /// A program whose names resolve has what every core keeps: all of this but for what its names are.

@@ -109,5 +109,5 @@ returns c =
     let end = c.judge_rest.new.table.items in
     let pure = sym c.pure_fault.ensures ∙ c.in_default.is in
     let starts = subst (StartsTo p k s [] start) c.in_default-start.is c.in_ok-start.ensures.outcome in
-    let passes = passes_all p k s start end c.in_ok-rest.rest c.in_default-rest.is pure starts c.in_ok-rest.ensures.outcome in
+    let passes = passes_all p k s start end c.in_ok-rest.rest h c.in_default-rest.is pure starts c.in_ok-rest.ensures.outcome in
     (s, h.there, subst (λ ts. IsJudged p k s (Passes ts)) (sym (c.in_ok-types.ensures ∙ ap settled_types c.as_slice-2.ensures.value)) passes)
