@@ -1,6 +1,7 @@
 pub mod Atoms
 pub mod Bodies
 pub mod BodyRefusals
+pub mod Collected
 pub mod Counts
 pub mod CycleRefusals
 pub mod Cycles

@@ -7,6 +7,7 @@ mod atom_scope;
 mod atoms;
 mod bodies;
 mod captures;
+mod collected;
 mod counts;
 mod cycles;
 mod declarations;
