@@ -23,5 +23,6 @@ pub mod Names
 pub mod ScopeParts
 pub mod Scopes
 pub mod Sight
+pub mod Things
 pub mod TypeUses
 pub mod Written

@@ -26,6 +26,7 @@ mod meanings;
 mod members;
 mod module_heads;
 mod names_of;
+mod naming;
 mod noting;
 mod own_names;
 mod owners;
