@@ -18,12 +18,14 @@ pub mod Leasts
 mod Marks
 mod MarksPut
 pub mod Mosts
+mod NamesOfThings
 mod Notings
 mod Opening
 mod Owned
 mod Params
 mod Places
 mod ScopesMade
+mod Repeats
 mod Searching
 mod Sources
 mod Starts

@@ -1,6 +1,7 @@
 pub mod Atoms
 pub mod Bodies
 pub mod BodyRefusals
+pub mod Collected
 pub mod Counts
 pub mod CycleRefusals
 pub mod Cycles
@@ -22,5 +23,6 @@ pub mod Names
 pub mod ScopeParts
 pub mod Scopes
 pub mod Sight
+pub mod Things
 pub mod TypeUses
 pub mod Written

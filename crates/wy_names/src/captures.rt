@@ -1,14 +1,16 @@
 //! The variables that the methods of an object literal use of the bodies round it (docs/LANGUAGE.md, "Names").
 //! The names that the methods write are collected in one walk, and each is looked up.
 
-ghost use Rattle.std.specs.Prelude.{◌≡◌, ◌++◌, ◌∷◌, [], ℕ, List, map, IfOk, OnOk};
+ghost use Rattle.std.specs.Prelude.{◌≡◌, ◌∷◌, [], ℕ, false, List, map, IfOk};
 ghost use Rattle.std.specs.Ordering.{nat_cmp};
 ghost use Rattle.std.specs.BTreeMap.{get};
 ghost use Rattle.wy_syntax.specs.Views.{expr_tree, expr_trees, rhs_tree, stmt_tree, stmt_trees, part_tree, part_trees, tail_tree};
 ghost use Rattle.wy_names.specs.Sight.{written_of};
 ghost use Rattle.wy_names.specs.InSight.{entries};
+ghost use Rattle.wy_names.specs.Collected.{Adds};
 ghost use Rattle.wy_names.specs.Written.{expr_names, exprs_names, rhs_names, stmt_names, stmts_names, part_names, parts_names, tail_names, methods_names, lent_text, mark};
 
+use crate::collected::Names;
 use crate::sight::Variables;
 use std::alloc::Global;
 use std::collections::BTreeMap;
@@ -20,15 +22,14 @@ use wy_types::code::Variable;
 
 /// Adds the names that an expression writes.
 #[cycle(expressions)]
-fn add_expr<'a>(names: &mut Vec<&'a Text>, e: &'a Expr) -> Result<(), Memory>
-    ensures { OnOk result (map lent_text names.new.items ≡ map lent_text names.old.items ++ expr_names (expr_tree e.now)) }
+fn add_expr<'a>(names: &mut Names<'a>, e: &'a Expr)
+    ensures { Adds (expr_names (expr_tree e.now)) names.old names.new }
 {
     match e {
-        Expr::Number(_, _) | Expr::Text(_, _) | Expr::True(_) | Expr::False(_) => Ok(()),
-        Expr::This(_) | Expr::Unit(_) => Ok(()),
+        Expr::Number(_, _) | Expr::Text(_, _) | Expr::True(_) | Expr::False(_) => {}
+        Expr::This(_) | Expr::Unit(_) => {}
         Expr::Name(name) => {
-            names.push(&name.text)?;
-            Ok(())
+            names.add(&name.text);
         }
         Expr::Negate(e, _)
         | Expr::Not(e, _)
@@ -37,25 +38,25 @@ fn add_expr<'a>(names: &mut Vec<&'a Text>, e: &'a Expr) -> Result<(), Memory>
         | Expr::TextShow(e, _)
         | Expr::Ascribe(e, _, _) => add_expr(names, e),
         Expr::Binary(_, left, right, _) => {
-            add_expr(names, left)?;
+            add_expr(names, left);
             add_expr(names, right)
         }
         Expr::Call(receiver, _, arguments) => {
-            add_expr(names, receiver)?;
+            add_expr(names, receiver);
             add_exprs(names, arguments)
         }
         Expr::TextPart(e, from, to, _) => {
-            add_expr(names, e)?;
-            add_expr(names, from)?;
+            add_expr(names, e);
+            add_expr(names, from);
             add_expr(names, to)
         }
         Expr::TextCode(e, at, _) => {
-            add_expr(names, e)?;
+            add_expr(names, e);
             add_expr(names, at)
         }
         Expr::Choice(test, first, second, _) => {
-            add_expr(names, test)?;
-            add_expr(names, first)?;
+            add_expr(names, test);
+            add_expr(names, first);
             add_expr(names, second)
         }
     }
@@ -63,25 +64,24 @@ fn add_expr<'a>(names: &mut Vec<&'a Text>, e: &'a Expr) -> Result<(), Memory>
 
 /// Adds the names that a call's arguments write.
 #[cycle(expressions)]
-fn add_exprs<'a>(names: &mut Vec<&'a Text>, es: &'a [Expr]) -> Result<(), Memory>
-    ensures { OnOk result (map lent_text names.new.items ≡ map lent_text names.old.items ++ exprs_names (expr_trees es.now)) }
+fn add_exprs<'a>(names: &mut Names<'a>, es: &'a [Expr])
+    ensures { Adds (exprs_names (expr_trees es.now)) names.old names.new }
 {
     for e in es {
-        add_expr(names, e)?;
+        add_expr(names, e);
     }
-    Ok(())
 }
 
 /// Adds the names that a right side writes.
 #[cycle(statements)]
-fn add_rhs<'a>(names: &mut Vec<&'a Text>, rhs: &'a Rhs) -> Result<(), Memory>
-    ensures { OnOk result (map lent_text names.new.items ≡ map lent_text names.old.items ++ rhs_names (rhs_tree rhs.now)) }
+fn add_rhs<'a>(names: &mut Names<'a>, rhs: &'a Rhs)
+    ensures { Adds (rhs_names (rhs_tree rhs.now)) names.old names.new }
 {
     match rhs {
         Rhs::New(_, parts) => add_parts(names, parts),
         Rhs::Branch(_, test, first, second) => {
-            add_expr(names, test)?;
-            add_stmts(names, first)?;
+            add_expr(names, test);
+            add_stmts(names, first);
             add_stmts(names, second)
         }
         Rhs::Value(e) => add_expr(names, e),
@@ -90,13 +90,13 @@ fn add_rhs<'a>(names: &mut Vec<&'a Text>, rhs: &'a Rhs) -> Result<(), Memory>
 
 /// Adds the names that a statement writes.
 #[cycle(statements)]
-fn add_stmt<'a>(names: &mut Vec<&'a Text>, stmt: &'a Stmt) -> Result<(), Memory>
-    ensures { OnOk result (map lent_text names.new.items ≡ map lent_text names.old.items ++ stmt_names (stmt_tree stmt.now)) }
+fn add_stmt<'a>(names: &mut Names<'a>, stmt: &'a Stmt)
+    ensures { Adds (stmt_names (stmt_tree stmt.now)) names.old names.new }
 {
     match stmt {
         Stmt::Val(_, _, rhs) => add_rhs(names, rhs),
         Stmt::Assign(name, rhs) => {
-            names.push(&name.text)?;
+            names.add(&name.text);
             add_rhs(names, rhs)
         }
         Stmt::Run(rhs) => add_rhs(names, rhs),
@@ -105,19 +105,18 @@ fn add_stmt<'a>(names: &mut Vec<&'a Text>, stmt: &'a Stmt) -> Result<(), Memory>
 
 /// Adds the names that statements write.
 #[cycle(statements)]
-fn add_stmts<'a>(names: &mut Vec<&'a Text>, stmts: &'a [Stmt]) -> Result<(), Memory>
-    ensures { OnOk result (map lent_text names.new.items ≡ map lent_text names.old.items ++ stmts_names (stmt_trees stmts.now)) }
+fn add_stmts<'a>(names: &mut Names<'a>, stmts: &'a [Stmt])
+    ensures { Adds (stmts_names (stmt_trees stmts.now)) names.old names.new }
 {
     for stmt in stmts {
-        add_stmt(names, stmt)?;
+        add_stmt(names, stmt);
     }
-    Ok(())
 }
 
 /// Adds the names that a field's initialiser or a method writes.
 #[cycle(statements)]
-fn add_part<'a>(names: &mut Vec<&'a Text>, part: &'a Part) -> Result<(), Memory>
-    ensures { OnOk result (map lent_text names.new.items ≡ map lent_text names.old.items ++ part_names (part_tree part.now)) }
+fn add_part<'a>(names: &mut Names<'a>, part: &'a Part)
+    ensures { Adds (part_names (part_tree part.now)) names.old names.new }
 {
     match part {
         Part::Field(_, _, _, rhs) => add_rhs(names, rhs),
@@ -127,19 +126,18 @@ fn add_part<'a>(names: &mut Vec<&'a Text>, part: &'a Part) -> Result<(), Memory>
 
 /// Adds the names that fields' initialisers and methods write.
 #[cycle(statements)]
-fn add_parts<'a>(names: &mut Vec<&'a Text>, parts: &'a [Part]) -> Result<(), Memory>
-    ensures { OnOk result (map lent_text names.new.items ≡ map lent_text names.old.items ++ parts_names (part_trees parts.now)) }
+fn add_parts<'a>(names: &mut Names<'a>, parts: &'a [Part])
+    ensures { Adds (parts_names (part_trees parts.now)) names.old names.new }
 {
     for part in parts {
-        add_part(names, part)?;
+        add_part(names, part);
     }
-    Ok(())
 }
 
 /// Adds the names that a body writes.
 #[cycle(statements)]
-fn add_tail<'a>(names: &mut Vec<&'a Text>, body: &'a Tail) -> Result<(), Memory>
-    ensures { OnOk result (map lent_text names.new.items ≡ map lent_text names.old.items ++ tail_names (tail_tree body.now)) }
+fn add_tail<'a>(names: &mut Names<'a>, body: &'a Tail)
+    ensures { Adds (tail_names (tail_tree body.now)) names.old names.new }
 {
     match body {
         Tail::Short(rhs) => add_rhs(names, rhs),
@@ -147,18 +145,25 @@ fn add_tail<'a>(names: &mut Vec<&'a Text>, body: &'a Tail) -> Result<(), Memory>
     }
 }
 
+/// Adds the names that methods write.
+fn add_methods<'a>(names: &mut Names<'a>, parts: &'a [Part])
+    ensures { Adds (methods_names (part_trees parts.now)) names.old names.new }
+{
+    for part in parts {
+        match part {
+            Part::Field(_, _, _, _) => {}
+            Part::Method(_, body) => add_tail(names, body),
+        }
+    }
+}
+
 /// The names that methods write.
 fn methods_names<'a>(alloc: Global, parts: &'a [Part]) -> Result<Vec<&'a Text>, Memory>
     ensures { IfOk result (λ ns. map lent_text ns.items ≡ methods_names (part_trees parts.now)) }
 {
-    let mut names = Vec::new(alloc);
-    for part in parts {
-        match part {
-            Part::Field(_, _, _, _) => {}
-            Part::Method(_, body) => add_tail(&mut names, body)?,
-        }
-    }
-    Ok(names)
+    let mut names = Names::new(alloc);
+    add_methods(&mut names, parts);
+    names.all()
 }
 
 /// The variables that these names stand for, by their numbers among those in sight.

@@ -5,11 +5,9 @@ ghost use Rattle.std.specs.Prelude.{◌≡◌, ◌≤◌, ◌++◌, ◌∷◌, [
 ghost use Rattle.std.specs.Option.{option_copied};
 ghost use Rattle.wy_names.specs.Least.{noted};
 ghost use Rattle.wy_names.specs.Meanings.{abstract_names, meaning_of};
-ghost use Rattle.wy_names.specs.Declarations.{texts};
 ghost use Rattle.wy_names.specs.Atoms.{defined_member, meaning_set, set_of, set_refusals};
 ghost use Rattle.wy_names.specs.Lines.{param_refusals, grant_refusals};
-ghost use Rattle.wy_names.specs.Scopes.{atom_scope, definitions_after, definitions_refusals, define_names, definitions_for, start_effect, init_refusals};
-ghost use Rattle.wy_names.specs.Lent.{lent_name};
+ghost use Rattle.wy_names.specs.Scopes.{atom_scope, definitions_after, definitions_refusals, definitions_for, start_effect, init_refusals};
 
 use crate::atom_scope::{AtomScope, Owners};
 use crate::heads::Heads;
@@ -24,7 +22,7 @@ use crate::type_uses::{note_plain, note_type};
 use std::alloc::Global;
 use wy_effects::set::{EffSet, SetList};
 use wy_syntax::items::{Define, Grant, Init};
-use wy_syntax::types::{AtomUse, Name, Param};
+use wy_syntax::types::{AtomUse, Param};
 use wy_text::list::Items;
 use wy_text::text::{Memory, Text};
 
@@ -106,28 +104,6 @@ pub fn note_definitions(
         )?;
     }
     Ok(())
-}
-
-/// The names that a module defines.
-pub fn define_names<'a>(alloc: Global, defines: &'a [Define]) -> Result<Vec<&'a Name>, Memory>
-    ensures { IfOk result (λ ns. map lent_name ns.items ≡ define_names defines.now) }
-{
-    let mut names = Vec::new(alloc);
-    for define in defines {
-        names.push(&define.name)?;
-    }
-    Ok(names)
-}
-
-/// The texts of names as a table.
-pub fn name_table(alloc: Global, names: &[&Name]) -> Result<Table, Memory>
-    ensures { IfOk result (λ t. t ≡ texts (map lent_name names.now)) }
-{
-    let mut list = Vec::new(alloc);
-    for name in names {
-        list.push(name.text.copy()?)?;
-    }
-    Table::new(alloc, list)
 }
 
 /// What a name stands for; nothing where it stands for none.

@@ -13,6 +13,7 @@ ghost use Rattle.wy_names.specs.Lent.{lent_name, module_tree};
 use crate::cycles::reached_from;
 use crate::gathering::ModuleView;
 use crate::marked::{Marked, Marks};
+use crate::naming::add_names;
 use crate::noting::note_at;
 use crate::refusal::{Cause, Refusal};
 use crate::tables::Table;
@@ -43,13 +44,12 @@ fn add_line_modules<'a>(words: &mut Vec<&'a Name>, lines: &'a [Line]) -> Result<
 }
 
 /// The words that name modules in a module's uses and lines.
+#[tactic(auto, using(crate::proofs::NamesOfThings::names_alone))]
 fn named_modules<'a>(alloc: Global, view: &ModuleView<'a>) -> Result<Vec<&'a Name>, Memory>
     ensures { IfOk result (λ ws. map lent_name ws.items ≡ named_modules (module_tree view.now)) }
 {
     let mut words = Vec::new(alloc);
-    for name in view.uses {
-        words.push(name)?;
-    }
+    add_names(&mut words, view.uses)?;
     add_line_modules(&mut words, view.lines)?;
     Ok(words)
 }

@@ -7,27 +7,24 @@ ghost use Rattle.wy_types.specs.Types.{is_plain};
 ghost use Rattle.wy_names.specs.Least.{noted};
 ghost use Rattle.wy_names.specs.Declarations.{texts, module_names, repeated};
 ghost use Rattle.wy_names.specs.Atoms.{head_names, type_number};
-ghost use Rattle.wy_names.specs.TypeUses.{param_names, lacking, not_abstract};
+ghost use Rattle.wy_names.specs.TypeUses.{lacking, not_abstract};
 ghost use Rattle.wy_names.specs.Fronts.{front_refusals};
-ghost use Rattle.wy_names.specs.Lines.{line_word, param_refusals, uses_refusals, lines_refusals};
+ghost use Rattle.wy_names.specs.Lines.{param_refusals, uses_refusals, lines_refusals};
 ghost use Rattle.wy_names.specs.Scopes.{atom_scope, line_words, define_names, param_scope, early_owners, module_owners, module_atoms, module_meanings, module_scope, module_own, definitions_at, definitions_refusals, sealed_refusals, init_refusals};
-ghost use Rattle.wy_names.specs.Lent.{lent_name, module_tree};
+ghost use Rattle.wy_names.specs.Lent.{module_tree};
 
 use crate::atom_scope::{AtomScope, Owners};
-use crate::definitions::{
-    define_names, definitions, definitions_for, name_table, note_definitions, note_init,
-    note_params,
-};
+use crate::definitions::{definitions_for, note_definitions, note_init, note_params};
 use crate::gathering::ModuleView;
 use crate::heads::Heads;
 use crate::lines::{add_lines, note_lines, note_uses};
 use crate::meanings::Meanings;
+use crate::naming::{Named, add_names};
 use crate::noting::note_at;
 use crate::own_names::{add_params, add_uses};
 use crate::owners::module_owners;
 use crate::refusal::{Cause, Refusal};
-use crate::signatures::param_names;
-use crate::tables::{Table, note_repeated};
+use crate::tables::{Table, name_table, note_repeated};
 use crate::type_uses::note_written;
 use std::alloc::Global;
 use wy_effects::set::SetList;
@@ -36,39 +33,6 @@ use wy_syntax::types::Name;
 use wy_text::list::Items;
 use wy_text::text::Memory;
 use wy_types::resolved::{OwnName, ScopeKind};
-
-fn line_word(line: &Line) -> &Name
-    ensures { result.now ≡ line_word line.now }
-{
-    match line {
-        Line::Instance(name, _, _) => name,
-        Line::Import(name, _, _, _) => name,
-    }
-}
-
-/// Adds the names of lines.
-fn add_line_words<'a>(words: &mut Vec<&'a Name>, lines: &'a [Line]) -> Result<(), Memory>
-    ensures { OnOk result (map lent_name words.new.items ≡ map lent_name words.old.items ++ line_words lines.now) }
-{
-    for line in lines {
-        words.push(line_word(line))?;
-    }
-    Ok(())
-}
-
-/// Adds the names of uses and lines.
-pub fn add_words<'a>(
-    words: &mut Vec<&'a Name>,
-    uses: &'a [Name],
-    lines: &'a [Line],
-) -> Result<(), Memory>
-    ensures { OnOk result (map lent_name words.new.items ≡ map lent_name words.old.items ++ (uses.now ++ line_words lines.now)) }
-{
-    for name in uses {
-        words.push(name)?;
-    }
-    add_line_words(words, lines)
-}
 
 /// The owners of a module with their atoms.
 pub fn owners_of<'a>(
@@ -149,9 +113,8 @@ fn note_members(
 ) -> Result<(), Memory>
     ensures { OnOk result (least.new ≡ noted least.old (lacking view.now.name.now members.now (texts (define_names view.now.defines.now)) ++ not_abstract members.now (define_names view.now.defines.now))) }
 {
-    let names = define_names(alloc, view.defines)?;
-    let written = name_table(alloc, &names)?;
-    note_written(view.name, members, &written, &names, least);
+    let written = name_table(alloc, view.defines)?;
+    note_written(view.name, members, &written, view.defines, least);
     Ok(())
 }
 
@@ -181,12 +144,20 @@ fn note_sealed(
     }
 }
 
-/// Notes Twice at each own name that repeats another.
-fn note_words(alloc: Global, view: &ModuleView, least: &mut Option<Refusal>) -> Result<(), Memory>
-    ensures { OnOk result (least.new ≡ noted least.old (repeated [] (param_names view.now.params.now ++ (view.now.uses.now ++ line_words view.now.lines.now)))) }
+/// Notes Twice at each own name that repeats another, in this order: parameters or grants, uses, lines.
+pub fn note_words<T: Named>(
+    alloc: Global,
+    handed: &[T],
+    uses: &[Name],
+    lines: &[Line],
+    least: &mut Option<Refusal>,
+) -> Result<(), Memory>
+    ensures { OnOk result (least.new ≡ noted least.old (repeated [] (map T.name_of handed.now ++ (uses.now ++ line_words lines.now)))) }
 {
-    let mut words = param_names(alloc, view.params)?;
-    add_words(&mut words, view.uses, view.lines)?;
+    let mut words = Vec::new(alloc);
+    add_names(&mut words, handed)?;
+    add_names(&mut words, uses)?;
+    add_names(&mut words, lines)?;
     note_repeated(alloc, &[], &words, least)
 }
 
@@ -244,7 +215,7 @@ pub fn note_front(
     ensures { OnOk result (least.new ≡ noted least.old (front_refusals owners.now.heads (map module_tree modules.now) (module_tree view.now))) }
 {
     note_sealed(alloc, owners.heads(), view, least)?;
-    note_words(alloc, view, least)?;
+    note_words(alloc, view.params, view.uses, view.lines, least)?;
     note_param_types(alloc, owners, view, least)?;
     note_uses(numbers, modules, view.uses, least);
     note_own_lines(alloc, owners, numbers, modules, view, least)?;
@@ -263,8 +234,7 @@ pub fn note_defined(
 ) -> Result<(), Memory>
     ensures { OnOk result (least.new ≡ noted least.old (repeated [] (define_names view.now.defines.now) ++ (definitions_refusals owners.now.heads owners.now.atoms (take visible owners.now.owners) [] view.now.defines.now ++ init_refusals [] [] scope.now (option_copied view.now.init)))) }
 {
-    let names = define_names(alloc, view.defines)?;
-    note_repeated(alloc, &[], &names, least)?;
+    note_repeated(alloc, &[], view.defines, least)?;
     note_definitions(alloc, owners, visible, view.defines, least)?;
     note_init(scope, view.init, least);
     Ok(())

@@ -6,7 +6,7 @@ ghost use Rattle.wy_names.specs.Atoms.{all_names, primitive_names};
 ghost use Rattle.wy_names.specs.Lent.{lent_type, module_tree};
 
 use crate::gathering::ModuleView;
-use crate::tables::Table;
+use crate::tables::{Table, name_table};
 use std::alloc::Global;
 use wy_syntax::items::TypeDecl;
 use wy_text::text::{Memory, Text, from_bytes};
@@ -42,12 +42,9 @@ pub fn type_table(alloc: Global, types: &[&TypeDecl]) -> Result<Table, Memory>
 }
 
 /// The names of all modules, by their numbers.
+#[tactic(auto, using(crate::proofs::NamesOfThings::modules_named))]
 pub fn module_table(alloc: Global, modules: &[ModuleView]) -> Result<Table, Memory>
     ensures { IfOk result (λ t. t ≡ texts (module_names (map module_tree modules.now))) }
 {
-    let mut names = Vec::new(alloc);
-    for view in modules {
-        names.push(view.name.text.copy()?)?;
-    }
-    Table::new(alloc, names)
+    name_table(alloc, modules)
 }

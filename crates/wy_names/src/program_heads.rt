@@ -3,25 +3,24 @@
 
 ghost use Rattle.std.specs.Prelude.{◌≡◌, ◌≤◌, ◌++◌, [], map, length, IfOk, OnOk};
 ghost use Rattle.wy_names.specs.Least.{noted};
-ghost use Rattle.wy_names.specs.Declarations.{texts, module_names, repeated};
+ghost use Rattle.wy_names.specs.Declarations.{texts, module_names};
 ghost use Rattle.wy_names.specs.Lines.{lines_refusals};
-ghost use Rattle.wy_names.specs.Scopes.{atom_scope, grant_names, line_words, grant_owners, program_owners, program_atoms, program_own};
+ghost use Rattle.wy_names.specs.Scopes.{atom_scope, grant_owners, program_owners, program_atoms, program_own};
 ghost use Rattle.wy_names.specs.Fronts.{program_front};
-ghost use Rattle.wy_names.specs.Lent.{lent_name, module_tree, program_tree};
+ghost use Rattle.wy_names.specs.Lent.{module_tree, program_tree};
 
 use crate::atom_scope::Owners;
 use crate::definitions::note_grants;
 use crate::gathering::ModuleView;
 use crate::heads::Heads;
 use crate::lines::{add_lines, note_lines, note_uses};
-use crate::module_heads::add_words;
+use crate::module_heads::note_words;
 use crate::own_names::{add_grants, add_uses};
 use crate::owners::program_owners;
 use crate::refusal::Refusal;
-use crate::tables::{Table, note_repeated};
+use crate::tables::Table;
 use std::alloc::Global;
-use wy_syntax::items::{Grant, Program};
-use wy_syntax::types::Name;
+use wy_syntax::items::Program;
 use wy_text::list::Items;
 use wy_text::text::Memory;
 use wy_types::resolved::OwnName;
@@ -74,30 +73,6 @@ pub fn program_own(
     Ok(list)
 }
 
-/// The names of grants.
-fn grant_names<'a>(alloc: Global, grants: &'a [Grant]) -> Result<Vec<&'a Name>, Memory>
-    ensures { IfOk result (λ ns. map lent_name ns.items ≡ grant_names grants.now) }
-{
-    let mut names = Vec::new(alloc);
-    for grant in grants {
-        names.push(&grant.name)?;
-    }
-    Ok(names)
-}
-
-/// Notes Twice at each own name that repeats another.
-fn note_words(alloc: Global, program: &Program, least: &mut Option<Refusal>) -> Result<(), Memory>
-    ensures { OnOk result (least.new ≡ noted least.old (repeated [] (grant_names program.now.grants ++ (program.now.uses ++ line_words program.now.lines)))) }
-{
-    let mut words = grant_names(alloc, program.grants.as_slice())?;
-    add_words(
-        &mut words,
-        program.uses.as_slice(),
-        program.lines.as_slice(),
-    )?;
-    note_repeated(alloc, &[], &words, least)
-}
-
 /// Notes the refusals of the program's lines.
 fn note_own_lines(
     alloc: Global,
@@ -133,9 +108,10 @@ pub fn note_program(
     requires owned { owners.now ≡ atom_scope owners.now.heads (program_atoms owners.now.heads (map module_tree modules.now) (program_tree program.now)) (program_owners owners.now.heads (map module_tree modules.now) (program_tree program.now)) [] }
     ensures { OnOk result (least.new ≡ noted least.old (program_front owners.now.heads (map module_tree modules.now) (program_tree program.now))) }
 {
-    note_words(alloc, program, least)?;
-    note_grants(owners.heads().names(), program.grants.as_slice(), least);
-    note_uses(numbers, modules, program.uses.as_slice(), least);
+    let (grants, uses) = (program.grants.as_slice(), program.uses.as_slice());
+    note_words(alloc, grants, uses, program.lines.as_slice(), least)?;
+    note_grants(owners.heads().names(), grants, least);
+    note_uses(numbers, modules, uses, least);
     note_own_lines(alloc, owners, numbers, modules, program, least)?;
     Ok(())
 }

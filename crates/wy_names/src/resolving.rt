@@ -11,7 +11,7 @@ ghost use Rattle.wy_names.specs.TypeUses.{declaration, declarations_refusals, de
 ghost use Rattle.wy_names.specs.Scopes.{scope_of_module, scope_of_program, modules_refusals, programs_refusals, second_programs};
 ghost use Rattle.wy_names.specs.Judged.{NotesScopes, NotesAll, declared_program, IsBound, IsRefusal, refusal_named};
 ghost use Rattle.wy_names.specs.Names.{Resolves, Refused};
-ghost use Rattle.wy_names.specs.Lent.{lent_name, lent_type, lent_program, module_tree, lent_declared};
+ghost use Rattle.wy_names.specs.Lent.{lent_type, lent_program, module_tree, lent_declared};
 
 use crate::atom_scope::Owners;
 use crate::declarations::{add_declarations, note_declarations};
@@ -28,37 +28,14 @@ use crate::scopes::{module_scope, program_scope};
 use crate::tables::{Table, note_repeated};
 use std::alloc::Global;
 use wy_syntax::items::{Program, Tree, TypeDecl};
-use wy_syntax::types::Name;
 use wy_text::list::Items;
 use wy_text::text::Memory;
 use wy_types::primitive::primitives;
 use wy_types::resolved;
 use wy_types::resolved::{Core, Scope};
 
-/// The names of types.
-fn type_words<'a>(alloc: Global, types: &[&'a TypeDecl]) -> Result<Vec<&'a Name>, Memory>
-    ensures { IfOk result (λ ns. map lent_name ns.items ≡ type_names (map lent_type types.now)) }
-{
-    let mut words = Vec::new(alloc);
-    for decl in types {
-        words.push(&decl.name)?;
-    }
-    Ok(words)
-}
-
-/// The names of modules.
-fn module_words<'a>(alloc: Global, modules: &[ModuleView<'a>]) -> Result<Vec<&'a Name>, Memory>
-    ensures { IfOk result (λ ns. map lent_name ns.items ≡ module_names (map module_tree modules.now)) }
-{
-    let mut words = Vec::new(alloc);
-    for view in modules {
-        words.push(view.name)?;
-    }
-    Ok(words)
-}
-
 /// Notes Twice at each type or module that has the name of another.
-#[tactic(auto, using(crate::proofs::Leasts::noted_append))]
+#[tactic(auto, using(crate::proofs::Leasts::noted_append, crate::proofs::NamesOfThings::types_named, crate::proofs::NamesOfThings::modules_named))]
 fn note_words(
     alloc: Global,
     types: &[&TypeDecl],
@@ -68,10 +45,8 @@ fn note_words(
     ensures { OnOk result (least.new ≡ noted least.old (repeated primitive_names (type_names (map lent_type types.now)) ++ repeated [] (module_names (map module_tree modules.now)))) }
 {
     let primitive = primitive_names(alloc)?;
-    let words = type_words(alloc, types)?;
-    note_repeated(alloc, &primitive, &words, least)?;
-    let words = module_words(alloc, modules)?;
-    note_repeated(alloc, &[], &words, least)
+    note_repeated(alloc, &primitive, types, least)?;
+    note_repeated(alloc, &[], modules, least)
 }
 
 /// Adds the modules. Their refusals are noted.

@@ -3,8 +3,7 @@
 ghost use Rattle.std.specs.Prelude.{◌≡◌, List, map, IfOk, OnOk};
 ghost use Rattle.std.specs.Option.{option_copied};
 ghost use Rattle.wy_names.specs.Least.{noted};
-ghost use Rattle.wy_names.specs.Lent.{lent_name};
-ghost use Rattle.wy_names.specs.TypeUses.{param_names, param_types, effect_of, effect_refusals, method_of, params_refusals, signature_refusals};
+ghost use Rattle.wy_names.specs.TypeUses.{param_types, effect_of, effect_refusals, method_of, params_refusals, signature_refusals};
 
 use crate::atom_scope::AtomScope;
 use crate::refusal::Refusal;
@@ -13,21 +12,10 @@ use crate::tables::note_repeated;
 use crate::type_uses::{note_use, type_ref};
 use std::alloc::Global;
 use wy_effects::set::EffSet;
-use wy_syntax::types::{Name, Param, SetUse, Signature};
+use wy_syntax::types::{Param, SetUse, Signature};
 use wy_text::list::Items;
 use wy_text::text::Memory;
 use wy_types::types::{Method, TypeList};
-
-/// The names of parameters.
-pub fn param_names<'a>(alloc: Global, params: &'a [Param]) -> Result<Vec<&'a Name>, Memory>
-    ensures { IfOk result (λ ns. map lent_name ns.items ≡ param_names params.now) }
-{
-    let mut names = Vec::new(alloc);
-    for param in params {
-        names.push(&param.name)?;
-    }
-    Ok(names)
-}
 
 /// The types of parameters.
 fn param_types(
@@ -122,8 +110,7 @@ pub fn note_signature(
 ) -> Result<(), Memory>
     ensures { OnOk result (least.new ≡ noted least.old (signature_refusals scope.now plain signature.now)) }
 {
-    let names = param_names(alloc, signature.params.as_slice())?;
-    note_repeated(alloc, &[], &names, least)?;
+    note_repeated(alloc, &[], signature.params.as_slice(), least)?;
     note_params(alloc, scope, plain, signature.params.as_slice(), least)?;
     note_effect(scope, plain, &signature.effect, least);
     note_use(alloc, scope, plain, &signature.result, least)

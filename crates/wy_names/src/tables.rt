@@ -1,12 +1,13 @@
 //! Tables of names.
 
-ghost use Rattle.std.specs.Prelude.{◌≡◌, ◌||◌, ◌<◌, ℕ, List, map, length, is_some, IfOk, OnOk, IfSome};
+ghost use Rattle.std.specs.Prelude.{◌≡◌, ◌||◌, ◌<◌, ◌∷◌, [], ℕ, List, map, length, is_some, IfOk, OnOk, IfSome, if◌then◌else◌};
 ghost use Rattle.indexmap.specs.IndexMap.{get};
-ghost use Rattle.wy_names.specs.Least.{noted};
-ghost use Rattle.wy_names.specs.Declarations.{same_name, first_from, has_name, repeated};
-ghost use Rattle.wy_names.specs.Lent.{lent_name};
+ghost use Rattle.wy_names.specs.Least.{noted, refusal_at};
+ghost use Rattle.wy_names.specs.Declarations.{same_name, first_from, has_name, repeated, texts};
+ghost use Rattle.wy_names.specs.declared.refusal.Cause.TheVariants.{Twice};
 
-use crate::noting::note;
+use crate::naming::Named;
+use crate::noting::note_at;
 use crate::refusal::{Cause, Refusal};
 use indexmap::IndexMap;
 use std::alloc::Global;
@@ -52,25 +53,32 @@ fn names_seen(alloc: Global, names: &[Text]) -> Result<IndexMap<Text, ()>, Memor
 }
 
 /// Notes Twice at each name that repeats one before it, in its list or in another.
-pub fn note_repeated(
+pub fn note_repeated<T: Named>(
     alloc: Global,
     before: &[Text],
-    names: &[&Name],
+    things: &[T],
     least: &mut Option<Refusal>,
 ) -> Result<(), Memory>
-    ensures { OnOk result (least.new ≡ noted least.old (repeated before.now (map lent_name names.now))) }
+    ensures { OnOk result (least.new ≡ noted least.old (repeated before.now (map T.name_of things.now))) }
 {
     let mut seen = names_seen(alloc, before)?;
-    for name in names {
-        if put_name(&mut seen, &name.text)? {
-            note(
-                least,
-                Refusal {
-                    place: name.place,
-                    cause: Cause::Twice,
-                },
-            );
-        }
+    for thing in things {
+        note_name(&mut seen, thing.name(), least)?;
+    }
+    Ok(())
+}
+
+/// Notes Twice at a name that was there before; it is there afterwards.
+fn note_name(
+    seen: &mut IndexMap<Text, ()>,
+    name: &Name,
+    least: &mut Option<Refusal>,
+) -> Result<(), Memory>
+    ensures is { OnOk result ((x : List ℕ) → is_some (get same_name seen.new x) ≡ is_some (get same_name seen.old x) || same_name name.now.text x) }
+    ensures noted { OnOk result (least.new ≡ noted least.old (if is_some (get same_name seen.old name.now.text) then refusal_at name.now.place Twice ∷ [] else [])) }
+{
+    if put_name(seen, &name.text)? {
+        note_at(least, name.place, Cause::Twice);
     }
     Ok(())
 }
@@ -117,4 +125,15 @@ impl Table {
     {
         self.numbers.get(name).copied()
     }
+}
+
+/// The names of things as a table.
+pub fn name_table<T: Named>(alloc: Global, things: &[T]) -> Result<Table, Memory>
+    ensures { IfOk result (λ t. t ≡ texts (map T.name_of things.now)) }
+{
+    let mut names = Vec::new(alloc);
+    for thing in things {
+        names.push(thing.name().text.copy()?)?;
+    }
+    Table::new(alloc, names)
 }

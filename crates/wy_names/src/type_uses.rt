@@ -4,13 +4,13 @@ ghost use Rattle.std.specs.Prelude.{◌≡◌, ◌++◌, ◌∷◌, [], List, ma
 ghost use Rattle.std.specs.Option.{option_copied};
 ghost use Rattle.wy_names.specs.Least.{noted};
 ghost use Rattle.wy_names.specs.Declarations.{repeated};
-ghost use Rattle.wy_names.specs.Lent.{lent_name};
 ghost use Rattle.wy_names.specs.Meanings.{meaning_of, abstract_names};
 ghost use Rattle.wy_names.specs.Atoms.{head_names, type_number, set_refusals};
-ghost use Rattle.wy_names.specs.TypeUses.{written_set, written_sets, named_type, bound_type, type_ref, set_names, texts_of, all_among, lacking, not_abstract, sets_refusals, type_name_refusals, bare_refusals, with_refusals, type_refusals, plain_refusals, use_refusals};
+ghost use Rattle.wy_names.specs.TypeUses.{written_set, written_sets, named_type, bound_type, type_ref, texts_of, all_among, lacking, not_abstract, sets_refusals, type_name_refusals, bare_refusals, with_refusals, type_refusals, plain_refusals, use_refusals};
 
 use crate::atom_scope::AtomScope;
 use crate::meanings::Meanings;
+use crate::naming::Named;
 use crate::noting::note_at;
 use crate::refusal::{Cause, Refusal};
 use crate::scoping::Meaning;
@@ -176,29 +176,24 @@ pub fn note_lacking(name: &Name, members: &Meanings, written: &Table, least: &mu
 }
 
 /// Notes MemberUnknown at each name that is no abstract member.
-pub fn note_not_abstract(members: &Meanings, names: &[&Name], least: &mut Option<Refusal>)
-    ensures { least.new ≡ noted least.old (not_abstract members.now (map lent_name names.now)) }
+fn note_not_abstract<T: Named>(members: &Meanings, things: &[T], least: &mut Option<Refusal>)
+    ensures { least.new ≡ noted least.old (not_abstract members.now (map T.name_of things.now)) }
 {
-    for name in names {
-        let is_abstract = match members.find(&name.text) {
-            None => false,
-            Some(meaning) => meaning.is_abstract,
-        };
-        if !is_abstract {
-            note_at(least, name.place, Cause::MemberUnknown);
-        }
+    for thing in things {
+        note_unless_abstract(members, thing.name(), least);
     }
 }
 
-/// The names that sets are written for.
-fn set_names<'a>(alloc: Global, sets: &'a [MemberSet]) -> Result<Vec<&'a Name>, Memory>
-    ensures { IfOk result (λ ns. map lent_name ns.items ≡ set_names sets.now) }
+fn note_unless_abstract(members: &Meanings, name: &Name, least: &mut Option<Refusal>)
+    ensures { least.new ≡ noted least.old (not_abstract members.now (name.now ∷ [])) }
 {
-    let mut names = Vec::new(alloc);
-    for set in sets {
-        names.push(&set.name)?;
+    let is_abstract = match members.find(&name.text) {
+        None => false,
+        Some(meaning) => meaning.is_abstract,
+    };
+    if !is_abstract {
+        note_at(least, name.place, Cause::MemberUnknown);
     }
-    Ok(names)
 }
 
 /// Notes the refusals of the sets that are written for members.
@@ -246,17 +241,17 @@ fn note_bare(
 
 /// Notes what is refused of the names that are written for members.
 #[tactic(auto, using(crate::proofs::Leasts::noted_append))]
-pub fn note_written(
+pub fn note_written<T: Named>(
     name: &Name,
     members: &Meanings,
     written: &Table,
-    names: &[&Name],
+    things: &[T],
     least: &mut Option<Refusal>,
 )
-    ensures { least.new ≡ noted least.old (lacking name.now members.now written.now ++ not_abstract members.now (map lent_name names.now)) }
+    ensures { least.new ≡ noted least.old (lacking name.now members.now written.now ++ not_abstract members.now (map T.name_of things.now)) }
 {
     note_lacking(name, members, written, least);
-    note_not_abstract(members, names, least);
+    note_not_abstract(members, things, least);
 }
 
 /// Notes the refusals of a type with sets for its members, but for those inside the sets.
@@ -273,11 +268,10 @@ fn note_with(
         note_at(least, name.place, Cause::Unknown);
         return Ok(());
     };
-    let names = set_names(alloc, sets)?;
     let written = set_table(alloc, sets)?;
     match scope.heads().head(decl) {
-        None => note_written(name, &Meanings::new(alloc), &written, &names, least),
-        Some(head) => note_written(name, &head.members, &written, &names, least),
+        None => note_written(name, &Meanings::new(alloc), &written, sets, least),
+        Some(head) => note_written(name, &head.members, &written, sets, least),
     }
     Ok(())
 }
@@ -298,8 +292,7 @@ pub fn note_type(
         TypeUse::Bare(name) => note_bare(alloc, scope, bare, name, least),
         TypeUse::With(name, sets) => {
             note_with(alloc, scope, name, sets.as_slice(), least)?;
-            let names = set_names(alloc, sets.as_slice())?;
-            note_repeated(alloc, &[], &names, least)?;
+            note_repeated(alloc, &[], sets.as_slice(), least)?;
             note_sets(scope, sets.as_slice(), least);
             Ok(())
         }

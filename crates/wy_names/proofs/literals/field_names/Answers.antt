@@ -1,4 +1,4 @@
-use Rattle.std.proofs.Common.{◌≡◌, ◌<◌, ◌+◌, ◌++◌, ◌∷◌, [], length, drop, map, rules, sym, ap, ◌∙◌, append_assoc}
+use Rattle.std.proofs.Common.{◌<◌, ◌+◌, ◌++◌, ◌∷◌, [], length, drop, map, rules, sym, ap, ◌∙◌, append_assoc}
 use Rattle.std.proofs.lemmas.List.{map-append}
 use Rattle.wy_syntax.specs.Trees as trees
 use Rattle.wy_syntax.specs.Views.{part_tree, part_trees}
