@@ -46,6 +46,7 @@ fn build(code: &Code, store: &mut Store, text: Text) -> Result<Word, Memory>
 }
 
 /// Does an operator.
+#[inline(never)]
 pub fn operate(
     code: &Code,
     machine: &mut Machine,
