@@ -1,15 +1,16 @@
-use Rattle.std.proofs.Common.{◌<◌, length, refl, sym, ap, ap₂, ◌∙◌, subst, unwrap_or, arith}
+use Rattle.std.proofs.Common.{◌<◌, ◌≤◌, length, drop, refl, sym, ap, ap₂, ◌∙◌, subst, unwrap_or, arith}
 use Rattle.std.specs.Prelude.{slice_get}
 use Rattle.wy_machine.specs.Devices.{states}
 use Rattle.wy_code.specs.Stores.{Nothing}
 use Rattle.wy_code.specs.Machine.{first_of}
-use Rattle.wy_machine.specs.Stacks.{StackState, pushed, left_to}
+use Rattle.wy_machine.specs.Stacks.{StackState, pushed, with_operands, left_to}
 use Rattle.wy_machine.specs.Steps.{acting, outcome, IsNotStuck}
 use Rattle.wy_machine.specs.StoreStates.{value_of}
 use Rattle.wy_machine.specs.Wanting.{takes_memory, WantsOnly}
 use Rattle.wy_machine.proofs.Acts.{some_is, some_within, step_of, push_step, slot_there, load_step, store_operand, store_slot_there, store_step, value_there, get_step, drop_operand, drop_step, jump_step, jump_operand, truth_there, jump_false_step, return_operand, caller_there, return_step, push_room, load_room, get_room, set_operand, set_value_there, set_step}
 use Rattle.wy_machine.proofs.Loads.{room_left}
-use Rattle.wy_machine.proofs.Quiet.{step_to, out_so, wants_so, wants_any}
+use Rattle.wy_machine.proofs.OperatorSteps.{given_there, plain_step}
+use Rattle.wy_machine.proofs.Quiet.{step_to, wants_any}
 use Rattle.wy_machine.proofs.step.act.Goals as goal
 
 pub load-requires-clause-slot : goal.load-requires-clause-slot
@@ -33,8 +34,8 @@ set-requires-clause-value g c = set_value_there c.args.code.now c.args.depth c.a
 pub drop_operands-requires : goal.drop_operands-requires
 drop_operands-requires g c = let some = drop_operand c.args.code.now c.args.depth c.args.placed.now.place c.args.machine.now.stack c.args.machine.now.store (subst (λ i. IsNotStuck (acting c.args.code.now c.args.depth c.args.placed.now.place c.args.machine.now.stack c.args.machine.now.store i)) c.in-Drop.is c.requires.sound) in omega arith
 
-pub operate-requires : goal.operate-requires
-operate-requires g c = (subst (λ i. IsNotStuck (acting c.args.code.now c.args.depth c.args.placed.now.place c.args.machine.now.stack c.args.machine.now.store i)) c.in-Op.is c.requires.sound)
+pub operate_or_end-requires : goal.operate_or_end-requires
+operate_or_end-requires g c = (subst (λ i. IsNotStuck (acting c.args.code.now c.args.depth c.args.placed.now.place c.args.machine.now.stack c.args.machine.now.store i)) c.in-Op.is c.requires.sound)
 
 pub jump_false-requires-clause-operand : goal.jump_false-requires-clause-operand
 jump_false-requires-clause-operand g c = jump_operand c.args.code.now c.args.depth c.args.placed.now.place c.args.machine.now.stack c.args.machine.now.store c.in-JumpFalse.to (subst (λ i. IsNotStuck (acting c.args.code.now c.args.depth c.args.placed.now.place c.args.machine.now.stack c.args.machine.now.store i)) c.in-JumpFalse.is c.requires.sound)
@@ -42,8 +43,8 @@ jump_false-requires-clause-operand g c = jump_operand c.args.code.now c.args.dep
 pub jump_false-requires-clause-truth : goal.jump_false-requires-clause-truth
 jump_false-requires-clause-truth g c = truth_there c.args.code.now c.args.depth c.args.placed.now.place c.args.machine.now.stack c.args.machine.now.store c.in-JumpFalse.to (subst (λ i. IsNotStuck (acting c.args.code.now c.args.depth c.args.placed.now.place c.args.machine.now.stack c.args.machine.now.store i)) c.in-JumpFalse.is c.requires.sound)
 
-pub make-requires-clause-sound : goal.make-requires-clause-sound
-make-requires-clause-sound g c = (subst (λ i. IsNotStuck (acting c.args.code.now c.args.depth c.args.placed.now.place c.args.machine.now.stack c.args.machine.now.store i)) c.in-New.is c.requires.sound)
+pub make_or_end-requires-clause-sound : goal.make_or_end-requires-clause-sound
+make_or_end-requires-clause-sound g c = (subst (λ i. IsNotStuck (acting c.args.code.now c.args.depth c.args.placed.now.place c.args.machine.now.stack c.args.machine.now.store i)) c.in-New.is c.requires.sound)
 
 pub pop-word-requires : goal.pop-word-requires
 pop-word-requires g c = return_operand c.args.code.now c.args.depth c.args.placed.now.place c.args.machine.now.stack c.args.machine.now.store (subst (λ i. IsNotStuck (acting c.args.code.now c.args.depth c.args.placed.now.place c.args.machine.now.stack c.args.machine.now.store i)) c.in-Return.is c.requires.sound)
@@ -51,8 +52,8 @@ pop-word-requires g c = return_operand c.args.code.now c.args.depth c.args.place
 pub leave-requires : goal.leave-requires
 leave-requires g c = subst (λ (s : StackState). 0 < length s.callers) (sym c.pop-word.ensures.rest) (caller_there c.args.code.now c.args.depth c.args.placed.now.place c.args.machine.now.stack c.args.machine.now.store (subst (λ i. IsNotStuck (acting c.args.code.now c.args.depth c.args.placed.now.place c.args.machine.now.stack c.args.machine.now.store i)) c.in-Return.is c.requires.sound))
 
-pub finish-requires-clause-sound : goal.finish-requires-clause-sound
-finish-requires-clause-sound g c = (subst (λ i. IsNotStuck (acting c.args.code.now c.args.depth c.args.placed.now.place c.args.machine.now.stack c.args.machine.now.store i)) c.in-Finish.is c.requires.sound)
+pub finish_or_end-requires-clause-sound : goal.finish_or_end-requires-clause-sound
+finish_or_end-requires-clause-sound g c = (subst (λ i. IsNotStuck (acting c.args.code.now c.args.depth c.args.placed.now.place c.args.machine.now.stack c.args.machine.now.store i)) c.in-Finish.is c.requires.sound)
 
 pub returns-in-Push-clause-step : goal.returns-in-Push-clause-step
 returns-in-Push-clause-step g c = step_of c.args.code.now c.args.depth c.args.placed.now.place c.args.machine.now.stack _ c.args.machine.now.store _ _ _ _ _ _ c.in-Push.is
@@ -84,9 +85,9 @@ returns-in-Drop-clause-step g c = step_of c.args.code.now c.args.depth c.args.pl
     (step_to c.args.code.now _ _ _ _ _ _ _ _ c.drop_operands.ensures refl
     (drop_step c.args.code.now c.args.depth c.args.placed.now.place c.args.machine.now.stack c.args.machine.now.store (subst (λ i. IsNotStuck (acting c.args.code.now c.args.depth c.args.placed.now.place c.args.machine.now.stack c.args.machine.now.store i)) c.in-Drop.is c.requires.sound) (states g.D.Device.state c.args.devices.now)))
 
-pub returns-in-Op-clause-step : goal.returns-in-Op-clause-step
-returns-in-Op-clause-step g c = step_of c.args.code.now c.args.depth c.args.placed.now.place c.args.machine.now.stack _ c.args.machine.now.store _ _ _ _ _ _ c.in-Op.is
-    (out_so c.args.code.now _ _ _ _ _ _ _ c.went_on.ensures (c.operate.ensures.step (states g.D.Device.state c.args.devices.now)))
+pub returns-in-None-clause-step : goal.returns-in-None-clause-step
+returns-in-None-clause-step g c = step_of c.args.code.now c.args.depth c.args.placed.now.place c.args.machine.now.stack _ c.args.machine.now.store _ _ _ _ _ _ c.in-Op.is
+    (c.operate_or_end.ensures.step (states g.D.Device.state c.args.devices.now))
 
 pub returns-in-Jump-clause-step : goal.returns-in-Jump-clause-step
 returns-in-Jump-clause-step g c = step_of c.args.code.now c.args.depth c.args.placed.now.place c.args.machine.now.stack _ c.args.machine.now.store _ _ _ _ _ _ c.in-Jump.is
@@ -100,7 +101,7 @@ returns-in-JumpFalse-clause-step g c = step_of c.args.code.now c.args.depth c.ar
 
 pub returns-in-New-clause-step : goal.returns-in-New-clause-step
 returns-in-New-clause-step g c = step_of c.args.code.now c.args.depth c.args.placed.now.place c.args.machine.now.stack _ c.args.machine.now.store _ _ _ _ _ _ c.in-New.is
-    (out_so c.args.code.now _ _ _ _ _ _ _ c.went_on-in-New.ensures (c.make.ensures.step (states g.D.Device.state c.args.devices.now)))
+    (c.make_or_end.ensures.step (states g.D.Device.state c.args.devices.now))
 
 pub returns-in-Return-clause-step : goal.returns-in-Return-clause-step
 returns-in-Return-clause-step g c = step_of c.args.code.now c.args.depth c.args.placed.now.place c.args.machine.now.stack _ c.args.machine.now.store _ _ _ _ _ _ c.in-Return.is
@@ -108,7 +109,7 @@ returns-in-Return-clause-step g c = step_of c.args.code.now c.args.depth c.args.
 
 pub returns-in-Finish-clause-step : goal.returns-in-Finish-clause-step
 returns-in-Finish-clause-step g c = step_of c.args.code.now c.args.depth c.args.placed.now.place c.args.machine.now.stack _ c.args.machine.now.store _ _ _ _ _ _ c.in-Finish.is
-    (out_so c.args.code.now _ _ _ _ _ _ _ c.went_on-in-Finish.ensures (c.finish.ensures.step (states g.D.Device.state c.args.devices.now)))
+    (c.finish_or_end.ensures.step (states g.D.Device.state c.args.devices.now))
 
 pub push-requires : goal.push-requires
 push-requires g c = room_left c.args.code.now c.args.machine.now.stack c.args.machine.now.store.first c.requires.loaded (push_room c.args.code.now c.args.depth c.args.placed.now.place c.args.machine.now.stack c.args.machine.now.store c.in-Push.constant (subst (λ i. IsNotStuck (acting c.args.code.now c.args.depth c.args.placed.now.place c.args.machine.now.stack c.args.machine.now.store i)) c.in-Push.is c.requires.sound))
@@ -125,14 +126,29 @@ get-requires-clause-room g c =
     let there = some_is (value_of c.args.machine.now.store (first_of c.args.machine.now.stack.running.slots) c.in-Get.at) Nothing (value_there c.args.code.now c.args.depth c.args.placed.now.place c.args.machine.now.stack c.args.machine.now.store c.in-Get.at sound) in
     room_left c.args.code.now c.args.machine.now.stack c.args.machine.now.store.first c.requires.loaded (get_room c.args.code.now c.args.depth c.args.placed.now.place c.args.machine.now.stack c.args.machine.now.store c.in-Get.at (unwrap_or (value_of c.args.machine.now.store (first_of c.args.machine.now.stack.running.slots) c.in-Get.at) Nothing) there sound)
 
-pub returns-in-Op-clause-wants : goal.returns-in-Op-clause-wants
-returns-in-Op-clause-wants g c = wants_so _ _ _ c.went_on.ensures (subst (λ i. WantsOnly (takes_memory i c.args.machine.now.stack.running.operands) c.operate.result) (sym c.in-Op.is) c.operate.ensures.wants)
+pub returns-in-None-clause-wants : goal.returns-in-None-clause-wants
+returns-in-None-clause-wants g c = subst (λ i. WantsOnly (takes_memory i c.args.machine.now.stack.running.operands) (outcome c.operate_or_end.result c.operate_or_end.new.end)) (sym c.in-Op.is) c.operate_or_end.ensures.wants
 
 pub returns-in-New-clause-wants : goal.returns-in-New-clause-wants
-returns-in-New-clause-wants g c = wants_so _ _ _ c.went_on-in-New.ensures (subst (λ i. WantsOnly (takes_memory i c.args.machine.now.stack.running.operands) c.make.result) (sym c.in-New.is) (wants_any c.make.result))
+returns-in-New-clause-wants g c = subst (λ i. WantsOnly (takes_memory i c.args.machine.now.stack.running.operands) (outcome c.make_or_end.result c.make_or_end.new.end)) (sym c.in-New.is) (wants_any (outcome c.make_or_end.result c.make_or_end.new.end))
 
 pub returns-in-Call-clause-wants : goal.returns-in-Call-clause-wants
 returns-in-Call-clause-wants g c = subst (λ i. WantsOnly (takes_memory i c.args.machine.now.stack.running.operands) (outcome c.call.result c.call.new.end)) (sym c.in-Call.is) c.call.ensures.wants
 
 pub returns-in-Finish-clause-wants : goal.returns-in-Finish-clause-wants
-returns-in-Finish-clause-wants g c = wants_so _ _ _ c.went_on-in-Finish.ensures (subst (λ i. WantsOnly (takes_memory i c.args.machine.now.stack.running.operands) c.finish.result) (sym c.in-Finish.is) c.finish.ensures.ready)
+returns-in-Finish-clause-wants g c = subst (λ i. WantsOnly (takes_memory i c.args.machine.now.stack.running.operands) (outcome c.finish_or_end.result c.finish_or_end.new.end)) (sym c.in-Finish.is) c.finish_or_end.ensures.ready
+
+pub computed_plainly-requires : goal.computed_plainly-requires
+computed_plainly-requires g c = given_there c.args.code.now c.args.placed.now.place c.args.machine.now.stack c.args.machine.now.store c.in-Op.operator (subst (λ i. IsNotStuck (acting c.args.code.now c.args.depth c.args.placed.now.place c.args.machine.now.stack c.args.machine.now.store i)) c.in-Op.is c.requires.sound)
+
+pub give-requires-clause-there : goal.give-requires-clause-there
+give-requires-clause-there g c =
+    subst (λ n. n ≤ length c.args.machine.now.stack.running.operands) c.in-Some.ensures.0
+    (given_there c.args.code.now c.args.placed.now.place c.args.machine.now.stack c.args.machine.now.store c.in-Op.operator (subst (λ i. IsNotStuck (acting c.args.code.now c.args.depth c.args.placed.now.place c.args.machine.now.stack c.args.machine.now.store i)) c.in-Op.is c.requires.sound))
+
+pub returns-in-Some-clause-step : goal.returns-in-Some-clause-step
+returns-in-Some-clause-step g c =
+    let stack = c.args.machine.now.stack in
+    step_of c.args.code.now c.args.depth c.args.placed.now.place stack _ c.args.machine.now.store _ _ _ _ _ _ c.in-Op.is
+    (step_to c.args.code.now _ _ _ _ _ _ _ _ (c.give.ensures ∙ ap (λ n. pushed c.in-Some.word (with_operands (drop n stack.running.operands) stack)) (sym c.in-Some.ensures.0)) refl
+    (plain_step c.args.code.now c.args.placed.now.place stack c.args.machine.now.store c.in-Op.operator (subst (λ i. IsNotStuck (acting c.args.code.now c.args.depth c.args.placed.now.place c.args.machine.now.stack c.args.machine.now.store i)) c.in-Op.is c.requires.sound) (states g.D.Device.state c.args.devices.now) c.in-Some.word c.in-Some.ensures.1))
