@@ -28,7 +28,7 @@ use Rattle.wy_code.specs.Stores.{Word, Text, Grant, Store, Reply, Replies, ended
 use Rattle.wy_code.specs.Machine.{State, Next, Go, Halt, stuck, with_operands, has_room, push_reply}
 use Rattle.wy_machine.specs.declared.run_end.RunEnd.TheVariants.{Trap, DeviceFailed, Memory}
 use Rattle.wy_machine.specs.declared.run_end.TrapKind.{TrapKind}
-use Rattle.wy_machine.specs.Requesting.{is_answered_by_text, asked_for, operation_with, first_text, refused, text_answer, word_answer, HasPlace, word_received, store_received}
+use Rattle.wy_machine.specs.Requesting.{is_answered_by_text, asked_for, operation_with, first_text, refused, word_answer, HasPlace, word_received, store_received}
 use Rattle.wy_machine.specs.Runs.{tapes_of, AreSameDevices}
 use Rattle.wy_machine.specs.Stacks.{StackState, pushed}
 use Rattle.wy_machine.specs.States.{frame_of, store_of, state_of}
@@ -276,9 +276,6 @@ module _ (code : Code) (depth : ℕ) (place : Place) (s : StackState) (w : Store
               failed = tt;
             }
 
-            pub nothing_step : DidExactly old new [] → (s' : StackState) (w' : StoreState) → IsStep code s' w' next old new (Err Memory)
-            nothing_step did s' w' = record { events = []; did = did; comes = refl; same = same; failed = tt }
-
 ------------------------------------------------------------
 -- The word of an answer
 
@@ -291,12 +288,6 @@ word_answered_is (answer.Bytes text) v e u es = cc
 word_answered_is (answer.Truth b) v e u es = ap (λ v. Replies v u es) (sym (same_Some v _ e))
 word_answered_is (answer.Number n) v e u es = ap (λ v. Replies v u es) (sym (same_Some v _ e))
 word_answered_is answer.Unit v e u es = ap (λ v. Replies v u es) (sym (same_Some v _ e))
-
-pub text_answer_is : (a : Answer) (bytes : List ℕ) → Some bytes ≡ text_answer a → a ≡ answer.Bytes bytes
-text_answer_is (answer.Bytes text) bytes e = ap answer.Bytes (sym (same_Some bytes text e))
-text_answer_is (answer.Truth b) bytes e = cc
-text_answer_is (answer.Number n) bytes e = cc
-text_answer_is answer.Unit bytes e = cc
 
 -- the text stands where room was made for it
 pub room_filled : (w w1 w2 : StoreState) (bytes : List ℕ) → w1 ≡ with_built [] w → w2 ≡ record w1 { texts = take (length w1.texts - 1) w1.texts ++ bytes ∷ [] } → w2 ≡ with_built bytes w

@@ -46,7 +46,6 @@ fn build(code: &Code, store: &mut Store, text: Text) -> Result<Word, Memory>
 }
 
 /// Does an operator.
-#[inline(never)]
 pub fn operate(
     code: &Code,
     machine: &mut Machine,

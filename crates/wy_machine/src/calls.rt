@@ -1,9 +1,9 @@
 //! Calls on objects: the body of a method is entered.
 
-ghost use Rattle.std.specs.Prelude.{◌≡◌, ◌+◌, ◌<◌, ◌≤◌, length, slice_get, Some, Ok};
-ghost use Rattle.wy_code.specs.Machine.{call_on, literal_of};
+ghost use Rattle.std.specs.Prelude.{◌≡◌, ◌<◌, ◌≤◌, length, slice_get, Some, Ok};
+ghost use Rattle.wy_code.specs.Machine.{literal_of};
 ghost use Rattle.wy_code.specs.Stores.{Object as ObjectWord};
-ghost use Rattle.wy_code.specs.declared.instruction.Instruction.TheVariants.{Call, Finish};
+ghost use Rattle.wy_code.specs.declared.instruction.Instruction.TheVariants.{Call};
 ghost use Rattle.wy_device.specs.Devices.{DevicesState};
 ghost use Rattle.wy_machine.specs.Calls.{number_called};
 ghost use Rattle.wy_machine.specs.Loading.{IsLoaded};

@@ -101,7 +101,6 @@ fn make_object(
 }
 
 /// Makes an object of the literal of a number.
-#[inline(never)]
 pub fn make(code: &Code, machine: &mut Machine, place: Place, literal: u32) -> Result<(), RunEnd>
     requires loaded { IsLoaded code.now machine.old.stack.limits machine.old.store.first }
     requires sound { IsNotStuck (acting code.now 0 place machine.old.stack machine.old.store (New literal)) }

@@ -135,7 +135,6 @@ fn request<D: Device>(
 }
 
 /// Does a call on the grant of a number.
-#[inline(never)]
 pub fn perform<D: Device>(
     code: &Code,
     depth: u32,

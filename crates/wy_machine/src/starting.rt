@@ -57,7 +57,6 @@ pub fn begin(code: &Code, machine: &mut Machine) -> Result<(), RunEnd>
 }
 
 /// Ends the body that an instance starts with, and begins what starts next.
-#[inline(never)]
 pub fn finish(code: &Code, machine: &mut Machine, place: Place) -> Result<(), RunEnd>
     requires loaded { IsLoaded code.now machine.old.stack.limits machine.old.store.first }
     requires sound { IsNotStuck (acting code.now 0 place machine.old.stack machine.old.store Finish) }

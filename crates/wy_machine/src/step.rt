@@ -95,6 +95,31 @@ fn operate_or_end(
     went_on(operate(code, machine, *place, operator), end)
 }
 
+/// Does an operator, by the short way where there is one; gives whether the run goes on, else how it ends is put aside.
+#[inline(always)]
+fn do_operator(
+    code: &Code,
+    machine: &mut Machine,
+    place: &Place,
+    operator: Operator,
+    end: &mut RunEnd,
+) -> bool
+    requires { IsNotStuck (acting code.now 0 place.now machine.old.stack machine.old.store (Op operator)) }
+    ensures step { (d : DevicesState) → IsStep code.now machine.new.stack machine.new.store
+        (acting code.now 0 place.now machine.old.stack machine.old.store (Op operator)) d d (outcome result end.new) }
+    ensures wants { WantsOnly (builds_text operator) (outcome result end.new) }
+    ensures limits { machine.new.stack.limits ≡ machine.old.stack.limits }
+    ensures first { machine.new.store.first ≡ machine.old.store.first }
+{
+    match computed_plainly(&machine.stack, operator) {
+        Some(word) => {
+            machine.stack.give(2, word);
+            true
+        }
+        None => operate_or_end(code, machine, place, operator, end),
+    }
+}
+
 /// Makes an object; gives whether the run goes on, else how it ends is put aside.
 #[inline(never)]
 fn make_or_end(
@@ -251,13 +276,7 @@ fn act<D: Device>(
             machine.stack.drop_operands(1);
             true
         }
-        Instruction::Op(operator) => match computed_plainly(&machine.stack, operator) {
-            Some(word) => {
-                machine.stack.give(2, word);
-                true
-            }
-            None => operate_or_end(code, machine, &placed.place, operator, end),
-        },
+        Instruction::Op(operator) => do_operator(code, machine, &placed.place, operator, end),
         Instruction::Jump(to) => {
             machine.stack.jump(to as usize);
             true

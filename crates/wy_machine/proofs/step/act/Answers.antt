@@ -1,15 +1,14 @@
-use Rattle.std.proofs.Common.{◌<◌, ◌≤◌, length, drop, refl, sym, ap, ap₂, ◌∙◌, subst, unwrap_or, arith}
+use Rattle.std.proofs.Common.{◌<◌, length, refl, sym, ap, ap₂, ◌∙◌, subst, unwrap_or, arith}
 use Rattle.std.specs.Prelude.{slice_get}
 use Rattle.wy_machine.specs.Devices.{states}
 use Rattle.wy_code.specs.Stores.{Nothing}
 use Rattle.wy_code.specs.Machine.{first_of}
-use Rattle.wy_machine.specs.Stacks.{StackState, pushed, with_operands, left_to}
+use Rattle.wy_machine.specs.Stacks.{StackState, pushed, left_to}
 use Rattle.wy_machine.specs.Steps.{acting, outcome, IsNotStuck}
 use Rattle.wy_machine.specs.StoreStates.{value_of}
 use Rattle.wy_machine.specs.Wanting.{takes_memory, WantsOnly}
 use Rattle.wy_machine.proofs.Acts.{some_is, some_within, step_of, push_step, slot_there, load_step, store_operand, store_slot_there, store_step, value_there, get_step, drop_operand, drop_step, jump_step, jump_operand, truth_there, jump_false_step, return_operand, caller_there, return_step, push_room, load_room, get_room, set_operand, set_value_there, set_step}
 use Rattle.wy_machine.proofs.Loads.{room_left}
-use Rattle.wy_machine.proofs.OperatorSteps.{given_there, plain_step}
 use Rattle.wy_machine.proofs.Quiet.{step_to, wants_any}
 use Rattle.wy_machine.proofs.step.act.Goals as goal
 
@@ -34,8 +33,8 @@ set-requires-clause-value g c = set_value_there c.args.code.now c.args.depth c.a
 pub drop_operands-requires : goal.drop_operands-requires
 drop_operands-requires g c = let some = drop_operand c.args.code.now c.args.depth c.args.placed.now.place c.args.machine.now.stack c.args.machine.now.store (subst (λ i. IsNotStuck (acting c.args.code.now c.args.depth c.args.placed.now.place c.args.machine.now.stack c.args.machine.now.store i)) c.in-Drop.is c.requires.sound) in omega arith
 
-pub operate_or_end-requires : goal.operate_or_end-requires
-operate_or_end-requires g c = (subst (λ i. IsNotStuck (acting c.args.code.now c.args.depth c.args.placed.now.place c.args.machine.now.stack c.args.machine.now.store i)) c.in-Op.is c.requires.sound)
+pub do_operator-requires : goal.do_operator-requires
+do_operator-requires g c = (subst (λ i. IsNotStuck (acting c.args.code.now c.args.depth c.args.placed.now.place c.args.machine.now.stack c.args.machine.now.store i)) c.in-Op.is c.requires.sound)
 
 pub jump_false-requires-clause-operand : goal.jump_false-requires-clause-operand
 jump_false-requires-clause-operand g c = jump_operand c.args.code.now c.args.depth c.args.placed.now.place c.args.machine.now.stack c.args.machine.now.store c.in-JumpFalse.to (subst (λ i. IsNotStuck (acting c.args.code.now c.args.depth c.args.placed.now.place c.args.machine.now.stack c.args.machine.now.store i)) c.in-JumpFalse.is c.requires.sound)
@@ -85,9 +84,9 @@ returns-in-Drop-clause-step g c = step_of c.args.code.now c.args.depth c.args.pl
     (step_to c.args.code.now _ _ _ _ _ _ _ _ c.drop_operands.ensures refl
     (drop_step c.args.code.now c.args.depth c.args.placed.now.place c.args.machine.now.stack c.args.machine.now.store (subst (λ i. IsNotStuck (acting c.args.code.now c.args.depth c.args.placed.now.place c.args.machine.now.stack c.args.machine.now.store i)) c.in-Drop.is c.requires.sound) (states g.D.Device.state c.args.devices.now)))
 
-pub returns-in-None-clause-step : goal.returns-in-None-clause-step
-returns-in-None-clause-step g c = step_of c.args.code.now c.args.depth c.args.placed.now.place c.args.machine.now.stack _ c.args.machine.now.store _ _ _ _ _ _ c.in-Op.is
-    (c.operate_or_end.ensures.step (states g.D.Device.state c.args.devices.now))
+pub returns-in-Op-clause-step : goal.returns-in-Op-clause-step
+returns-in-Op-clause-step g c = step_of c.args.code.now c.args.depth c.args.placed.now.place c.args.machine.now.stack _ c.args.machine.now.store _ _ _ _ _ _ c.in-Op.is
+    (c.do_operator.ensures.step (states g.D.Device.state c.args.devices.now))
 
 pub returns-in-Jump-clause-step : goal.returns-in-Jump-clause-step
 returns-in-Jump-clause-step g c = step_of c.args.code.now c.args.depth c.args.placed.now.place c.args.machine.now.stack _ c.args.machine.now.store _ _ _ _ _ _ c.in-Jump.is
@@ -126,8 +125,8 @@ get-requires-clause-room g c =
     let there = some_is (value_of c.args.machine.now.store (first_of c.args.machine.now.stack.running.slots) c.in-Get.at) Nothing (value_there c.args.code.now c.args.depth c.args.placed.now.place c.args.machine.now.stack c.args.machine.now.store c.in-Get.at sound) in
     room_left c.args.code.now c.args.machine.now.stack c.args.machine.now.store.first c.requires.loaded (get_room c.args.code.now c.args.depth c.args.placed.now.place c.args.machine.now.stack c.args.machine.now.store c.in-Get.at (unwrap_or (value_of c.args.machine.now.store (first_of c.args.machine.now.stack.running.slots) c.in-Get.at) Nothing) there sound)
 
-pub returns-in-None-clause-wants : goal.returns-in-None-clause-wants
-returns-in-None-clause-wants g c = subst (λ i. WantsOnly (takes_memory i c.args.machine.now.stack.running.operands) (outcome c.operate_or_end.result c.operate_or_end.new.end)) (sym c.in-Op.is) c.operate_or_end.ensures.wants
+pub returns-in-Op-clause-wants : goal.returns-in-Op-clause-wants
+returns-in-Op-clause-wants g c = subst (λ i. WantsOnly (takes_memory i c.args.machine.now.stack.running.operands) (outcome c.do_operator.result c.do_operator.new.end)) (sym c.in-Op.is) c.do_operator.ensures.wants
 
 pub returns-in-New-clause-wants : goal.returns-in-New-clause-wants
 returns-in-New-clause-wants g c = subst (λ i. WantsOnly (takes_memory i c.args.machine.now.stack.running.operands) (outcome c.make_or_end.result c.make_or_end.new.end)) (sym c.in-New.is) (wants_any (outcome c.make_or_end.result c.make_or_end.new.end))
@@ -137,18 +136,3 @@ returns-in-Call-clause-wants g c = subst (λ i. WantsOnly (takes_memory i c.args
 
 pub returns-in-Finish-clause-wants : goal.returns-in-Finish-clause-wants
 returns-in-Finish-clause-wants g c = subst (λ i. WantsOnly (takes_memory i c.args.machine.now.stack.running.operands) (outcome c.finish_or_end.result c.finish_or_end.new.end)) (sym c.in-Finish.is) c.finish_or_end.ensures.ready
-
-pub computed_plainly-requires : goal.computed_plainly-requires
-computed_plainly-requires g c = given_there c.args.code.now c.args.placed.now.place c.args.machine.now.stack c.args.machine.now.store c.in-Op.operator (subst (λ i. IsNotStuck (acting c.args.code.now c.args.depth c.args.placed.now.place c.args.machine.now.stack c.args.machine.now.store i)) c.in-Op.is c.requires.sound)
-
-pub give-requires-clause-there : goal.give-requires-clause-there
-give-requires-clause-there g c =
-    subst (λ n. n ≤ length c.args.machine.now.stack.running.operands) c.in-Some.ensures.0
-    (given_there c.args.code.now c.args.placed.now.place c.args.machine.now.stack c.args.machine.now.store c.in-Op.operator (subst (λ i. IsNotStuck (acting c.args.code.now c.args.depth c.args.placed.now.place c.args.machine.now.stack c.args.machine.now.store i)) c.in-Op.is c.requires.sound))
-
-pub returns-in-Some-clause-step : goal.returns-in-Some-clause-step
-returns-in-Some-clause-step g c =
-    let stack = c.args.machine.now.stack in
-    step_of c.args.code.now c.args.depth c.args.placed.now.place stack _ c.args.machine.now.store _ _ _ _ _ _ c.in-Op.is
-    (step_to c.args.code.now _ _ _ _ _ _ _ _ (c.give.ensures ∙ ap (λ n. pushed c.in-Some.word (with_operands (drop n stack.running.operands) stack)) (sym c.in-Some.ensures.0)) refl
-    (plain_step c.args.code.now c.args.placed.now.place stack c.args.machine.now.store c.in-Op.operator (subst (λ i. IsNotStuck (acting c.args.code.now c.args.depth c.args.placed.now.place c.args.machine.now.stack c.args.machine.now.store i)) c.in-Op.is c.requires.sound) (states g.D.Device.state c.args.devices.now) c.in-Some.word c.in-Some.ensures.1))
