@@ -1,5 +1,5 @@
 -- What an operation on a grant does.
-use Rattle.std.proofs.Common.{◌≡◌, ◌≢◌, ◌⊎◌, inl, inr, ℕ, ◌≤◌, ◌<◌, Bool, true, false, not, ◌&&◌, List, [], ◌∷◌, ◌++◌, length, reverse, take, Option, Some, None, Ok, Err, refl, sym, ap, ◌∙◌, subst, ◌-◌, nat_le, nat_lt, arith}
+use Rattle.std.proofs.Common.{◌≡◌, ◌≢◌, ◌⊎◌, inl, inr, ℕ, ◌≤◌, ◌<◌, Bool, true, false, not, ◌&&◌, List, [], ◌∷◌, ◌++◌, length, reverse, take, Option, Some, None, Ok, Err, refl, sym, ap, ap₂, ◌∙◌, subst, ◌-◌, nat_le, nat_lt, arith}
 use Rattle.std.proofs.lemmas.List.{length_push, take_at}
 use Rattle.std.proofs.lemmas.Option.{same_Some}
 use Rattle.std.specs.Prelude.{slice_get, if◌then◌else◌}
@@ -28,7 +28,7 @@ use Rattle.wy_code.specs.Stores.{Word, Text, Grant, Store, Reply, Replies, ended
 use Rattle.wy_code.specs.Machine.{State, Next, Go, Halt, stuck, with_operands, has_room, push_reply}
 use Rattle.wy_machine.specs.declared.run_end.RunEnd.TheVariants.{Trap, DeviceFailed, Memory}
 use Rattle.wy_machine.specs.declared.run_end.TrapKind.{TrapKind}
-use Rattle.wy_machine.specs.Requesting.{asked_for, operation_with, first_text, refused, text_answer, word_answer}
+use Rattle.wy_machine.specs.Requesting.{is_answered_by_text, asked_for, operation_with, first_text, refused, word_answer, HasPlace, word_received, store_received}
 use Rattle.wy_machine.specs.Runs.{tapes_of, AreSameDevices}
 use Rattle.wy_machine.specs.Stacks.{StackState, pushed}
 use Rattle.wy_machine.specs.States.{frame_of, store_of, state_of}
@@ -218,15 +218,22 @@ module _ (code : Code) (depth : ℕ) (place : Place) (s : StackState) (w : Store
         tests t = replies (Some op) e t
 
         module _ (good : has_good_name op ≡ true) where
-          pub room_for_text : length w.texts < most_texts → (answers_text op && not (nat_lt (length w.texts) most_texts)) ≡ false
+          room_for_text : length w.texts < most_texts → (answers_text op && not (nat_lt (length w.texts) most_texts)) ≡ false
           room_for_text few = ap (λ b. answers_text op && not b) (below (length w.texts) most_texts few) ∙ no_more (answers_text op)
             where
               no_more : (b : Bool) → (b && false) ≡ false
               no_more true = refl
               no_more false = refl
 
-          pub no_text : answers_text op ≡ false → (answers_text op && not (nat_lt (length w.texts) most_texts)) ≡ false
+          no_text : answers_text op ≡ false → (answers_text op && not (nat_lt (length w.texts) most_texts)) ≡ false
           no_text none = ap (λ b. b && not (nat_lt (length w.texts) most_texts)) none
+
+          pub room_there : (answers_text op ≡ true → length w.texts < most_texts) → (answers_text op && not (nat_lt (length w.texts) most_texts)) ≡ false
+          room_there h = of (answers_text op) refl
+            where
+              of : (b : Bool) → answers_text op ≡ b → (answers_text op && not (nat_lt (length w.texts) most_texts)) ≡ false
+              of true e = room_for_text (h e)
+              of false e = no_text e
 
           module _ (room : (answers_text op && not (nat_lt (length w.texts) most_texts)) ≡ false) (old new : DevicesState) (same : AreSameDevices old new) where
             asks : (t : Tapes) → next t ≡ push_reply (answered grant.name op (store_of code w t) (asked op t)) (state_of code from w t)
@@ -269,9 +276,6 @@ module _ (code : Code) (depth : ℕ) (place : Place) (s : StackState) (w : Store
               failed = tt;
             }
 
-            pub nothing_step : DidExactly old new [] → (s' : StackState) (w' : StoreState) → IsStep code s' w' next old new (Err Memory)
-            nothing_step did s' w' = record { events = []; did = did; comes = refl; same = same; failed = tt }
-
 ------------------------------------------------------------
 -- The word of an answer
 
@@ -285,12 +289,6 @@ word_answered_is (answer.Truth b) v e u es = ap (λ v. Replies v u es) (sym (sam
 word_answered_is (answer.Number n) v e u es = ap (λ v. Replies v u es) (sym (same_Some v _ e))
 word_answered_is answer.Unit v e u es = ap (λ v. Replies v u es) (sym (same_Some v _ e))
 
-pub text_answer_is : (a : Answer) (bytes : List ℕ) → Some bytes ≡ text_answer a → a ≡ answer.Bytes bytes
-text_answer_is (answer.Bytes text) bytes e = ap answer.Bytes (sym (same_Some bytes text e))
-text_answer_is (answer.Truth b) bytes e = cc
-text_answer_is (answer.Number n) bytes e = cc
-text_answer_is answer.Unit bytes e = cc
-
 -- the text stands where room was made for it
 pub room_filled : (w w1 w2 : StoreState) (bytes : List ℕ) → w1 ≡ with_built [] w → w2 ≡ record w1 { texts = take (length w1.texts - 1) w1.texts ++ bytes ∷ [] } → w2 ≡ with_built bytes w
 room_filled w w1 w2 bytes e f =
@@ -301,3 +299,65 @@ room_filled w w1 w2 bytes e f =
 -- a failure under the names of the grant and the operation
 pub named_failure : (code : Code) (s : StackState) (w : StoreState) (next : Tapes → Next) (old new : DevicesState) (n n' : List ℕ) (o o' : OpName) → n ≡ n' → o ≡ o' → IsStep code s w next old new (Err (DeviceFailed n' o')) → IsStep code s w next old new (Err (DeviceFailed n o))
 named_failure code s w next old new n n' o o' e f h = subst (λ n. IsStep code s w next old new (Err (DeviceFailed n o))) (sym e) (subst (λ o. IsStep code s w next old new (Err (DeviceFailed n' o))) (sym f) h)
+
+------------------------------------------------------------
+-- Answers as they are received
+
+-- an answer with its word, over the store as it was before its place was made
+pub received_is : (code : Code) (w w1 : StoreState) (text : Bool) (n : Option ℕ) → HasPlace code w w1 text n → (a : Answer) (v : Word) → Some v ≡ word_received n a → (es : List Event) (more : Tapes) →
+    word_answered a (store_of code w more) es ≡ Replies v (store_of code (store_received n a w1) more) es
+received_is code w w1 true None place a v e es more = absurd place
+received_is code w w1 true (Some n) place (answer.Bytes bytes) v e es more =
+    text_answered code bytes w es more
+    ∙ ap₂ (λ v u. Replies v (store_of code u more) es) (sym (same_Some v _ e ∙ ap Text place.0)) (sym (room_filled w w1 _ bytes place.1 refl))
+received_is code w w1 true (Some n) place (answer.Truth b) v e es more = cc
+received_is code w w1 true (Some n) place (answer.Number m) v e es more = cc
+received_is code w w1 true (Some n) place answer.Unit v e es more = cc
+received_is code w w1 false (Some n) place a v e es more = absurd place
+received_is code w w1 false None place a v e es more =
+    word_answered_is a v e (store_of code w more) es ∙ ap (λ u. Replies v (store_of code u more) es) (sym place)
+
+-- where a place was made it is there
+pub place_there : (code : Code) (w w1 : StoreState) (text : Bool) (n : Option ℕ) → HasPlace code w w1 text n → n ≢ None → 0 < length w1.texts
+place_there code w w1 true None place some = absurd place
+place_there code w w1 true (Some n) place some = let size = length_push w.texts [] in subst (λ (w : StoreState). 0 < length w.texts) (sym place.1) (omega arith)
+place_there code w w1 false None place some = absurd (some refl)
+place_there code w w1 false (Some n) place some = absurd place
+
+module _ (code : Code) (w w1 : StoreState) where
+  bytes_fit : (most : ℕ) (n : Option ℕ) → HasPlace code w w1 true n → (a : Answer) → IsBytesUpTo most a → word_received n a ≡ None → ⊥
+  bytes_fit most None place a h e = place
+  bytes_fit most (Some n) place (answer.Bytes bytes) h e = cc
+  bytes_fit most (Some n) place (answer.Truth b) h e = h
+  bytes_fit most (Some n) place (answer.Number m) h e = h
+  bytes_fit most (Some n) place answer.Unit h e = h
+
+  truth_fit : (n : Option ℕ) → HasPlace code w w1 false n → (a : Answer) → IsTruth a → word_received n a ≡ None → ⊥
+  truth_fit (Some n) place a h e = place
+  truth_fit None place (answer.Bytes bytes) h e = h
+  truth_fit None place (answer.Truth b) h e = cc
+  truth_fit None place (answer.Number m) h e = h
+  truth_fit None place answer.Unit h e = h
+
+  number_fit : (n : Option ℕ) → HasPlace code w w1 false n → (a : Answer) → IsNumber a → word_received n a ≡ None → ⊥
+  number_fit (Some n) place a h e = place
+  number_fit None place (answer.Bytes bytes) h e = h
+  number_fit None place (answer.Truth b) h e = h
+  number_fit None place (answer.Number m) h e = cc
+  number_fit None place answer.Unit h e = h
+
+  unit_fit : (n : Option ℕ) → HasPlace code w w1 false n → (a : Answer) → a ≡ answer.Unit → word_received n a ≡ None → ⊥
+  unit_fit (Some n) place a h e = place
+  unit_fit None place a h e = let f : word_answer answer.Unit ≡ None = sym (ap word_answer h) ∙ e in cc
+
+  -- an answer fits its place
+  pub answer_received : (o : OpName) (n : Option ℕ) → HasPlace code w w1 (is_answered_by_text o) n → (a : Answer) → IsAnswerNamed o a → word_received n a ≡ None → ⊥
+  answer_received name.ConsoleRead n place a h e = bytes_fit 65536 n place a h e
+  answer_received name.ConsoleWrite n place a h e = unit_fit n place a h e
+  answer_received name.FolderRead n place a h e = bytes_fit 1048576 n place a h e
+  answer_received name.FolderHas n place a h e = truth_fit n place a h e
+  answer_received name.FolderWrite n place a h e = unit_fit n place a h e
+  answer_received name.FolderAppend n place a h e = unit_fit n place a h e
+  answer_received name.FolderNames n place a h e = bytes_fit 1048576 n place a h e
+  answer_received name.ClockNow n place a h e = number_fit n place a h e
+  answer_received name.RandomWord n place a h e = number_fit n place a h e

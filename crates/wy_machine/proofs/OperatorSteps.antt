@@ -13,11 +13,12 @@ use Rattle.wy_code.specs.declared.code.Code.{Code}
 use Rattle.wy_code.specs.declared.instruction.Operator.{Operator}
 use Rattle.wy_code.specs.declared.instruction.Instruction.TheVariants.{Op as Operate}
 use Rattle.wy_code.specs.Operations.{operator_meant, operand_count, operated, computed}
-use Rattle.wy_code.specs.Stores.{Int, Truth, Text, Store, operand, ended, replied, with_text}
+use Rattle.wy_code.specs.Stores.{Word, Int, Truth, Nothing, Text, Object, Grant, Store, operand, ended, replied, with_text}
 use Rattle.wy_code.specs.Machine.{Next, push_reply}
 use Rattle.wy_machine.specs.declared.run_end.RunEnd.TheVariants.{Trap}
 use Rattle.wy_machine.specs.declared.run_end.TrapKind.{TrapKind}
 use Rattle.wy_machine.specs.declared.run_end.TrapKind.TheVariants.{Crowded}
+use Rattle.wy_machine.specs.Computing.{IsGiven}
 use Rattle.wy_machine.specs.Stacks.{StackState, pushed, with_operands}
 use Rattle.wy_machine.specs.States.{store_of, state_of}
 use Rattle.wy_machine.specs.Steps.{acting, IsNotStuck, IsStep}
@@ -68,6 +69,15 @@ module _ (code : Code) (place : Place) (s : StackState) (w : StoreState) (o : Op
 
     pub truth_step : (b : Bool) → Gives (GivesTruth b) → IsStep code (pushed (Truth b) after) w operating d d (Ok tt)
     truth_step b e = pushes code after w (Truth b) operating (gives _ e (given_there h)) h d
+
+    -- what an operator gives is a number or a truth value, as a word
+    pub plain_step : (v : Word) → ((u : Store) → IsGiven v (operate (operator_meant o) (map (operand u) (reverse (take (operand_count o) s.running.operands))))) → IsStep code (pushed v after) w operating d d (Ok tt)
+    plain_step (Int n) e = number_step n (λ t. e (store_of code w t))
+    plain_step (Truth b) e = truth_step b (λ t. e (store_of code w t))
+    plain_step Nothing e = absurd (e (store_of code w no_tapes))
+    plain_step (Text t) e = absurd (e (store_of code w no_tapes))
+    plain_step (Object a) e = absurd (e (store_of code w no_tapes))
+    plain_step (Grant g) e = absurd (e (store_of code w no_tapes))
 
     pub trap_step : (kind : TrapKind) → Gives (Traps (trap_meant kind)) → (s' : StackState) (w' : StoreState) → IsStep code s' w' operating d d (Err (Trap kind place))
     trap_step kind e s' w' = traps code s' w' operating d kind place (gives _ e (given_there h))

@@ -56,6 +56,13 @@ unstuck f g e h = record { holds = λ t wrong. h.holds t (e t ∙ wrong) }
 pub step_to : (code : Code) (s s' : StackState) (w w' : StoreState) (next : Tapes → Next) (d d' : DevicesState) (r : Result (Unit {0}) RunEnd) → s' ≡ s → w' ≡ w → IsStep code s w next d d' r → IsStep code s' w' next d d' r
 step_to code s s' w w' next d d' r e f h = subst (λ s. IsStep code s w' next d d' r) (sym e) (subst (λ w. IsStep code s w next d d' r) (sym f) h)
 
+-- a step that came out as another did
+pub out_so : (code : Code) (s : StackState) (w : StoreState) (next : Tapes → Next) (d d' : DevicesState) (r r' : Result (Unit {0}) RunEnd) → r' ≡ r → IsStep code s w next d d' r → IsStep code s w next d d' r'
+out_so code s w next d d' r r' e h = subst (λ r. IsStep code s w next d d' r) (sym e) h
+
+pub wants_so : (taken : Bool) (r r' : Result (Unit {0}) RunEnd) → r' ≡ r → WantsOnly taken r → WantsOnly taken r'
+wants_so taken r r' e h = subst (WantsOnly taken) (sym e) h
+
 -- a step of what is the same for all answers
 pub same_step : (code : Code) (s : StackState) (w : StoreState) (f g : Tapes → Next) (d d' : DevicesState) (r : Result (Unit {0}) RunEnd) → ((t : Tapes) → g t ≡ f t) → IsStep code s w f d d' r → IsStep code s w g d d' r
 same_step code s w f g d d' r e h = record {

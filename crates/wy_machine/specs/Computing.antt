@@ -1,8 +1,10 @@
 -- What operators give for words.
-use Rattle.std.specs.Prelude.{ℕ, ℤ, pos, negsuc, Bool, true, false, not, Option, Some, None, bytes_eq}
+use Rattle.std.specs.Prelude.{◌≡◌, ℕ, ℤ, pos, negsuc, Bool, true, false, not, Option, Some, None, bytes_eq}
 use Rattle.wy_device.specs.Operators as meant
 use Rattle.wy_device.specs.Operators.{GivesNumber, GivesTruth, Builds, Traps, Misfits, same_int, same_truth}
 use Rattle.wy_device.specs.Traps.{Overflow}
+use Rattle.wy_code.specs.Stores as words
+use Rattle.wy_code.specs.Stores.{Word, Int}
 use Rattle.wy_machine.specs.TrapKinds.{trap_meant}
 use Rattle.wy_machine.specs.declared.computed.Computed.{Computed}
 use Rattle.wy_machine.specs.declared.computed.Computed.TheVariants.{Number, Truth, Text, Trap, Misfit}
@@ -13,6 +15,20 @@ computed_meant (Truth b) = GivesTruth b
 computed_meant (Text bytes) = Builds bytes
 computed_meant (Trap kind) = Traps (trap_meant kind)
 computed_meant Misfit = Misfits
+
+-- a number or a truth value as a word
+abbrev pub word_given : Computed → Option Word
+word_given (Number n) = Some (Int n)
+word_given (Truth b) = Some (words.Truth b)
+word_given (Text bytes) = None
+word_given (Trap kind) = None
+word_given Misfit = None
+
+-- what an operator gives is this number or truth value
+abbrev pub IsGiven : Word → meant.Computed → Type 0
+IsGiven (Int n) c = GivesNumber n ≡ c
+IsGiven (words.Truth b) c = GivesTruth b ≡ c
+IsGiven _ c = ⊥
 
 -- both values, where both are there
 abbrev pub both : {A B : Type 0} → Option A → Option B → Option (A × B)

@@ -1,5 +1,5 @@
 -- The texts that a request is made with.
-use Rattle.std.specs.Prelude.{◌≡◌, ℕ, Bool, true, false, not, ◌&&◌, nat_lt, List, [], ◌∷◌, ◌++◌, reverse, take, Option, Some, None, slice_get, if◌then◌else◌}
+use Rattle.std.specs.Prelude.{◌≡◌, ◌-◌, ℕ, length, Bool, true, false, not, ◌&&◌, nat_lt, List, [], ◌∷◌, ◌++◌, reverse, take, Option, Some, None, slice_get, if◌then◌else◌}
 use Rattle.wy_device.specs.Tapes.{Tapes}
 use Rattle.wy_code.specs.declared.code.Code.{Code}
 use Rattle.wy_code.specs.declared.code.Grant.{Grant as CodeGrant}
@@ -17,7 +17,7 @@ use Rattle.wy_device.specs.declared.operation.Op.{Op}
 use Rattle.wy_device.specs.declared.operation.OpName.{OpName}
 use Rattle.wy_device.specs.declared.operation.OpName.TheVariants as name
 use Rattle.wy_device.specs.Requests.{operations_of, operation_called, operation_on, operation_of, is_file_name}
-use Rattle.wy_code.specs.Stores.{Word, Int, Truth, Nothing, Grant, Store, operand}
+use Rattle.wy_code.specs.Stores.{Word, Int, Truth, Nothing, Text, Grant, Store, operand}
 
 -- texts after these, where they are there
 abbrev pub after_texts : List (List ℕ) → Option (List (List ℕ)) → Option (List (List ℕ))
@@ -87,6 +87,26 @@ word_answer (answer.Bytes text) = None
 word_answer (answer.Truth b) = Some (Truth b)
 word_answer (answer.Number n) = Some (Int n)
 word_answer answer.Unit = Some Nothing
+
+-- the place of a text that is to come was made, where one is, and this is its number
+abbrev pub HasPlace : Code → StoreState → StoreState → Bool → Option ℕ → Type 0
+HasPlace code w w' true None = ⊥
+HasPlace code w w' true (Some n) = (n ≡ length (code.texts ++ w.texts)) × (w' ≡ record w { texts = w.texts ++ [] ∷ [] })
+HasPlace code w w' false None = w' ≡ w
+HasPlace code w w' false (Some n) = ⊥
+
+-- the word of an answer, where it fits: the number of the place that was made for a text, or the word of any other
+abbrev pub word_received : Option ℕ → Answer → Option Word
+word_received None a = word_answer a
+word_received (Some n) (answer.Bytes text) = Some (Text n)
+word_received (Some n) (answer.Truth b) = None
+word_received (Some n) (answer.Number m) = None
+word_received (Some n) answer.Unit = None
+
+-- the store with a text that was answered in its place
+abbrev pub store_received : Option ℕ → Answer → StoreState → StoreState
+store_received (Some n) (answer.Bytes text) w = record w { texts = take (length w.texts - 1) w.texts ++ text ∷ [] }
+store_received _ a w = w
 
 -- a call of an operation's method through a grant, which is the word below the arguments
 pub record IsAsking (code : Code) (s : StackState) (m k : ℕ) (grant : CodeGrant) (o : OpName) : Type 0 where

@@ -1,5 +1,5 @@
 -- What a step of the machine does. (docs/LANGUAGE.md, "Code", "Causes in one step")
-use Rattle.std.specs.Prelude.{◌≡◌, ◌≢◌, ℕ, List, [], Result, Ok, Err, ⊤}
+use Rattle.std.specs.Prelude.{◌≡◌, ◌≢◌, ℕ, Bool, true, false, List, [], Result, Ok, Err, ⊤}
 use Rattle.wy_device.specs.declared.deed.Event.{Event}
 use Rattle.wy_device.specs.Devices.{DevicesState}
 use Rattle.wy_device.specs.Events.{DidExactly, deeds_of}
@@ -68,6 +68,11 @@ Comes code s w events next (Err end) = StopsIn events next end
 abbrev pub StopsByFault : DevicesState → DevicesState → Result (Unit {0}) RunEnd → Type 0
 StopsByFault old new (Ok u) = ⊤
 StopsByFault old new (Err end) = FailsByFault old new end
+
+-- how a step came out: it went on, or it ended the run so
+abbrev pub outcome : Bool → RunEnd → Result (Unit {0}) RunEnd
+outcome true end = Ok tt
+outcome false end = Err end
 
 -- a step took the devices from one state to another and came to a stack and a store, or to an end of the run
 pub record IsStep (code : Code) (s : StackState) (w : StoreState) (next : Tapes → Next) (old new : DevicesState) (result : Result (Unit {0}) RunEnd) : Type 0 where

@@ -1,12 +1,13 @@
 //! What each operator gives for the topmost operands.
 
-ghost use Rattle.std.specs.Prelude.{◌≡◌, ◌≤◌, ◌∷◌, [], length, map, reverse, take, true, IfOk, OnErr};
+ghost use Rattle.std.specs.Prelude.{◌≡◌, ◌≤◌, ◌∷◌, [], length, map, reverse, take, true, IfOk, MatchOption, OnErr, ⊤};
 ghost use Rattle.wy_code.specs.Operations.{operator_meant, operand_count};
 ghost use Rattle.wy_code.specs.Stores.{operand};
+ghost use Rattle.wy_code.specs.Stores as stores;
 ghost use Rattle.wy_device.specs.Operators.{operate};
 ghost use Rattle.wy_device.specs.Operators as meant;
 ghost use Rattle.wy_device.specs.Tapes.{Tapes};
-ghost use Rattle.wy_machine.specs.Computing.{computed_meant, not_if};
+ghost use Rattle.wy_machine.specs.Computing.{computed_meant, not_if, word_given, IsGiven};
 ghost use Rattle.wy_machine.specs.States.{store_of};
 ghost use Rattle.wy_machine.specs.Wanting.{builds_text};
 
@@ -18,7 +19,7 @@ use crate::computed::Computed;
 use crate::stack::Stack;
 use crate::store::Store;
 use crate::texts::{byte_in, joined, part, same, size};
-use crate::word::Word;
+use crate::word::{Word, WordKind};
 use std::alloc::Global;
 use wy_code::code::Code;
 use wy_code::instruction::Operator;
@@ -55,6 +56,38 @@ fn compared(code: &Code, store: &Store, x: Word, y: Word, different: bool) -> Co
     match same(code, store, x, y) {
         Some(same) => Computed::Truth(same != different),
         None => Computed::Misfit,
+    }
+}
+
+/// A number or a truth value as a word; `None` exactly where it is neither.
+fn plain(computed: Computed) -> Option<Word>
+    ensures { result ≡ word_given computed }
+{
+    match computed {
+        Computed::Number(number) => Some(Word::new(WordKind::Int(number))),
+        Computed::Truth(truth) => Some(Word::new(WordKind::Truth(truth))),
+        Computed::Text(_) => None,
+        Computed::Trap(_) => None,
+        Computed::Misfit => None,
+    }
+}
+
+/// What the most frequent operators, on two numbers, give for the topmost operands, as a word: a short way. `None` where
+/// it is another operator, or traps; then `computed` tells.
+#[inline(always)]
+pub fn computed_plainly(stack: &Stack, operator: Operator) -> Option<Word>
+    requires { operand_count operator ≤ length stack.now.running.operands }
+    ensures { MatchOption result ⊤ (λ v. (operand_count operator ≡ 2) × ((w : stores.Store) →
+        IsGiven v (operate (operator_meant operator) (map (operand w) (reverse (take (operand_count operator) stack.now.running.operands)))))) }
+{
+    match operator {
+        Operator::Add => plain(sum(stack.operand(1), stack.operand(0))),
+        Operator::Subtract => plain(difference(stack.operand(1), stack.operand(0))),
+        Operator::Less => plain(less(stack.operand(1), stack.operand(0))),
+        Operator::LessOrEqual => plain(less_or_equal(stack.operand(1), stack.operand(0))),
+        Operator::Greater => plain(greater(stack.operand(1), stack.operand(0))),
+        Operator::GreaterOrEqual => plain(greater_or_equal(stack.operand(1), stack.operand(0))),
+        _ => None,
     }
 }
 

@@ -1,12 +1,12 @@
 //! Calls on grants: their traps, and then the device.
 
-ghost use Rattle.std.specs.Prelude.{◌≡◌, ◌<◌, length, slice_get, true, false, Some};
+ghost use Rattle.std.specs.Prelude.{◌≡◌, ◌≢◌, ◌<◌, length, slice_get, true, IfOk, Some, None};
 ghost use Rattle.wy_code.specs.Stores.{Grant as GrantWord};
 ghost use Rattle.wy_code.specs.declared.instruction.Instruction.TheVariants.{Call};
 ghost use Rattle.wy_device.specs.Devices.{IsInOrder};
 ghost use Rattle.wy_machine.specs.Devices.{states};
 ghost use Rattle.wy_device.specs.Requests as requests;
-ghost use Rattle.wy_machine.specs.Requesting.{IsAsking, IsRequest};
+ghost use Rattle.wy_machine.specs.Requesting.{is_answered_by_text, HasPlace, word_received, store_received, IsAsking, IsRequest};
 ghost use Rattle.wy_machine.specs.Steps.{acting, IsNotStuck, IsStep};
 ghost use Rattle.wy_machine.specs.Wanting.{TrapsFirst};
 
@@ -16,97 +16,48 @@ use crate::devices::Devices;
 use crate::machine::Machine;
 use crate::requests::{answers_text, operation_called, refusal};
 use crate::run_end::RunEnd;
+use crate::store::Store;
 use crate::word::{Word, WordKind};
 use wy_code::code::{Code, Grant};
 use wy_device::device::{Device, DeviceError};
-use wy_device::operation::{Op, OpName};
+use wy_device::operation::{Answer, Op, OpName};
 use wy_text::fault::Place;
+use wy_text::text::Memory;
 
-/// Asks for an operation that is answered by a text, whose place is there before the device is asked.
-fn ask_for_text<D: Device>(
-    code: &Code,
-    depth: u32,
-    machine: &mut Machine,
-    devices: &mut Devices<D>,
-    place: Place,
-    method: u32,
-    count: u32,
-    grant: &Grant,
-    op: &Op,
-) -> Result<(), RunEnd>
-    requires order { IsInOrder (states D.state devices.old) }
-    requires request { IsRequest code.now machine.old.stack machine.old.store method count grant.now op.now }
-    requires good { requests.has_good_name op.now ≡ true }
-    requires text { requests.answers_text op.now ≡ true }
-    requires room { length machine.old.store.texts < 4194304 }
-    requires sound { IsNotStuck (acting code.now depth place machine.old.stack machine.old.store (Call method count)) }
-    ensures step { IsStep code.now machine.new.stack machine.new.store
-        (acting code.now depth place machine.old.stack machine.old.store (Call method count)) (states D.state devices.old) (states D.state devices.new) result }
-    ensures limits { machine.new.stack.limits ≡ machine.old.stack.limits }
-    ensures first { machine.new.store.first ≡ machine.old.store.first }
+/// Makes the place of the text that answers an operation, where one does, and gives its number.
+fn make_place(code: &Code, store: &mut Store, operation: OpName) -> Result<Option<u32>, Memory>
+    ensures made { IfOk result (HasPlace code.now store.old store.new (is_answered_by_text operation)) }
+    ensures first { store.new.first ≡ store.old.first }
 {
-    let number = next_text(code, &machine.store)?;
-    let name = grant.name.copy()?;
-    machine.store.make_room()?;
-    match devices.ask(&grant.name, op) {
-        Ok(answer) => match text_in(answer) {
+    if answers_text(operation) {
+        let number = next_text(code, store)?;
+        store.make_room()?;
+        Ok(Some(number))
+    } else {
+        Ok(None)
+    }
+}
+
+/// The word of an answer; a text is put into the place that was made for it. `None` exactly where it does not fit.
+fn received(store: &mut Store, place: Option<u32>, answer: Answer) -> Option<Word>
+    requires { place ≢ None → 0 < length store.old.texts }
+    ensures word { result ≡ word_received place answer }
+    ensures kept { store.new ≡ store_received place answer store.old }
+{
+    match place {
+        Some(number) => match text_in(answer) {
             Some(text) => {
-                machine.store.fill_room(text);
-                machine
-                    .stack
-                    .give(count as usize + 1, Word::new(WordKind::Text(number)));
-                Ok(())
+                store.fill_room(text);
+                Some(Word::new(WordKind::Text(number)))
             }
-            None => unreachable!(),
+            None => None,
         },
-        Err(DeviceError::Failed) => Err(RunEnd::DeviceFailed {
-            grant: name,
-            op: op.name(),
-        }),
-        Err(DeviceError::Memory) => Err(RunEnd::Memory),
+        None => word_in(answer),
     }
 }
 
-/// Asks for an operation that is not answered by a text.
-fn ask_for_word<D: Device>(
-    code: &Code,
-    depth: u32,
-    machine: &mut Machine,
-    devices: &mut Devices<D>,
-    place: Place,
-    method: u32,
-    count: u32,
-    grant: &Grant,
-    op: &Op,
-) -> Result<(), RunEnd>
-    requires order { IsInOrder (states D.state devices.old) }
-    requires request { IsRequest code.now machine.old.stack machine.old.store method count grant.now op.now }
-    requires good { requests.has_good_name op.now ≡ true }
-    requires no_text { requests.answers_text op.now ≡ false }
-    requires sound { IsNotStuck (acting code.now depth place machine.old.stack machine.old.store (Call method count)) }
-    ensures step { IsStep code.now machine.new.stack machine.new.store
-        (acting code.now depth place machine.old.stack machine.old.store (Call method count)) (states D.state devices.old) (states D.state devices.new) result }
-    ensures limits { machine.new.stack.limits ≡ machine.old.stack.limits }
-    ensures first { machine.new.store.first ≡ machine.old.store.first }
-{
-    let name = grant.name.copy()?;
-    match devices.ask(&grant.name, op) {
-        Ok(answer) => match word_in(answer) {
-            Some(word) => {
-                machine.stack.give(count as usize + 1, word);
-                Ok(())
-            }
-            None => unreachable!(),
-        },
-        Err(DeviceError::Failed) => Err(RunEnd::DeviceFailed {
-            grant: name,
-            op: op.name(),
-        }),
-        Err(DeviceError::Memory) => Err(RunEnd::Memory),
-    }
-}
-
-/// Asks the device for an operation whose name is good, where a text may be built if it answers one.
+/// Asks the device for an operation whose name is good, where a text may be built if it answers one. The text's place
+/// and the grant's name are there before the device is asked, so that its answer is kept, and its failure told.
 fn ask<D: Device>(
     code: &Code,
     depth: u32,
@@ -128,14 +79,21 @@ fn ask<D: Device>(
     ensures limits { machine.new.stack.limits ≡ machine.old.stack.limits }
     ensures first { machine.new.store.first ≡ machine.old.store.first }
 {
-    if answers_text(op.name()) {
-        ask_for_text(
-            code, depth, machine, devices, place, method, count, grant, op,
-        )
-    } else {
-        ask_for_word(
-            code, depth, machine, devices, place, method, count, grant, op,
-        )
+    let text = make_place(code, &mut machine.store, op.name())?;
+    let name = grant.name.copy()?;
+    match devices.ask(&grant.name, op) {
+        Ok(answer) => match received(&mut machine.store, text, answer) {
+            Some(word) => {
+                machine.stack.give(count as usize + 1, word);
+                Ok(())
+            }
+            None => unreachable!(),
+        },
+        Err(DeviceError::Failed) => Err(RunEnd::DeviceFailed {
+            grant: name,
+            op: op.name(),
+        }),
+        Err(DeviceError::Memory) => Err(RunEnd::Memory),
     }
 }
 

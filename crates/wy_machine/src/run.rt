@@ -117,10 +117,10 @@ fn run_code<D: Device>(
         Ok(()) => {}
         Err(end) => return end,
     }
+    let mut end = RunEnd::Spent;
     for done in 0..steps {
-        match step(code, depth, machine, devices) {
-            Ok(()) => {}
-            Err(end) => return end,
+        if !step(code, depth, machine, devices, &mut end) {
+            return end;
         }
     }
     RunEnd::Spent

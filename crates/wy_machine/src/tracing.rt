@@ -7,7 +7,7 @@ ghost use Rattle.wy_device.specs.Tapes.{Tapes};
 ghost use Rattle.wy_code.specs.Machine.{Next};
 ghost use Rattle.wy_machine.specs.Loading.{IsLoaded};
 ghost use Rattle.wy_machine.specs.Showing.{Shows, events_seen};
-ghost use Rattle.wy_machine.specs.Steps.{stepping, IsNotStuck, IsStep};
+ghost use Rattle.wy_machine.specs.Steps.{stepping, outcome, IsNotStuck, IsStep};
 ghost use Rattle.wy_machine.specs.Traces.{IsQuietAfterFirst, Wrote, IsTraced};
 
 use crate::coming::{Coming, coming_next};
@@ -75,6 +75,13 @@ pub fn trace<O: Sink>(
     }
 }
 
+/// How a step came out.
+fn came(went: bool, end: RunEnd) -> Result<(), RunEnd>
+    ensures { result ≡ outcome went end }
+{
+    if went { Ok(()) } else { Err(end) }
+}
+
 /// One step of a run that writes the lines of its events.
 pub fn step_traced<D: Device, O: Sink>(
     alloc: Global,
@@ -95,6 +102,8 @@ pub fn step_traced<D: Device, O: Sink>(
     ensures first { machine.new.store.first ≡ machine.old.store.first }
 {
     let coming = coming_next(code, machine)?;
-    let own = step(code, depth, machine, devices);
+    let mut end = RunEnd::Spent;
+    let went = step(code, depth, machine, devices, &mut end);
+    let own = came(went, end);
     trace(alloc, code, machine, coming, own, out)
 }

@@ -1,8 +1,10 @@
-use Rattle.std.proofs.Common.{◌≡◌, ◌∙◌, subst, arith}
+use Rattle.std.proofs.Common.{◌≡◌, sym, ap, ◌∙◌, subst, arith}
 use Rattle.wy_machine.specs.Devices.{states}
+use Rattle.wy_machine.specs.Steps.{outcome}
 use Rattle.wy_machine.proofs.FirstSteps.{first_sound, leads_first, start_stops}
 use Rattle.wy_machine.proofs.Leading.{Leads, leads_more, run_stops, run_spent, sound_after}
 use Rattle.wy_machine.proofs.Loads.{still_loaded}
+use Rattle.wy_machine.proofs.Quiet.{out_so, wants_so}
 use Rattle.wy_machine.proofs.run.run_code.Goals as goal
 
 pub start-requires-clause-sound : goal.start-requires-clause-sound
@@ -22,16 +24,19 @@ pub step-requires-clause-sound : goal.step-requires-clause-sound
 step-requires-clause-sound g c =
     sound_after c.args.code.now c.args.depth (states g.D.Device.state c.args.devices.now) c.loop-done.done _ _ (states g.D.Device.state c.loop-done.devices) c.requires.sound c.loop-done.invariant.leads
 
-pub returns-in-Err-step-clause-runs : goal.returns-in-Err-step-clause-runs
-returns-in-Err-step-clause-runs g c =
-    run_stops c.args.code.now c.args.depth (states g.D.Device.state c.args.devices.now) c.loop-done.done c.args.steps _ _ _ _ (states g.D.Device.state c.loop-done.devices) (states g.D.Device.state c.step.new.devices) c.in-Err-step.end c.loop-done-test.true c.loop-done.invariant.leads c.in-Err-step.ensures.step c.in-Err-step.ensures.wants
+pub returns-then-not-step-clause-runs : goal.returns-then-not-step-clause-runs
+returns-then-not-step-clause-runs g c =
+    let stopped = ap (λ went. outcome went c.step.new.end) (sym c.if-not-step.true) in
+    run_stops c.args.code.now c.args.depth (states g.D.Device.state c.args.devices.now) c.loop-done.done c.args.steps _ _ _ _ (states g.D.Device.state c.loop-done.devices) (states g.D.Device.state c.step.new.devices) c.step.new.end c.loop-done-test.true c.loop-done.invariant.leads
+    (out_so c.args.code.now _ _ _ _ _ _ _ stopped c.step.ensures.step) (wants_so _ _ _ stopped c.step.ensures.wants)
 
 pub loop-done-preserved : goal.loop-done-preserved
 loop-done-preserved g c =
+    let went = ap (λ went. outcome went c.step.new.end) (sym c.if-not-step.false) in
     record {
-      leads = leads_more c.args.code.now c.args.depth (states g.D.Device.state c.args.devices.now) c.loop-done.done _ _ _ _ (states g.D.Device.state c.loop-done.devices) (states g.D.Device.state c.step.new.devices) c.loop-done.invariant.leads c.in-Ok-step.ensures.step;
-      limits = c.in-Ok-step.ensures.limits ∙ c.loop-done.invariant.limits;
-      first = c.in-Ok-step.ensures.first ∙ c.loop-done.invariant.first;
+      leads = leads_more c.args.code.now c.args.depth (states g.D.Device.state c.args.devices.now) c.loop-done.done _ _ _ _ (states g.D.Device.state c.loop-done.devices) (states g.D.Device.state c.step.new.devices) c.loop-done.invariant.leads (out_so c.args.code.now _ _ _ _ _ _ _ went c.step.ensures.step);
+      limits = c.step.ensures.limits ∙ c.loop-done.invariant.limits;
+      first = c.step.ensures.first ∙ c.loop-done.invariant.first;
     }
 
 pub returns-clause-runs : goal.returns-clause-runs

@@ -1,0 +1,5 @@
+use Rattle.wy_machine.proofs.Quiet.{out_so}
+use Rattle.wy_machine.proofs.step.make_or_end.Goals as goal
+
+pub returns-clause-step : goal.returns-clause-step
+returns-clause-step c = λ d. out_so c.args.code.now _ _ _ _ _ _ _ c.went_on.ensures (c.make.ensures.step d)
