@@ -2,9 +2,13 @@
 //! higher-order safe.
 #![tactic(auto)]
 
-pub mod effects;
 mod entry;
 mod least;
+mod path_effects;
 mod reaching;
-pub mod safety;
+mod safety;
 mod table;
+
+pub use path_effects::{effects, ho_effects};
+pub use safety::{Safety, ho_safe, safe};
+pub use wy_types::path::{Part, Path, Step};

@@ -12,7 +12,7 @@ use std::alloc::Global;
 use wy_effects::atom::Atom;
 use wy_effects::set::EffSet;
 use wy_text::text::Memory;
-pub use wy_types::path::{Part, Path, Step};
+use wy_types::path::Path;
 use wy_types::resolved::Core;
 use wy_types::types::TypeRef;
 

@@ -1,8 +1,7 @@
 use crate::ranges::{is_in_range, is_type_of};
 use std::alloc::Global;
 use std::test::Fail;
-use wy_bounds::effects::{effects, ho_effects};
-use wy_bounds::safety::{Part, Path, Safety, Step, ho_safe, safe};
+use wy_bounds::{Part, Path, Safety, Step, effects, ho_effects, ho_safe, safe};
 use wy_effects::atom::{Atom, AtomTable};
 use wy_effects::set::{EffSet, SetList};
 use wy_text::fault::Place;

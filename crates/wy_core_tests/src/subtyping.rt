@@ -8,11 +8,9 @@ use std::sync::ledger::{Blank, Ledger};
 use std::test::Fail;
 use wy_effects::atom::{Atom, AtomTable};
 use wy_effects::set::{EffSet, SetList};
-use wy_subtype::pair_table::PairTable;
-use wy_subtype::steps::Steps;
-use wy_subtype::subtype::subtype;
-use wy_subtype::unfolding::{Unfolding, unfold};
-use wy_subtype::verdict::{Cause, Mode, Part, Path, Step, Verdict};
+use wy_subtype::{
+    Cause, Mode, PairTable, Part, Path, Step, Steps, Unfolding, Verdict, subtype, unfold,
+};
 use wy_text::fault::Place;
 use wy_text::list::Items;
 use wy_text::text::{Memory, from_bytes};

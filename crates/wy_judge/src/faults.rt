@@ -14,7 +14,7 @@ use crate::outcomes::{Fit, Fits};
 use crate::targets::fields_of;
 use wy_effects::atom::{Atom, AtomTable};
 use wy_effects::set::EffSet;
-use wy_subtype::verdict::Mode;
+use wy_subtype::Mode;
 use wy_text::fault::{AtomName, Fault, Place, RuleName};
 use wy_text::text::Memory;
 use wy_types::resolved::{Field, Origin, OwnName, Scope, ScopeKind};

@@ -24,7 +24,7 @@ use crate::settling::{
 use crate::targets::{Target, field_types, fitted, mark, target_of, var_field};
 use std::alloc::Global;
 use wy_effects::set::EffSet;
-use wy_subtype::pair_table::PairTable;
+use wy_subtype::PairTable;
 use wy_text::fault::{Fault, Place};
 use wy_text::text::Memory;
 use wy_types::code::{Binding, Block, Expr, Stmt, Value};

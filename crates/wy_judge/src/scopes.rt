@@ -16,7 +16,7 @@ use crate::judging::{fit_all, fit_block};
 use crate::targets::{field_types, mode_of};
 use std::alloc::Global;
 use wy_effects::set::copy_sets;
-use wy_subtype::pair_table::PairTable;
+use wy_subtype::PairTable;
 use wy_text::fault::{Fault, Place, RuleName};
 use wy_text::list::Items;
 use wy_text::text::Memory;

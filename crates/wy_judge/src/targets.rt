@@ -13,8 +13,7 @@ ghost use Rattle.wy_judge.specs.Targets.{mode_of, known, type_of_binding, IsTarg
 use crate::outcomes::{Fit, Inference};
 use std::alloc::Global;
 use wy_effects::set::EffSet;
-use wy_subtype::pair_table::PairTable;
-use wy_subtype::verdict::Mode;
+use wy_subtype::{Mode, PairTable};
 use wy_text::fault::{Fault, Place};
 use wy_text::list::Items;
 use wy_text::text::{Memory, Text};

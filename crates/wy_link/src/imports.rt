@@ -11,12 +11,11 @@ ghost use Rattle.wy_link.specs.Tried.{handed_pair, OfEach, AreWritten, OrLacks, 
 
 use crate::members::{argument_type, parameters_of};
 use std::alloc::Global;
-use wy_bounds::effects::effects;
-use wy_bounds::safety::{Safety, ho_safe};
+use wy_bounds::{Safety, effects, ho_safe};
 use wy_effects::atom::Atom;
 use wy_effects::set::EffSet;
 use wy_judge::least_missing;
-use wy_subtype::pair_table::PairTable;
+use wy_subtype::PairTable;
 use wy_text::text::Memory;
 use wy_types::reading::erase;
 use wy_types::resolved::{Core, OwnName, Scope};

@@ -13,7 +13,7 @@ ghost use Rattle.wy_link.specs.Tried.{handed_pair, OfEach, AreWritten, HasAll, H
 use crate::members::{argument_type, arguments_sets, member_set, names_of, opened, parameters_of};
 use std::alloc::Global;
 use wy_effects::set::EffSet;
-use wy_subtype::pair_table::PairTable;
+use wy_subtype::PairTable;
 use wy_text::text::{Memory, Text};
 use wy_types::reading::substitute;
 use wy_types::resolved::{Core, OwnName, Scope, ScopeKind};

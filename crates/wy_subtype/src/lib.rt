@@ -4,10 +4,17 @@
 
 mod entry;
 mod kept;
-pub mod pair_table;
+mod one_pair;
+mod pair_table;
 mod paths;
-pub mod steps;
-pub mod subtype;
+mod steps;
 mod table;
-pub mod unfolding;
-pub mod verdict;
+mod unfolding;
+mod verdict;
+
+pub use one_pair::subtype;
+pub use pair_table::PairTable;
+pub use steps::Steps;
+pub use unfolding::{PairList, UnfoldedPair, Unfolding, unfold};
+pub use verdict::{Cause, Mode, Verdict};
+pub use wy_types::path::{Part, Path, Step};

@@ -3,7 +3,7 @@ ghost use Rattle.wy_subtype.specs.Verdict.{is_yes};
 
 use wy_effects::atom::Atom;
 use wy_text::text::{Memory, Text};
-pub use wy_types::path::{Part, Path, Step};
+use wy_types::path::Path;
 
 /// Which subtyping is asked (docs/LANGUAGE.md, "Subtyping").
 #[derive(Clone, Copy, PartialEq, Eq)]

@@ -4,7 +4,7 @@ use Rattle.wy_types.specs.Program.{program_of}
 use Rattle.wy_bounds.specs.declared.entry.Entry.{Entry}
 use Rattle.wy_bounds.specs.Gathering.{with_entries}
 use Rattle.wy_bounds.proofs.Unions.{effects_gathered}
-use Rattle.wy_bounds.proofs.effects.reached_effects.Goals as goal
+use Rattle.wy_bounds.proofs.path_effects.reached_effects.Goals as goal
 
 pub returns : goal.returns
 returns c =

@@ -2,7 +2,7 @@ use Rattle.std.proofs.Common.{subst}
 use Rattle.std.specs.Prelude.{◌↔◌, IfOk}
 use Rattle.wy_subtype.specs.Verdict.{IsYes, IsSubtypeIn}
 use Rattle.wy_subtype.specs.Decided.{Decided}
-use Rattle.wy_subtype.proofs.subtype.subtype.Goals as goal
+use Rattle.wy_subtype.proofs.one_pair.subtype.Goals as goal
 
 pub returns-clause-exact : goal.returns-clause-exact
 returns-clause-exact c =

@@ -1,7 +1,7 @@
 use Rattle.std.proofs.Common.{◌≡◌, [], drop}
 use Rattle.wy_types.specs.Program.{program_of}
 use Rattle.wy_bounds.specs.Gathering.{with_entries}
-use Rattle.wy_bounds.proofs.effects.reached_effects.Given as goal
+use Rattle.wy_bounds.proofs.path_effects.reached_effects.Given as goal
 
 abbrev pub invariant-loop-entry : goal.invariant-loop-entry
 invariant-loop-entry l =
