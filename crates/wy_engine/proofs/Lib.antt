@@ -20,3 +20,4 @@ mod Statuses
 mod SumsMade
 mod TextsAnswered
 mod TracesMade
+mod ValsInText

@@ -12,4 +12,5 @@ pub mod Reading
 pub mod Running
 pub mod Status
 pub mod TopCall
+pub mod ValsInOrder
 pub mod Writing

@@ -3,6 +3,7 @@
 ghost use Rattle.wy_engine.specs.Completeness.{AcceptedTextsEnd};
 ghost use Rattle.wy_engine.specs.FormatAgain.{FormatAgain};
 ghost use Rattle.wy_engine.specs.ProgramLaws.{AcceptedRunAsMeant};
+ghost use Rattle.wy_engine.specs.ValsInOrder.{ValsStandInOrder};
 
 use wy_canonical::trees_have_words;
 use wy_code::laws::spent_takes_all;
@@ -10,7 +11,7 @@ use wy_lower::laws::{accepted_code_follows, accepted_is_never_stuck};
 use wy_meaning::laws::{answers_are_taken_in_order, nodes_cost_four};
 use wy_sound::laws::events_are_bounded;
 use wy_sound::telling::allowed_is_reported;
-use wy_well_formed::resolved_keeps_all;
+use wy_well_formed::{resolved_keeps_all, resolved_vals_are_in_order};
 
 /// What `format` wrote is written again: the canonical form of a file's tree has one tree, and prints as the same text,
 /// unless it passes a limit of layout.
@@ -43,4 +44,12 @@ pub fn accepted_texts_end()
 {
     accepted_run_as_meant();
     spent_takes_all();
+}
+
+/// The types that judging gives of a scope's `val`s stand in the order of the `val`s in the texts: of two the one of the
+/// lesser number stands before the other.
+pub fn vals_stand_in_order()
+    ensures { ValsStandInOrder }
+{
+    resolved_vals_are_in_order();
 }
