@@ -170,8 +170,24 @@ fn declare_user(alloc: Global, core: &mut Core, before: u16, own: u16) -> Result
     declare(alloc, core, true, methods)
 }
 
-/// Types 4 to 18: `P` and `Q`; `R`; `S0` to `S2` and `U0` to `U2`; two whose `next` differ in their
-/// numbers of parameters; one with a member, and one that takes it; two that go on to each other.
+/// A type whose method takes one type twice and gives another.
+fn declare_twice(alloc: Global, core: &mut Core, taken: u16, gives: u16) -> Result<(), Memory> {
+    let mut params: TypeList = Items::new(alloc);
+    params.push(named(alloc, taken, None)?)?;
+    params.push(named(alloc, taken, None)?)?;
+    let mut methods = Items::new(alloc);
+    methods.push(Method {
+        name: from_bytes(alloc, b"twice")?,
+        params,
+        effect: set_of(alloc, &[])?,
+        result: named(alloc, gives, None)?,
+    })?;
+    declare(alloc, core, false, methods)
+}
+
+/// Types 4 to 20: `P` and `Q`; `R`; `S0` to `S2` and `U0` to `U2`; two whose `next` differ in their
+/// numbers of parameters; one with a member, and one that takes it; two that go on to each other; two that ask for one pair by
+/// both parameters and by the result.
 fn core_of_types(alloc: Global, kind: ScopeKind) -> Result<Core, Memory> {
     let mut core = empty_core(alloc, kind)?;
     declare_links(alloc, &mut core, &[4, 5])?;
@@ -185,6 +201,8 @@ fn core_of_types(alloc: Global, kind: ScopeKind) -> Result<Core, Memory> {
     declare_running(alloc, &mut core)?;
     declare_user(alloc, &mut core, 15, 16)?;
     declare_links(alloc, &mut core, &[18, 17])?;
+    declare_twice(alloc, &mut core, 9, 12)?;
+    declare_twice(alloc, &mut core, 12, 9)?;
     Ok(core)
 }
 
@@ -280,6 +298,8 @@ fn a_path_leads_to_the_pair_that_fails(rt: HostRuntime) -> Result<(), Fail> {
                 Cause::Base
             )?
         );
+        let first: (&[u8], Part) = (b"twice", Part::Parameter(0));
+        assert!(rt; fails(alloc, &core, (19, 20), mode, &[first, next], Cause::Base)?);
         let arity = Cause::Arity(from_bytes(alloc, b"next")?);
         assert!(rt; fails(alloc, &core, (13, 14), mode, &[], arity)?);
     }

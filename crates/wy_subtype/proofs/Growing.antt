@@ -8,11 +8,9 @@ use Rattle.wy_types.specs.declared.path.Step.{Step}
 use Rattle.wy_types.specs.declared.types.TypeRef.{TypeRef}
 use Rattle.wy_types.specs.Program.{Program}
 use Rattle.wy_subtype.specs.declared.verdict.Mode.{Mode}
-use Rattle.wy_subtype.specs.declared.entry.Entry.{Entry}
 use Rattle.wy_subtype.specs.Verdict.{Pair, LeadsTo}
-use Rattle.wy_subtype.specs.Met.{entry_pair}
 use Rattle.wy_subtype.specs.Decided.{About, Decided, IsReached, Grows}
-use Rattle.wy_subtype.specs.Worklist.{IsSeen, BeginsWith}
+use Rattle.wy_subtype.specs.Worklist.{Met, met_pair, IsSeen, BeginsWith}
 use Rattle.wy_subtype.proofs.Working.{Leads-snoc}
 
 Leads-append : (program : Program) (scope : ℕ) (mode : Mode) (path more : List Step) (p q r : Pair) → LeadsTo program scope mode p path q → LeadsTo program scope mode q more r → LeadsTo program scope mode p (path ++ more) r
@@ -32,24 +30,24 @@ reached_on about p q r a b = record {
 }
 
 -- the pairs of a list are reached from its first
-module _ (about : About) (q : Pair) (es : List Entry) (seen : IsSeen about.program about.scope about.mode es) (b : BeginsWith q es) where
-  reached_below : (n k : ℕ) (e : Entry) → k < n → slice_get es k ≡ Some e → IsReached about q (entry_pair e)
-  reached_below zero k e lt is = absurd (omega arith)
-  reached_below (suc n) zero e lt is =
-      let f : Some b.0 ≡ Some e = sym b.1 ∙ is in
-      let same : b.0 ≡ e = cc in
+module _ (about : About) (q : Pair) (ms : List Met) (seen : IsSeen about.program about.scope about.mode ms) (b : BeginsWith q ms) where
+  reached_below : (n k : ℕ) (m : Met) → k < n → slice_get ms k ≡ Some m → IsReached about q m.pair
+  reached_below zero k m lt is = absurd (omega arith)
+  reached_below (suc n) zero m lt is =
+      let f : Some b.0 ≡ Some m = sym b.1 ∙ is in
+      let same : b.0 ≡ m = cc in
       let P : Pair → Type 0 = λ v. IsReached about q v in
-      subst P (sym b.2 ∙ ap entry_pair same) (reached_self about q)
-  reached_below (suc n) (suc k) e lt is =
-      let link = seen.linked (suc k) e (omega arith) is in
-      let r = reached_below n e.parent link.parent (omega (arith, link.before)) link.at in
+      subst P (sym b.2 ∙ ap met_pair same) (reached_self about q)
+  reached_below (suc n) (suc k) m lt is =
+      let link = seen.linked (suc k) m (omega arith) is in
+      let r = reached_below n m.parent link.parent (omega (arith, link.before)) link.at in
       record {
-        path = r.path ++ e.step ∷ [];
-        leads = Leads-snoc about.program about.scope about.mode r.path q (entry_pair link.parent) (entry_pair e) e.step r.leads link.step;
+        path = r.path ++ link.step ∷ [];
+        leads = Leads-snoc about.program about.scope about.mode r.path q (met_pair link.parent) m.pair link.step r.leads link.leads;
       }
 
-  pub reached_entry : (k : ℕ) (e : Entry) → slice_get es k ≡ Some e → IsReached about q (entry_pair e)
-  reached_entry k e is = reached_below (k + 1) k e (omega arith) is
+  pub reached_met : (k : ℕ) (m : Met) → slice_get ms k ≡ Some m → IsReached about q m.pair
+  reached_met k m is = reached_below (k + 1) k m (omega arith) is
 
 pub grows_none : (q : Pair) (old new : Decided) (before after : ℕ) → new ≡ old → after ≡ before → Grows q old new before after
 grows_none q old new before after same none = record {

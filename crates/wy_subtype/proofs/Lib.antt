@@ -1,6 +1,13 @@
+pub mod Adding
 pub mod Asking
+pub mod Beginning
 pub mod Deciding
 pub mod Growing
-pub mod Keeping
+pub mod Knowing
+pub mod Looking
 pub mod Meeting
+pub mod Numbering
+pub mod Places
+pub mod Stepping
+pub mod Widening
 pub mod Working

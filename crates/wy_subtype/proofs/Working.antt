@@ -1,5 +1,5 @@
 -- The list of pairs: what a step back, an addition and a test keep, and what stands at the end.
-use Rattle.std.proofs.Common.{◌≡◌, ℕ, zero, suc, ◌+◌, ◌<◌, ◌≤◌, List, [], ◌∷◌, ◌++◌, map, reverse, ◌⊎◌, inl, inr, length, refl, sym, ap, ◌∙◌, subst, arith, Option, Some, true, append_assoc, append-nil}
+use Rattle.std.proofs.Common.{◌≡◌, ℕ, suc, ◌+◌, ◌<◌, ◌≤◌, List, [], ◌∷◌, ◌++◌, map, reverse, ◌⊎◌, inl, inr, length, refl, sym, ap, ◌∙◌, subst, arith, Option, Some, true, append_assoc, append-nil}
 use Rattle.std.specs.Prelude.{slice_get, ◌↔◌}
 use Rattle.std.proofs.lemmas.List.{reverse-append, length-map}
 use Rattle.std.proofs.lemmas.Bool.{cases_lt}
@@ -7,6 +7,7 @@ use Rattle.std.proofs.lemmas.Option.{slice_get_within}
 use Rattle.wy_effects.specs.Members.{In, Within, Apart}
 use Rattle.wy_effects.proofs.Lists.{In-left, In-right, In-cases, In-map, In-unmap, In-at, In-slice_get, Apart-push}
 use Rattle.wy_types.specs.declared.types.TypeRef.{TypeRef}
+use Rattle.wy_types.specs.declared.types.TypeRef.TheVariants.{Int, Bool, Text, Unit as Nothing}
 use Rattle.wy_types.specs.declared.path.Part.{Part}
 use Rattle.wy_types.specs.declared.path.Part.TheVariants.{Parameter, Result}
 use Rattle.wy_types.specs.declared.path.Step.{Step}
@@ -24,41 +25,23 @@ use Rattle.wy_subtype.specs.declared.verdict.Cause.{Cause}
 use Rattle.wy_subtype.specs.declared.verdict.Cause.TheVariants.{MissingMethod, Arity, Base, Effect}
 use Rattle.wy_subtype.specs.declared.verdict.Verdict.{Verdict}
 use Rattle.wy_subtype.specs.declared.verdict.Verdict.TheVariants.{Yes, No}
-use Rattle.wy_subtype.specs.declared.unfolding.UnfoldedPair.{UnfoldedPair}
 use Rattle.wy_subtype.specs.declared.entry.Entry.{Entry}
 use Rattle.wy_types.specs.InRange.{IsInRange}
 use Rattle.wy_subtype.specs.Verdict.{Pair, Includes, IsSubtypeIn, Closes, StepsTo, LeadsTo, AreObjects, FailsBy, FailsAt, IsVerdict, IsYes, is_yes}
-use Rattle.wy_subtype.specs.Unfolding.{sides, Asks}
-use Rattle.wy_subtype.specs.Met.{entry_pair, pairs, entry_of, IsAdded, AreAdded}
-use Rattle.wy_subtype.specs.Worklist.{IsLinked, IsSeen, Extends, IsSettled, Advances, EntryFails, BeginsWith, BeginsAlone, IsWork, Traces, IsPathTo, GoesBack}
-
-slice_get-left : {X : Type 0} (xs ys : List X) (k : ℕ) (x : X) → slice_get xs k ≡ Some x → slice_get (xs ++ ys) k ≡ Some x
-slice_get-left [] ys k x e = absurd (cc)
-slice_get-left (y ∷ xs) ys zero x e = e
-slice_get-left (y ∷ xs) ys (suc k) x e = slice_get-left xs ys k x e
-
-slice_get-push : {X : Type 0} (xs : List X) (y : X) (k : ℕ) (x : X) → slice_get (xs ++ y ∷ []) k ≡ Some x → (slice_get xs k ≡ Some x) ⊎ ((k ≡ length xs) × (y ≡ x))
-slice_get-push [] y zero x e = inr (refl, cc)
-slice_get-push [] y (suc k) x e = absurd (cc)
-slice_get-push (z ∷ xs) y zero x e = inl e
-slice_get-push (z ∷ xs) y (suc k) x e =
-    elim (slice_get-push xs y k x e) [ inl f ↦ inl f | inr f ↦ inr (ap suc f.0, f.1) ]
-
-pub slice_get-within : {X : Type 0} (xs : List X) (k : ℕ) → k < length xs → (x : X) × (slice_get xs k ≡ Some x)
-slice_get-within [] k h = absurd (omega arith)
-slice_get-within (x ∷ xs) zero h = (x, refl)
-slice_get-within (x ∷ xs) (suc k) h = slice_get-within xs k (omega arith)
-
-pub map-append' : {X Y : Type 0} (f : X → Y) (xs ys : List X) → map f (xs ++ ys) ≡ map f xs ++ map f ys
-map-append' f [] ys = refl
-map-append' f (x ∷ xs) ys = ap (λ l. f x ∷ l) (map-append' f xs ys)
+use Rattle.wy_subtype.specs.Nodes.{base_pairs, pair_at, HasStep, IsAsking}
+use Rattle.wy_subtype.specs.Work.{entry_node, entry_of, IsAdded, AreAdded}
+use Rattle.wy_subtype.specs.Decided.{About}
+use Rattle.wy_subtype.specs.Worklist.{Met, met_pair, pairs, met_by, mets, IsLinked, IsSeen, Extends, IsSettled, Advances, MetFails, BeginsWith, IsWork, Traces, IsPathTo}
+use Rattle.wy_subtype.proofs.Places.{slice_get-left, slice_get-push, slice_get-within, map-append'}
+use Rattle.wy_subtype.proofs.Knowing.{same_number, pair_at-is}
 
 -- a step back
-pub traces_step : (es : List Entry) (k at : ℕ) (e : Entry) (path new : List Step) → 0 < k → slice_get es k ≡ Some e → new ≡ path ++ e.step ∷ [] →
-    ((rest : List Step) → Traces es k rest → Traces es at (path ++ rest)) → (rest : List Step) → Traces es e.parent rest → Traces es at (new ++ rest)
-traces_step es k at e path new pos is eq inv rest t =
-    let P : List Step → Type 0 = λ l. Traces es at l in
-    subst P (sym (ap (λ (l : List Step). l ++ rest) eq ∙ append_assoc path (e.step ∷ []) rest)) (inv (e.step ∷ rest) (e, is, pos, refl, t))
+pub traces_step : (program : Program) (scope : ℕ) (mode : Mode) (ms : List Met) (k at : ℕ) (m parent : Met) (s : Step) (path new : List Step) → slice_get ms k ≡ Some m → slice_get ms m.parent ≡ Some parent →
+    StepsTo program scope mode parent.pair s m.pair → new ≡ path ++ s ∷ [] → ((rest : List Step) → Traces program scope mode ms k rest → Traces program scope mode ms at (path ++ rest)) →
+    (rest : List Step) → Traces program scope mode ms m.parent rest → Traces program scope mode ms at (new ++ rest)
+traces_step program scope mode ms k at m parent s path new is up step e inv rest t =
+    let P : List Step → Type 0 = λ l. Traces program scope mode ms at l in
+    subst P (sym (append_assoc path (s ∷ []) rest) ∙ ap (λ (l : List Step). l ++ rest) (sym e)) (inv (s ∷ rest) (m, parent, is, up, step, t))
 
 pub Leads-snoc : (program : Program) (scope : ℕ) (mode : Mode) (path : List Step) (p q r : Pair) (s : Step) → LeadsTo program scope mode p path q → StepsTo program scope mode q s r → LeadsTo program scope mode p (path ++ s ∷ []) r
 Leads-snoc program scope mode [] p q r s l step =
@@ -67,28 +50,25 @@ Leads-snoc program scope mode [] p q r s l step =
     (r, subst Q (sym l.1) (subst P (sym l.0) step), (refl, refl))
 Leads-snoc program scope mode (x ∷ path) p q r s l step = (l.0, l.1, Leads-snoc program scope mode path l.0 q r s l.2 step)
 
-pub traces_lead : (program : Program) (scope : ℕ) (mode : Mode) (es : List Entry) (p : Pair) → IsSeen program scope mode es → BeginsWith p es → (steps : List Step) (at : ℕ) (e : Entry) → slice_get es at ≡ Some e → Traces es at steps → LeadsTo program scope mode p (reverse steps) (entry_pair e)
-traces_lead program scope mode es p seen b [] at e is t =
-    let zero' : slice_get es 0 ≡ Some e = ap (λ j. slice_get es j) (sym t) ∙ is in
-    let same : b.0 ≡ e = cc in
-    let at_first : ◌≡◌ {A = Pair} p (entry_pair e) = sym b.2 ∙ ap entry_pair same in
+pub traces_lead : (program : Program) (scope : ℕ) (mode : Mode) (ms : List Met) (p : Pair) → BeginsWith p ms → (steps : List Step) (at : ℕ) (m : Met) → slice_get ms at ≡ Some m → Traces program scope mode ms at steps →
+    LeadsTo program scope mode p (reverse steps) m.pair
+traces_lead program scope mode ms p b [] at m is t =
+    let zero' : slice_get ms 0 ≡ Some m = ap (λ j. slice_get ms j) (sym t) ∙ is in
+    let same : b.0 ≡ m = cc in
+    let at_first : ◌≡◌ {A = Pair} p m.pair = sym b.2 ∙ ap met_pair same in
     (ap (λ (v : Pair). v.0) at_first, ap (λ (v : Pair). v.1) at_first)
-traces_lead program scope mode es p seen b (s ∷ rest) at e is t =
-    let same : t.0 ≡ e = (let f : Some t.0 ≡ Some e = sym t.1 ∙ is in cc) in
-    let link : IsLinked program scope mode es at e = seen.linked at e t.2 is in
-    let up : t.0.parent ≡ e.parent = ap (λ (x : Entry). x.parent) same in
-    let P : ℕ → Type 0 = λ j. Traces es j rest in
-    let ih : LeadsTo program scope mode p (reverse rest) (entry_pair link.parent) = traces_lead program scope mode es p seen b rest e.parent link.parent link.at (subst P up t.4) in
-    let step : e.step ≡ s = ap (λ (x : Entry). x.step) (sym same) ∙ t.3 in
-    let Q : Step → Type 0 = λ v. StepsTo program scope mode (entry_pair link.parent) v (entry_pair e) in
-    let R : List Step → Type 0 = λ l. LeadsTo program scope mode p l (entry_pair e) in
-    subst R (sym (reverse-append (s ∷ []) rest)) (Leads-snoc program scope mode (reverse rest) p (entry_pair link.parent) (entry_pair e) s ih (subst Q step link.step))
+traces_lead program scope mode ms p b (s ∷ rest) at m is t =
+    let same : t.0 ≡ m = (let f : Some t.0 ≡ Some m = sym t.2 ∙ is in cc) in
+    let ih : LeadsTo program scope mode p (reverse rest) (met_pair t.1) = traces_lead program scope mode ms p b rest t.0.parent t.1 t.3 t.5 in
+    let Q : Met → Type 0 = λ v. StepsTo program scope mode (met_pair t.1) s v.pair in
+    let R : List Step → Type 0 = λ l. LeadsTo program scope mode p l m.pair in
+    subst R (sym (reverse-append (s ∷ []) rest)) (Leads-snoc program scope mode (reverse rest) p (met_pair t.1) m.pair s ih (subst Q same t.4))
 
-pub fails_at : (program : Program) (scope : ℕ) (mode : Mode) (es : List Entry) (p : Pair) → IsSeen program scope mode es → BeginsWith p es → (path : List Step) (at : ℕ) (c : Cause) →
-    EntryFails program scope mode es at c → IsPathTo es at path → FailsAt program scope mode p path c
-fails_at program scope mode es p seen b path at c f t =
-    let P : List Step → Type 0 = λ l. LeadsTo program scope mode p l (entry_pair f.0) in
-    (entry_pair f.0, subst P (sym t.turned) (traces_lead program scope mode es p seen b t.back at f.0 f.1 t.traces), f.2)
+pub fails_at : (program : Program) (scope : ℕ) (mode : Mode) (ms : List Met) (p : Pair) → BeginsWith p ms → (path : List Step) (at : ℕ) (c : Cause) →
+    MetFails program scope mode ms at c → IsPathTo program scope mode ms at path → FailsAt program scope mode p path c
+fails_at program scope mode ms p b path at c f t =
+    let P : List Step → Type 0 = λ l. LeadsTo program scope mode p l (met_pair f.0) in
+    (met_pair f.0, subst P (sym t.turned) (traces_lead program scope mode ms p b t.back at f.0 f.1 t.traces), f.2)
 
 -- both sides are in range
 abbrev FitsPair : Program → ℕ → Pair → Type 0
@@ -111,113 +91,180 @@ Fits-step program core scope mode p s q f step =
     step.leads
 
 module _ (program : Program) (core : IsInRange program) (scope : ℕ) (mode : Mode) where
-  -- a pair that is new, by a step from an entry
-  push_seen : (es : List Entry) (at : ℕ) (p : Entry) (c : UnfoldedPair) → slice_get es at ≡ Some p → StepsTo program scope mode (entry_pair p) c.step (sides c) → (In (sides c) (pairs es) → ⊥) → IsSeen program scope mode es → IsSeen program scope mode (es ++ entry_of c at ∷ [])
-  push_seen es at p c is step new seen =
-      let x : Entry = entry_of c at in
-      let e : pairs (es ++ x ∷ []) ≡ pairs es ++ sides c ∷ [] = map-append' entry_pair es (x ∷ []) in
+  -- a pair that is new, by a step from one that was met
+  push_seen : (ms : List Met) (at : ℕ) (p : Met) (q : Pair) (s : Step) → slice_get ms at ≡ Some p → StepsTo program scope mode p.pair s q → (In q (pairs ms) → ⊥) → IsSeen program scope mode ms →
+      IsSeen program scope mode (ms ++ record { pair = q; parent = at } ∷ [])
+  push_seen ms at p q s is step new seen =
+      let x : Met = record { pair = q; parent = at } in
+      let e : pairs (ms ++ x ∷ []) ≡ pairs ms ++ q ∷ [] = map-append' met_pair ms (x ∷ []) in
       let A : List Pair → Type 0 = λ l. Apart l in
-      let F : List Pair → Type 0 = λ l. (q : Pair) → In q l → FitsPair program scope q in
-      let P : Pair → Type 0 = λ q. FitsPair program scope q in
+      let F : List Pair → Type 0 = λ l. (r : Pair) → In r l → FitsPair program scope r in
+      let P : Pair → Type 0 = λ r. FitsPair program scope r in
       record {
-        apart = subst A (sym e) (Apart-push (sides c) (pairs es) seen.apart new);
-        fits = subst F (sym e) (λ q i.
-            elim (In-cases q (pairs es) (sides c ∷ []) i) [
-              | inl j ↦ seen.fits q j
+        apart = subst A (sym e) (Apart-push q (pairs ms) seen.apart new);
+        fits = subst F (sym e) (λ r i.
+            elim (In-cases r (pairs ms) (q ∷ []) i) [
+              | inl j ↦ seen.fits r j
               | inr j ↦ elim j [
-                | inl same ↦ subst P same (Fits-step program core scope mode (entry_pair p) c.step (sides c) (seen.fits (entry_pair p) (In-map entry_pair p es (In-slice_get es at p is))) step)
+                | inl same ↦ subst P same (Fits-step program core scope mode p.pair s q (seen.fits p.pair (In-map met_pair p ms (In-slice_get ms at p is))) step)
                 | inr none ↦ absurd none
               ]
             ]);
-        linked = λ k f pos g.
-            elim (slice_get-push es x k f g) [
+        linked = λ k m pos g.
+            elim (slice_get-push ms x k m g) [
               | inl old ↦
-                  let l : IsLinked program scope mode es k f = seen.linked k f pos old in
-                  record { parent = l.parent; at = slice_get-left es (x ∷ []) f.parent l.parent l.at; before = l.before; step = l.step }
+                  let l : IsLinked program scope mode ms k m = seen.linked k m pos old in
+                  record { parent = l.parent; at = slice_get-left ms (x ∷ []) m.parent l.parent l.at; before = l.before; step = l.step; leads = l.leads }
               | inr here ↦
-                  let L : Entry → Type 0 = λ v. IsLinked program scope mode (es ++ x ∷ []) k v in
-                  let lt : at < length es = slice_get_within es at p is in
-                  subst L here.1 (record { parent = p; at = slice_get-left es (x ∷ []) at p is; before = omega (arith, here.0, lt); step = step })
+                  let L : Met → Type 0 = λ v. IsLinked program scope mode (ms ++ x ∷ []) k v in
+                  let lt : at < length ms = slice_get_within ms at p is in
+                  subst L here.1 (record { parent = p; at = slice_get-left ms (x ∷ []) at p is; before = omega (arith, here.0, lt); step = s; leads = step })
             ];
       }
 
-  added : (es new : List Entry) (at : ℕ) (p : Entry) (c : UnfoldedPair) → slice_get es at ≡ Some p → StepsTo program scope mode (entry_pair p) c.step (sides c) → IsSeen program scope mode es → IsAdded es c at new →
-      IsSeen program scope mode new × Extends es new × In (sides c) (pairs new)
-  added es new at p c is step seen (inl h) =
-      let S : List Entry → Type 0 = λ l. IsSeen program scope mode l in
-      let I : List Entry → Type 0 = λ l. In (sides c) (pairs l) in
-      (subst S (sym h.1) seen, ([], h.1 ∙ sym (append-nil es)), subst I (sym h.1) h.0)
-  added es new at p c is step seen (inr h) =
-      let S : List Entry → Type 0 = λ l. IsSeen program scope mode l in
-      let I : List Entry → Type 0 = λ l. In (sides c) (pairs l) in
-      let x : Entry = entry_of c at in
-      (subst S (sym h.1) (push_seen es at p c is step h.0 seen), (x ∷ [], h.1), subst I (sym h.1) (In-map entry_pair x (es ++ x ∷ []) (In-right x es (x ∷ []) (inl refl))))
+Extends-trans : (a b c : List Met) → Extends a b → Extends b c → Extends a c
+Extends-trans a b c f g = (f.0 ++ g.0, g.1 ∙ ap (λ (l : List Met). l ++ g.0) f.1 ∙ append_assoc a f.0 g.0)
 
-Extends-trans : (a b c : List Entry) → Extends a b → Extends b c → Extends a c
-Extends-trans a b c f g = (f.0 ++ g.0, g.1 ∙ ap (λ (l : List Entry). l ++ g.0) f.1 ∙ append_assoc a f.0 g.0)
+pub Extends-get : (a b : List Met) (k : ℕ) (m : Met) → Extends a b → slice_get a k ≡ Some m → slice_get b k ≡ Some m
+Extends-get a b k m f is = let P : List Met → Type 0 = λ l. slice_get l k ≡ Some m in subst P (sym f.1) (slice_get-left a f.0 k m is)
 
-pub Extends-get : (a b : List Entry) (k : ℕ) (e : Entry) → Extends a b → slice_get a k ≡ Some e → slice_get b k ≡ Some e
-Extends-get a b k e f is = let P : List Entry → Type 0 = λ l. slice_get l k ≡ Some e in subst P (sym f.1) (slice_get-left a f.0 k e is)
-
-pub Extends-within : (a b : List Entry) → Extends a b → Within (pairs a) (pairs b)
+pub Extends-within : (a b : List Met) → Extends a b → Within (pairs a) (pairs b)
 Extends-within a b f q i =
-    let r = In-unmap entry_pair q a i in
-    let P : List Entry → Type 0 = λ l. In r.0 l in
+    let r = In-unmap met_pair q a i in
+    let P : List Met → Type 0 = λ l. In r.0 l in
     let Q : Pair → Type 0 = λ v. In v (pairs b) in
-    subst Q r.2 (In-map entry_pair r.0 b (subst P (sym f.1) (In-left r.0 a f.0 r.1)))
+    subst Q r.2 (In-map met_pair r.0 b (subst P (sym f.1) (In-left r.0 a f.0 r.1)))
 
-Extends-none : (a b : List Entry) → b ≡ a → Extends a b
+pub Extends-none : (a b : List Met) → b ≡ a → Extends a b
 Extends-none a b e = ([], e ∙ sym (append-nil a))
 
-module _ (program : Program) (core : IsInRange program) (scope : ℕ) (mode : Mode) where
-  all_added : (cs : List UnfoldedPair) (es new : List Entry) (at : ℕ) (p : Entry) → slice_get es at ≡ Some p → ((c : UnfoldedPair) → In c cs → StepsTo program scope mode (entry_pair p) c.step (sides c)) → IsSeen program scope mode es → AreAdded es cs at new →
-      IsSeen program scope mode new × Extends es new × Within (map sides cs) (pairs new)
-  all_added [] es new at p is steps seen h =
-      let S : List Entry → Type 0 = λ l. IsSeen program scope mode l in
-      (subst S (sym h) seen, Extends-none es new h, λ q i. absurd i)
-  all_added (c ∷ cs) es new at p is steps seen h =
-      let one = added program core scope mode es h.0 at p c is (steps c (inl refl)) seen h.1 in
-      let rest = all_added cs h.0 new at p (Extends-get es h.0 at p one.1 is) (λ d i. steps d (inr i)) one.0 h.2 in
-      let P : Pair → Type 0 = λ v. In v (pairs new) in (
-        rest.0,
-        Extends-trans es h.0 new one.1 rest.1,
-        λ q i. elim i [ inl e ↦ subst P e (Extends-within h.0 new rest.1 (sides c) one.2) | inr j ↦ rest.2 q j ],
+-- the list of a question grows by the numbers that a pair asks for
+module _ (about : About) (core : IsInRange about.program) (ps : List Pair) (apart : Apart ps) where
+  -- each number has its pair
+  abbrev AreIn : List Entry → Type 0
+  AreIn es = (e : Entry) → In e es → entry_node e < length ps
+
+  pairs-mets : (es : List Entry) → pairs (mets ps es) ≡ map (pair_at ps) (map entry_node es)
+  pairs-mets [] = refl
+  pairs-mets (e ∷ es) = ap (λ (l : List Pair). pair_at ps e.node ∷ l) (pairs-mets es)
+
+  -- a number that isn't in the list has a pair that isn't
+  new_pair : (es : List Entry) (n : ℕ) → AreIn es → n < length ps → (In n (map entry_node es) → ⊥) → In (pair_at ps n) (pairs (mets ps es)) → ⊥
+  new_pair es n within lt new i =
+      let P : List Pair → Type 0 = λ l. In (pair_at ps n) l in
+      let r = In-unmap (pair_at ps) (pair_at ps n) (map entry_node es) (subst P (pairs-mets es) i) in
+      let f = In-unmap entry_node r.0 es r.1 in
+      let Q : ℕ → Type 0 = λ v. In v (map entry_node es) in
+      let lt' : r.0 < length ps = (let L : ℕ → Type 0 = λ v. v < length ps in subst L f.2 (within f.0 f.1)) in
+      new (subst Q (same_number ps apart r.0 n lt' lt r.2) r.1)
+
+  record Added (es new : List Entry) (n : ℕ) : Type 0 where
+    seen : IsSeen about.program about.scope about.mode (mets ps new)
+    extends : Extends (mets ps es) (mets ps new)
+    within : AreIn new
+    there : In (pair_at ps n) (pairs (mets ps new))
+
+  added : (es new : List Entry) (at n : ℕ) (p : Met) → slice_get (mets ps es) at ≡ Some p → n < length ps → HasStep about p.pair (pair_at ps n) → IsSeen about.program about.scope about.mode (mets ps es) → AreIn es →
+      IsAdded es n at new → Added es new n
+  added es new at n p is lt step seen within (inl h) =
+      let A : List Entry → Type 0 = λ l. Added es l n in
+      let P : List Pair → Type 0 = λ l. In (pair_at ps n) l in
+      subst A (sym h.1) (record {
+        seen = seen;
+        extends = Extends-none (mets ps es) (mets ps es) refl;
+        within = within;
+        there = subst P (sym (pairs-mets es)) (In-map (pair_at ps) n (map entry_node es) h.0);
+      })
+  added es new at n p is lt step seen within (inr h) =
+      let A : List Entry → Type 0 = λ l. Added es l n in
+      let x : Entry = entry_of n at in
+      let m : Met = met_by ps x in
+      let e : mets ps (es ++ x ∷ []) ≡ mets ps es ++ m ∷ [] = map-append' (met_by ps) es (x ∷ []) in
+      let S : List Met → Type 0 = λ l. IsSeen about.program about.scope about.mode l in
+      let P : List Met → Type 0 = λ l. In (pair_at ps n) (pairs l) in
+      subst A (sym h.1) (record {
+        seen = subst S (sym e) (push_seen about.program core about.scope about.mode (mets ps es) at p (pair_at ps n) step.0 is step.1 (new_pair es n within lt h.0) seen);
+        extends = (m ∷ [], e);
+        within = λ f i. elim (In-cases f es (x ∷ []) i) [
+          | inl j ↦ within f j
+          | inr j ↦ elim j [ inl same ↦ (let L : Entry → Type 0 = λ v. entry_node v < length ps in subst L same lt) | inr none ↦ absurd none ]
+        ];
+        there = subst P (sym e) (In-map met_pair m (mets ps es ++ m ∷ []) (In-right m (mets ps es) (m ∷ []) (inl refl)));
+      })
+
+  record AllAdded (es new : List Entry) (ns : List ℕ) : Type 0 where
+    seen : IsSeen about.program about.scope about.mode (mets ps new)
+    extends : Extends (mets ps es) (mets ps new)
+    within : AreIn new
+    there : (n : ℕ) → In n ns → In (pair_at ps n) (pairs (mets ps new))
+
+  all_added : (ns : List ℕ) (es new : List Entry) (at : ℕ) (p : Met) → slice_get (mets ps es) at ≡ Some p → ((n : ℕ) → In n ns → (n < length ps) × HasStep about p.pair (pair_at ps n)) →
+      IsSeen about.program about.scope about.mode (mets ps es) → AreIn es → AreAdded es ns at new → AllAdded es new ns
+  all_added [] es new at p is steps seen within h =
+      let A : List Entry → Type 0 = λ l. AllAdded es l [] in
+      subst A (sym h) (record { seen = seen; extends = Extends-none (mets ps es) (mets ps es) refl; within = within; there = λ n i. absurd i })
+  all_added (n ∷ ns) es new at p is steps seen within h =
+      let s = steps n (inl refl) in
+      let one = added es h.0 at n p is s.0 s.1 seen within h.1 in
+      let rest = all_added ns h.0 new at p (Extends-get (mets ps es) (mets ps h.0) at p one.extends is) (λ k i. steps k (inr i)) one.seen one.within h.2 in
+      let P : ℕ → Type 0 = λ v. In (pair_at ps v) (pairs (mets ps new)) in
+      record {
+        seen = rest.seen;
+        extends = Extends-trans (mets ps es) (mets ps h.0) (mets ps new) one.extends rest.extends;
+        within = rest.within;
+        there = λ k i. elim i [ inl e ↦ subst P e (Extends-within (mets ps h.0) (mets ps new) rest.extends (pair_at ps n) one.there) | inr j ↦ rest.there k j ];
+      }
+
+  -- a pair that asks for others is settled once these are in the list
+  pub advances_asking : (ns : List ℕ) (es new : List Entry) (at : ℕ) (p : Met) → slice_get (mets ps es) at ≡ Some p → IsAsking about ps p.pair ns → IsSeen about.program about.scope about.mode (mets ps es) → AreIn es →
+      AreAdded es ns at new → Advances about.program about.scope about.mode (mets ps es) (mets ps new) at × AreIn new
+  advances_asking ns es new at p is asks seen within h =
+      let steps : (n : ℕ) → In n ns → (n < length ps) × HasStep about p.pair (pair_at ps n) = λ n i.
+      let r = asks.steps n i in
+      let P : Pair → Type 0 = λ v. HasStep about p.pair v in
+      (slice_get_within ps n r.0 r.1, subst P (sym (pair_at-is ps n r.0 r.1)) r.2) in
+      let r = all_added ns es new at p is steps seen within h in
+      let qs : List Pair = pairs (mets ps new) in
+      let closed : Closes about.program about.scope about.mode (qs ++ base_pairs) p.pair = asks.closes (qs ++ base_pairs) (λ x i. In-right x qs base_pairs i) (λ n x i g.
+      let P : Pair → Type 0 = λ v. In v (qs ++ base_pairs) in
+      subst P (pair_at-is ps n x g) (In-left (pair_at ps n) qs base_pairs (r.there n i))) in (
+        record {
+          seen = r.seen;
+          extends = r.extends;
+          done = λ m g.
+              let f : Some p ≡ Some m = sym (Extends-get (mets ps es) (mets ps new) at p r.extends is) ∙ g in
+              let same : p ≡ m = cc in
+              let P : Met → Type 0 = λ v. Closes about.program about.scope about.mode (qs ++ base_pairs) v.pair in
+              inr (subst P same closed);
+        },
+        r.within,
       )
 
-  pub advances : (cs : List UnfoldedPair) (es new : List Entry) (at : ℕ) (p : Entry) → slice_get es at ≡ Some p → Asks program scope mode (entry_pair p) cs → IsSeen program scope mode es → AreAdded es cs at new → Advances program scope mode es new at
-  advances cs es new at p is asks seen h =
-      let r = all_added cs es new at p is asks.steps seen h in
-      record {
-        seen = r.0;
-        extends = r.1;
-        done = λ e g.
-            let f : Some p ≡ Some e = sym (Extends-get es new at p r.1 is) ∙ g in
-            let same : p ≡ e = cc in
-            let P : Entry → Type 0 = λ v. Closes program scope mode (pairs new) (entry_pair v) in
-            inr (subst P same (asks.closes (pairs new) r.2));
-      }
+-- a pair that is known to be one of a type and a subtype asks for nothing
+pub advances_known : (program : Program) (scope : ℕ) (mode : Mode) (ms new : List Met) (at : ℕ) (p : Met) → slice_get ms at ≡ Some p → IsSubtypeIn program scope mode p.pair.0 p.pair.1 → new ≡ ms → IsSeen program scope mode ms →
+    Advances program scope mode ms new at
+advances_known program scope mode ms new at p is sub same seen =
+    let S : List Met → Type 0 = λ l. IsSeen program scope mode l in
+    record {
+      seen = subst S (sym same) seen;
+      extends = Extends-none ms new same;
+      done = λ m g.
+          let f : Some p ≡ Some m = sym is ∙ ap (λ (l : List Met). slice_get l at) (sym same) ∙ g in
+          let h : p ≡ m = cc in
+          let P : Met → Type 0 = λ v. IsSubtypeIn program scope mode v.pair.0 v.pair.1 in
+          inl (subst P h sub);
+    }
 
-  -- a pair that is known to be one of a type and a subtype asks for nothing
-  pub advances_known : (es new : List Entry) (at : ℕ) (p : Entry) → slice_get es at ≡ Some p → IsSubtypeIn program scope mode p.left p.right → new ≡ es → IsSeen program scope mode es → Advances program scope mode es new at
-  advances_known es new at p is sub same seen =
-      let S : List Entry → Type 0 = λ l. IsSeen program scope mode l in
-      record {
-        seen = subst S (sym same) seen;
-        extends = Extends-none es new same;
-        done = λ e g.
-            let f : Some p ≡ Some e = sym is ∙ ap (λ (l : List Entry). slice_get l at) (sym same) ∙ g in
-            let h : p ≡ e = cc in
-            let P : Entry → Type 0 = λ v. IsSubtypeIn program scope mode v.left v.right in
-            inl (subst P h sub);
-      }
+within_more : (qs rs : List Pair) → Within qs rs → Within (qs ++ base_pairs) (rs ++ base_pairs)
+within_more qs rs w x i = elim (In-cases x qs base_pairs i) [ inl j ↦ In-left x rs base_pairs (w x j) | inr j ↦ In-right x rs base_pairs j ]
 
 -- what is settled by a list is settled by a longer one
 settled_more : (program : Program) (scope : ℕ) (mode : Mode) (qs rs : List Pair) (q : Pair) → Within qs rs → IsSettled program scope mode qs q → IsSettled program scope mode rs q
 settled_more program scope mode qs rs q w (inl sub) = inl sub
-settled_more program scope mode qs rs q w (inr closed) = inr (IsClosed-more TypeRef (methods_of program scope) IsObject (Includes mode) qs rs q w closed)
+settled_more program scope mode qs rs q w (inr closed) = inr (IsClosed-more TypeRef (methods_of program scope) IsObject (Includes mode) (qs ++ base_pairs) (rs ++ base_pairs) q (within_more qs rs w) closed)
 
 -- one more entry is worked off
-pub work_more : (program : Program) (scope : ℕ) (mode : Mode) (first old new : List Entry) (k : ℕ) → k < length old → IsWork program scope mode first old k → Advances program scope mode old new k → IsWork program scope mode first new (k + 1)
+pub work_more : (program : Program) (scope : ℕ) (mode : Mode) (first old new : List Met) (k : ℕ) → k < length old → IsWork program scope mode first old k → Advances program scope mode old new k → IsWork program scope mode first new (k + 1)
 work_more program scope mode first old new k lt work adv = record {
   seen = adv.seen;
   extends = Extends-trans first old new work.extends adv.extends;
@@ -234,22 +281,22 @@ work_more program scope mode first old new k lt work adv = record {
   ];
 }
   where
-    earlier : (j : ℕ) → j < k → (e : Entry) → slice_get new j ≡ Some e → IsSettled program scope mode (pairs new) (entry_pair e)
+    earlier : (j : ℕ) → j < k → (e : Met) → slice_get new j ≡ Some e → IsSettled program scope mode (pairs new) (met_pair e)
     earlier j lt' e g =
         let r = slice_get-within old j (omega arith) in
         let f : Some r.0 ≡ Some e = sym (Extends-get old new j r.0 adv.extends r.1) ∙ g in
         let same : r.0 ≡ e = cc in
-        let P : Entry → Type 0 = λ v. IsSettled program scope mode (pairs new) (entry_pair v) in
-        subst P same (settled_more program scope mode (pairs old) (pairs new) (entry_pair r.0) (Extends-within old new adv.extends) (work.done j lt' r.0 r.1))
+        let P : Met → Type 0 = λ v. IsSettled program scope mode (pairs new) (met_pair v) in
+        subst P same (settled_more program scope mode (pairs old) (pairs new) (met_pair r.0) (Extends-within old new adv.extends) (work.done j lt' r.0 r.1))
 
 -- the work list is no longer than the pairs of types in range, so it ends
-pub work_left : (program : Program) (scope : ℕ) (mode : Mode) (first es : List Entry) (k : ℕ) → k < length es → IsWork program scope mode first es k → k < pair_bound program scope
+pub work_left : (program : Program) (scope : ℕ) (mode : Mode) (first es : List Met) (k : ℕ) → k < length es → IsWork program scope mode first es k → k < pair_bound program scope
 work_left program scope mode first es k lt work =
     let l : length (pairs es) ≤ pair_bound program scope = length-le-pair_bound program scope (pairs es) work.seen.apart work.seen.fits in
-    let m : length (pairs es) ≡ length es = length-map es entry_pair in
+    let m : length (pairs es) ≡ length es = length-map es met_pair in
     omega arith
 
-pub work_start : (program : Program) (scope : ℕ) (mode : Mode) (es : List Entry) → IsSeen program scope mode es → IsWork program scope mode es es 0
+pub work_start : (program : Program) (scope : ℕ) (mode : Mode) (es : List Met) → IsSeen program scope mode es → IsWork program scope mode es es 0
 work_start program scope mode es seen = record {
   seen = seen;
   extends = Extends-none es es refl;
@@ -258,7 +305,7 @@ work_start program scope mode es seen = record {
 }
 
 -- what begins the first list begins the last
-pub begins_still : (program : Program) (scope : ℕ) (mode : Mode) (p : Pair) (first es : List Entry) (k : ℕ) → IsWork program scope mode first es k → BeginsWith p first → BeginsWith p es
+pub begins_still : (program : Program) (scope : ℕ) (mode : Mode) (p : Pair) (first es : List Met) (k : ℕ) → IsWork program scope mode first es k → BeginsWith p first → BeginsWith p es
 begins_still program scope mode p first es k work b = (b.0, Extends-get first es 0 b.0 work.extends b.1, b.2)
 
 -- subtyping by the mode's test of effects is subtyping in the mode
@@ -280,7 +327,7 @@ module _ (program : Program) (scope : ℕ) (mode : Mode) where
     closed : (w : Pair) → In w known → Closes program scope mode known w
     each : (q : Pair) → In q qs → In q known ⊎ Closes program scope mode all q
 
-  gathered : (all qs : List Pair) → ((q : Pair) → In q qs → IsSettled program scope mode all q) → Gathers all qs
+  gathered : (all qs : List Pair) → ((q : Pair) → In q qs → IsSubtypeIn program scope mode q.0 q.1 ⊎ Closes program scope mode all q) → Gathers all qs
   gathered all [] h = record { known = []; closed = λ w i. absurd i; each = λ q i. absurd i }
   gathered all (q ∷ qs) h =
       let r = gathered all qs (λ x i. h x (inr i)) in
@@ -305,39 +352,51 @@ module _ (program : Program) (scope : ℕ) (mode : Mode) where
             record { known = r.known; closed = r.closed; each = λ x i. elim i [ inl e ↦ inr (subst P e c) | inr j ↦ r.each x j ] }
       ]
 
+  same_base : (b : TypeRef) → (IsObject b → ⊥) → (qs : List Pair) (w : Pair) → ◌≡◌ {A = Pair} (b, b) w → Closes program scope mode qs w
+  same_base b base qs w e = (let P : Pair → Type 0 = λ v. Closes program scope mode qs v in subst P e (inl (refl, base)))
+
+  -- a pair of equal base types is closed in every list
+  base_closed : (qs : List Pair) (w : Pair) → In w base_pairs → Closes program scope mode qs w
+  base_closed qs w (inl e) = same_base Int (λ h. h) qs w e
+  base_closed qs w (inr (inl e)) = same_base Bool (λ h. h) qs w e
+  base_closed qs w (inr (inr (inl e))) = same_base Text (λ h. h) qs w e
+  base_closed qs w (inr (inr (inr (inl e)))) = same_base Nothing (λ h. h) qs w e
+  base_closed qs w (inr (inr (inr (inr none)))) = absurd none
+
   -- pairs that are all settled are of types and subtypes
   settled_all : (all : List Pair) → ((q : Pair) → In q all → IsSettled program scope mode all q) → (q : Pair) → In q all → IsSubtypeIn program scope mode q.0 q.1
   settled_all all h q i =
-      let r = gathered all all h in
-      let ws : List Pair = all ++ r.known in
-      let known : (w : Pair) → In w r.known → Closes program scope mode ws w = λ w j. more r.known ws w (λ x k. In-right x all r.known k) (r.closed w j) in
+      let full : List Pair = all ++ base_pairs in
+      let r = gathered full all h in
+      let ws : List Pair = full ++ r.known in
+      let known : (w : Pair) → In w r.known → Closes program scope mode ws w = λ w j. more r.known ws w (λ x k. In-right x full r.known k) (r.closed w j) in
       in_mode program scope mode q.0 q.1 (record {
         pairs = ws;
-        first = In-left q all r.known i;
-        closed = λ w j. elim (In-cases w all r.known j) [
-          | inl a ↦ elim (r.each w a) [ inl b ↦ known w b | inr c ↦ more all ws w (λ x k. In-left x all r.known k) c ]
+        first = In-left q full r.known (In-left q all base_pairs i);
+        closed = λ w j. elim (In-cases w full r.known j) [
+          | inl a ↦ elim (In-cases w all base_pairs a) [
+            | inl b ↦ elim (r.each w b) [ inl x ↦ known w x | inr x ↦ more full ws w (λ y k. In-left y full r.known k) x ]
+            | inr b ↦ base_closed ws w b
+          ]
           | inr b ↦ known w b
         ];
       })
 
 -- once all is worked off, the pairs are of types and subtypes
-pub work_all : (program : Program) (scope : ℕ) (mode : Mode) (first es : List Entry) (k : ℕ) → length es ≤ k → IsWork program scope mode first es k → (e : Entry) → In e es → IsSubtypeIn program scope mode e.left e.right
+pub work_all : (program : Program) (scope : ℕ) (mode : Mode) (first es : List Met) (k : ℕ) → length es ≤ k → IsWork program scope mode first es k → (e : Met) → In e es → IsSubtypeIn program scope mode e.pair.0 e.pair.1
 work_all program scope mode first es k le work e i =
     settled_all program scope mode (pairs es)
     (λ q j.
-    let r = In-unmap entry_pair q es j in
+    let r = In-unmap met_pair q es j in
     let s = In-at r.0 es r.1 in
     let Q : Pair → Type 0 = λ v. IsSettled program scope mode (pairs es) v in
     subst Q r.2 (work.done s.0 (omega (arith, s.1)) r.0 s.2))
-    (entry_pair e) (In-map entry_pair e es i)
+    (met_pair e) (In-map met_pair e es i)
 
-pub first_holds : (program : Program) (scope : ℕ) (mode : Mode) (q : Pair) (es : List Entry) → BeginsWith q es → ((e : Entry) → In e es → IsSubtypeIn program scope mode e.left e.right) → IsSubtypeIn program scope mode q.0 q.1
+pub first_holds : (program : Program) (scope : ℕ) (mode : Mode) (q : Pair) (es : List Met) → BeginsWith q es → ((e : Met) → In e es → IsSubtypeIn program scope mode e.pair.0 e.pair.1) → IsSubtypeIn program scope mode q.0 q.1
 first_holds program scope mode q es b h =
     let P : Pair → Type 0 = λ v. IsSubtypeIn program scope mode v.0 v.1 in
     subst P b.2 (h b.0 (In-slice_get es 0 b.0 b.1))
-
-pub goes_back : (program : Program) (scope : ℕ) (mode : Mode) (es : List Entry) → IsSeen program scope mode es → GoesBack es
-goes_back program scope mode es seen k e pos g = (seen.linked k e pos g).before
 
 -- a pair that fails is closed in no list
 no_params : (ps : List Pair) (xs ys : List TypeRef) → ParamsIn ps xs ys → length xs ≡ length ys
@@ -384,38 +443,3 @@ exact program scope mode p (No path c) h = (λ f. absurd f, λ s. refutes progra
 pub yes_exact : (v : Verdict) (S : Type 0) → (IsYes v ↔ S) → (is_yes v ≡ true) ↔ S
 yes_exact Yes S h = (λ _. h.0 tt, λ _. refl)
 yes_exact (No path c) S h = (λ e. absurd (cc), λ s. absurd (h.1 s))
-
--- the list that begins the work
-one_seen : (program : Program) (scope : ℕ) (mode : Mode) (e : Entry) (es : List Entry) → es ≡ e ∷ [] → IsTypeOf program scope e.left → IsTypeOf program scope e.right → IsSeen program scope mode es
-one_seen program scope mode e es eq l r =
-    let P : List Entry → Type 0 = λ v. IsSeen program scope mode v in
-    subst P (sym eq) (record {
-      apart = (λ h. h, tt);
-      fits = λ q i. elim i [ inl same ↦ (let Q : Pair → Type 0 = λ v. FitsPair program scope v in subst Q same (l, r)) | inr none ↦ absurd none ];
-      linked = λ k f pos g. absurd (single k f pos g);
-    })
-  where
-    single : (k : ℕ) (f : Entry) → 0 < k → slice_get (e ∷ []) k ≡ Some f → ⊥
-    single zero f pos g = omega arith
-    single (suc k) f pos g = cc
-
-pub begins_one : (c : UnfoldedPair) (es : List Entry) → IsAdded [] c 0 es → es ≡ entry_of c 0 ∷ []
-begins_one c es (inl h) = absurd h.0
-begins_one c es (inr h) = h.1
-
-pub begins_alone : (c : UnfoldedPair) (s t : TypeRef) (es : List Entry) → IsAdded [] c 0 es → c.left ≡ s → c.right ≡ t → BeginsAlone (s, t) es
-begins_alone c s t es h l r = record { entry = entry_of c 0; alone = begins_one c es h; pair = ap (λ v. (v, c.right)) l ∙ ap (λ v. (s, v)) r }
-
-pub alone_begins : (q : Pair) (es : List Entry) → BeginsAlone q es → BeginsWith q es
-alone_begins q es b =
-    let P : List Entry → Type 0 = λ v. slice_get v 0 ≡ Some b.entry in
-    (b.entry, subst P (sym b.alone) refl, b.pair)
-
-pub alone_seen : (program : Program) (scope : ℕ) (mode : Mode) (q : Pair) (es : List Entry) → BeginsAlone q es → IsTypeOf program scope q.0 → IsTypeOf program scope q.1 → IsSeen program scope mode es
-alone_seen program scope mode q es b l r =
-    let P : Pair → Type 0 = λ v. IsTypeOf program scope v.0 × IsTypeOf program scope v.1 in
-    let f : P (entry_pair b.entry) = subst P (sym b.pair) (l, r) in
-    one_seen program scope mode b.entry es b.alone f.0 f.1
-
-pub alone_some : (q : Pair) (es : List Entry) → BeginsAlone q es → 0 < length es
-alone_some q es b = let P : List Entry → Type 0 = λ v. 0 < length v in subst P (sym b.alone) (omega arith)

@@ -1,7 +1,9 @@
+pub mod Asked
 pub mod Codes
 pub mod Decided
-pub mod Kept
-pub mod Met
+pub mod Graph
+pub mod Nodes
 pub mod Unfolding
 pub mod Verdict
+pub mod Work
 pub mod Worklist

@@ -1,5 +1,5 @@
 -- What the list of pairs of one question keeps while they are tested one by one.
-use Rattle.std.specs.Prelude.{◌≡◌, ℕ, ◌<◌, ◌≤◌, List, [], ◌∷◌, ◌++◌, ◌⊎◌, Some, length, reverse, slice_get}
+use Rattle.std.specs.Prelude.{◌≡◌, ℕ, ◌<◌, ◌≤◌, List, [], ◌∷◌, ◌++◌, ◌⊎◌, Some, length, map, reverse, slice_get}
 use Rattle.wy_effects.specs.Members.{In, Apart}
 use Rattle.wy_types.specs.declared.path.Step.{Step}
 use Rattle.wy_types.specs.Program.{Program}
@@ -8,70 +8,80 @@ use Rattle.wy_subtype.specs.declared.verdict.Mode.{Mode}
 use Rattle.wy_subtype.specs.declared.verdict.Cause.{Cause}
 use Rattle.wy_subtype.specs.declared.entry.Entry.{Entry}
 use Rattle.wy_subtype.specs.Verdict.{Pair, IsSubtypeIn, Closes, StepsTo, FailsBy}
-use Rattle.wy_subtype.specs.Met.{entry_pair, pairs}
+use Rattle.wy_subtype.specs.Nodes.{base_pairs, pair_at}
 
--- an entry comes by a step from an earlier one
-pub record IsLinked (p : Program) (scope : ℕ) (mode : Mode) (es : List Entry) (k : ℕ) (e : Entry) : Type 0 where
-  pub parent : Entry
-  pub at : slice_get es e.parent ≡ Some parent
-  pub before : e.parent < k
-  pub step : StepsTo p scope mode (entry_pair parent) e.step (entry_pair e)
+-- a pair that was met, and the place of the pair that asked for it
+pub record Met : Type 0 where
+  pub pair : Pair
+  pub parent : ℕ
+
+abbrev pub met_pair : Met → Pair
+met_pair m = m.pair
+
+abbrev pub pairs : List Met → List Pair
+pairs ms = map met_pair ms
+
+-- what an entry of a list stands for, where these are the pairs by their numbers
+abbrev pub met_by : List Pair → Entry → Met
+met_by ps e = record { pair = pair_at ps e.node; parent = e.parent }
+
+abbrev pub mets : List Pair → List Entry → List Met
+mets ps es = map (met_by ps) es
+
+-- a pair comes by a step from an earlier one
+pub record IsLinked (p : Program) (scope : ℕ) (mode : Mode) (ms : List Met) (k : ℕ) (m : Met) : Type 0 where
+  pub parent : Met
+  pub at : slice_get ms m.parent ≡ Some parent
+  pub before : m.parent < k
+  pub step : Step
+  pub leads : StepsTo p scope mode parent.pair step m.pair
 
 -- distinct pairs in range, each but the first by a step from an earlier one
-pub record IsSeen (p : Program) (scope : ℕ) (mode : Mode) (es : List Entry) : Type 0 where
-  pub apart : Apart (pairs es)
-  pub fits : (q : Pair) → In q (pairs es) → IsTypeOf p scope q.0 × IsTypeOf p scope q.1
-  pub linked : (k : ℕ) (e : Entry) → 0 < k → slice_get es k ≡ Some e → IsLinked p scope mode es k e
+pub record IsSeen (p : Program) (scope : ℕ) (mode : Mode) (ms : List Met) : Type 0 where
+  pub apart : Apart (pairs ms)
+  pub fits : (q : Pair) → In q (pairs ms) → IsTypeOf p scope q.0 × IsTypeOf p scope q.1
+  pub linked : (k : ℕ) (m : Met) → 0 < k → slice_get ms k ≡ Some m → IsLinked p scope mode ms k m
 
-abbrev pub Extends : List Entry → List Entry → Type 0
-Extends old new = (tail : List Entry) × (new ≡ old ++ tail)
+abbrev pub Extends : List Met → List Met → Type 0
+Extends old new = (tail : List Met) × (new ≡ old ++ tail)
 
--- the pair is one of a type and a subtype, or the list closes it
+-- the pair is one of a type and a subtype, or the list closes it together with the pairs of equal base types
 abbrev pub IsSettled : Program → ℕ → Mode → List Pair → Pair → Type 0
-IsSettled p scope mode qs q = IsSubtypeIn p scope mode q.0 q.1 ⊎ Closes p scope mode qs q
+IsSettled p scope mode qs q = IsSubtypeIn p scope mode q.0 q.1 ⊎ Closes p scope mode (qs ++ base_pairs) q
 
 -- the pair at a place is settled by the list
-abbrev pub IsDone : Program → ℕ → Mode → List Entry → ℕ → Type 0
-IsDone p scope mode es k = (e : Entry) → slice_get es k ≡ Some e → IsSettled p scope mode (pairs es) (entry_pair e)
+abbrev pub IsDone : Program → ℕ → Mode → List Met → ℕ → Type 0
+IsDone p scope mode ms k = (m : Met) → slice_get ms k ≡ Some m → IsSettled p scope mode (pairs ms) m.pair
 
 -- the pair at a place was tested
-pub record Advances (p : Program) (scope : ℕ) (mode : Mode) (old new : List Entry) (k : ℕ) : Type 0 where
+pub record Advances (p : Program) (scope : ℕ) (mode : Mode) (old new : List Met) (k : ℕ) : Type 0 where
   pub seen : IsSeen p scope mode new
   pub extends : Extends old new
   pub done : IsDone p scope mode new k
 
 -- the pair at a place fails by the cause
-abbrev pub EntryFails : Program → ℕ → Mode → List Entry → ℕ → Cause → Type 0
-EntryFails p scope mode es k cause = (e : Entry) × (slice_get es k ≡ Some e) × FailsBy p scope mode (entry_pair e) cause
+abbrev pub MetFails : Program → ℕ → Mode → List Met → ℕ → Cause → Type 0
+MetFails p scope mode ms k cause = (m : Met) × (slice_get ms k ≡ Some m) × FailsBy p scope mode m.pair cause
 
 -- the list begins with the pair
-abbrev pub BeginsWith : Pair → List Entry → Type 0
-BeginsWith q es = (e : Entry) × (slice_get es 0 ≡ Some e) × (entry_pair e ≡ q)
-
--- the list is of the pair alone
-pub record BeginsAlone (q : Pair) (es : List Entry) : Type 0 where
-  pub entry : Entry
-  pub alone : es ≡ entry ∷ []
-  pub pair : entry_pair entry ≡ q
+abbrev pub BeginsWith : Pair → List Met → Type 0
+BeginsWith q ms = (m : Met) × (slice_get ms 0 ≡ Some m) × (m.pair ≡ q)
 
 -- all pairs before a place were tested
-pub record IsWork (p : Program) (scope : ℕ) (mode : Mode) (first es : List Entry) (next : ℕ) : Type 0 where
-  pub seen : IsSeen p scope mode es
-  pub extends : Extends first es
-  pub within : next ≤ length es
-  pub done : (k : ℕ) → k < next → IsDone p scope mode es k
+pub record IsWork (p : Program) (scope : ℕ) (mode : Mode) (first ms : List Met) (next : ℕ) : Type 0 where
+  pub seen : IsSeen p scope mode ms
+  pub extends : Extends first ms
+  pub within : next ≤ length ms
+  pub done : (k : ℕ) → k < next → IsDone p scope mode ms k
 
 -- the steps back from a place to the first
-abbrev pub Traces : List Entry → ℕ → List Step → Type 0
-Traces es at [] = at ≡ 0
-Traces es at (s ∷ rest) = (e : Entry) × (slice_get es at ≡ Some e) × (0 < at) × (e.step ≡ s) × Traces es e.parent rest
+abbrev pub Traces : Program → ℕ → Mode → List Met → ℕ → List Step → Type 0
+Traces p scope mode ms at [] = at ≡ 0
+Traces p scope mode ms at (s ∷ rest) =
+    (m : Met) × (parent : Met) × (slice_get ms at ≡ Some m) × (slice_get ms m.parent ≡ Some parent) × StepsTo p scope mode parent.pair s m.pair × Traces p scope mode ms m.parent rest
 
 -- the path leads from the first to a place
-pub record IsPathTo (es : List Entry) (at : ℕ) (path : List Step) : Type 0 where
+pub record IsPathTo (p : Program) (scope : ℕ) (mode : Mode) (ms : List Met) (at : ℕ) (path : List Step) : Type 0 where
   pub back : List Step
-  pub traces : Traces es at back
+  pub traces : Traces p scope mode ms at back
   pub turned : path ≡ reverse back
-
--- each entry but the first has its parent before it
-abbrev pub GoesBack : List Entry → Type 0
-GoesBack es = (k : ℕ) (e : Entry) → 0 < k → slice_get es k ≡ Some e → e.parent < k

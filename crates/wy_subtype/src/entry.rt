@@ -1,12 +1,17 @@
-use wy_types::path::Step;
-use wy_types::types::TypeRef;
+ghost use Rattle.std.specs.Prelude.{◌≡◌, ◌<◌, Some, length, slice_get};
 
-/// A pair that was met, by a step from the pair at an earlier place. The first has no such place,
-/// and its step is read nowhere.
+/// The number of a pair that a question met, and the place of the pair that asked for it. The first
+/// was asked for by none, and its parent is read nowhere.
 #[derive(Drop)]
 pub struct Entry {
-    pub left: TypeRef,
-    pub right: TypeRef,
+    pub node: usize,
     pub parent: usize,
-    pub step: Step,
+}
+
+/// What stands at a place.
+pub fn entry_at(entries: &[Entry], at: usize) -> &Entry
+    requires { at < length entries.now }
+    ensures { slice_get entries.now at ≡ Some result.now }
+{
+    &entries[at]
 }

@@ -2,15 +2,18 @@
 //! fails where it is not.
 #![tactic(auto)]
 
+mod asked;
 mod entry;
-mod kept;
+mod graph;
+mod node;
+mod nodes;
 mod one_pair;
 mod pair_table;
 mod paths;
 mod steps;
-mod table;
 mod unfolding;
 mod verdict;
+mod work;
 
 pub use one_pair::subtype;
 pub use pair_table::PairTable;

@@ -1,35 +1,33 @@
 //! Paths from the first pair of a list to a later one.
 
 ghost use Rattle.std.specs.Prelude.{◌≡◌, ◌<◌, IfOk, length, reverse};
-ghost use Rattle.wy_subtype.specs.Worklist.{GoesBack, Traces, IsPathTo};
+ghost use Rattle.wy_types.specs.Program.{program_of};
+ghost use Rattle.wy_types.specs.InRange.{IsInRange};
+ghost use Rattle.wy_subtype.specs.Graph.{mets_in, AreNumbers};
+ghost use Rattle.wy_subtype.specs.Worklist.{IsSeen, Traces, IsPathTo};
 
-use crate::entry::Entry;
+use crate::entry::{Entry, entry_at};
+use crate::graph::Graph;
 use std::alloc::Global;
 use wy_text::list::Items;
 use wy_text::text::Memory;
 use wy_types::path::{Path, Step};
 
-/// The same step.
-pub fn copy_step(step: &Step) -> Result<Step, Memory>
-    ensures { IfOk result (λ s. s ≡ step.now) }
-{
-    Ok(Step {
-        method: step.method.copy()?,
-        part: step.part,
-    })
-}
-
 /// The steps from a place back to the first.
-fn steps_back(alloc: Global, seen: &[Entry], at: usize) -> Result<Vec<Step>, Memory>
-    requires within { at < length seen.now }
-    requires back { GoesBack seen.now }
-    ensures { IfOk result (λ steps. Traces seen.now at steps.items) }
+fn steps_back(graph: &Graph<'_>, work: &[Entry], at: usize) -> Result<Vec<Step>, Memory>
+    requires core { IsInRange (program_of graph.now.core.now) }
+    requires numbers { AreNumbers graph.now work.now }
+    requires seen { IsSeen (program_of graph.now.core.now) graph.now.scope graph.now.mode (mets_in graph.now work.now) }
+    requires within { at < length work.now }
+    ensures { IfOk result (λ steps. Traces (program_of graph.now.core.now) graph.now.scope graph.now.mode (mets_in graph.now work.now) at steps.items) }
 {
-    let mut steps = Vec::new(alloc);
+    let mut steps = Vec::new(graph.alloc);
     let mut k = at;
     while k > 0 {
-        let entry = &seen[k];
-        steps.push(copy_step(&entry.step)?)?;
+        let entry = entry_at(work, k);
+        let parent = entry_at(work, entry.parent);
+        let step = graph.step_between(parent.node, entry.node)?;
+        steps.push(step)?;
         k = entry.parent;
     }
     Ok(steps)
@@ -46,12 +44,14 @@ fn turned(alloc: Global, mut steps: Vec<Step>) -> Result<Path, Memory>
     Ok(path)
 }
 
-/// The path from the first pair to the one at a place.
-pub fn path_to(alloc: Global, seen: &[Entry], at: usize) -> Result<Path, Memory>
-    requires within { at < length seen.now }
-    requires back { GoesBack seen.now }
-    ensures { IfOk result (IsPathTo seen.now at) }
+/// The path from the first pair of a list to the one at a place.
+pub fn path_to(graph: &Graph<'_>, work: &[Entry], at: usize) -> Result<Path, Memory>
+    requires core { IsInRange (program_of graph.now.core.now) }
+    requires numbers { AreNumbers graph.now work.now }
+    requires seen { IsSeen (program_of graph.now.core.now) graph.now.scope graph.now.mode (mets_in graph.now work.now) }
+    requires within { at < length work.now }
+    ensures { IfOk result (IsPathTo (program_of graph.now.core.now) graph.now.scope graph.now.mode (mets_in graph.now work.now) at) }
 {
-    let steps = steps_back(alloc, seen, at)?;
-    turned(alloc, steps)
+    let steps = steps_back(graph, work, at)?;
+    turned(graph.alloc, steps)
 }

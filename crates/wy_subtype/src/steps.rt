@@ -5,8 +5,8 @@ ghost use Rattle.std.specs.Prelude.{◌≡◌, ◌+◌, ◌<◌};
 use std::marker::Model;
 use std::sync::ledger::{Blank, Book, Ledger, Share};
 
-/// How many pairs were unfolded. It takes no bytes and has no code, and only `unfold` adds to it.
-/// Contracts see the number.
+/// How many pairs were unfolded, by `unfold` or in a table, and nothing else adds to it. It takes no
+/// bytes and has no code. Contracts see the number.
 #[derive(Drop)]
 pub struct Steps<L: Ledger> {
     book: Book<L>,

@@ -44,7 +44,7 @@ pub enum Unfolding {
 }
 
 /// The first method of a name.
-fn find<'a>(methods: &'a [Method], name: &Text) -> Option<&'a Method>
+pub(crate) fn find<'a>(methods: &'a [Method], name: &Text) -> Option<&'a Method>
     ensures { option_map signature (option_copied result) ≡ find_method name.now (map signature methods.now) }
 {
     for m in methods {
@@ -195,7 +195,7 @@ fn meet_all(
 }
 
 /// What the test of one pair by itself says.
-fn test_pair(
+pub(crate) fn test_pair(
     alloc: Global,
     core: &Core,
     scope: u16,

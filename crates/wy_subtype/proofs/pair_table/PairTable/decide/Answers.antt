@@ -1,62 +1,35 @@
+use Rattle.std.proofs.Common.{subst, sym}
+use Rattle.std.specs.Prelude.{IfOk}
 use Rattle.std.proofs.lemmas.Result.{IfOk-weaker}
-use Rattle.wy_subtype.specs.Verdict.{Pair}
-use Rattle.wy_subtype.specs.Decided.{About, Grows}
-use Rattle.wy_subtype.proofs.Working.{exact, alone_begins, alone_seen, alone_some}
+use Rattle.wy_types.specs.Fitting.{IsTypeOf}
+use Rattle.wy_subtype.specs.Verdict.{Pair, IsVerdict}
+use Rattle.wy_subtype.specs.Decided.{Decided, Grows}
+use Rattle.wy_subtype.specs.Graph.{decided_of}
+use Rattle.wy_subtype.proofs.Working.{exact}
 use Rattle.wy_subtype.proofs.Growing.{grown_reached}
 use Rattle.wy_subtype.proofs.pair_table.PairTable.decide.Goals as goal
 
-pub explore-requires : goal.explore-requires
-explore-requires g c =
+pub ask-requires : goal.ask-requires
+ask-requires g c =
+    let L : Decided → Type 0 = λ d. IsTypeOf d.about.program d.about.scope c.args.s.now in
+    let R : Decided → Type 0 = λ d. IsTypeOf d.about.program d.about.scope c.args.t.now in
+    record { graph = c.self.invariant; left = subst L (sym c.self.view_is) c.requires.left; right = subst R (sym c.self.view_is) c.requires.right }
+
+pub returns : goal.returns
+returns g c =
     let q : Pair = (c.args.s.now, c.args.t.now) in
-    let about : About = c.args.self.now.about in
+    let old : Decided = c.args.self.now in
+    let new : Decided = decided_of c.ask.new.self in
+    let G : Decided → Type 0 = λ d. Grows q d new c.args.steps.now c.ask.new.steps in
+    let grown : Grows q old new c.args.steps.now c.ask.new.steps = subst G c.self.view_is c.ask.ensures.grows in
+    let V : Decided → Type 0 = λ d. IfOk c.ask.result (IsVerdict d.about.program d.about.scope d.about.mode q) in
+    let verdict = subst V c.self.view_is c.ask.ensures.verdict in
     record {
-      seen = alone_seen about.program about.scope about.mode q c.in_ok-work.work c.in_ok-work.ensures c.requires.left c.requires.right;
-      within = alone_some q c.in_ok-work.work c.in_ok-work.ensures;
+      «exact» = IfOk-weaker c.ask.result _ _ (λ v h. exact old.about.program old.about.scope old.about.mode q v h) verdict;
+      verdict = verdict;
+      same = grown.same;
+      there = c.ask.ensures.there;
+      keeps = (grown.extends.tail, grown.extends.more);
+      reached = λ r i. grown_reached q r old new c.args.steps.now c.ask.new.steps grown i;
+      cost = grown.cost;
     }
-
-pub returns-clause-exact : goal.returns-clause-exact
-returns-clause-exact g c =
-    let q : Pair = (c.args.s.now, c.args.t.now) in
-    let begins = alone_begins q c.in_ok-work.work c.in_ok-work.ensures in
-    let about : About = c.args.self.now.about in
-    IfOk-weaker c.explore.result _ _ (λ v h. exact about.program about.scope about.mode q v (h q begins)) c.explore.ensures.verdict
-
-pub returns-clause-verdict : goal.returns-clause-verdict
-returns-clause-verdict g c =
-    let q : Pair = (c.args.s.now, c.args.t.now) in
-    let begins = alone_begins q c.in_ok-work.work c.in_ok-work.ensures in
-    IfOk-weaker c.explore.result _ _ (λ v h. h q begins) c.explore.ensures.verdict
-
-pub returns-clause-same : goal.returns-clause-same
-returns-clause-same g c =
-    let q : Pair = (c.args.s.now, c.args.t.now) in
-    let begins = alone_begins q c.in_ok-work.work c.in_ok-work.ensures in
-    let grown : Grows q c.args.self.now c.explore.new.self c.args.steps.now c.explore.new.steps = c.explore.ensures.grows q begins in
-    grown.same
-
-pub returns-clause-there : goal.returns-clause-there
-returns-clause-there g c =
-    let q : Pair = (c.args.s.now, c.args.t.now) in
-    let begins = alone_begins q c.in_ok-work.work c.in_ok-work.ensures in
-    IfOk-weaker c.explore.result _ _ (λ v h. h q begins) c.explore.ensures.there
-
-pub returns-clause-keeps : goal.returns-clause-keeps
-returns-clause-keeps g c =
-    let q : Pair = (c.args.s.now, c.args.t.now) in
-    let begins = alone_begins q c.in_ok-work.work c.in_ok-work.ensures in
-    let grown : Grows q c.args.self.now c.explore.new.self c.args.steps.now c.explore.new.steps = c.explore.ensures.grows q begins in
-    (grown.extends.tail, grown.extends.more)
-
-pub returns-clause-reached : goal.returns-clause-reached
-returns-clause-reached g c =
-    let q : Pair = (c.args.s.now, c.args.t.now) in
-    let begins = alone_begins q c.in_ok-work.work c.in_ok-work.ensures in
-    let grown : Grows q c.args.self.now c.explore.new.self c.args.steps.now c.explore.new.steps = c.explore.ensures.grows q begins in
-    λ r i. grown_reached q r c.args.self.now c.explore.new.self c.args.steps.now c.explore.new.steps grown i
-
-pub returns-clause-cost : goal.returns-clause-cost
-returns-clause-cost g c =
-    let q : Pair = (c.args.s.now, c.args.t.now) in
-    let begins = alone_begins q c.in_ok-work.work c.in_ok-work.ensures in
-    let grown : Grows q c.args.self.now c.explore.new.self c.args.steps.now c.explore.new.steps = c.explore.ensures.grows q begins in
-    grown.cost
