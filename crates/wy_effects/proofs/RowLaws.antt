@@ -84,7 +84,7 @@ within_row : (row atoms : List ℕ) → IsSet 512 atoms → AllIn row (others at
 within_row row atoms set all =
     (all_are atoms (others row)).0
     (λ a i. (let small = below a atoms (ascending 0 512 atoms set) i in
-      is_in-others a row small ∙ ap not (false_from_ne_true (is_in a row) (λ lacks. true≢false (sym (all a lacks) ∙ is_in-others a atoms small ∙ ap not i)))))
+    is_in-others a row small ∙ ap not (false_from_ne_true (is_in a row) (λ lacks. true≢false (sym (all a lacks) ∙ is_in-others a atoms small ∙ ap not i)))))
 
 row_within : (row atoms : List ℕ) → others (others row) ≡ row → Within atoms (others row) → AllIn row (others atoms)
 row_within row atoms same within a i =

@@ -35,9 +35,10 @@ pub rows_in : (xs : List (List ℕ)) (bound : List ℕ) → length bound ≡ 8 �
     → AllRowsIn (map numbers_of xs) (numbers_of bound)
 rows_in [] bound long rows all = tt
 rows_in (x ∷ xs) bound long rows all =
-    let longer = length-append x (flat xs) in
-    (AllIn-from_inside x bound (rows.0.0 ∙ sym long) (subst (λ (r : List ℕ). AllInside r bound) (first_row x (flat xs) rows.0.0) (all 0 (omega (arith, rows.0.0, longer)))),
-      rows_in xs bound long rows.1 (λ n lt. subst (λ (r : List ℕ). AllInside r bound) (later_row x (flat xs) n rows.0.0) (all (suc n) (omega (arith, lt, rows.0.0, longer)))))
+    let longer = length-append x (flat xs) in (
+      AllIn-from_inside x bound (rows.0.0 ∙ sym long) (subst (λ (r : List ℕ). AllInside r bound) (first_row x (flat xs) rows.0.0) (all 0 (omega (arith, rows.0.0, longer)))),
+      rows_in xs bound long rows.1 (λ n lt. subst (λ (r : List ℕ). AllInside r bound) (later_row x (flat xs) n rows.0.0) (all (suc n) (omega (arith, lt, rows.0.0, longer)))),
+    )
 
 -- rows of numbers of the bound alone are inside it
 pub rows_inside : (xs : List (List ℕ)) (bound : List ℕ) → AreRows xs → AllRowsIn (map numbers_of xs) (numbers_of bound)
