@@ -1,4 +1,5 @@
 pub mod Lacks
 pub mod Meeting
+pub mod Sides
 pub mod Unions
 pub mod Working

@@ -1,4 +1,5 @@
 pub mod Gathering
+pub mod Matrix
 pub mod Safety
 pub mod Table
 pub mod Worklist

@@ -1,3 +1,5 @@
+//! Whether a type is safe, and higher-order safe, for a set.
+
 ghost use Rattle.std.specs.Prelude.{◌↔◌, IfOk, true, false};
 ghost use Rattle.wy_types.specs.Program.{program_of};
 ghost use Rattle.wy_types.specs.Types.{methods_of};
@@ -7,7 +9,8 @@ ghost use Rattle.wy_types.specs.Paths.{IsSafe};
 ghost use Rattle.wy_bounds.specs.Safety.{IsAnswer, IsYes};
 
 use crate::least::least_lack;
-use crate::reaching::{all_reached, path_to};
+use crate::matrix::Matrix;
+use crate::reaching::path_to;
 use std::alloc::Global;
 use wy_effects::atom::Atom;
 use wy_effects::set::EffSet;
@@ -39,11 +42,14 @@ fn is_safe(
     ensures { IfOk result (λ v. IsAnswer (program_of core.now) scope t.now positive e.now v) }
 {
     e.is_set();
-    let table = all_reached(alloc, core, scope, t)?;
-    match least_lack(alloc, core, scope, table.as_slice(), positive, e)? {
+    let matrix = Matrix::build(alloc, core, scope, t)?;
+    if matrix.is_safe_at(positive, e) {
+        return Ok(Safety::Yes);
+    }
+    match least_lack(alloc, core, scope, matrix.entries(), positive, e)? {
         None => Ok(Safety::Yes),
         Some(lack) => {
-            let path = path_to(alloc, table.as_slice(), lack.at)?;
+            let path = path_to(alloc, matrix.entries(), lack.at)?;
             Ok(Safety::No {
                 path,
                 atom: lack.atom,

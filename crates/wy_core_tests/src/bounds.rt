@@ -1,7 +1,7 @@
 use crate::ranges::{is_in_range, is_type_of};
 use std::alloc::Global;
 use std::test::Fail;
-use wy_bounds::{Part, Path, Safety, Step, effects, ho_effects, ho_safe, safe};
+use wy_bounds::{Matrix, Part, Path, Safety, Step, effects, ho_effects, ho_safe, safe};
 use wy_effects::atom::{Atom, AtomTable};
 use wy_effects::set::{EffSet, SetList};
 use wy_text::fault::Place;
@@ -146,7 +146,7 @@ fn ring_core(alloc: Global, number: u16) -> Result<Core, Memory> {
     Ok(core)
 }
 
-/// Whether these are the type's effects and higher-order effects.
+/// Whether these are the type's effects and higher-order effects, also by the table of its paths.
 fn has_effects(
     alloc: Global,
     core: &Core,
@@ -162,10 +162,15 @@ fn has_effects(
     }
     let given = effects(alloc, core, 0, t)?;
     let taken = ho_effects(alloc, core, 0, t)?;
+    let matrix = Matrix::build(alloc, core, 0, t)?;
+    if matrix.effects() != given || matrix.ho_effects() != taken {
+        return Ok(false);
+    }
     Ok(given == set_of(alloc, positive)? && taken == set_of(alloc, negative)?)
 }
 
-/// What is answered of safety and of higher-order safety.
+/// What is answered of safety and of higher-order safety; `None` where the table of the type's paths
+/// answers otherwise.
 fn answers(
     alloc: Global,
     core: &Core,
@@ -181,6 +186,13 @@ fn answers(
     let e = set_of(alloc, atoms)?;
     let given = safe(alloc, core, 0, t, &e)?;
     let taken = ho_safe(alloc, core, 0, t, &e)?;
+    let matrix = Matrix::build(alloc, core, 0, t)?;
+    if matrix.is_safe(&e) != (given == Safety::Yes) {
+        return Ok(None);
+    }
+    if matrix.is_ho_safe(&e) != (taken == Safety::Yes) {
+        return Ok(None);
+    }
     Ok(Some((given, taken)))
 }
 

@@ -4,5 +4,6 @@ pub mod Lists
 pub mod Numbers
 pub mod Places
 pub mod Replacing
+pub mod RowLaws
 pub mod SetLaws
 pub mod Walks

@@ -1,3 +1,4 @@
 pub mod AtomTable
 pub mod EffSet
 pub mod Members
+pub mod Rows

@@ -2,4 +2,5 @@
 #![tactic(auto)]
 
 pub mod atom;
+pub mod rows;
 pub mod set;

@@ -1,4 +1,5 @@
 ghost use Rattle.std.specs.Prelude.{◌≡◌, ◌<◌, ◌↔◌, [], length, map, slice_index_or, IfOk, IsOkAnd, OnErr, IsTrue, false};
+ghost use Rattle.wy_lanes.specs.Rows.{others};
 ghost use Rattle.wy_effects.specs.EffSet.{IsSet, insert_atom, union, without, replace};
 ghost use Rattle.wy_effects.specs.Members.{Within};
 
@@ -141,6 +142,13 @@ impl EffSet {
             set: self.set.without(&other.set),
             alloc: self.alloc,
         })
+    }
+
+    /// The atoms below 512 that are not in this set.
+    pub(crate) fn lacking(&self) -> NumberSet
+        ensures { result ≡ others self.now }
+    {
+        self.set.complement()
     }
 
     /// Each atom replaced by the set at its number in `by`: the atoms of all those sets. An atom

@@ -2,6 +2,9 @@
 use Rattle.std.proofs.Common.{codes, ◌≡◌, [], ◌∷◌, ◌++◌, replicate, refl, arith, true, false, Some, None}
 use Rattle.wy_lanes.specs.Classes.{is_word, mask_of, masks_of}
 use Rattle.wy_lanes.specs.Numbers.{first_from, numbers_of, union_numbers, with_number, without_numbers}
+use Rattle.std.specs.List.{range_with_len}
+use Rattle.std.proofs.lemmas.Bool.{false≢true}
+use Rattle.wy_lanes.specs.Rows.{AllRowsIn, others}
 use Rattle.wy_lanes.specs.Words.{AllInside, has_bit, row_of, union_of}
 
 -- ---- words
@@ -88,3 +91,15 @@ first_past_four = refl
 
 none_past_nine : first_from 10 (1 ∷ 4 ∷ 9 ∷ []) ≡ None
 none_past_nine = refl
+
+-- ---- rows
+
+all_but_two : others (range_with_len 0 510) ≡ 510 ∷ 511 ∷ []
+unfolding others
+all_but_two = refl
+
+two_rows_in : AllRowsIn ([] ∷ [] ∷ []) (4 ∷ [])
+two_rows_in = (λ n e. absurd (false≢true e), (λ n e. absurd (false≢true e), tt))
+
+one_row_out : AllRowsIn ((4 ∷ []) ∷ (5 ∷ []) ∷ []) (4 ∷ []) → ⊥
+one_row_out all = false≢true (all.1.0 5 refl)

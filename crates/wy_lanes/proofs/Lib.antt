@@ -4,3 +4,4 @@ mod Examples
 pub mod Masks
 pub mod NumberLaws
 pub mod NumbersOf
+pub mod RowLemmas

@@ -1,3 +1,4 @@
 pub mod Classes
 pub mod Numbers
+pub mod Rows
 pub mod Words

@@ -2,5 +2,6 @@
 #![tactic(auto)]
 
 pub mod classes;
+pub mod number_rows;
 pub mod number_set;
 pub mod words;

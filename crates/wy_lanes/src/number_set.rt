@@ -4,6 +4,7 @@ ghost use Rattle.std.specs.Prelude.{◌≡◌, ◌<◌, ◌≤◌, ◌↔◌, �
 ghost use Rattle.std.specs.Int.{bit_at};
 ghost use Rattle.std.specs.List.{sum_by};
 ghost use Rattle.wy_lanes.specs.Numbers.{AllIn, IsAscending, first_from, is_in, numbers_of, union_numbers, with_number, without_numbers};
+ghost use Rattle.wy_lanes.specs.Rows.{IsRow, others};
 
 use crate::words::{includes_words, union_words};
 use std::marker::Model;
@@ -69,6 +70,15 @@ fn has_same(left: u64x8, right: u64x8) -> bool
     ensures { IsTrue result ↔ (numbers_of left ≡ numbers_of right) }
 {
     left.to_array() == right.to_array()
+}
+
+/// The words, as a row.
+#[inline(always)]
+fn row_of(words: u64x8) -> [u64; 8]
+    ensures same { result ≡ words }
+    ensures fits { IsRow result }
+{
+    words.to_array()
 }
 
 /// The word's lowest set bit from `low` on.
@@ -169,6 +179,24 @@ impl NumberSet {
         NumberSet {
             words: left.to_array(),
         }
+    }
+
+    /// The numbers below 512 that are not in this set. Takes no memory.
+    pub fn complement(&self) -> NumberSet
+        ensures { result ≡ others self.now }
+    {
+        let all = NumberSet {
+            words: [u64::MAX; 8],
+        };
+        all.without(self)
+    }
+
+    /// The words of the set.
+    pub(crate) fn row(&self) -> [u64; 8]
+        ensures numbers { numbers_of result ≡ self.now }
+        ensures fits { IsRow result }
+    {
+        row_of(u64x8::from_array(self.words))
     }
 
     /// The set's least number from `from` on; `None` where it has none there. Takes no memory.
