@@ -1,4 +1,8 @@
-ghost use Rattle.std.specs.Prelude.{◌≡◌, ◌++◌, [], map, IfOk, OnOk, slice_index_or};
+//! The report of an authority: as a text, and written row by row.
+
+ghost use Rattle.std.specs.Prelude.{◌≡◌, ◌++◌, [], map, Err, IfOk, OnOk, slice_index_or};
+ghost use Rattle.wy_text.specs.Outside.{Rose};
+ghost use Rattle.wy_text.specs.Writing.{StopsShort, WritesUpTo};
 ghost use Rattle.wy_effects.specs.AtomTable.{atom_name};
 ghost use Rattle.wy_authority.specs.Authority.{whole_set};
 ghost use Rattle.wy_authority.specs.Report.{atom_text, atoms_after, body_lines, instance_text, named_atoms, report_text, set_text};
@@ -8,7 +12,9 @@ use std::alloc::Global;
 use wy_effects::atom::Atom;
 use wy_effects::set::EffSet;
 use wy_text::fault::AtomName;
+use wy_text::sink::{Sink, WriteError};
 use wy_text::text::{Memory, Text, from_vec};
+use wy_text::writing::write_all;
 
 /// The authority of all these bodies.
 fn whole_set(alloc: Global, bodies: &[BodyRow]) -> Result<EffSet, Memory>
@@ -100,4 +106,37 @@ pub fn report(alloc: Global, authority: &Authority) -> Result<Text, Memory>
         push_instance(alloc, &mut text, authority.atoms.as_slice(), row)?;
     }
     Ok(from_vec(text))
+}
+
+/// The lines of one instance.
+fn instance_lines(alloc: Global, atoms: &[AtomName], row: &InstanceRow) -> Result<Vec<u8>, Memory>
+    ensures { IfOk result (λ text. text.items ≡ instance_text atoms.now row.now) }
+{
+    let mut text = Vec::new(alloc);
+    push_instance(alloc, &mut text, atoms, row)?;
+    Ok(text)
+}
+
+/// Writes the report of an authority to a sink, the lines of one instance after those of another, so that
+/// no more of its text is held than those (docs/LANGUAGE.md, "Authority and report"). It tells what `write_all`
+/// tells of the whole text: `Failed` comes only where the sink counted a fault; a prefix of the text that
+/// is not the whole text was written then, and where memory was wanting.
+pub fn write_report<S: Sink>(
+    alloc: Global,
+    authority: &Authority,
+    sink: &mut S,
+) -> Result<(), WriteError>
+    ensures whole { OnOk result (WritesUpTo (report_text authority.now) [] (S.state sink.old) (S.state sink.new)) }
+    ensures failed { result ≡ Err WriteError.Failed → StopsShort (report_text authority.now) (S.state sink.old) (S.state sink.new) × Rose (S.state sink.old).faults (S.state sink.new).faults }
+    ensures starved { result ≡ Err WriteError.Memory → StopsShort (report_text authority.now) (S.state sink.old) (S.state sink.new) }
+{
+    for row in authority.rows.as_slice() {
+        let Ok(text) = instance_lines(alloc, authority.atoms.as_slice(), row) else {
+            return Err(WriteError::Memory);
+        };
+        if let Err(error) = write_all(sink, text.as_slice()) {
+            return Err(error);
+        }
+    }
+    Ok(())
 }

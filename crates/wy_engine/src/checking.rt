@@ -11,15 +11,15 @@ ghost use Rattle.wy_engine.specs.Judgement.{accepted_text, authority_text, body_
 
 use crate::judging::names_status;
 use crate::status::Status;
-use crate::writing::write_out;
+use crate::writing::{write_out, write_report_out};
 use std::alloc::Global;
-use wy_authority::{Authority, InstanceRow, authority, report};
+use wy_authority::{Authority, InstanceRow, authority};
 use wy_judge::CheckRefusal;
 use wy_link::{Links, check};
 use wy_names::resolve;
 use wy_syntax::items::Tree;
 use wy_text::sink::Sink;
-use wy_text::text::{Memory, Text};
+use wy_text::text::Memory;
 use wy_types::resolved::Core;
 use wy_well_formed::resolved_is_kept;
 
@@ -70,7 +70,7 @@ pub fn check_trees<O: Sink>(alloc: Global, trees: &[Tree], out: &mut O) -> Statu
 }
 
 /// The authority of a program that is accepted.
-fn authority_of(alloc: Global, accepted: &Accepted) -> Result<Authority, Memory>
+pub fn authority_of(alloc: Global, accepted: &Accepted) -> Result<Authority, Memory>
     requires { IsCheckedProgram (program_of accepted.now.core) accepted.now.links }
     ensures { IfOk result (λ a. a ≡ authority_of (program_of accepted.now.core)) }
 {
@@ -83,32 +83,14 @@ fn authority_of(alloc: Global, accepted: &Accepted) -> Result<Authority, Memory>
     )
 }
 
-/// The report of the authority of a program that is accepted.
-pub fn report_of(alloc: Global, accepted: &Accepted) -> Result<Text, Memory>
-    requires { IsCheckedProgram (program_of accepted.now.core) accepted.now.links }
-    ensures { IfOk result (λ t. t ≡ authority_text (program_of accepted.now.core)) }
-{
-    let authority = authority_of(alloc, accepted)?;
-    report(alloc, &authority)
-}
-
 /// How many lines of bodies these rows have; `None` where they are more than can be counted, which no memory holds.
-fn body_lines(rows: &[InstanceRow]) -> Option<u64>
+pub fn body_lines(rows: &[InstanceRow]) -> Option<u64>
     ensures { IfSome result (λ n. n ≡ body_lines rows.now) }
 {
     let Some((row, rest)) = rows.split_first() else {
         return Some(0);
     };
     body_lines(rest)?.checked_add(row.bodies.len() as u64)
-}
-
-/// How many lines of bodies the report of an accepted program has.
-pub fn body_lines_of(alloc: Global, accepted: &Accepted) -> Result<u64, Memory>
-    requires { IsCheckedProgram (program_of accepted.now.core) accepted.now.links }
-    ensures { IfOk result (λ n. n ≡ body_lines (authority_of (program_of accepted.now.core)).rows) }
-{
-    let authority = authority_of(alloc, accepted)?;
-    body_lines(authority.rows.as_slice()).ok_or(Memory)
 }
 
 /// Judges trees, and writes the report of the authority of their program to `out`, where it is accepted
@@ -120,8 +102,8 @@ pub fn report_trees<O: Sink>(alloc: Global, trees: &[Tree], out: &mut O) -> Stat
         Ok(accepted) => accepted,
         Err(end) => return end,
     };
-    let Ok(text) = report_of(alloc, &accepted) else {
+    let Ok(authority) = authority_of(alloc, &accepted) else {
         return Status::Memory;
     };
-    write_out(out, text.as_bytes())
+    write_report_out(alloc, out, &authority)
 }

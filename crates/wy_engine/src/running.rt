@@ -1,3 +1,5 @@
+//! Running a program that is accepted: its code, its report and its run.
+
 ghost use Rattle.std.specs.Prelude.{◌≡◌, IfOk, map};
 ghost use Rattle.wy_code.specs.Running.{NeverStuck};
 ghost use Rattle.wy_device.specs.Devices.{IsInOrder};
@@ -6,16 +8,18 @@ ghost use Rattle.wy_link.specs.Checking.{IsCheckedProgram};
 ghost use Rattle.wy_lower.specs.Lowering.{lowered};
 ghost use Rattle.wy_sound.specs.Programs.{program_starts};
 ghost use Rattle.wy_syntax.specs.Views.{file_tree};
-ghost use Rattle.wy_types.specs.Program.{program_of};
+ghost use Rattle.wy_authority.specs.Authority.{authority_of};
+ghost use Rattle.wy_types.specs.Program.{Program, program_of};
 ghost use Rattle.wy_engine.specs.Answering.{RunsAccepted, RunsTrees};
 ghost use Rattle.wy_engine.specs.FileTrees.{AreOfFiles};
 ghost use Rattle.wy_engine.specs.Running.{RunsImage, ThenWrote, status_of, summary_in};
 
-use crate::checking::{Accepted, body_lines_of, judge_trees, report_of};
+use crate::checking::{Accepted, authority_of, body_lines, judge_trees};
 use crate::laws::accepted_run_as_meant;
 use crate::status::Status;
 use crate::writing::write_out;
 use std::alloc::Global;
+use wy_authority::{Authority, write_report};
 use wy_device::device::Device;
 use wy_lower::{LowerRefusal, lower};
 use wy_machine::devices::Devices;
@@ -25,7 +29,6 @@ use wy_sample::summary;
 use wy_syntax::items::Tree;
 use wy_text::sink::{Sink, WriteError};
 use wy_text::text::{Memory, Text, from_bytes};
-use wy_text::writing::write_all;
 
 /// In which way a program is run.
 #[derive(Clone, Copy)]
@@ -93,18 +96,20 @@ fn run_image<O: Sink, D: Device>(
     }
 }
 
-/// The text that sums a run of an accepted program up, which only a sample has.
-fn summary_of(alloc: Global, accepted: &Accepted, way: Mode) -> Result<Text, Memory>
-    requires { IsCheckedProgram (program_of accepted.now.core) accepted.now.links }
-    ensures { IfOk result (λ text. text ≡ summary_in way (program_of accepted.now.core)) }
+/// The text that sums a run of a program of this authority up, which only a sample has.
+fn summary_of(alloc: Global, authority: &Authority, way: Mode) -> Result<Text, Memory>
+    ensures { IfOk result (λ text. (p : Program) → authority.now ≡ authority_of p → text ≡ summary_in way p) }
 {
     match way {
-        Mode::Summed(number) => summary(alloc, number, body_lines_of(alloc, accepted)?),
+        Mode::Summed(number) => {
+            let lines = body_lines(authority.rows.as_slice()).ok_or(Memory)?;
+            summary(alloc, number, lines)
+        }
         Mode::Silent | Mode::Traced => from_bytes(alloc, b""),
     }
 }
 
-/// Lowers an accepted program, loads its code, prints its report, and then runs the code.
+/// Lowers an accepted program, loads its code, prints its report row by row, and then runs the code.
 fn run_accepted<O: Sink, E: Sink, D: Device>(
     alloc: Global,
     accepted: &Accepted,
@@ -126,13 +131,13 @@ fn run_accepted<O: Sink, E: Sink, D: Device>(
     let Ok(mut image) = load(alloc, &code, manner.depth) else {
         return Status::Memory;
     };
-    let Ok(text) = report_of(alloc, accepted) else {
+    let Ok(authority) = authority_of(alloc, accepted) else {
         return Status::Memory;
     };
-    let Ok(summary) = summary_of(alloc, accepted, manner.way) else {
+    let Ok(summary) = summary_of(alloc, &authority, manner.way) else {
         return Status::Memory;
     };
-    match write_all(report, text.as_bytes()) {
+    match write_report(alloc, &authority, report) {
         Ok(()) => run_image(alloc, &mut image, manner, summary.as_bytes(), out, devices),
         Err(WriteError::Failed) => Status::Unwritten,
         Err(WriteError::Memory) => Status::Memory,
