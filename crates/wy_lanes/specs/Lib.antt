@@ -1,4 +1,5 @@
 pub mod Classes
 pub mod Numbers
 pub mod Rows
+pub mod Runs
 pub mod Words

@@ -52,6 +52,7 @@ fn word_mask(block: u8x64) -> u64
 /// Says of at most 64 bytes which are newlines, spaces, word bytes (letters, digits and `_` of
 /// ASCII, and every byte from 128 on) and double quotes, in this order of the masks: bit i is for
 /// byte i, and a bit past the last byte is 0. Takes no memory.
+#[inline(always)]
 pub fn class_masks(bytes: &[u8], masks: &mut [u64; 4])
     requires { length bytes.now ≤ 64 }
     ensures { masks.new ≡ masks_of bytes.now }

@@ -4,4 +4,5 @@
 pub mod classes;
 pub mod number_rows;
 pub mod number_set;
+pub mod runs;
 pub mod words;

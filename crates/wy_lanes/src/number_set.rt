@@ -83,7 +83,7 @@ fn row_of(words: u64x8) -> [u64; 8]
 
 /// The word's lowest set bit from `low` on.
 #[inline(always)]
-fn lowest_bit(word: u64, low: u16) -> Option<u16>
+pub(crate) fn lowest_bit(word: u64, low: u16) -> Option<u16>
     requires { low < 64 }
     ensures there { IfSome result (λ bit. (low ≤ bit) × (bit < 64) × (bit_at word bit ≡ 1)) }
     ensures lowest { IfSome result (λ bit. (i : ℕ) → low ≤ i → i < bit → bit_at word i ≡ 0) }
