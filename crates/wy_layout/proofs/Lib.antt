@@ -12,6 +12,7 @@ pub mod Limits
 pub mod WordCases
 pub mod Tokenwise
 pub mod Cutting
+pub mod Fronts
 pub mod Laying
 pub mod LineOuts
 pub mod Linewise

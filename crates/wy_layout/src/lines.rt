@@ -1,7 +1,9 @@
-ghost use Rattle.std.specs.Prelude.{◌≡◌, ◌++◌, ◌∷◌, [], ◌<◌, ◌≤◌, ◌+◌, ◌^◌, length, reverse, replicate, take, drop, IfOk, OnOk, IfErr};
+//! The lines of a file: where each ends, its indentation, and its tokens.
+
+ghost use Rattle.std.specs.Prelude.{◌≡◌, ◌++◌, ◌∷◌, [], ◌<◌, ◌≤◌, ◌+◌, ◌^◌, length, reverse, replicate, take, drop, IfOk, OnOk, IfErr, IsTrue, ◌↔◌};
 ghost use Rattle.wy_text.specs.declared.token.TokenKind.TheVariants as kind;
 ghost use Rattle.wy_layout.specs.Counts.{counted_from};
-ghost use Rattle.wy_layout.specs.Cut.{line_len};
+ghost use Rattle.wy_layout.specs.Cut.{HasReturn, line_len};
 ghost use Rattle.wy_layout.specs.Layout.{mark, marks};
 ghost use Rattle.wy_layout.specs.Layout as layout;
 ghost use Rattle.wy_layout.specs.Lexed.{end_of, lex_lines, line_out, sooner, with_end, words_of};
@@ -13,21 +15,16 @@ use crate::refusal::Fault;
 use crate::row::{Row, next_row};
 use crate::widths::{Before, mark_count, next_line, opening, rank};
 use std::alloc::Global;
+use wy_lanes::runs::{Class, gap_len, run_len};
 use wy_text::limit::MOST_TOKENS;
 use wy_text::token::{Token, TokenKind};
 
+/// What is left behind the leading spaces.
 fn after_spaces(text: &[u8]) -> &[u8]
     ensures value { result.now ≡ lines.after_spaces text.now }
     ensures within { lines.width text.now + length result.now ≡ length text.now }
 {
-    let mut rest = text;
-    while let [byte, more @ ..] = rest {
-        if *byte != b' ' {
-            return rest;
-        }
-        rest = more;
-    }
-    rest
+    behind(text, run_len(text, Class::Space))
 }
 
 fn has_tab(text: &[u8]) -> bool
@@ -161,40 +158,24 @@ fn line_len(text: &[u8]) -> usize
     ensures value { result ≡ line_len text.now }
     ensures within { result ≤ length text.now }
 {
-    let mut rest = text;
-    while let [byte, more @ ..] = rest {
-        if *byte == b'\n' {
-            break;
-        }
-        rest = more;
-    }
-    text.len() - rest.len()
+    gap_len(text, Class::Newline)
 }
 
-fn ends_line(text: &[u8]) -> bool
-    ensures { result ≡ lines.ends_line text.now }
+/// Whether the line of so many bytes ends with a newline that has a carriage return before it.
+fn has_return(text: &[u8], len: usize) -> bool
+    requires { len ≤ length text.now }
+    ensures { IsTrue result ↔ HasReturn text.now len }
 {
-    match text {
-        [] => false,
-        [byte] => *byte == b'\n',
-        [first, second, ..] => *first == b'\n' || (*first == b'\r' && *second == b'\n'),
-    }
+    0 < len && len < text.len() && text[len - 1] == b'\r'
 }
 
 /// How many bytes stand before the line's end.
-#[tactic(auto, using(crate::proofs::Cutting::content_stops))]
 fn content_len(text: &[u8]) -> usize
     ensures value { result ≡ length (lines.content_of text.now) }
     ensures within { result ≤ length text.now }
 {
-    let mut rest = text;
-    while let [_, more @ ..] = rest {
-        if ends_line(rest) {
-            break;
-        }
-        rest = more;
-    }
-    text.len() - rest.len()
+    let len = line_len(text);
+    if has_return(text, len) { len - 1 } else { len }
 }
 
 fn front(text: &[u8], count: usize) -> &[u8]
