@@ -2,6 +2,7 @@ use std::alloc::{AllocError, Global};
 use std::test::Fail;
 use wy_lanes::classes::class_masks;
 use wy_lanes::number_set::NumberSet;
+use wy_lanes::runs::{Class, gap_len, run_len};
 use wy_lanes::words::{any_outside, includes_words, union_words};
 
 /// Lengths round the ends of blocks of 8 and of 64.
@@ -155,6 +156,40 @@ fn each_byte_is_of_its_class(rt: HostRuntime) -> Result<(), Fail> {
 }
 
 /// The set of these numbers, each below 512.
+
+/// So many spaces, and then these bytes.
+fn spaces_before(alloc: Global, count: u16, last: &[u8]) -> Result<Vec<u8>, AllocError> {
+    let mut bytes = Vec::new(alloc);
+    for _ in 0..count {
+        bytes.push(b' ')?;
+    }
+    bytes.extend_from_slice(last)?;
+    Ok(bytes)
+}
+
+#[test]
+fn a_class_goes_as_far_as_its_bytes(rt: HostRuntime) -> Result<(), Fail> {
+    let alloc = rt.alloc();
+    for length in LENGTHS {
+        let count = length as usize;
+        let all = spaces_before(alloc, length, b"")?;
+        assert_eq!(rt; run_len(all.as_slice(), Class::Space), count);
+        assert_eq!(rt; gap_len(all.as_slice(), Class::Newline), count);
+        let line = spaces_before(alloc, length, b"\n \"a")?;
+        assert_eq!(rt; run_len(line.as_slice(), Class::Space), count);
+        assert_eq!(rt; gap_len(line.as_slice(), Class::Newline), count);
+        assert_eq!(rt;
+            gap_len(line.as_slice(), Class::Quote),
+            count.wrapping_add(2)
+        );
+        assert_eq!(rt;
+            gap_len(line.as_slice(), Class::Word),
+            count.wrapping_add(3)
+        );
+    }
+    Ok(())
+}
+
 fn set_of(numbers: &[u16]) -> NumberSet {
     let mut set = NumberSet::empty();
     for number in numbers {

@@ -1,3 +1,4 @@
+use crate::three_files::{MAIN, PARTS, TYPES};
 use std::alloc::Global;
 use std::test::Fail;
 use wy_layout::refusal::LexRefusal;
@@ -437,6 +438,51 @@ fn names_and_texts_have_their_bytes(rt: HostRuntime) -> Result<(), Fail> {
             _ => b"?".as_slice(),
         };
         assert_eq!(rt; found, wanted);
+    }
+    Ok(())
+}
+
+/// The kinds of the tokens, one after another.
+fn kinds_shown(alloc: Global, tokens: &[Token]) -> Result<String, Fail> {
+    let mut out = String::new(alloc);
+    for token in tokens {
+        let kind = &token.kind;
+        let piece = format!(in alloc; "{kind:?} ")?;
+        out.push_str(piece.as_str())?;
+    }
+    Ok(out)
+}
+
+/// Whether the tokens stand where a comment line of so many letters in front moves them.
+fn are_moved(plain: &[Token], moved: &[Token], letters: u32) -> bool {
+    if plain.len() != moved.len() {
+        return false;
+    }
+    for (a, b) in plain.iter().zip(moved) {
+        let start = a.start.wrapping_add(letters).wrapping_add(3);
+        let line = a.place.line.wrapping_add(1);
+        if b.start != start || b.place.line != line || b.place.column != a.place.column {
+            return false;
+        }
+    }
+    true
+}
+
+#[test]
+fn a_comment_in_front_moves_the_tokens_alone(rt: HostRuntime) -> Result<(), Fail> {
+    let alloc = rt.alloc();
+    for file in [TYPES, PARTS, MAIN] {
+        let plain = lex_ok(alloc, file.as_bytes())?;
+        let kinds = kinds_shown(alloc, plain.as_slice())?;
+        for letters in 0..64u32 {
+            let mut bytes = built(alloc, b"//", b"c", letters, b"\n")?;
+            bytes.extend_from_slice(file.as_bytes())?;
+            let moved = lex_ok(alloc, bytes.as_slice())?;
+            let same = are_moved(plain.as_slice(), moved.as_slice(), letters);
+            assert!(rt; same, "behind {letters} letters");
+            let found = kinds_shown(alloc, moved.as_slice())?;
+            assert!(rt; found == kinds, "behind {letters} letters");
+        }
     }
     Ok(())
 }

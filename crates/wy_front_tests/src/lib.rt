@@ -12,3 +12,5 @@ mod parsing;
 mod printing;
 #[cfg(test)]
 mod texts;
+#[cfg(test)]
+mod three_files;
