@@ -5,10 +5,13 @@ pub mod AlikeLines
 pub mod AlikeScopes
 pub mod Carrying
 pub mod Closed
+pub mod Counted
 pub mod Each
+pub mod EachVals
 mod ExamplesBodies
 mod ExamplesBounds
 mod ExamplesCalls
+mod ExamplesCanonical
 mod ExamplesChoices
 mod ExamplesForms
 mod ExamplesGround
@@ -25,15 +28,26 @@ mod ExamplesSeals
 pub mod Forms
 pub mod Grounding
 pub mod Holding
+pub mod InRange
 mod Laboratory
 pub mod Lawfulness
 pub mod Least
+pub mod LeastTypes
 pub mod Marks
 pub mod Narrowing
 pub mod Needs
 pub mod OneEnd
+pub mod OwnTypes
 pub mod Passing
+pub mod Reaching
 pub mod Rereadings
+pub mod SameTypes
+pub mod Settling
 mod Sources
+pub mod Sparing
 pub mod Standing
+pub mod Transferring
 pub mod Unrefused
+pub mod WithoutType
+pub mod Writing
+pub mod WritingScopes
