@@ -20,7 +20,7 @@ use Rattle.wy_types.specs.Written.{block_types}
 use Rattle.wy_types.specs.Reached.{sealed_types, own_types, field_types as all_field_types, start_types, body_types, first_types, scope_first_types, IsReached as IsCounted}
 use Rattle.wy_types.proofs.Reaching.{walks_more, object_of}
 use Rattle.wy_rules.specs.Readings.{Reading}
-use Rattle.wy_rules.specs.Reached.{IsReached, of_number, of_truth, of_text, of_nothing, of_own, of_field, of_parameter, of_answer, of_name, of_start, of_body, of_argument, of_result, IsBaseOrCounted, AreCounted, ReachedTypesAreCounted}
+use Rattle.wy_rules.specs.Reached.{IsReached, of_number, of_truth, of_text, of_nothing, of_own, of_field, of_parameter, of_answer, of_name, of_start, of_body, of_argument, of_result, IsBaseOrCounted, EachReached, ReachedTypesAreCounted}
 use Rattle.wy_rules.proofs.OwnTypes.{owner_in}
 
 -- of a body's own object, its method is one
@@ -110,7 +110,7 @@ module _ (p : Program) (k : ℕ) (s : Scope) (at : slice_get p.scopes k ≡ Some
   counted t (of_argument u h m i v j) = (let r = In-at v m.params j in inr (counted_part u (counted u h) m i (Parameter r.0) v r.2))
   counted t (of_result u h m i) = inr (counted_part u (counted u h) m i Result m.result refl)
 
-counted_in : (p : Program) (k : ℕ) (s : Scope) → slice_get p.scopes k ≡ Some s → ScopeFits p s → (plain : Truth) → AreCounted p k s plain
+counted_in : (p : Program) (k : ℕ) (s : Scope) → slice_get p.scopes k ≡ Some s → ScopeFits p s → (plain : Truth) → EachReached (IsBaseOrCounted p k) p k s plain
 counted_in p k s at fits true = λ t h. counted p k s at fits _ t h
 counted_in p k s at fits false = λ t h. counted p k s at fits _ t h
 

@@ -1,14 +1,17 @@
 -- The canonical derivations of small scopes, written out: a logger, a choice between two objects of different types, a kept callback, and a body with
--- each form of expressions and statements.
+-- each form of expressions and statements; and derivations in which T-Sub stands above another.
 use Rattle.std.proofs.Common.{◌≡◌, ℕ, List, [], ◌∷◌, refl, Some, None}
 use Rattle.std.specs.Prelude.{codes}
+use Rattle.wy_text.specs.declared.fault.Place.{Place}
+use Rattle.wy_types.specs.declared.types.TypeRef.{TypeRef}
 use Rattle.wy_types.specs.declared.types.TypeRef.TheVariants.{Int, Bool, Text, Unit as Nothing, Named, At, Own}
 use Rattle.wy_types.specs.declared.resolved.ScopeKind.TheVariants as kind
 use Rattle.wy_types.specs.Code as code
 use Rattle.wy_types.specs.Program.{Program, Scope}
 use Rattle.wy_rules.specs.Operators.{row, two as two_of}
-use Rattle.wy_rules.specs.Derivations.{T-Lit, T-Var, T-This, T-Call, T-New, T-If, T-Set, T-Op, T-Asc, T-Sub, none, more, Result, T-Seq, T-Val, Block-Sub, T-Body, T-Body-Init}
+use Rattle.wy_rules.specs.Derivations.{Derivation, T-Lit, T-Var, T-This, T-Call, T-New, T-If, T-Set, T-Op, T-Asc, T-Sub, none, more, Result, T-Seq, T-Val, Block-Sub, T-Body, T-Body-Init}
 use Rattle.wy_rules.specs.Canonical.{canonical_over, locals_of}
+use Rattle.wy_rules.specs.Sparse.{Sparse, BlockSparse}
 use Rattle.wy_rules.proofs.ExamplesForms.{block}
 use Rattle.wy_rules.proofs.ExamplesLogger.{logger_with, main_with, logger_program, second}
 use Rattle.wy_rules.proofs.ExamplesPlug.{plug, main_at, plug_program}
@@ -174,3 +177,25 @@ forms_canonical : canonical_over (lab_program block Text) 0 (lab block Text) (lo
       [] ∷ [];
 }
 forms_canonical = refl
+
+------------------------------------------------------------
+-- T-Sub above another: directly, at a receiver, over the value of a block, over a block's rest
+
+module _ (q : Place) where
+  abbrev by_sub : TypeRef → Derivation TypeRef
+  by_sub t = T-Sub q (T-Var q) t []
+
+  twice_is_not : Sparse (T-Sub q (by_sub Int) Int []) → ⊥
+  twice_is_not h = h.0
+
+  receiver_is_not : Sparse (T-Call q (by_sub folder) folder [] none) → ⊥
+  receiver_is_not h = h.0
+
+  value_is_not : BlockSparse (Block-Sub q (Result (by_sub Int)) Int []) → ⊥
+  value_is_not h = h.0
+
+  rest_is_not : BlockSparse (T-Seq q (T-Var q) [] (Block-Sub q (Result (T-Var q)) Int []) []) → ⊥
+  rest_is_not h = h.1
+
+  once_is : BlockSparse (T-Seq q (by_sub Nothing) [] (Result (T-Var q)) [])
+  once_is = ((tt, tt), tt, tt)

@@ -24,7 +24,7 @@ use Rattle.wy_rules.proofs.Least.{split}
 use Rattle.wy_rules.proofs.Narrowing.{AllNarrower}
 use Rattle.wy_rules.proofs.Standing.{reading_lawful}
 use Rattle.wy_rules.proofs.EachVals.{always_expr, implied_vals}
-use Rattle.wy_rules.proofs.InRange.{reached_itself}
+use Rattle.wy_rules.proofs.WrittenOrOwn.{reached_itself}
 use Rattle.wy_rules.proofs.Reaching.{canonical_types_are_reached}
 use Rattle.wy_rules.proofs.SameTypes.{kinds_exact}
 use Rattle.wy_rules.proofs.Settling.{steps}

@@ -23,12 +23,12 @@ mod ExamplesOrder
 mod ExamplesParts
 mod ExamplesPick
 mod ExamplesPlug
+mod ExamplesReached
 mod ExamplesRefused
 mod ExamplesSeals
 pub mod Forms
 pub mod Grounding
 pub mod Holding
-pub mod InRange
 mod Laboratory
 pub mod Lawfulness
 pub mod Least
@@ -51,3 +51,4 @@ pub mod Unrefused
 pub mod WithoutType
 pub mod Writing
 pub mod WritingScopes
+pub mod WrittenOrOwn

@@ -9,11 +9,12 @@ use Rattle.wy_rules.specs.Acceptance.{reading_of}
 use Rattle.wy_rules.specs.Canonical.{both, same_numbers, same_sets, same_type, same_read}
 use Rattle.wy_rules.proofs.Writing.{Exact}
 
-both_left : (a b : Truth) → both a b ≡ true → a ≡ true
+-- both are true, where the two together are
+pub both_left : (a b : Truth) → both a b ≡ true → a ≡ true
 both_left true b e = refl
 both_left false b e = absurd (cc)
 
-both_right : (a b : Truth) → both a b ≡ true → b ≡ true
+pub both_right : (a b : Truth) → both a b ≡ true → b ≡ true
 both_right true b e = e
 both_right false b e = absurd (cc)
 

@@ -82,7 +82,8 @@ module _ (i : ℕ) (p other : Program) (k : ℕ) (s : Scope) (w : DiffersAt i p 
   abbrev over : (List ℕ → List ℕ → Type 0) → Reading
   over Inc = record { Kind = TypeRef; read = λ t. t; effect = λ e. e; methods = methods_of p k; IsObject = IsObject; Includes = Inc }
 
-  reached_not : (Inc : List ℕ → List ℕ → Type 0) (t : TypeRef) → IsReached (over Inc) s t → NamesNot i t
+  -- no reached type is the one in which the programs differ
+  pub reached_not : (Inc : List ℕ → List ℕ → Type 0) (t : TypeRef) → IsReached (over Inc) s t → NamesNot i t
   reached_not Inc t of_number = tt
   reached_not Inc t of_truth = tt
   reached_not Inc t of_text = tt

@@ -38,6 +38,7 @@ abbrev pub subsumed_unless : {K : Type 0} → Truth → Place → Typed K → De
 subsumed_unless true place m = m.derivation
 subsumed_unless false place m = T-Sub place m.derivation m.typ m.effect
 
+-- .. of a block
 abbrev pub block_subsumed_unless : {K : Type 0} → Truth → Place → TypedBlock K → BlockDerivation K
 block_subsumed_unless true place m = m.derivation
 block_subsumed_unless false place m = Block-Sub place m.derivation m.typ m.effect
@@ -54,6 +55,7 @@ abbrev pub first_row : List Row → Row
 first_row [] = row [] Nothing
 first_row (r ∷ rows) = r
 
+-- one row or another
 abbrev pub row_or : Truth → Row → Row → Row
 row_or true r other = r
 row_or false r other = other
@@ -62,18 +64,22 @@ row_or false r other = other
 -- What a premise looks up: where it finds nothing no derivation stands, and `()`'s type or no type is put
 
 module _ (y : Reading) where
+  -- the type of what a name stands for, or of a `val`
   abbrev pub found_type : Option y.Kind → y.Kind
   found_type None = y.read Nothing
   found_type (Some k) = k
 
+  -- the type of the current object
   abbrev pub object_type : Option ℕ → y.Kind
   object_type None = y.read Nothing
   object_type (Some l) = y.read (Own l)
 
+  -- the type of a `var` field
   abbrev pub field_type : Option Field → y.Kind
   field_type None = y.read Nothing
   field_type (Some f) = y.read f.typ
 
+  -- the parameters' types, the effect and the result's type of a method
   abbrev pub method_params : Option (Signature y.Kind) → List y.Kind
   method_params None = []
   method_params (Some m) = m.params
@@ -109,6 +115,7 @@ module _ (y : Reading) (same : y.Kind → y.Kind → Truth) where
   abbrev pub at_type : Place → Typed y.Kind → y.Kind → Derivation y.Kind
   at_type place m t = subsumed_unless (same m.typ t) place m
 
+  -- .. of a block
   abbrev pub block_at_type : Place → TypedBlock y.Kind → y.Kind → BlockDerivation y.Kind
   block_at_type place m t = block_subsumed_unless (same m.typ t) place m
 
@@ -187,19 +194,21 @@ module _ (y : Reading) (same : y.Kind → y.Kind → Truth) where
           let r = canonical_block b t in
           record { derivation = T-Val q (at_type (mark x) m k) k m.effect r.derivation r.effect; typ = r.typ; effect = union m.effect r.effect }
 
-  -- of each body, and of a scope
   module _ (s : Scope) (locals : List y.Kind) where
+    -- of what the scope starts with: the fields' initialisers at their types, or the block of `run`
     abbrev pub canonical_start : Start → BodyDerivation y.Kind
     canonical_start (Init values) = T-Body-Init s.start_place (canonical_values s locals None values (map y.read (field_types s 0)))
     canonical_start (Run block) =
         let m = canonical_block s locals None block (y.read Nothing) in
         T-Body s.start_place (block_at_type (block_mark block) m (y.read Nothing)) m.effect
 
+    -- of a body, at its result type
     abbrev pub canonical_body : Body → BodyDerivation y.Kind
     canonical_body b =
         let m = canonical_block s locals (Some b.owner) b.block (y.read b.signature.result) in
         T-Body b.place (block_at_type (block_mark b.block) m (y.read b.signature.result)) m.effect
 
+    -- of the start and all bodies
     abbrev pub canonical_scope : ScopeDerivation y.Kind
     canonical_scope = record { locals = locals; start = canonical_start s.start; bodies = map canonical_body s.bodies }
 
@@ -215,6 +224,7 @@ module _ (y : Reading) (same : y.Kind → y.Kind → Truth) where
 
   module _ (s : Scope) (owner : Option ℕ) where
     abbrev mutual
+      -- what an expression adds to the types that are known: those of the `val`s inside
       pub settle_expr : Expr → List y.Kind → List y.Kind
       settle_expr (Number q n) us = us
       settle_expr (Quoted q bytes) us = us
@@ -245,6 +255,7 @@ module _ (y : Reading) (same : y.Kind → y.Kind → Truth) where
       settle_block (Val q n typ x b) us = let vs = settle_value x us in settle_block b (with_local n (val_type s vs owner typ x) vs)
 
   module _ (s : Scope) where
+    -- the start comes first, then the bodies in their order
     abbrev pub settle_start : Start → List y.Kind
     settle_start (Init values) = settle_values s None values []
     settle_start (Run block) = settle_block s None block []
@@ -265,10 +276,12 @@ module _ (y : Reading) (same : y.Kind → y.Kind → Truth) where
 ------------------------------------------------------------
 -- The test of types: it says whether they are the same
 
+-- both are true
 abbrev pub both : Truth → Truth → Truth
 both true b = b
 both false b = false
 
+-- the same atoms, the same sets, the same type
 abbrev pub same_numbers : List ℕ → List ℕ → Truth
 same_numbers [] [] = true
 same_numbers (a ∷ e) (b ∷ f) = both (nat_eq a b) (same_numbers e f)

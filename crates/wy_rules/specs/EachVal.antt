@@ -7,6 +7,7 @@ use Rattle.wy_types.specs.Program.{Scope, Body, Start, Init, Run}
 module _ (Holds : Option ℕ → ℕ → Option TypeRef → Value → Type 0) where
   module _ (owner : Option ℕ) where
     abbrev mutual
+      -- each `val` statement inside has the property
       pub EachInExpr : Expr → Type 0
       EachInExpr (Number place n) = Unit {0}
       EachInExpr (Quoted place bytes) = Unit {0}
@@ -35,6 +36,7 @@ module _ (Holds : Option ℕ → ℕ → Option TypeRef → Value → Type 0) wh
       EachInBlock (Then x b) = EachInValue x × EachInBlock b
       EachInBlock (Val place n typ x b) = EachInValue x × Holds owner n typ x × EachInBlock b
 
+  -- in the start, and in each body
   abbrev pub EachInStart : Start → Type 0
   EachInStart (Init values) = EachInValues None values
   EachInStart (Run block) = EachInBlock None block
@@ -43,6 +45,6 @@ module _ (Holds : Option ℕ → ℕ → Option TypeRef → Value → Type 0) wh
   EachInBodies [] = Unit {0}
   EachInBodies (b ∷ bs) = EachInBlock (Some b.owner) b.block × EachInBodies bs
 
-  -- of all bodies of a scope
+  -- in a scope
   abbrev pub EachVal : Scope → Type 0
   EachVal s = EachInStart s.start × EachInBodies s.bodies

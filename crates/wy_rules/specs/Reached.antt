@@ -6,7 +6,8 @@ use Rattle.wy_types.specs.declared.types.TypeRef.TheVariants.{Int, Bool, Text, U
 use Rattle.wy_types.specs.declared.resolved.OwnName.{OwnName}
 use Rattle.wy_types.specs.Program.{Program, Scope, Body}
 use Rattle.wy_types.specs.Types.{IsObject, is_plain}
-use Rattle.wy_types.specs.Core.{ScopeFits}
+use Rattle.wy_types.specs.Fitting.{FitsType}
+use Rattle.wy_types.specs.Core.{ScopeFits, IsCore}
 use Rattle.wy_types.specs.Written.{block_types}
 use Rattle.wy_types.specs.Reached.{start_types, own_types, IsReached as IsCounted}
 use Rattle.wy_types.specs.Signature.{Signature}
@@ -20,6 +21,7 @@ use Rattle.wy_rules.specs.Canonical.{canonical_over, locals_of}
 -- The types that a derivation names: of a receiver, of a `val`, and of what stands below a T-Sub
 
 module _ {K : Type 0} (P : K → Type 0) where
+  -- each type of a list has the property
   abbrev pub Each : List K → Type 0
   Each [] = Unit {0}
   Each (t ∷ ts) = P t × Each ts
@@ -48,6 +50,7 @@ module _ {K : Type 0} (P : K → Type 0) where
     NamesBlock (T-Val q d k e ds f) = Names d × P k × NamesBlock ds
     NamesBlock (Block-Sub q ds k e) = NamesBlock ds × P k
 
+  -- .. of a body, of bodies, and of a scope, whose `val`s have types
   abbrev pub NamesBody : BodyDerivation K → Type 0
   NamesBody (T-Body q d e) = NamesBlock d
   NamesBody (T-Body-Init q ds) = NamesAll ds
@@ -83,14 +86,26 @@ abbrev pub CanonicalTypesAreReached : Type 0
 CanonicalTypesAreReached =
     (p : Program) (k : ℕ) (s : Scope) → ScopeFits p s → NamesScope (IsReached (scope_reading p k s) s) (canonical_over p k s (locals_of p k s))
 
+------------------------------------------------------------
+-- What each reached type is
+
+-- each type that a scope reaches has the property, as its kind of scope reads types
+abbrev pub EachReached : (TypeRef → Type 0) → Program → ℕ → Scope → Truth → Type 0
+EachReached P p k s true = (t : TypeRef) → IsReached (plain_reading p k) s t → P t
+EachReached P p k s false = (t : TypeRef) → IsReached (annotated_reading p k) s t → P t
+
 -- a base type, or a type of those that the limit on types counts
 abbrev pub IsBaseOrCounted : Program → ℕ → TypeRef → Type 0
 IsBaseOrCounted p k t = (IsObject t → ⊥) ⊎ IsCounted p k t
 
-abbrev pub AreCounted : Program → ℕ → Scope → Truth → Type 0
-AreCounted p k s true = (t : TypeRef) → IsReached (plain_reading p k) s t → IsBaseOrCounted p k t
-AreCounted p k s false = (t : TypeRef) → IsReached (annotated_reading p k) s t → IsBaseOrCounted p k t
-
 -- each type that a scope of the program reaches is a base type, or one that the limit counts
 abbrev pub ReachedTypesAreCounted : Type 0
-ReachedTypesAreCounted = (p : Program) (k : ℕ) (s : Scope) → slice_get p.scopes k ≡ Some s → ScopeFits p s → AreCounted p k s (is_plain s.kind)
+ReachedTypesAreCounted = (p : Program) (k : ℕ) (s : Scope) → slice_get p.scopes k ≡ Some s → ScopeFits p s → EachReached (IsBaseOrCounted p k) p k s (is_plain s.kind)
+
+-- a type that can be written, or one of the scope's own
+abbrev pub IsWrittenOrOwn : Program → Scope → TypeRef → Type 0
+IsWrittenOrOwn p s t = FitsType p 512 0 t ⊎ In t (own_types s.kind (length s.literals))
+
+-- each type that a scope of a core reaches can be written or is one of its own; of the program's own object there is none
+abbrev pub ReachedTypesAreWrittenOrOwn : Type 0
+ReachedTypesAreWrittenOrOwn = (p : Program) (k : ℕ) (s : Scope) → IsCore p → slice_get p.scopes k ≡ Some s → EachReached (IsWrittenOrOwn p s) p k s (is_plain s.kind)

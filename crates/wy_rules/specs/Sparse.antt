@@ -40,6 +40,7 @@ abbrev mutual
   BlockSparse (T-Val q d k e ds f) = Sparse d × NoBlockSub ds × BlockSparse ds
   BlockSparse (Block-Sub q ds k e) = NoBlockSub ds × BlockSparse ds
 
+-- .. in each body
 abbrev pub BodySparse : {K : Type 0} → BodyDerivation K → Type 0
 BodySparse (T-Body q d e) = BlockSparse d
 BodySparse (T-Body-Init q ds) = AllSparse ds

@@ -1,6 +1,6 @@
 -- When a scope that holds in one program holds in another: where the types that it reaches have the same methods there
 -- (docs/LANGUAGE.md, "Typing of bodies").
-use Rattle.std.specs.Prelude.{◌≡◌, ℕ, [], ◌∷◌, ◌++◌, Some, Bool as Truth, true, false, map, slice_get}
+use Rattle.std.specs.Prelude.{◌≡◌, ℕ, [], ◌∷◌, ◌++◌, Some, Bool as Truth, map, slice_get}
 use Rattle.wy_effects.specs.Members.{In}
 use Rattle.wy_types.specs.declared.types.TypeRef.{TypeRef}
 use Rattle.wy_types.specs.declared.types.TypeRef.TheVariants.{Int, Bool, Text, Unit as Nothing, Named, At, Own}
@@ -12,15 +12,13 @@ use Rattle.wy_types.specs.Core.{ScopeFits}
 use Rattle.wy_types.specs.Written.{block_types}
 use Rattle.wy_types.specs.Reached.{start_types}
 use Rattle.wy_types.specs.Signature.{Signature}
-use Rattle.wy_rules.specs.Readings.{annotated_reading, plain_reading}
 use Rattle.wy_rules.specs.Typing.{field_types, ScopeHolds}
 use Rattle.wy_rules.specs.Acceptance.{scope_reading}
-use Rattle.wy_rules.specs.Reached.{IsReached}
+use Rattle.wy_rules.specs.Reached.{EachReached}
 
 -- another program has the same methods for each type that the scope reaches
 abbrev pub AgreesIn : Program → Program → ℕ → Scope → Truth → Type 0
-AgreesIn p other k s true = (t : TypeRef) → IsReached (plain_reading p k) s t → methods_of p k t ≡ methods_of other k t
-AgreesIn p other k s false = (t : TypeRef) → IsReached (annotated_reading p k) s t → methods_of p k t ≡ methods_of other k t
+AgreesIn p other k s plain = EachReached (λ t. methods_of p k t ≡ methods_of other k t) p k s plain
 
 -- what holds of a scope in one program holds in another that agrees with it there
 abbrev pub ScopesHoldWhereMethodsAgree : Type 0

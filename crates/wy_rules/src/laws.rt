@@ -6,7 +6,7 @@ ghost use Rattle.wy_rules.specs.Tables.{ReflexiveOverTables, TransitiveOverTable
 ghost use Rattle.wy_rules.specs.Polarity.{Annotation, DualAnnotation};
 ghost use Rattle.wy_rules.specs.Rereading.{Erasure, Substitution, Retyping};
 ghost use Rattle.wy_rules.specs.Canonical.{CanonicalDerivationHolds, ScopesHaveCanonicalDerivations, CanonicalTypesAreLeast};
-ghost use Rattle.wy_rules.specs.Reached.{CanonicalTypesAreReached, ReachedTypesAreCounted};
+ghost use Rattle.wy_rules.specs.Reached.{CanonicalTypesAreReached, ReachedTypesAreCounted, ReachedTypesAreWrittenOrOwn};
 ghost use Rattle.wy_rules.specs.Sparse.{NoSubsumptionAboveAnother};
 ghost use Rattle.wy_rules.specs.Transfer.{ScopesHoldWhereMethodsAgree, ScopesHoldWithoutType};
 ghost use Rattle.wy_rules.specs.Judging.{PassingIsAccepted, AcceptedLinesHold};
@@ -149,6 +149,12 @@ pub fn canonical_types_are_reached()
 /// (docs/LANGUAGE.md, "Limits").
 pub fn reached_types_are_counted()
     ensures { ReachedTypesAreCounted }
+{}
+
+/// Each type that a scope of a core reaches can be written, or is of the scope's module or of a literal of it; none is of
+/// the program's own object.
+pub fn reached_types_are_written_or_own()
+    ensures { ReachedTypesAreWrittenOrOwn }
 {}
 
 /// In the canonical derivation of a scope no T-Sub stands directly above another (docs/LANGUAGE.md, "Typing of bodies").
