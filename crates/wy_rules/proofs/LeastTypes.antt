@@ -18,14 +18,13 @@ use Rattle.wy_rules.specs.Acceptance.{scope_reading}
 use Rattle.wy_rules.specs.Failing.{ValSettles}
 use Rattle.wy_rules.specs.EachVal.{EachInExpr, EachInValue, EachInValues, EachInBlock, EachInStart, EachInBodies, EachVal}
 use Rattle.wy_rules.specs.Canonical.{canonical_expr, canonical_start, canonical_body, locals_of, same_read, settle_start, IsSettled, CanonicalTypesAreLeast}
-use Rattle.wy_rules.specs.Reached.{Each}
 use Rattle.wy_rules.proofs.Forms.{Lawful, Above, bare, block_bare}
 use Rattle.wy_rules.proofs.Least.{split}
 use Rattle.wy_rules.proofs.Narrowing.{AllNarrower}
 use Rattle.wy_rules.proofs.Standing.{reading_lawful}
 use Rattle.wy_rules.proofs.EachVals.{always_expr, implied_vals}
 use Rattle.wy_rules.proofs.WrittenOrOwn.{reached_itself}
-use Rattle.wy_rules.proofs.Reaching.{canonical_types_are_reached}
+use Rattle.wy_rules.proofs.Reaching.{each_at, canonical_types_are_reached}
 use Rattle.wy_rules.proofs.SameTypes.{kinds_exact}
 use Rattle.wy_rules.proofs.Settling.{steps}
 use Rattle.wy_rules.proofs.Writing.{Exact, ValReady, nothing_more, first_given, second_given, best_expr}
@@ -157,14 +156,6 @@ module _ (y : Reading) (w : Lawful y) (same : y.Kind → y.Kind → Truth) (z : 
 
 some_same : {X : Type 0} (a b : X) → ◌≡◌ {A = Option X} (Some a) (Some b) → a ≡ b
 some_same a b e = cc
-
-each_in : {X : Type 0} (P : X → Type 0) (xs : List X) → Each P xs → (x : X) → In x xs → P x
-each_in P [] h x i = absurd i
-each_in P (a ∷ xs) h x (inl e) = subst P e h.0
-each_in P (a ∷ xs) h x (inr i) = each_in P xs h.1 x i
-
-each_at : {X : Type 0} (P : X → Type 0) (xs : List X) → Each P xs → (n : ℕ) (x : X) → slice_get xs n ≡ Some x → P x
-each_at P xs h n x e = each_in P xs h x (In-slice_get xs n x e)
 
 pub canonical_types_are_least : CanonicalTypesAreLeast
 canonical_types_are_least p k s core at h =

@@ -36,6 +36,15 @@ use Rattle.wy_rules.specs.Canonical.{Typed, TypedBlock, subsumed_unless, block_s
 use Rattle.wy_rules.specs.Reached.{CanonicalTypesAreReached, IsReached, of_number, of_truth, of_text, of_nothing, of_own, of_field, of_parameter, of_answer, of_name, of_start, of_body, of_argument, of_result, NamesBody, NamesBodies, NamesScope, Each, Names, NamesAll, NamesBlock}
 use Rattle.wy_rules.proofs.OwnTypes.{own_in, owner_in}
 
+each_in : {X : Type 0} (P : X → Type 0) (xs : List X) → Each P xs → (x : X) → In x xs → P x
+each_in P [] h x i = absurd i
+each_in P (a ∷ xs) h x (inl e) = subst P e h.0
+each_in P (a ∷ xs) h x (inr i) = each_in P xs h.1 x i
+
+-- what each type of a list has, the one at a number has
+pub each_at : {X : Type 0} (P : X → Type 0) (xs : List X) → Each P xs → (n : ℕ) (x : X) → slice_get xs n ≡ Some x → P x
+each_at P xs h n x e = each_in P xs h x (In-slice_get xs n x e)
+
 module _ {K : Type 0} (P : K → Type 0) where
   each_left : (xs ys : List K) → Each P (xs ++ ys) → Each P xs
   each_left [] ys h = tt
@@ -158,7 +167,7 @@ module _ (y : Reading) (same : y.Kind → y.Kind → Truth) (p : Program) (s : S
   name_read (Some n) h = h n refl
 
   -- every type in the list
-  abbrev Holds : List y.Kind → Type 0
+  abbrev pub Holds : List y.Kind → Type 0
   Holds us = (n : ℕ) (t : y.Kind) → slice_get us n ≡ Some t → P t
 
   module _ (owner : Option ℕ) (mine : (l : ℕ) → owner ≡ Some l → In (Own l) (own_types s.kind (length s.literals))) where
@@ -169,10 +178,10 @@ module _ (y : Reading) (same : y.Kind → y.Kind → Truth) (p : Program) (s : S
       name_kind (to.Field i) = field_read (field_at s owner i) (c.field owner i)
       name_kind (to.Own k) = name_read (slice_get s.names k) (c.name k)
 
-      abbrev TypedHolds : Typed y.Kind → Type 0
+      abbrev pub TypedHolds : Typed y.Kind → Type 0
       TypedHolds m = P m.typ × Names P m.derivation
 
-      abbrev BlockHolds : TypedBlock y.Kind → Type 0
+      abbrev pub BlockHolds : TypedBlock y.Kind → Type 0
       BlockHolds m = P m.typ × NamesBlock P m.derivation
 
       at_holds : (q : Place) (m : Typed y.Kind) (t : y.Kind) → TypedHolds m → Names P (at_type y same q m t)
@@ -182,7 +191,8 @@ module _ (y : Reading) (same : y.Kind → y.Kind → Truth) (p : Program) (s : S
       block_at_holds q m t h = names_block_placed P (same m.typ t) q m h.0 h.1
 
       mutual
-        expr_holds : (x : Expr) (seen : List Variable) → ExprFits p s owner seen x → WritesOnly y P (expr_types x) → TypedHolds (canonical_expr y same s locals owner x)
+        -- the type of each part has the property, and so have all types that are named in it
+        pub expr_holds : (x : Expr) (seen : List Variable) → ExprFits p s owner seen x → WritesOnly y P (expr_types x) → TypedHolds (canonical_expr y same s locals owner x)
         expr_holds (Number q n) seen fit h = (c.number, tt)
         expr_holds (Quoted q bytes) seen fit h = (c.text, tt)
         expr_holds (TruthOf q b) seen fit h = (c.truth, tt)
@@ -207,7 +217,7 @@ module _ (y : Reading) (same : y.Kind → y.Kind → Truth) (p : Program) (s : S
             (a, at_holds (mark x) _ _ (value_holds x (y.read t) seen fit.0 a (types_left (value_types x) (t ∷ []) h)))
         expr_holds (Assign q name x) seen fit h = (c.nothing, at_holds (mark x) _ _ (value_holds x (field_type y (var_field s owner name)) seen fit.1 (assigned owner name) h))
 
-        value_holds : (x : Value) (t : y.Kind) (seen : List Variable) → ValueFits p s owner seen x → P t → WritesOnly y P (value_types x) → TypedHolds (canonical_value y same s locals owner x t)
+        pub value_holds : (x : Value) (t : y.Kind) (seen : List Variable) → ValueFits p s owner seen x → P t → WritesOnly y P (value_types x) → TypedHolds (canonical_value y same s locals owner x t)
         value_holds (Plain x) t seen fit a h = expr_holds x seen fit h
         value_holds (If q test first second) t seen fit a h =
             let r = types_right (expr_types test) (block_types first ++ block_types second) h in (
@@ -219,13 +229,13 @@ module _ (y : Reading) (same : y.Kind → y.Kind → Truth) (p : Program) (s : S
               ),
             )
 
-        values_holds : (xs : Values) (ts : List y.Kind) (seen : List Variable) → ValuesFit p s owner seen xs → Each P ts → WritesOnly y P (values_types xs) → NamesAll P (canonical_values y same s locals owner xs ts)
+        pub values_holds : (xs : Values) (ts : List y.Kind) (seen : List Variable) → ValuesFit p s owner seen xs → Each P ts → WritesOnly y P (values_types xs) → NamesAll P (canonical_values y same s locals owner xs ts)
         values_holds none ts seen fit a h = tt
         values_holds (more x xs) [] seen fit a h = tt
         values_holds (more x xs) (t ∷ ts) seen fit a h =
             (at_holds (mark x) _ _ (value_holds x t seen fit.0 a.0 (types_left (value_types x) (values_types xs) h)), values_holds xs ts seen fit.1 a.1 (types_right (value_types x) (values_types xs) h))
 
-        block_holds : (b : Block) (t : y.Kind) (seen : List Variable) → BlockFits p s owner seen b → P t → WritesOnly y P (block_types b) → BlockHolds (canonical_block y same s locals owner b t)
+        pub block_holds : (b : Block) (t : y.Kind) (seen : List Variable) → BlockFits p s owner seen b → P t → WritesOnly y P (block_types b) → BlockHolds (canonical_block y same s locals owner b t)
         block_holds (Last x) t seen fit a h = value_holds x t seen fit a h
         block_holds (Then x rest) t seen fit a h =
             let m = value_holds x (y.read Nothing) seen fit.0 c.nothing (types_left (value_types x) (block_types rest) h) in
@@ -341,12 +351,16 @@ module _ (y : Reading) (same : y.Kind → y.Kind → Truth) (p : Program) (s : S
   each_held [] h = tt
   each_held (u ∷ us) h = (h 0 u refl, each_held us (λ n t e. h (suc n) t e))
 
-  -- a property of what the scope writes that is kept by methods holds of all that is named
-  pub scope_names : StartFits p s s.start → WritesOnly y P (start_types s.start) → ((b : Body) → In b s.bodies → BodyHolds b) →
-      NamesScope P (canonical_scope y same s (canonical_locals y same s))
-  scope_names fit h k =
-      let ok = settle_bodies_holds s.bodies (settle_start y same s s.start) k (settle_start_holds s.start fit h) in
-      (each_held (canonical_locals y same s) ok, start_holds (canonical_locals y same s) ok s.start fit h, bodies_holds (canonical_locals y same s) ok s.bodies k)
+  -- a property of what the scope writes that is kept by methods holds of the types of `val`s that are found
+  pub locals_hold : StartFits p s s.start → WritesOnly y P (start_types s.start) → ((b : Body) → In b s.bodies → BodyHolds b) → Each P (canonical_locals y same s)
+  locals_hold fit h k = each_held (canonical_locals y same s) (settle_bodies_holds s.bodies (settle_start y same s s.start) k (settle_start_holds s.start fit h))
+
+  -- .. and over any types of `val`s of which it holds, of all that is named
+  pub scope_names : StartFits p s s.start → WritesOnly y P (start_types s.start) → ((b : Body) → In b s.bodies → BodyHolds b) → (locals : List y.Kind) → Each P locals →
+      NamesScope P (canonical_scope y same s locals)
+  scope_names fit h k locals each =
+      let ok : Holds locals = λ n t e. each_at P locals each n t e in
+      (each, start_holds locals ok s.start fit h, bodies_holds locals ok s.bodies k)
 
 ------------------------------------------------------------
 -- What is reached is closed so
@@ -402,4 +416,7 @@ module _ (y : Reading) (s : Scope) where
 pub canonical_types_are_reached : CanonicalTypesAreReached
 canonical_types_are_reached p k s fits =
     let y = scope_reading p k s in
-    scope_names y (same_read p k (is_plain s.kind)) p s (IsReached y s) (reached_closed y s) fits.starts.1 (reached_in_start y s) (bodies_reached y s p fits)
+    let same = same_read p k (is_plain s.kind) in (
+      locals_hold y same p s (IsReached y s) (reached_closed y s) fits.starts.1 (reached_in_start y s) (bodies_reached y s p fits),
+      scope_names y same p s (IsReached y s) (reached_closed y s) fits.starts.1 (reached_in_start y s) (bodies_reached y s p fits),
+    )

@@ -37,7 +37,7 @@ use Rattle.wy_rules.proofs.Lawfulness.{annotated_lawful, plain_lawful}
 use Rattle.wy_rules.proofs.Writing.{Exact}
 use Rattle.wy_rules.proofs.SameTypes.{kinds_exact}
 use Rattle.wy_rules.proofs.WritingScopes.{scope_written, scope_settled, settled_ready}
-use Rattle.wy_rules.proofs.Reaching.{IsKept, scope_names, reached_closed, reached_in_start, reached_in_bodies, bodies_reached}
+use Rattle.wy_rules.proofs.Reaching.{IsKept, locals_hold, scope_names, reached_closed, reached_in_start, reached_in_bodies, bodies_reached}
 use Rattle.wy_rules.specs.Reached.{IsReached, Each, Names, NamesAll, NamesBlock, NamesBody, NamesBodies}
 use Rattle.wy_rules.specs.Transfer.{AgreesIn, ScopesHoldWhereMethodsAgree}
 
@@ -137,7 +137,8 @@ module _ (m n : TypeRef → List (Signature TypeRef)) (Inc : List ℕ → List �
           )
         ]
 
-  below_over : (a b : TypeRef) → P a → P b → IsBelow (over m Inc) a b → IsBelow (over n Inc) a b
+  -- a subtyping over one table is one over the other
+  pub below_over : (a b : TypeRef) → P a → P b → IsBelow (over m Inc) a b → IsBelow (over n Inc) a b
   below_over a b f g h =
       let l = all_of h.pairs h.closed (a, b) (h.first, f, g) in
       record { pairs = l.list; first = l.new (a, b) (inl refl); closed = closed_over h.pairs h.closed l.list l.each l.closed }
@@ -324,7 +325,8 @@ transferred m n Inc w z p s fits agree bases h =
     let d = (scope_written y w same_type z p s least h.derivation.locals fits h.derivation.start h.derivation.bodies h.derives.0 h.derives.1 (settled_ready y w same_type z p s least h.derivation.locals a)).derives in
     let P = IsReached y s in
     let c = reached_closed y s in
-    let names = scope_names y same_type p s P c fits.starts.1 (reached_in_start y s) (bodies_reached y s p fits) in
+    let found = locals_hold y same_type p s P c fits.starts.1 (reached_in_start y s) (bodies_reached y s p fits) in
+    let names = scope_names y same_type p s P c fits.starts.1 (reached_in_start y s) (bodies_reached y s p fits) least found in
     record {
       derivation = record { locals = least; start = canonical_start y same_type s least s.start; bodies = map (canonical_body y same_type s least) s.bodies };
       derives = (

@@ -81,10 +81,12 @@ pub data IsReached (y : Reading) (s : Scope) : y.Kind → Type 0 where
   of_argument : (k : y.Kind) → IsReached y s k → (m : Signature y.Kind) → In m (y.methods k) → (t : y.Kind) → In t m.params → IsReached y s t
   of_result : (k : y.Kind) → IsReached y s k → (m : Signature y.Kind) → In m (y.methods k) → IsReached y s m.result
 
--- each type that the canonical derivation of a scope names is reached, and so are the types of the `val`s
+-- the types of `val`s that are found are reached, and over any that are reached the canonical derivation names reached types alone
 abbrev pub CanonicalTypesAreReached : Type 0
 CanonicalTypesAreReached =
-    (p : Program) (k : ℕ) (s : Scope) → ScopeFits p s → NamesScope (IsReached (scope_reading p k s) s) (canonical_over p k s (locals_of p k s))
+    (p : Program) (k : ℕ) (s : Scope) → ScopeFits p s →
+    let reached = IsReached (scope_reading p k s) s in
+    Each reached (locals_of p k s) × ((locals : List (scope_reading p k s).Kind) → Each reached locals → NamesScope reached (canonical_over p k s locals))
 
 ------------------------------------------------------------
 -- What each reached type is

@@ -139,8 +139,8 @@ pub fn canonical_types_are_least()
     ensures { CanonicalTypesAreLeast }
 {}
 
-/// The canonical derivation of a scope names only types that are reached from those that the scope writes
-/// (docs/LANGUAGE.md, "Typing of bodies").
+/// The types of `val`s that are found for a scope are reached from those that the scope writes, and over any reached types
+/// its canonical derivation names reached ones alone (docs/LANGUAGE.md, "Typing of bodies").
 pub fn canonical_types_are_reached()
     ensures { CanonicalTypesAreReached }
 {}
