@@ -1,6 +1,6 @@
--- The canonical derivations of small scopes, written out: a logger, a choice between two objects of different types, a kept callback, and a body with
--- each form of expressions and statements; and derivations in which T-Sub stands above another.
-use Rattle.std.proofs.Common.{◌≡◌, ℕ, List, [], ◌∷◌, refl, Some, None}
+-- The canonical derivations of small scopes, written out: a logger, a choice between two objects of different types, a kept callback, a body with
+-- each form of expressions and statements, and a `val` in a literal's method; and derivations in which T-Sub stands above another.
+use Rattle.std.proofs.Common.{◌≡◌, ℕ, pos, List, [], ◌∷◌, refl, Some, None}
 use Rattle.std.specs.Prelude.{codes}
 use Rattle.wy_text.specs.declared.fault.Place.{Place}
 use Rattle.wy_types.specs.declared.types.TypeRef.{TypeRef}
@@ -8,15 +8,17 @@ use Rattle.wy_types.specs.declared.types.TypeRef.TheVariants.{Int, Bool, Text, U
 use Rattle.wy_types.specs.declared.resolved.ScopeKind.TheVariants as kind
 use Rattle.wy_types.specs.Code as code
 use Rattle.wy_types.specs.Program.{Program, Scope}
+use Rattle.wy_rules.specs.Readings.{annotated_reading}
 use Rattle.wy_rules.specs.Operators.{row, two as two_of}
 use Rattle.wy_rules.specs.Derivations.{Derivation, T-Lit, T-Var, T-This, T-Call, T-New, T-If, T-Set, T-Op, T-Asc, T-Sub, none, more, Result, T-Seq, T-Val, Block-Sub, T-Body, T-Body-Init}
-use Rattle.wy_rules.specs.Canonical.{canonical_over, locals_of}
+use Rattle.wy_rules.specs.EachVal.{EachVal}
+use Rattle.wy_rules.specs.Canonical.{canonical_over, locals_of, same_type, IsSettled}
 use Rattle.wy_rules.specs.Sparse.{Sparse, BlockSparse}
 use Rattle.wy_rules.proofs.ExamplesForms.{block}
 use Rattle.wy_rules.proofs.ExamplesLogger.{logger_with, main_with, logger_program, second}
 use Rattle.wy_rules.proofs.ExamplesPlug.{plug, main_at, plug_program}
 use Rattle.wy_rules.proofs.Laboratory.{lab, lab_program}
-use Rattle.wy_rules.proofs.Sources.{at, parameter, local, last, method, declaration, object, body, folder, head, module_of, idle, program}
+use Rattle.wy_rules.proofs.Sources.{at, parameter, local, last, method, declaration, object, body, folder, head, module_of, main_of, idle, program}
 
 ------------------------------------------------------------
 -- A logger, the program of ExamplesLogger
@@ -177,6 +179,41 @@ forms_canonical : canonical_over (lab_program block Text) 0 (lab block Text) (lo
       [] ∷ [];
 }
 forms_canonical = refl
+
+------------------------------------------------------------
+-- A `val` in a literal's method: it is found after those of the block round it, and has the number between
+--
+--  1  program
+--  2    run: {}
+--  3      val z = new
+--  4        def m(): {} Int
+--  5          val w = 2
+--  6          w
+--  7      val v = "a"
+--  8      ()
+
+abbrev nested : Scope
+nested =
+    main_of [] [] (object [] ∷ []) (at 2 3) []
+    (code.Val (at 3 11) 0 None (code.Plain (code.New (at 3 15) 1 code.none)) (code.Val (at 7 11) 2 None (code.Plain (code.Quoted (at 7 15) (codes "a"))) (last (code.Nothing (at 8 7)))))
+    (body 1 (at 4 9) (method (codes "m") [] [] Int) (code.Val (at 5 15) 1 None (code.Plain (code.Number (at 5 19) (pos 2))) (last (local (at 6 11) 1))) ∷ [])
+
+abbrev nesting : Program
+nesting = program [] (nested ∷ [])
+
+nested_canonical : canonical_over nesting 0 nested (locals_of nesting 0 nested) ≡ record {
+  locals = Own 1 ∷ Int ∷ Text ∷ [];
+  start = T-Body (at 2 3) (T-Val (at 3 11) (T-New (at 3 15) none) (Own 1) [] (T-Val (at 7 11) (T-Lit (at 7 15)) Text [] (Result (T-Lit (at 8 7))) []) []) [];
+  bodies = T-Body (at 4 9) (T-Val (at 5 15) (T-Lit (at 5 19)) Int [] (Result (T-Var (at 6 11))) []) [] ∷ [];
+}
+nested_canonical = refl
+
+-- each of the three is settled, and over other types the one in the method is not
+nested_settled : EachVal (IsSettled (annotated_reading nesting 0) same_type nested (Own 1 ∷ Int ∷ Text ∷ [])) nested
+nested_settled = ((tt, refl, (tt, refl, tt)), ((tt, refl, tt), tt))
+
+nested_not_settled : EachVal (IsSettled (annotated_reading nesting 0) same_type nested (Own 1 ∷ Text ∷ Text ∷ [])) nested → ⊥
+nested_not_settled h = absurd (let e = h.1.0.1 in cc)
 
 ------------------------------------------------------------
 -- T-Sub above another: directly, at a receiver, over the value of a block, over a block's rest

@@ -1,12 +1,12 @@
 -- The test of types says exactly whether they are the same.
-use Rattle.std.proofs.Common.{◌≡◌, ℕ, List, [], ◌∷◌, refl, Bool as Truth, true, false}
+use Rattle.std.proofs.Common.{◌≡◌, ℕ, List, [], ◌∷◌, refl, subst, Bool as Truth, true, false}
 use Rattle.std.specs.Prelude.{nat_eq}
 use Rattle.std.proofs.lemmas.Bool.{eqb-true, eq-eqb}
 use Rattle.wy_types.specs.declared.types.TypeRef.{TypeRef}
 use Rattle.wy_types.specs.declared.types.TypeRef.TheVariants.{Int, Bool, Text, Unit as Nothing, Named, At, Own}
 use Rattle.wy_types.specs.Program.{Program}
 use Rattle.wy_rules.specs.Acceptance.{reading_of}
-use Rattle.wy_rules.specs.Canonical.{both, same_numbers, same_sets, same_type, same_read}
+use Rattle.wy_rules.specs.Canonical.{both, same_numbers, same_sets, same_type, same_read, TypesAreToldApart}
 use Rattle.wy_rules.proofs.Writing.{Exact}
 
 -- both are true, where the two together are
@@ -83,3 +83,6 @@ type_itself (Own l) = number_itself l
 pub kinds_exact : (p : Program) (k : ℕ) (plain : Truth) → Exact (reading_of p k plain) (same_read p k plain)
 kinds_exact p k true = record { exact = type_exact; itself = type_itself; no_int = λ h. h; no_bool = λ h. h; no_text = λ h. h }
 kinds_exact p k false = record { exact = type_exact; itself = type_itself; no_int = λ h. h; no_bool = λ h. h; no_text = λ h. h }
+
+pub types_are_told_apart : TypesAreToldApart
+types_are_told_apart t u = (type_exact t u, λ e. subst (λ v. same_type t v ≡ true) e (type_itself t))

@@ -1,6 +1,6 @@
 -- The canonical derivation of a body: what is written for each form over the types of the `val`s. Each part stands at the type that its own rule
 -- gives, and T-Sub only where the node above asks for another type (docs/LANGUAGE.md, "Typing of bodies").
-use Rattle.std.specs.Prelude.{◌≡◌, ℕ, zero, suc, List, [], ◌∷◌, Option, Some, None, Bool as Truth, true, false, map, slice_get, nat_eq}
+use Rattle.std.specs.Prelude.{◌≡◌, ◌↔◌, ℕ, zero, suc, List, [], ◌∷◌, Option, Some, None, Bool as Truth, true, false, map, slice_get, nat_eq}
 use Rattle.wy_text.specs.declared.fault.Place.{Place}
 use Rattle.wy_effects.specs.Members.{In}
 use Rattle.wy_effects.specs.EffSet.{union}
@@ -317,6 +317,10 @@ canonical_over p k s locals = canonical_scope (scope_reading p k s) (same_read p
 -- .. and the types of its `val`s that are found one after the other
 abbrev pub locals_of : (p : Program) (k : ℕ) (s : Scope) → List (scope_reading p k s).Kind
 locals_of p k s = canonical_locals (scope_reading p k s) (same_read p k (is_plain s.kind)) s
+
+-- the test tells types apart, so T-Sub stands exactly where the type is another than the one that is asked for
+abbrev pub TypesAreToldApart : Type 0
+TypesAreToldApart = (t u : TypeRef) → (same_type t u ≡ true) ↔ (t ≡ u)
 
 -- where each node of a scope passes over some types of its `val`s, what is written over them is a derivation of it
 abbrev pub CanonicalDerivationHolds : Type 0

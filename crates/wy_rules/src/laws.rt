@@ -5,7 +5,7 @@ ghost use Rattle.wy_types.specs.Order.{IsReflexive, IsTransitive};
 ghost use Rattle.wy_rules.specs.Tables.{ReflexiveOverTables, TransitiveOverTables, KeptUnderReplacement, ReplacedTablesAgree};
 ghost use Rattle.wy_rules.specs.Polarity.{Annotation, DualAnnotation};
 ghost use Rattle.wy_rules.specs.Rereading.{Erasure, Substitution, Retyping};
-ghost use Rattle.wy_rules.specs.Canonical.{CanonicalDerivationHolds, ScopesHaveCanonicalDerivations, CanonicalTypesAreLeast};
+ghost use Rattle.wy_rules.specs.Canonical.{TypesAreToldApart, CanonicalDerivationHolds, ScopesHaveCanonicalDerivations, CanonicalTypesAreLeast};
 ghost use Rattle.wy_rules.specs.Reached.{CanonicalTypesAreReached, ReachedTypesAreCounted, ReachedTypesAreWrittenOrOwn};
 ghost use Rattle.wy_rules.specs.Sparse.{NoSubsumptionAboveAnother};
 ghost use Rattle.wy_rules.specs.Transfer.{ScopesHoldWhereMethodsAgree, ScopesHoldWithoutType};
@@ -118,6 +118,12 @@ pub fn one_end()
 /// by the limit (docs/LANGUAGE.md, "First failing node" and "Limits").
 pub fn accepted_has_no_end()
     ensures { AcceptedHasNoEnd }
+{}
+
+/// The test of types by which canonical derivations are written tells them apart: T-Sub stands exactly where a part's type
+/// is another than the one that the node above asks for.
+pub fn types_are_told_apart()
+    ensures { TypesAreToldApart }
 {}
 
 /// Where each node of a scope passes, over some types of its `val`s, its canonical derivation over them is one
