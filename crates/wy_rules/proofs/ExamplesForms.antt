@@ -31,7 +31,7 @@ sum =
 abbrev condition : code.Expr
 condition = code.Binary (at 12 10) And (parameter (at 12 8) 0 4) (code.Binary (at 12 15) Equal (local (at 12 13) 0) (field (at 12 18) 1))
 
-abbrev block : code.Block
+abbrev pub block : code.Block
 block =
     code.Val (at 10 9) 0 (Some Int) (code.Plain sum)
     (then (code.Assign (at 11 5) (to.Field 0) (code.Plain (local (at 11 9) 0)))

@@ -79,7 +79,7 @@ module _ (p : Program) (k : ℕ) (s : Scope) (locals : List (scope_reading p k s
       let b = (right (block_nodes s None (written Nothing) block) _ h).0.stands in
       (T-Body s.start_place b.1.derivation b.0, (refl, b.1.derives, b.2))
 
-  bodies_hold : (bs : List Body) → AllPass p k s locals (bodies_nodes s bs) → (ds : List (BodyDerivation (scope_reading p k s).Kind)) × DerivesBodies (scope_reading p k s) s locals ds bs
+  pub bodies_hold : (bs : List Body) → AllPass p k s locals (bodies_nodes s bs) → (ds : List (BodyDerivation (scope_reading p k s).Kind)) × DerivesBodies (scope_reading p k s) s locals ds bs
   bodies_hold [] h = ([], tt)
   bodies_hold (b ∷ bs) h =
       let c = (right (block_nodes s (Some b.owner) (written b.signature.result) b.block) _ (left (body_nodes s b) (bodies_nodes s bs) h)).0.stands in

@@ -1,5 +1,7 @@
 pub mod Acceptance
+pub mod Canonical
 pub mod Derivations
+pub mod EachVal
 pub mod Ends
 pub mod Failing
 pub mod GroundTypes
@@ -10,9 +12,12 @@ pub mod Nodes
 pub mod Operators
 pub mod OwnNames
 pub mod Polarity
+pub mod Reached
 pub mod Readings
 pub mod Refusals
 pub mod Rereading
 pub mod Resolved
+pub mod Sparse
 pub mod Tables
+pub mod Transfer
 pub mod Typing

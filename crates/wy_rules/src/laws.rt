@@ -5,6 +5,10 @@ ghost use Rattle.wy_types.specs.Order.{IsReflexive, IsTransitive};
 ghost use Rattle.wy_rules.specs.Tables.{ReflexiveOverTables, TransitiveOverTables, KeptUnderReplacement, ReplacedTablesAgree};
 ghost use Rattle.wy_rules.specs.Polarity.{Annotation, DualAnnotation};
 ghost use Rattle.wy_rules.specs.Rereading.{Erasure, Substitution, Retyping};
+ghost use Rattle.wy_rules.specs.Canonical.{TypesAreToldApart, CanonicalDerivationHolds, ScopesHaveCanonicalDerivations, CanonicalTypesAreLeast};
+ghost use Rattle.wy_rules.specs.Reached.{CanonicalTypesAreReached, ReachedTypesAreCounted, ReachedTypesAreWrittenOrOwn};
+ghost use Rattle.wy_rules.specs.Sparse.{NoSubsumptionAboveAnother};
+ghost use Rattle.wy_rules.specs.Transfer.{ScopesHoldWhereMethodsAgree, ScopesHoldWithoutType};
 ghost use Rattle.wy_rules.specs.Judging.{PassingIsAccepted, AcceptedLinesHold};
 ghost use Rattle.wy_rules.specs.GroundTyping.{GroundTyping};
 ghost use Rattle.wy_rules.specs.Refusals.{AcceptedScopesHold, AcceptedHasNoFault};
@@ -114,4 +118,62 @@ pub fn one_end()
 /// by the limit (docs/LANGUAGE.md, "First failing node" and "Limits").
 pub fn accepted_has_no_end()
     ensures { AcceptedHasNoEnd }
+{}
+
+/// The test of types by which canonical derivations are written tells them apart: T-Sub stands exactly where a part's type
+/// is another than the one that the node above asks for.
+pub fn types_are_told_apart()
+    ensures { TypesAreToldApart }
+{}
+
+/// Where each node of a scope passes, over some types of its `val`s, its canonical derivation over them is one
+/// (docs/LANGUAGE.md, "Typing of bodies").
+pub fn canonical_derivation_holds()
+    ensures { CanonicalDerivationHolds }
+{}
+
+/// A scope that holds has its canonical derivation over the types of its `val`s that are found one after the other:
+/// those that are written, and else those of their initialisers (docs/LANGUAGE.md, "Typing of bodies").
+pub fn scopes_have_canonical_derivations()
+    ensures { ScopesHaveCanonicalDerivations }
+{}
+
+/// In a scope of a core that holds, the types of the canonical derivation's `val`s are least: each has its written type or
+/// the least type of its initialiser, and a supertype of that in every other derivation of the scope
+/// (docs/LANGUAGE.md, "First failing node").
+pub fn canonical_types_are_least()
+    ensures { CanonicalTypesAreLeast }
+{}
+
+/// The types of `val`s that are found for a scope are reached from those that the scope writes, and over any reached types
+/// its canonical derivation names reached ones alone (docs/LANGUAGE.md, "Typing of bodies").
+pub fn canonical_types_are_reached()
+    ensures { CanonicalTypesAreReached }
+{}
+
+/// Each type that a scope of a program reaches is a base type, or one of those that the limit on types counts
+/// (docs/LANGUAGE.md, "Limits").
+pub fn reached_types_are_counted()
+    ensures { ReachedTypesAreCounted }
+{}
+
+/// Each type that a scope of a core reaches can be written, or is of the scope's module or of a literal of it; none is of
+/// the program's own object.
+pub fn reached_types_are_written_or_own()
+    ensures { ReachedTypesAreWrittenOrOwn }
+{}
+
+/// In the canonical derivation of a scope no T-Sub stands directly above another (docs/LANGUAGE.md, "Typing of bodies").
+pub fn no_subsumption_above_another()
+    ensures { NoSubsumptionAboveAnother }
+{}
+
+/// A scope that holds in one program holds in another that has the same methods for each type that the scope reaches.
+pub fn scopes_hold_where_methods_agree()
+    ensures { ScopesHoldWhereMethodsAgree }
+{}
+
+/// A scope that does not write a declared type holds in each of two programs that differ in that type alone.
+pub fn scopes_hold_without_type()
+    ensures { ScopesHoldWithoutType }
 {}
