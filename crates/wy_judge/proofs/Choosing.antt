@@ -14,10 +14,12 @@ use Rattle.wy_rules.specs.Nodes.{Spot, nothing, part, Node, node, expr_nodes, bl
 use Rattle.wy_rules.specs.Failing.{IsExpected, IfFails, Passes, FirstFailing, AllPass}
 use Rattle.wy_rules.proofs.Forms.{Lawful}
 use Rattle.wy_rules.proofs.Least.{choice_parts, choice_least}
+use Rattle.wy_judge.specs.declared.outcomes.Inference.{Inference}
+use Rattle.wy_judge.specs.declared.outcomes.Inference.TheVariants as inferred
 use Rattle.wy_judge.specs.declared.outcomes.Fit.{Fit}
 use Rattle.wy_judge.specs.declared.outcomes.Fit.TheVariants as fit
-use Rattle.wy_judge.specs.Outcomes.{fault_at, chosen_fit, chosen_fault}
-use Rattle.wy_judge.specs.Judged.{Fitted, BlockFitted, Probed, BlockProbed}
+use Rattle.wy_judge.specs.Outcomes.{fault_at, chosen_fit, chosen_fault, fault_or}
+use Rattle.wy_judge.specs.Judged.{Inferred, Fitted, BlockFitted, Probed, BlockProbed}
 use Rattle.wy_judge.proofs.Fitting.{least_of, least_at}
 use Rattle.wy_judge.proofs.Lists.{pass_both, fail_left, fail_right}
 
@@ -119,13 +121,12 @@ module _ (p : Program) (k : ℕ) (s : Scope) (w : Lawful (scope_reading p k s)) 
 
     -- an `if` where no type is expected is no failing node
     branches_probed : (a b : Option Fault) → IsExpected (scope_reading p k s) s locals owner spot None → AllPass p k s locals (expr_nodes s owner test) →
-        BlockProbed p k s locals owner spot first a → BlockProbed p k s locals owner spot second b → Probed p k s locals owner spot (If q test first second) (chosen_fault fit.Misfit a b)
+        BlockProbed p k s locals owner spot first a → BlockProbed p k s locals owner spot second b → Probed p k s locals owner spot (If q test first second) (fault_or a b)
     branches_probed (Some fault) b i h m n = first_fails Bool fault h m
     branches_probed None (Some fault) i h m n = second_fails Bool fault h m n
     branches_probed None None i h m n = all_pass h m n (record { expected = None; spot = i; stands = tt; settles = tt })
 
-    pub if_probed : (c : Fit) (a b : Option Fault) → IsExpected (scope_reading p k s) s locals owner spot None → Fitted p k s locals owner nothing (Plain test) Bool c →
-        BlockProbed p k s locals owner spot first a → BlockProbed p k s locals owner spot second b → Probed p k s locals owner spot (If q test first second) (chosen_fault c a b)
-    if_probed (fit.Fails fault) a b i h m n = test_fails Bool fault h
-    if_probed fit.Misfit a b i h m n = branches_probed a b i h.1 m n
-    if_probed (fit.Has e) a b i h m n = branches_probed a b i h.1 m n
+    pub if_probed : (v : Inference) (a b : Option Fault) → IsExpected (scope_reading p k s) s locals owner spot None → Inferred p k s locals owner test v →
+        BlockProbed p k s locals owner spot first a → BlockProbed p k s locals owner spot second b → Probed p k s locals owner spot (If q test first second) (chosen_fault v a b)
+    if_probed (inferred.Fails fault) a b i h m n = test_fails Bool fault h
+    if_probed (inferred.Least t e) a b i h m n = branches_probed a b i h.1 m n

@@ -48,6 +48,7 @@ pub mod Simple
 pub mod Statements
 pub mod Starting
 pub mod Stepping
+pub mod Stops
 pub mod SubtypesDecided
 pub mod Tabled
 pub mod Tables

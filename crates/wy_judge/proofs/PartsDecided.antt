@@ -261,10 +261,9 @@ module _ (p : Program) (k : ℕ) (s : Scope) (c : IsScopeOf p k s) (owner : Opti
         );
     probes = λ old r. (
         let a = d.infers old (test_ready p k s c owner q test first second old r) in
-        let u = fitted_decided p k s c a.1 Bool a.2.range tt in
         let m = e.probes a.0 (first_ready p k s c owner q test first second old a.0 a.1 r a.2) in
         let n = f.probes m.0 (second_probe_ready p k s c owner q test first second old a.0 m.0 a.1 m.1 r a.2 m.2) in
-        (n.0, chosen_fault u.0 m.1 n.1, if_probes p k s c owner q test first second old a.0 m.0 n.0 a.1 u.0 m.1 n.1 a.2 u.1 m.2 n.2)
+        (n.0, chosen_fault a.1 m.1 n.1, if_probes p k s c owner q test first second old a.0 m.0 n.0 a.1 m.1 n.1 a.2 m.2 n.2)
         );
   }
 

@@ -1,8 +1,10 @@
 -- The parts of a scope as the code judges them: its start, a body, its bodies one after the other, its seal, and the whole.
-use Rattle.std.proofs.Common.{◌≡◌, ◌↔◌, ℕ, ◌+◌, ◌<◌, List, [], length, refl, sym, ap, subst, ◌∙◌, Option, Some, None, Bool as Truth, true, false, map}
+use Rattle.std.proofs.Common.{◌≡◌, ◌↔◌, ℕ, ◌<◌, List, [], length, refl, sym, ap, subst, ◌∙◌, Option, Some, None, Bool as Truth, true, false, map}
 use Rattle.std.specs.Prelude.{slice_get}
 use Rattle.std.specs.Option.{option_map}
 use Rattle.std.proofs.lemmas.Option.{slice_get-map}
+use Rattle.wy_text.specs.declared.fault.AtomName.{AtomName}
+use Rattle.wy_text.specs.declared.fault.Place.{Place}
 use Rattle.wy_text.specs.declared.fault.Fault.{Fault}
 use Rattle.wy_effects.specs.Members.{In}
 use Rattle.wy_effects.proofs.Lists.{In-slice_get, In-at}
@@ -24,16 +26,15 @@ use Rattle.wy_judge.specs.declared.outcomes.Fit.TheVariants as fit
 use Rattle.wy_judge.specs.declared.outcomes.Fits.{Fits}
 use Rattle.wy_judge.specs.declared.outcomes.Fits.TheVariants as fits
 use Rattle.wy_judge.specs.declared.scopes.Judged.TheVariants.{Passes, Fails}
-use Rattle.wy_judge.specs.Outcomes.{pure_fault, seal_fault, ascribed_fault}
+use Rattle.wy_judge.specs.Outcomes.{as_fit, pure_fault, seal_fault, ascribed_fault}
 use Rattle.wy_judge.specs.Judged.{IsLack, FitLacks, FitsLack, IsSealed}
-use Rattle.wy_judge.specs.Judging.{NoFault, AllFitTo, BlockFitsTo}
+use Rattle.wy_judge.specs.Judging.{AllFitTo, BlockFitsTo}
 use Rattle.wy_judge.specs.Lacks.{LacksIn, FitLacksIn, FitsLackIn, IsBodyFault, IsInitFault}
 use Rattle.wy_judge.specs.Tables.{Table, IsScopeOf}
 use Rattle.wy_judge.specs.Targets.{mode_of}
-use Rattle.wy_judge.specs.Walking.{StartsTo, BodyTo, BodiesTo, BodiesWalked, IsSealFault, SealAfter, RestTo, settled_types, IsJudged}
-use Rattle.wy_judge.proofs.BodyWalks.{bodies_walked_more, bodies_walked_fail}
+use Rattle.wy_judge.specs.Walking.{StartsTo, BodyTo, BodiesTo, IsSealFault, SealAfter, settled_types, judged_of, IsJudged}
 use Rattle.wy_judge.proofs.Contexts.{below_in_mode, scope_fits}
-use Rattle.wy_judge.proofs.Judgings.{judged_passes, judged_start, judged_body, judged_seal}
+use Rattle.wy_judge.proofs.Judgings.{judged_passes, judged_body, judged_seal}
 use Rattle.wy_judge.proofs.Lacking.{plain_lacks_none, within_lacks_none, lacks_atom}
 use Rattle.wy_judge.proofs.Starting.{init_to, run_to, body_to}
 
@@ -58,6 +59,11 @@ module _ (p : Program) (k : ℕ) (s : Scope) where
 
   ------------------------------------------------------------
   -- The start and a body
+
+  pub init_as_body : (mode : Mode) (place : Place) (atoms : List AtomName) (declared : List ℕ) (u : Fits) (o : Option Fault) → IsBodyFault mode place atoms declared (as_fit u) o → IsInitFault mode place atoms declared u o
+  init_as_body mode place atoms declared (fits.Have e) o h = h
+  init_as_body mode place atoms declared (fits.Misfit n) o h = h
+  init_as_body mode place atoms declared (fits.Fails fault) o h = h
 
   pub starts_by_fields : (xs : List v.Value) (old new : Table) (u : Fits) (mode : Mode) (o : Option Fault) → s.start ≡ Init (values_of xs) → old ≡ [] → mode ≡ mode_of (is_plain s.kind) →
       AllFitTo p k s None old new xs (field_types s 0) u → IsInitFault mode s.start_place s.atoms s.start_effect u o → StartsTo p k s [] new o
@@ -89,16 +95,6 @@ module _ (p : Program) (k : ℕ) (s : Scope) where
     pub body_in : (i : ℕ) (x : b.Body) → slice_get bodies i ≡ Some x → In (body_of x) s.bodies
     body_in i x e = In-slice_get s.bodies i (body_of x) (ap (λ l. slice_get l i) same ∙ slice_get-map body_of bodies i ∙ ap (option_map body_of) e)
 
-    pub bodies_stop : (old mid new : Table) (i : ℕ) (x : b.Body) (o : Option Fault) → slice_get bodies i ≡ Some x → BodiesWalked p k s bodies old mid i → BodyTo p k s mid new (body_of x) o → (NoFault o → ⊥) →
-        BodiesTo p k s old new o
-    bodies_stop old mid new i x None e w h failing = absurd (failing tt)
-    bodies_stop old mid new i x (Some fault) e w h failing = bodies_walked_fail p k s c bodies same old mid i x e w new fault h
-
-    pub bodies_go_on : (old mid new : Table) (i : ℕ) (x : b.Body) (o : Option Fault) → slice_get bodies i ≡ Some x → BodiesWalked p k s bodies old mid i → BodyTo p k s mid new (body_of x) o → NoFault o →
-        BodiesWalked p k s bodies old new (i + 1)
-    bodies_go_on old mid new i x None e w h passes = bodies_walked_more p k s c bodies same old mid i x e w new h
-    bodies_go_on old mid new i x (Some fault) e w h passes = absurd passes
-
   ------------------------------------------------------------
   -- The seal
 
@@ -119,24 +115,20 @@ module _ (p : Program) (k : ℕ) (s : Scope) where
   ------------------------------------------------------------
   -- The whole
 
-  pub fails_at_start : (new : Table) (o : Option Fault) (fault : Fault) → o ≡ Some fault → pure_fault s.kind (fields_of s 0) s.names ≡ None → StartsTo p k s [] new o → IsJudged p k s (Fails fault)
-  fails_at_start new o fault e pure h = judged_start p k s new fault pure (subst (StartsTo p k s [] new) e h)
-
   pub fails_after : (a z : Table) (bodies : Option Fault) (fault : Fault) → pure_fault s.kind (fields_of s 0) s.names ≡ None → StartsTo p k s [] a None → BodiesTo p k s a z bodies → SealAfter p k s bodies (Some fault) →
       IsJudged p k s (Fails fault)
   fails_after a z None fault pure starts h seal = judged_seal p k s a z seal.0 fault pure starts h seal.1 (sym seal.2)
   fails_after a z (Some g) fault pure starts h seal = (let same : g ≡ fault = cc in judged_body p k s a z fault pure starts (subst (λ (f : Fault). BodiesTo p k s a z (Some f)) same h))
-
-  pub fails_at_rest : (a z : Table) (o : Option Fault) (fault : Fault) → o ≡ Some fault → pure_fault s.kind (fields_of s 0) s.names ≡ None → StartsTo p k s [] a None → RestTo p k s a z o → IsJudged p k s (Fails fault)
-  fails_at_rest a z o fault e pure starts rest = fails_after a z rest.0 fault pure starts rest.1 (subst (SealAfter p k s rest.0) e rest.2)
 
   pub passes_after : (a z : Table) (bodies : Option Fault) → IsScopeOf p k s → pure_fault s.kind (fields_of s 0) s.names ≡ None → StartsTo p k s [] a None → BodiesTo p k s a z bodies → SealAfter p k s bodies None →
       IsJudged p k s (Passes (settled_types z))
   passes_after a z None c pure starts h seal = judged_passes p k s a z seal.0 (scope_fits p k s c).numbered pure starts h seal.1 (sym seal.2)
   passes_after a z (Some g) c pure starts h seal = absurd (cc)
 
-  pub passes_all : (a z : Table) (o : Option Fault) → IsScopeOf p k s → o ≡ None → pure_fault s.kind (fields_of s 0) s.names ≡ None → StartsTo p k s [] a None → RestTo p k s a z o → IsJudged p k s (Passes (settled_types z))
-  passes_all a z o c e pure starts rest = passes_after a z rest.0 c pure starts rest.1 (subst (SealAfter p k s rest.0) e rest.2)
+  -- .. by the seal, which comes last
+  pub judged_at_seal : (a z : Table) (o : Option Fault) → IsScopeOf p k s → pure_fault s.kind (fields_of s 0) s.names ≡ None → StartsTo p k s [] a None → BodiesTo p k s a z None → IsSealFault p k s o → IsJudged p k s (judged_of z o)
+  judged_at_seal a z None c pure starts h seal = passes_after a z None c pure starts h seal
+  judged_at_seal a z (Some fault) c pure starts h seal = fails_after a z None fault pure starts h seal
 
 -- the scope of a number, as the code has it
 pub scope_there : (core : Core) (k : ℕ) (x : sc.Scope) → IsCore (program_of core) → slice_get core.scopes k ≡ Some x → IsScopeOf (program_of core) k (scope_of x)

@@ -35,12 +35,12 @@ use Rattle.wy_judge.proofs.AtOnce.{ValuesFit}
 use Rattle.wy_judge.proofs.Bodies.{both_judged, init_judged}
 use Rattle.wy_judge.proofs.Contexts.{lawful, in_range, own_in_range, fields_in_range, result_in_range, sealed_in_range, scope_fits}
 use Rattle.wy_judge.proofs.Expecting.{written_expected}
-use Rattle.wy_judge.proofs.Judgings.{judged_pure}
+use Rattle.wy_judge.proofs.Judgings.{judged_pure, judged_start}
 use Rattle.wy_judge.proofs.Lacking.{nothing_left}
 use Rattle.wy_judge.proofs.Lists.{fail_left}
 use Rattle.wy_judge.proofs.Moving.{moves_under}
 use Rattle.wy_judge.proofs.PartsDecided.{values_decided, block_decided}
-use Rattle.wy_judge.proofs.ScopeParts.{fit_lacks, fits_lack, owner_there, not_sealed, sealed_as, fails_at_start, fails_after, passes_after}
+use Rattle.wy_judge.proofs.ScopeParts.{fit_lacks, fits_lack, owner_there, not_sealed, sealed_as, fails_after, passes_after}
 use Rattle.wy_judge.proofs.Starting.{values_start, values_as_many, block_start, init_stands, run_to, body_to}
 use Rattle.wy_judge.proofs.SubtypesDecided.{subtype_decided}
 use Rattle.wy_judge.proofs.Walks.{walked_start, body_ready, walked_more}
@@ -213,7 +213,7 @@ module _ (p : Program) (k : ℕ) (s : Scope) (c : IsScopeOf p k s) where
   after_bodies a z None pure starts h = (let q = sealed_by s.ascribed refl in after_seal a z None q.0 pure starts h q.1)
 
   after_start : (a : Table) (o : Option Fault) → pure_fault s.kind (fields_of s 0) s.names ≡ None → StartsTo p k s [] a o → Whole
-  after_start a (Some fault) pure starts = inr (fault, fails_at_start p k s a (Some fault) fault refl pure starts)
+  after_start a (Some fault) pure starts = inr (fault, judged_start p k s a fault pure starts)
   after_start a None pure starts = (let r = bodies_decided a (walked_start p k s c a starts) in after_bodies a r.0 r.1 pure starts r.2)
 
   after_pure : (o : Option Fault) → pure_fault s.kind (fields_of s 0) s.names ≡ o → Whole

@@ -17,7 +17,7 @@ use Rattle.wy_judge.specs.declared.outcomes.Inference.{Inference}
 use Rattle.wy_judge.specs.declared.outcomes.Inference.TheVariants as inferred
 use Rattle.wy_judge.specs.declared.outcomes.Fit.{Fit}
 use Rattle.wy_judge.specs.declared.outcomes.Fit.TheVariants as fit
-use Rattle.wy_judge.specs.Outcomes.{fitted_outcome, probed_outcome, chosen_fit, chosen_fault}
+use Rattle.wy_judge.specs.Outcomes.{fitted_outcome, probed_outcome, chosen_fit, chosen_fault, fault_or}
 use Rattle.wy_judge.specs.Judged.{Inferred, Fitted}
 use Rattle.wy_judge.specs.Tables.{Table, IsScopeOf, Moves, ExprReady, ValueReady, BlockReady}
 use Rattle.wy_judge.specs.Targets.{mode_of, IsFittedIn}
@@ -55,15 +55,14 @@ chosen_stands q (fit.Has e) (fit.Has f) (fit.Has g) h = (tt, tt, tt)
 chosen_stands q (fit.Has e) (fit.Has f) fit.Misfit h = absurd h
 chosen_stands q (fit.Has e) (fit.Has f) (fit.Fails fault) h = absurd h
 
-branches_stand : (m n : Option Fault) → NoFault (chosen_fault fit.Misfit m n) → NoFault m × NoFault n
+branches_stand : (m n : Option Fault) → NoFault (fault_or m n) → NoFault m × NoFault n
 branches_stand (Some fault) n h = absurd h
 branches_stand None (Some fault) h = absurd h
 branches_stand None None h = (tt, tt)
 
-pub chosen_has_none : (e : Fit) (m n : Option Fault) → NoFault (chosen_fault e m n) → FitStands e × NoFault m × NoFault n
-chosen_has_none (fit.Fails fault) m n h = absurd h
-chosen_has_none fit.Misfit m n h = (let b = branches_stand m n h in (tt, b.0, b.1))
-chosen_has_none (fit.Has e) m n h = (let b = branches_stand m n h in (tt, b.0, b.1))
+pub chosen_has_none : (v : Inference) (m n : Option Fault) → NoFault (chosen_fault v m n) → InferenceStands v × NoFault m × NoFault n
+chosen_has_none (inferred.Fails fault) m n h = absurd h
+chosen_has_none (inferred.Least t e) m n h = (let b = branches_stand m n h in (tt, b.0, b.1))
 
 module _ (p : Program) (k : ℕ) (s : Scope) (c : IsScopeOf p k s) (owner : Option ℕ) where
   pub lawful : Lawful (scope_reading p k s)
@@ -151,14 +150,13 @@ module _ (p : Program) (k : ℕ) (s : Scope) (c : IsScopeOf p k s) (owner : Opti
           );
     }
 
-    pub if_probes : (old a b new : Table) (v : Inference) (e : Fit) (m n : Option Fault) → InfersTo p k s owner old a test v → IsFittedIn p k (mode_of (is_plain s.kind)) v Bool e →
-        BlockProbesTo p k s owner a b first m → BlockProbesTo p k s owner b new second n → ProbesTo p k s owner old new (If q test first second) (chosen_fault e m n)
-    if_probes old a b new v e m n h f x z = record {
-      moves = chosen_moves old a b new (InferenceStands v) (NoFault m) (NoFault n) (NoFault (chosen_fault e m n)) h.moves x.moves z.moves
-          (λ i. (let all = chosen_has_none e m n i in (fitted_stands v Bool e f all.0, all.1, all.2)));
+    pub if_probes : (old a b new : Table) (v : Inference) (m n : Option Fault) → InfersTo p k s owner old a test v →
+        BlockProbesTo p k s owner a b first m → BlockProbesTo p k s owner b new second n → ProbesTo p k s owner old new (If q test first second) (chosen_fault v m n)
+    if_probes old a b new v m n h x z = record {
+      moves = chosen_moves old a b new (InferenceStands v) (NoFault m) (NoFault n) (NoFault (chosen_fault v m n)) h.moves x.moves z.moves (chosen_has_none v m n);
       judged = λ locals g spot i. (
           let at_b = agrees_before p k s (scope_reading p k s) locals b new (block_vals second) (NoFault n) z.moves g in
           let at_a = agrees_before p k s (scope_reading p k s) locals a b (block_vals first) (NoFault m) x.moves at_b in
-          if_probed p k s lawful locals owner q test first second spot e m n i (fitted_plain locals test v Bool e nothing (h.judged locals at_a) f) (x.judged locals at_b spot i) (z.judged locals g spot i)
+          if_probed p k s lawful locals owner q test first second spot v m n i (h.judged locals at_a) (x.judged locals at_b spot i) (z.judged locals g spot i)
           );
     }

@@ -6,6 +6,7 @@ pub mod Judging
 pub mod Lacks
 pub mod Outcomes
 pub mod Settling
+pub mod Stops
 pub mod Tables
 pub mod Targets
 pub mod Walking

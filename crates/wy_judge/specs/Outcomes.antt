@@ -226,18 +226,13 @@ chosen_fit place (fit.Has e) first second = chosen_first place e first second
 chosen_fit place fit.Misfit first second = misfit_condition place first second
 chosen_fit place (fit.Fails fault) first second = fit.Fails fault
 
--- an `if` where no type is expected fails by its parts alone, and its condition by its own nodes
+-- an `if` where no type is expected fails by the nodes of its parts alone
 abbrev pub fault_or : Option Fault → Option Fault → Option Fault
 fault_or (Some fault) other = Some fault
 fault_or None other = other
 
-abbrev pub fit_fault : Fit → Option Fault
-fit_fault (fit.Has f) = None
-fit_fault fit.Misfit = None
-fit_fault (fit.Fails fault) = Some fault
-
-abbrev pub chosen_fault : Fit → Option Fault → Option Fault → Option Fault
-chosen_fault test first second = fault_or (fit_fault test) (fault_or first second)
+abbrev pub chosen_fault : Inference → Option Fault → Option Fault → Option Fault
+chosen_fault test first second = fault_or (probed_outcome test) (fault_or first second)
 
 ------------------------------------------------------------
 -- Several values
@@ -257,6 +252,12 @@ abbrev pub more_fits : Fit → Fits → Fits
 more_fits (fit.Has e) others = others_fit e others
 more_fits fit.Misfit others = unless_fail others (fits.Misfit 0)
 more_fits (fit.Fails fault) others = fits.Fails fault
+
+-- several values as one
+abbrev pub as_fit : Fits → Fit
+as_fit (fits.Have e) = fit.Has e
+as_fit (fits.Misfit n) = fit.Misfit
+as_fit (fits.Fails fault) = fit.Fails fault
 
 ------------------------------------------------------------
 -- Several values, as they are judged one after the other

@@ -10,6 +10,8 @@ use Rattle.wy_types.specs.Core.{start_vals, bodies_vals, block_vals, scope_vals}
 use Rattle.wy_rules.specs.Acceptance.{scope_reading}
 use Rattle.wy_rules.specs.Nodes.{start_nodes, body_nodes, bodies_nodes, scope_nodes}
 use Rattle.wy_rules.specs.Failing.{AllPass, IsScopeFault}
+use Rattle.wy_judge.specs.declared.outcomes.Stop.{Stop}
+use Rattle.wy_judge.specs.declared.outcomes.Stop.TheVariants as stop
 use Rattle.wy_judge.specs.declared.scopes.Judged.{Judged}
 use Rattle.wy_judge.specs.declared.scopes.Judged.TheVariants.{Passes, Fails}
 use Rattle.wy_judge.specs.Judged.{NodesJudged, BodiesPassed, IsSealed}
@@ -68,9 +70,6 @@ module _ (p : Program) (k : ℕ) (s : Scope) where
   SealAfter None o = IsSealFault o
   SealAfter (Some fault) o = o ≡ Some fault
 
-  abbrev pub RestTo : Table → Table → Option Fault → Type 0
-  RestTo old new o = (bodies : Option Fault) × BodiesTo old new bodies × SealAfter bodies o
-
   -- every node passes over these types of the `val`s, one for each, by their numbers
   pub record PassesOver (types : List TypeRef) : Type 0 where
     pub nodes : AllPass p k s (map (scope_reading p k s).read types) (scope_nodes s)
@@ -80,6 +79,15 @@ module _ (p : Program) (k : ℕ) (s : Scope) where
   abbrev pub IsJudged : Judged → Type 0
   IsJudged (Passes types) = PassesOver types
   IsJudged (Fails fault) = IsScopeFault p k s fault
+
+-- .. where judging it stopped at a fault
+abbrev pub IsStopped : Stop → Judged → Type 0
+IsStopped end j = (fault : Fault) × (end ≡ stop.Fails fault) × (j ≡ Fails fault)
+
+-- .. by the types that are known in the end, and its fault
+abbrev pub judged_of : Table → Option Fault → Judged
+judged_of table None = Passes (settled_types table)
+judged_of table (Some fault) = Fails fault
 
 -- .. the scope of a number
 abbrev pub IsJudgedAt : Program → ℕ → Judged → Type 0

@@ -2,7 +2,7 @@
 
 ghost use Rattle.std.specs.Prelude.{◌≡◌, IfOk, ◌+◌};
 ghost use Rattle.wy_effects.specs.EffSet.{union};
-ghost use Rattle.wy_judge.specs.Outcomes.{fault_at, if_int, if_bool, if_text, if_equated, unary_result, binary_result, text_operands, text_result, operation_outcome, unary_outcome, second_outcome, IsBoth, IsSecond, text_outcome, FewOperands, call_outcome, uncalled_outcome, new_outcome, ascribed_outcome, assigned_outcome, unassigned_outcome, probed_outcome, unless_failing, chosen_second, chosen_first, misfit_condition, chosen_fit, fault_or, fit_fault, chosen_fault};
+ghost use Rattle.wy_judge.specs.Outcomes.{fault_at, if_int, if_bool, if_text, if_equated, unary_result, binary_result, text_operands, text_result, operation_outcome, unary_outcome, second_outcome, IsBoth, IsSecond, text_outcome, FewOperands, call_outcome, uncalled_outcome, new_outcome, ascribed_outcome, assigned_outcome, unassigned_outcome, probed_outcome, unless_failing, chosen_second, chosen_first, misfit_condition, chosen_fit, fault_or, chosen_fault};
 
 use crate::outcomes::{Fit, Fits, Inference};
 use std::alloc::Global;
@@ -364,15 +364,6 @@ pub fn chosen_fit(place: Place, test: Fit, first: Fit, second: Fit) -> Result<Fi
     }
 }
 
-fn fit_fault(value: Fit) -> Option<Fault>
-    ensures { result ≡ fit_fault value }
-{
-    match value {
-        Fit::Has(_) | Fit::Misfit => None,
-        Fit::Fails(fault) => Some(fault),
-    }
-}
-
 /// The first fault, else the second.
 pub fn fault_or(first: Option<Fault>, second: Option<Fault>) -> Option<Fault>
     ensures { result ≡ fault_or first second }
@@ -384,8 +375,8 @@ pub fn fault_or(first: Option<Fault>, second: Option<Fault>) -> Option<Fault>
 }
 
 /// What an `if` comes to where no type is expected: what its parts come to.
-pub fn chosen_fault(test: Fit, first: Option<Fault>, second: Option<Fault>) -> Option<Fault>
+pub fn chosen_fault(test: Inference, first: Option<Fault>, second: Option<Fault>) -> Option<Fault>
     ensures { result ≡ chosen_fault test first second }
 {
-    fault_or(fit_fault(test), fault_or(first, second))
+    fault_or(probed_outcome(test), fault_or(first, second))
 }

@@ -7,10 +7,10 @@ ghost use Rattle.wy_types.specs.Program.{scope_of};
 ghost use Rattle.wy_rules.specs.Typing.{fields_of};
 ghost use Rattle.wy_subtype.specs.Verdict.{IsLeastMissing};
 ghost use Rattle.wy_judge.specs.Outcomes.{lack_fault, var_fault, is_line, line_fault, pure_fault};
-ghost use Rattle.wy_judge.specs.Lacks.{LacksIn, IsBodyFault, IsInitFault};
+ghost use Rattle.wy_judge.specs.Lacks.{LacksIn, IsBodyFault};
 
 use crate::combining::{fault_at, fault_or};
-use crate::outcomes::{Fit, Fits};
+use crate::outcomes::Fit;
 use crate::targets::fields_of;
 use wy_effects::atom::{Atom, AtomTable};
 use wy_effects::set::EffSet;
@@ -88,23 +88,6 @@ pub fn body_fault(
         Fit::Has(effect) => lack_fault(place, atoms, lack(mode, &effect, declared)?),
         Fit::Misfit => Ok(Some(fault_at(place, RuleName::TBody, 1))),
         Fit::Fails(fault) => Ok(Some(fault)),
-    }
-}
-
-/// What the start of a module comes to, by what the initialisers of its fields come to at their types.
-pub fn init_fault(
-    mode: Mode,
-    place: Place,
-    atoms: &AtomTable,
-    declared: &EffSet,
-    initialisers: Fits,
-) -> Result<Option<Fault>, Memory>
-    ensures { IfOk result (λ o. IsInitFault mode place atoms.now declared.now initialisers o) }
-{
-    match initialisers {
-        Fits::Have(effect) => lack_fault(place, atoms, lack(mode, &effect, declared)?),
-        Fits::Misfit(_) => Ok(Some(fault_at(place, RuleName::TBody, 1))),
-        Fits::Fails(fault) => Ok(Some(fault)),
     }
 }
 

@@ -257,10 +257,9 @@ fn probe(
         }
         Value::If(_, test, first, second) => {
             let by_itself = infer(alloc, core, number, scope, pairs, owner, table, test)?;
-            let condition = fitted(pairs, by_itself, &TypeRef::Bool)?;
             let first = probe_block(alloc, core, number, scope, pairs, owner, table, first)?;
             let second = probe_block(alloc, core, number, scope, pairs, owner, table, second)?;
-            Ok(chosen_fault(condition, first, second))
+            Ok(chosen_fault(by_itself, first, second))
         }
     }
 }

@@ -1,7 +1,13 @@
-//! What judging a part of a body comes to (docs/LANGUAGE.md, "First failing node").
+//! What judging a part of a body comes to, and why judging a scope stops (docs/LANGUAGE.md, "First failing node").
+
+ghost use Rattle.std.specs.Prelude.{◌≡◌};
+ghost use Rattle.wy_judge.specs.declared.outcomes.Stop.TheVariants.{Memory as NoMemory};
+ghost use Rattle.wy_judge.specs.Outcomes.{as_fit};
+ghost use Rattle.wy_judge.specs.Stops.{IfPassed};
 
 use wy_effects::set::EffSet;
 use wy_text::fault::Fault;
+use wy_text::text::Memory;
 use wy_types::types::TypeRef;
 
 /// An expression by itself: its least type and effect, or the first failing node in it.
@@ -29,9 +35,49 @@ pub enum Fits {
     Fails(Fault),
 }
 
+impl Fits {
+    /// All values as one.
+    pub fn as_fit(self) -> Fit
+        ensures { result ≡ as_fit self }
+    {
+        match self {
+            Fits::Have(effect) => Fit::Has(effect),
+            Fits::Misfit(_) => Fit::Misfit,
+            Fits::Fails(fault) => Fit::Fails(fault),
+        }
+    }
+}
+
 /// A statement before the rest of a block, or several: their effect, or the first failing node.
 #[derive(Drop)]
 pub enum Step {
     Done(EffSet),
     Fails(Fault),
+}
+
+/// Why judging a scope stops.
+#[derive(Drop)]
+pub enum Stop {
+    /// The first failing node.
+    Fails(Fault),
+    /// Memory was wanting.
+    Memory,
+}
+
+impl From<Memory> for Stop {
+    ghost from_gives = { λ _ e. e ≡ NoMemory };
+
+    fn from(_memory: Memory) -> Self {
+        Stop::Memory
+    }
+}
+
+/// Judging stops at a fault, where there is one.
+pub fn stop_at(fault: Option<Fault>) -> Result<(), Stop>
+    ensures { IfPassed result (λ o. o ≡ fault) }
+{
+    match fault {
+        None => Ok(()),
+        Some(fault) => Err(Stop::Fails(fault)),
+    }
 }

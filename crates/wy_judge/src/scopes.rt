@@ -5,17 +5,20 @@ ghost use Rattle.wy_effects.specs.Members.{In};
 ghost use Rattle.wy_types.specs.Program.{program_of, scope_of, body_of};
 ghost use Rattle.wy_types.specs.Types.{is_plain};
 ghost use Rattle.wy_rules.specs.Resolved.{CoreKeeps};
+ghost use Rattle.wy_judge.specs.Lacks.{IsBodyFault};
 ghost use Rattle.wy_judge.specs.Outcomes.{seal_fault};
+ghost use Rattle.wy_judge.specs.Stops.{IfPassed};
 ghost use Rattle.wy_judge.specs.Tables.{IsScopeOf, BlockReady};
 ghost use Rattle.wy_judge.specs.Targets.{mode_of, about_of};
-ghost use Rattle.wy_judge.specs.Walking.{Walked, StartsTo, BodyTo, BodiesTo, RestTo, settled, settled_types, IsSealFault, IsJudgedAt};
+ghost use Rattle.wy_judge.specs.Walking.{Walked, StartsTo, BodyTo, BodiesTo, judged_of, settled, settled_types, IsSealFault, IsStopped, IsJudged, IsJudgedAt};
 
 use crate::combining::fault_at;
-use crate::faults::{body_fault, init_fault, pure_fault};
+use crate::faults::{body_fault, pure_fault};
 use crate::judging::{fit_all, fit_block};
+use crate::outcomes::{Fit, Stop, stop_at};
 use crate::targets::{field_types, mode_of};
 use std::alloc::Global;
-use wy_effects::set::copy_sets;
+use wy_effects::set::{EffSet, copy_sets};
 use wy_subtype::PairTable;
 use wy_text::fault::{Fault, Place, RuleName};
 use wy_text::list::Items;
@@ -32,7 +35,15 @@ pub enum Judged {
     Fails(Fault),
 }
 
-/// The first failing node of a scope's start.
+/// Judges a body, or a scope's start in the same way, whose block came to this at the result's type.
+fn judge_effect(scope: &Scope, place: Place, declared: &EffSet, block: Fit) -> Result<(), Stop>
+    ensures { IfPassed result (λ o. IsBodyFault (mode_of (is_plain (scope_of scope.now).kind)) place (scope_of scope.now).atoms declared.now block o) }
+{
+    let fault = body_fault(mode_of(scope), place, &scope.atoms, declared, block)?;
+    stop_at(fault)
+}
+
+/// Judges a scope's start.
 fn judge_start(
     alloc: Global,
     core: &Core,
@@ -40,11 +51,11 @@ fn judge_start(
     scope: &Scope,
     pairs: &mut PairTable<'_>,
     table: &mut Vec<Option<TypeRef>>,
-) -> Result<Option<Fault>, Memory>
+) -> Result<(), Stop>
     requires context { IsScopeOf (program_of core.now) number (scope_of scope.now) }
     requires pairs { pairs.old.about ≡ about_of (program_of core.now) number (scope_of scope.now) }
     requires empty { table.old.items ≡ [] }
-    ensures outcome { IfOk result (λ o. StartsTo (program_of core.now) number (scope_of scope.now) [] table.new.items o) }
+    ensures outcome { IfPassed result (λ o. StartsTo (program_of core.now) number (scope_of scope.now) [] table.new.items o) }
     ensures same { pairs.new.about ≡ pairs.old.about }
 {
     match &scope.start {
@@ -61,12 +72,11 @@ fn judge_start(
                 values,
                 types.as_slice(),
             )?;
-            init_fault(
-                mode_of(scope),
+            judge_effect(
+                scope,
                 scope.start_place,
-                &scope.atoms,
                 &scope.start_effect,
-                initialisers,
+                initialisers.as_fit(),
             )
         }
         Start::Run(block) => {
@@ -81,18 +91,12 @@ fn judge_start(
                 block,
                 &TypeRef::Unit,
             )?;
-            body_fault(
-                mode_of(scope),
-                scope.start_place,
-                &scope.atoms,
-                &scope.start_effect,
-                at_unit,
-            )
+            judge_effect(scope, scope.start_place, &scope.start_effect, at_unit)
         }
     }
 }
 
-/// The first failing node of a body.
+/// Judges a body.
 fn judge_body(
     alloc: Global,
     core: &Core,
@@ -101,12 +105,12 @@ fn judge_body(
     pairs: &mut PairTable<'_>,
     table: &mut Vec<Option<TypeRef>>,
     body: &Body,
-) -> Result<Option<Fault>, Memory>
+) -> Result<(), Stop>
     requires context { IsScopeOf (program_of core.now) number (scope_of scope.now) }
     requires pairs { pairs.old.about ≡ about_of (program_of core.now) number (scope_of scope.now) }
     requires in_scope { In (body_of body.now) (scope_of scope.now).bodies }
     requires ready { BlockReady (program_of core.now) number (scope_of scope.now) (Some body.now.owner) table.old.items (body_of body.now).block }
-    ensures outcome { IfOk result (λ o. BodyTo (program_of core.now) number (scope_of scope.now) table.old.items table.new.items (body_of body.now) o) }
+    ensures outcome { IfPassed result (λ o. BodyTo (program_of core.now) number (scope_of scope.now) table.old.items table.new.items (body_of body.now) o) }
     ensures same { pairs.new.about ≡ pairs.old.about }
 {
     let block = fit_block(
@@ -120,16 +124,10 @@ fn judge_body(
         &body.block,
         &body.signature.result,
     )?;
-    body_fault(
-        mode_of(scope),
-        body.place,
-        &scope.atoms,
-        &body.signature.effect,
-        block,
-    )
+    judge_effect(scope, body.place, &body.signature.effect, block)
 }
 
-/// The first failing node of a scope's bodies.
+/// Judges a scope's bodies, in their order.
 fn judge_bodies(
     alloc: Global,
     core: &Core,
@@ -137,21 +135,18 @@ fn judge_bodies(
     scope: &Scope,
     pairs: &mut PairTable<'_>,
     table: &mut Vec<Option<TypeRef>>,
-) -> Result<Option<Fault>, Memory>
+) -> Result<(), Stop>
     requires context { IsScopeOf (program_of core.now) number (scope_of scope.now) }
     requires pairs { pairs.old.about ≡ about_of (program_of core.now) number (scope_of scope.now) }
     requires walked { Walked (program_of core.now) number (scope_of scope.now) table.old.items 0 }
-    ensures outcome { IfOk result (λ o. BodiesTo (program_of core.now) number (scope_of scope.now) table.old.items table.new.items o) }
+    ensures outcome { IfPassed result (λ o. BodiesTo (program_of core.now) number (scope_of scope.now) table.old.items table.new.items o) }
     ensures same { pairs.new.about ≡ pairs.old.about }
 {
     let bodies = scope.bodies.as_slice();
     for i in 0..bodies.len() {
-        let next = judge_body(alloc, core, number, scope, pairs, table, &bodies[i])?;
-        if next.is_some() {
-            return Ok(next);
-        }
+        judge_body(alloc, core, number, scope, pairs, table, &bodies[i])?;
     }
-    Ok(None)
+    Ok(())
 }
 
 /// M-Ascribe, unless the module's own type is a subtype of the one that it is sealed at.
@@ -188,26 +183,25 @@ fn seal_fault(
     Ok(unless_below(scope.place, below))
 }
 
-/// The first failing node of a scope's bodies and its seal, after its start.
-fn judge_rest(
+/// Judges a scope, but for its lines.
+fn judge(
     alloc: Global,
     core: &Core,
     number: u16,
     scope: &Scope,
     pairs: &mut PairTable<'_>,
     table: &mut Vec<Option<TypeRef>>,
-) -> Result<Option<Fault>, Memory>
+) -> Result<(), Stop>
     requires context { IsScopeOf (program_of core.now) number (scope_of scope.now) }
     requires pairs { pairs.old.about ≡ about_of (program_of core.now) number (scope_of scope.now) }
-    requires walked { Walked (program_of core.now) number (scope_of scope.now) table.old.items 0 }
-    ensures outcome { IfOk result (λ o. RestTo (program_of core.now) number (scope_of scope.now) table.old.items table.new.items o) }
-    ensures same { pairs.new.about ≡ pairs.old.about }
+    requires empty { table.old.items ≡ [] }
+    ensures { IfPassed result (λ o. IsJudged (program_of core.now) number (scope_of scope.now) (judged_of table.new.items o)) }
 {
-    let bodies = judge_bodies(alloc, core, number, scope, pairs, table)?;
-    match bodies {
-        Some(fault) => Ok(Some(fault)),
-        None => seal_fault(alloc, scope, pairs),
-    }
+    stop_at(pure_fault(scope))?;
+    judge_start(alloc, core, number, scope, pairs, table)?;
+    judge_bodies(alloc, core, number, scope, pairs, table)?;
+    let fault = seal_fault(alloc, scope, pairs)?;
+    stop_at(fault)
 }
 
 /// The type of a `val`; one that is not known has none that matters.
@@ -231,6 +225,16 @@ fn settled_types(alloc: Global, table: &[Option<TypeRef>]) -> Result<TypeList, M
     Ok(types)
 }
 
+/// What a scope comes to, judging which stopped.
+fn stopped(stop: Stop) -> Result<Judged, Memory>
+    ensures { IfOk result (λ j. IsStopped stop j) }
+{
+    match stop {
+        Stop::Fails(fault) => Ok(Judged::Fails(fault)),
+        Stop::Memory => Err(Memory),
+    }
+}
+
 /// Judges the scope of a number: a module, or the program's own block, but for its instance and import lines. `Fails` comes
 /// exactly where some node of it has no derivation, and carries the first such node, the first of its premises that is
 /// false at its least types, and for an effect the least missing atom. The one error is want of memory
@@ -241,19 +245,13 @@ pub fn judge_scope(alloc: Global, core: &Core, number: u16) -> Result<Judged, Me
     ensures { IfOk result (λ j. IsJudgedAt (program_of core.now) number j) }
 {
     let scope = &core.scopes.as_slice()[number as usize];
-    if let Some(fault) = pure_fault(scope) {
-        return Ok(Judged::Fails(fault));
-    }
     let mut pairs = PairTable::new(alloc, core, number, mode_of(scope));
     let mut table = Vec::new(alloc);
-    let start = judge_start(alloc, core, number, scope, &mut pairs, &mut table)?;
-    if let Some(fault) = start {
-        return Ok(Judged::Fails(fault));
+    match judge(alloc, core, number, scope, &mut pairs, &mut table) {
+        Ok(()) => {
+            let types = settled_types(alloc, table.as_slice())?;
+            Ok(Judged::Passes(types))
+        }
+        Err(stop) => stopped(stop),
     }
-    let rest = judge_rest(alloc, core, number, scope, &mut pairs, &mut table)?;
-    if let Some(fault) = rest {
-        return Ok(Judged::Fails(fault));
-    }
-    let types = settled_types(alloc, table.as_slice())?;
-    Ok(Judged::Passes(types))
 }

@@ -366,12 +366,6 @@ fit-fitted-requires-in-If-clause-least t c = asked_least (program_of c.args.core
 pub fit-fitted-requires-in-If-clause-expected : goal.fit-fitted-requires-in-If-clause-expected
 fit-fitted-requires-in-If-clause-expected t c = asked_type (program_of c.args.core.now) c.args.number _ c.infer-in-If.new.pairs.about (c.infer-in-If.ensures.same ∙ c.requires.pairs) Bool tt
 
-pub probe-fitted-requires-clause-least : goal.probe-fitted-requires-clause-least
-probe-fitted-requires-clause-least t c = asked_least (program_of c.args.core.now) c.args.number _ c.infer-in-If.new.pairs.about (c.infer-in-If.ensures.same ∙ c.requires.pairs) c.in_ok-by_itself-in-If.by_itself c.in_ok-by_itself-in-If.ensures.outcome.range
-
-pub probe-fitted-requires-clause-expected : goal.probe-fitted-requires-clause-expected
-probe-fitted-requires-clause-expected t c = asked_type (program_of c.args.core.now) c.args.number _ c.infer-in-If.new.pairs.about (c.infer-in-If.ensures.same ∙ c.requires.pairs) Bool tt
-
 pub fit-infer-requires-in-If : goal.fit-infer-requires-in-If
 fit-infer-requires-in-If t c =
     let p = program_of c.args.core.now in
@@ -428,7 +422,7 @@ probe-probe_block-requires t c =
     let second = block_of c.in-If.second in
     let ready = subst (λ x. ValueReady p c.args.number s c.args.owner c.args.table.now.items x) form c.requires.ready in
     let tested = subst (λ e. InfersTo p c.args.number s c.args.owner c.args.table.now.items c.infer-in-If.new.table.items (expr_of e) c.in_ok-by_itself-in-If.by_itself) c.deref.ensures c.in_ok-by_itself-in-If.ensures.outcome in
-    (search (rules, the_lemmas), (c.requires.context, (c.fitted.ensures.same ∙ c.infer-in-If.ensures.same ∙ c.requires.pairs, (c.requires.owner, first_ready p c.args.number s c.requires.context c.args.owner c.in-If.field-0 test first second c.args.table.now.items c.infer-in-If.new.table.items c.in_ok-by_itself-in-If.by_itself ready tested))))
+    (search (rules, the_lemmas), (c.requires.context, (c.infer-in-If.ensures.same ∙ c.requires.pairs, (c.requires.owner, first_ready p c.args.number s c.requires.context c.args.owner c.in-If.field-0 test first second c.args.table.now.items c.infer-in-If.new.table.items c.in_ok-by_itself-in-If.by_itself ready tested))))
 
 pub probe-probe_block-requires-in-If : goal.probe-probe_block-requires-in-If
 probe-probe_block-requires-in-If t c =
@@ -440,7 +434,7 @@ probe-probe_block-requires-in-If t c =
     let second = block_of c.in-If.second in
     let ready = subst (λ x. ValueReady p c.args.number s c.args.owner c.args.table.now.items x) form c.requires.ready in
     let tested = subst (λ e. InfersTo p c.args.number s c.args.owner c.args.table.now.items c.infer-in-If.new.table.items (expr_of e) c.in_ok-by_itself-in-If.by_itself) c.deref.ensures c.in_ok-by_itself-in-If.ensures.outcome in
-    (search (rules, the_lemmas), (c.requires.context, (c.probe_block.ensures.same ∙ c.fitted.ensures.same ∙ c.infer-in-If.ensures.same ∙ c.requires.pairs, (c.requires.owner, second_probe_ready p c.args.number s c.requires.context c.args.owner c.in-If.field-0 test first second c.args.table.now.items c.infer-in-If.new.table.items c.probe_block.new.table.items c.in_ok-by_itself-in-If.by_itself c.in_ok-first-in-If.first ready tested c.in_ok-first-in-If.ensures.outcome))))
+    (search (rules, the_lemmas), (c.requires.context, (c.probe_block.ensures.same ∙ c.infer-in-If.ensures.same ∙ c.requires.pairs, (c.requires.owner, second_probe_ready p c.args.number s c.requires.context c.args.owner c.in-If.field-0 test first second c.args.table.now.items c.infer-in-If.new.table.items c.probe_block.new.table.items c.in_ok-by_itself-in-If.by_itself c.in_ok-first-in-If.first ready tested c.in_ok-first-in-If.ensures.outcome))))
 
 pub fit-returns-in_ok-by_itself-in-Plain-clause-outcome : goal.fit-returns-in_ok-by_itself-in-Plain-clause-outcome
 fit-returns-in_ok-by_itself-in-Plain-clause-outcome t c =
@@ -483,9 +477,8 @@ probe-returns-in_ok-second-in-If-clause-outcome t c =
     let first = block_of c.in-If.first in
     let second = block_of c.in-If.second in
     let tested = subst (λ x. InfersTo p k s c.args.owner c.args.table.now.items c.infer-in-If.new.table.items (expr_of x) c.in_ok-by_itself-in-If.by_itself) c.deref.ensures c.in_ok-by_itself-in-If.ensures.outcome in
-    let condition = fitted_in p k _ c.infer-in-If.new.pairs.about (c.infer-in-If.ensures.same ∙ c.requires.pairs) c.in_ok-by_itself-in-If.by_itself Bool c.in_ok-condition-in-If.condition c.in_ok-condition-in-If.ensures.outcome in
-    probes_as p k s c.args.owner c.args.table.now.items c.probe_block-in-If.new.table.items (If c.in-If.field-0 test first second) (value_of c.args.value.now) (chosen_fault c.in_ok-condition-in-If.condition c.in_ok-first-in-If.first c.in_ok-second-in-If.second) c.chosen_fault.result (sym form) c.chosen_fault.ensures
-    (if_probes p k s c.requires.context c.args.owner c.in-If.field-0 test first second c.args.table.now.items c.infer-in-If.new.table.items c.probe_block.new.table.items c.probe_block-in-If.new.table.items c.in_ok-by_itself-in-If.by_itself c.in_ok-condition-in-If.condition c.in_ok-first-in-If.first c.in_ok-second-in-If.second tested condition c.in_ok-first-in-If.ensures.outcome c.in_ok-second-in-If.ensures.outcome)
+    probes_as p k s c.args.owner c.args.table.now.items c.probe_block-in-If.new.table.items (If c.in-If.field-0 test first second) (value_of c.args.value.now) (chosen_fault c.in_ok-by_itself-in-If.by_itself c.in_ok-first-in-If.first c.in_ok-second-in-If.second) c.chosen_fault.result (sym form) c.chosen_fault.ensures
+    (if_probes p k s c.requires.context c.args.owner c.in-If.field-0 test first second c.args.table.now.items c.infer-in-If.new.table.items c.probe_block.new.table.items c.probe_block-in-If.new.table.items c.in_ok-by_itself-in-If.by_itself c.in_ok-first-in-If.first c.in_ok-second-in-If.second tested c.in_ok-first-in-If.ensures.outcome c.in_ok-second-in-If.ensures.outcome)
 
 pub fit_all-loop-i-init : goal.fit_all-loop-i-init
 fit_all-loop-i-init t c =

@@ -1,9 +1,11 @@
-use Rattle.std.proofs.Common.{◌≡◌, ◌<◌, ◌≤◌, Some, length, map, refl, sym, ap, ◌∙◌, rules}
+use Rattle.std.proofs.Common.{◌≡◌, ◌<◌, ◌≤◌, Err, Some, length, map, refl, sym, ap, ◌∙◌, rules}
 use Rattle.std.specs.Prelude.{slice_get}
 use Rattle.std.proofs.lemmas.Option.{slice_get_read}
 use Rattle.wy_types.specs.Program.{program_of, scope_of, body_of}
-use Rattle.wy_judge.proofs.BodyWalks.{bodies_walked_start, bodies_walked_end, next_ready}
-use Rattle.wy_judge.proofs.ScopeParts.{body_in, bodies_stop, bodies_go_on}
+use Rattle.wy_judge.proofs.BodyWalks.{bodies_walked_start, bodies_walked_more, bodies_walked_fail, bodies_walked_end, next_ready}
+use Rattle.wy_judge.proofs.ScopeParts.{body_in}
+use Rattle.wy_judge.proofs.Stops.{fault_weaker}
+use Rattle.wy_judge.specs.Walking.{BodyTo, BodiesTo}
 use Rattle.wy_judge.proofs.scopes.judge_bodies.Goals as goal
 
 pub loop-i-init : goal.loop-i-init
@@ -44,8 +46,8 @@ judge_body-requires-clause-ready c =
     let there : slice_get bodies i ≡ Some c.index-bodies-i.result = slice_get_read bodies _ i c.index-bodies-i.result refl lt c.index-bodies-i.is in
     next_ready p k s h bodies same old mid i c.index-bodies-i.result there c.loop-i.invariant.walked
 
-pub returns-then-is_some-clause-outcome : goal.returns-then-is_some-clause-outcome
-returns-then-is_some-clause-outcome c =
+pub returns-in_err-judge_body-clause-outcome : goal.returns-in_err-judge_body-clause-outcome
+returns-in_err-judge_body-clause-outcome c =
     let p = program_of c.args.core.now in
     let k = c.args.number in
     let s = scope_of c.args.scope.now in
@@ -55,9 +57,13 @@ returns-then-is_some-clause-outcome c =
     let same = ap (map body_of) (sym c.as_slice-bodies.ensures) in
     let i = c.loop-i.i in
     let mid = c.loop-i.table.items in
+    let new = c.judge_body.new.table.items in
+    let x = c.index-bodies-i.result in
     let lt : i < length bodies = search rules in
-    let there : slice_get bodies i ≡ Some c.index-bodies-i.result = slice_get_read bodies _ i c.index-bodies-i.result refl lt c.index-bodies-i.is in
-    bodies_stop p k s h bodies same old mid c.judge_body.new.table.items i c.index-bodies-i.result c.in_ok-next.next there c.loop-i.invariant.walked c.in_ok-next.ensures.outcome (search rules)
+    let there : slice_get bodies i ≡ Some x = slice_get_read bodies _ i x refl lt c.index-bodies-i.is in
+    let r = c.in_err-judge_body.field-0.0 in
+    let e : c.from_residual.result ≡ Err r = search rules in
+    rw e (fault_weaker r (λ f. BodyTo p k s mid new (body_of x) (Some f)) (λ f. BodiesTo p k s old new (Some f)) (λ f b. bodies_walked_fail p k s h bodies same old mid i x there c.loop-i.invariant.walked new f b) c.in_err-judge_body.ensures.outcome)
 
 pub loop-i-preserved : goal.loop-i-preserved
 loop-i-preserved c =
@@ -70,9 +76,11 @@ loop-i-preserved c =
     let same = ap (map body_of) (sym c.as_slice-bodies.ensures) in
     let i = c.loop-i.i in
     let mid = c.loop-i.table.items in
+    let new = c.judge_body.new.table.items in
+    let x = c.index-bodies-i.result in
     let lt : i < length bodies = search rules in
-    let there : slice_get bodies i ≡ Some c.index-bodies-i.result = slice_get_read bodies _ i c.index-bodies-i.result refl lt c.index-bodies-i.is in
-    record { walked = bodies_go_on p k s h bodies same old mid c.judge_body.new.table.items i c.index-bodies-i.result c.in_ok-next.next there c.loop-i.invariant.walked c.in_ok-next.ensures.outcome (search rules); same = c.judge_body.ensures.same ∙ c.loop-i.invariant.same }
+    let there : slice_get bodies i ≡ Some x = slice_get_read bodies _ i x refl lt c.index-bodies-i.is in
+    record { walked = bodies_walked_more p k s h bodies same old mid i x there c.loop-i.invariant.walked new c.in_ok-judge_body.ensures.outcome; same = c.judge_body.ensures.same ∙ c.loop-i.invariant.same }
 
 pub returns-clause-outcome : goal.returns-clause-outcome
 returns-clause-outcome c =

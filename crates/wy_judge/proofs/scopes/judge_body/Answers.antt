@@ -1,6 +1,9 @@
-use Rattle.std.proofs.lemmas.Result.{IfOk-weaker}
+use Rattle.std.proofs.Common.{refl}
 use Rattle.wy_types.specs.Program.{program_of, scope_of, body_of}
 use Rattle.wy_judge.specs.Lacks.{IsBodyFault}
+use Rattle.wy_judge.specs.Targets.{mode_of}
+use Rattle.wy_types.specs.Types.{is_plain}
+use Rattle.wy_judge.proofs.Stops.{passed_weaker}
 use Rattle.wy_judge.specs.Walking.{BodyTo}
 use Rattle.wy_judge.proofs.Contexts.{result_in_range}
 use Rattle.wy_judge.proofs.ScopeParts.{body_by_block, owner_there}
@@ -21,6 +24,7 @@ returns-clause-outcome c =
     let x = body_of c.args.body.now in
     let new = c.fit_block.new.table.items in
     let u = c.in_ok-block.block in
-    IfOk-weaker c.body_fault.result (λ o. IsBodyFault c.mode_of.result x.place s.atoms x.signature.effect u o) (λ o. BodyTo p k s old new x o)
-    (λ o r. body_by_block p k s x old new u c.mode_of.result o c.mode_of.ensures c.in_ok-block.ensures.outcome r)
-    c.body_fault.ensures
+    let m = mode_of (is_plain s.kind) in
+    passed_weaker c.judge_effect.result (λ o. IsBodyFault m x.place s.atoms x.signature.effect u o) (λ o. BodyTo p k s old new x o)
+    (λ o r. body_by_block p k s x old new u m o refl c.in_ok-block.ensures.outcome r)
+    c.judge_effect.ensures

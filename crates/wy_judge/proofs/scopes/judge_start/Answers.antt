@@ -1,13 +1,15 @@
-use Rattle.std.proofs.Common.{[], None, length, sym, ap, subst, ◌∙◌}
-use Rattle.std.proofs.lemmas.Result.{IfOk-weaker}
+use Rattle.std.proofs.Common.{[], None, length, refl, sym, ap, subst, ◌∙◌}
 use Rattle.wy_types.specs.Program.{program_of, scope_of, start_of}
 use Rattle.wy_types.specs.View.{values_of, block_of}
 use Rattle.wy_judge.specs.Judging.{TypesInRange, AllFitTo}
-use Rattle.wy_judge.specs.Lacks.{IsBodyFault, IsInitFault}
+use Rattle.wy_judge.specs.Lacks.{IsBodyFault}
 use Rattle.wy_judge.specs.Tables.{ValuesReady, BlockReady}
+use Rattle.wy_judge.specs.Targets.{mode_of}
+use Rattle.wy_types.specs.Types.{is_plain}
+use Rattle.wy_judge.proofs.Stops.{passed_weaker}
 use Rattle.wy_judge.specs.Walking.{StartsTo}
 use Rattle.wy_judge.proofs.ArmsOfObjects.{new_types}
-use Rattle.wy_judge.proofs.ScopeParts.{starts_by_fields, starts_by_block}
+use Rattle.wy_judge.proofs.ScopeParts.{init_as_body, starts_by_fields, starts_by_block}
 use Rattle.wy_judge.proofs.Starting.{values_start, initialisers_as_many, block_start}
 use Rattle.wy_judge.proofs.scopes.judge_start.Goals as goal
 
@@ -53,11 +55,13 @@ returns-in_ok-initialisers-in-Init-clause-outcome c =
     let old = c.args.table.now.items in
     let new = c.fit_all.new.table.items in
     let u = c.in_ok-initialisers-in-Init.initialisers in
+    let m = mode_of (is_plain s.kind) in
     let types = c.as_slice.ensures ∙ c.in_ok-types-in-Init.ensures in
     let all = subst (λ ts. AllFitTo p k s None old new c.in-Init.values.items ts u) types c.in_ok-initialisers-in-Init.ensures.outcome in
-    IfOk-weaker c.init_fault.result (λ o. IsInitFault c.mode_of.result s.start_place s.atoms s.start_effect u o) (λ o. StartsTo p k s [] new o)
-    (λ o r. starts_by_fields p k s c.in-Init.values.items old new u c.mode_of.result o (ap start_of c.in-Init.is) c.requires.empty c.mode_of.ensures all r)
-    c.init_fault.ensures
+    passed_weaker c.judge_effect.result (λ o. IsBodyFault m s.start_place s.atoms s.start_effect c.as_fit.result o) (λ o. StartsTo p k s [] new o)
+    (λ o r. starts_by_fields p k s c.in-Init.values.items old new u m o (ap start_of c.in-Init.is) c.requires.empty refl all
+    (init_as_body p k s m s.start_place s.atoms s.start_effect u o (subst (λ w. IsBodyFault m s.start_place s.atoms s.start_effect w o) c.as_fit.ensures r)))
+    c.judge_effect.ensures
 
 pub returns-in_ok-at_unit-in-Run-clause-outcome : goal.returns-in_ok-at_unit-in-Run-clause-outcome
 returns-in_ok-at_unit-in-Run-clause-outcome c =
@@ -67,6 +71,7 @@ returns-in_ok-at_unit-in-Run-clause-outcome c =
     let old = c.args.table.now.items in
     let new = c.fit_block.new.table.items in
     let u = c.in_ok-at_unit-in-Run.at_unit in
-    IfOk-weaker c.body_fault.result (λ o. IsBodyFault c.mode_of-in-Run.result s.start_place s.atoms s.start_effect u o) (λ o. StartsTo p k s [] new o)
-    (λ o r. starts_by_block p k s (block_of c.in-Run.block) old new u c.mode_of-in-Run.result o (ap start_of c.in-Run.is) c.requires.empty c.mode_of-in-Run.ensures c.in_ok-at_unit-in-Run.ensures.outcome r)
-    c.body_fault.ensures
+    let m = mode_of (is_plain s.kind) in
+    passed_weaker c.judge_effect-in-Run.result (λ o. IsBodyFault m s.start_place s.atoms s.start_effect u o) (λ o. StartsTo p k s [] new o)
+    (λ o r. starts_by_block p k s (block_of c.in-Run.block) old new u m o (ap start_of c.in-Run.is) c.requires.empty refl c.in_ok-at_unit-in-Run.ensures.outcome r)
+    c.judge_effect-in-Run.ensures

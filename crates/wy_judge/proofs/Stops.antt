@@ -1,0 +1,22 @@
+-- What a result gives of a whole, by what it says of a part.
+use Rattle.std.proofs.Common.{◌≡◌, subst, Option, Some, None}
+use Rattle.std.specs.Prelude.{Result, Ok, Err}
+use Rattle.wy_text.specs.declared.fault.Fault.{Fault}
+use Rattle.wy_judge.specs.declared.outcomes.Stop.{Stop}
+use Rattle.wy_judge.specs.declared.outcomes.Stop.TheVariants as stop
+use Rattle.wy_judge.specs.Stops.{IfFault, IfPassed}
+
+pub fault_weaker : (e : Stop) (P Q : Fault → Type 0) → ((fault : Fault) → P fault → Q fault) → IfFault e P → IfFault e Q
+fault_weaker (stop.Fails fault) P Q f h = f fault h
+fault_weaker stop.Memory P Q f h = tt
+
+pub passed_weaker : {A : Type 0} (r : Result A Stop) (P Q : Option Fault → Type 0) → ((o : Option Fault) → P o → Q o) → IfPassed r P → IfPassed r Q
+passed_weaker (Ok a) P Q f h = f None h
+passed_weaker (Err e) P Q f h = fault_weaker e (λ fault. P (Some fault)) (λ fault. Q (Some fault)) (λ fault. f (Some fault)) h
+
+-- what a result says that is known
+pub passed_none : {A : Type 0} (r : Result A Stop) (a : A) (P : Option Fault → Type 0) → r ≡ Ok a → IfPassed r P → P None
+passed_none r a P e h = subst (λ z. IfPassed z P) e h
+
+pub passed_fault : {A : Type 0} (r : Result A Stop) (fault : Fault) (P : Option Fault → Type 0) → r ≡ Err (stop.Fails fault) → IfPassed r P → P (Some fault)
+passed_fault r fault P e h = subst (λ z. IfPassed z P) e h
