@@ -34,7 +34,7 @@ loop-part-preserved c =
           let here = at ∙ ap (λ p. trees.more_parts p left) (ap part_tree d.in-Field.is ∙ part_tree-Field _ _ _ _) in
           let next : c.match-part.number ≡ k + 1 = search rules in
           let put = ap (λ m. get same_name m x) d.fields-is ∙ d.in_ok-insert-in-Field.ensures.updates.0 x
-              ∙ ap (λ y. cond (same_name y x) (Some (to.Field k)) (get same_name old x)) d.in_ok-copy-in-Field.ensures in
+          ∙ ap (λ y. cond (same_name y x) (Some (to.Field k)) (get same_name old x)) d.in_ok-copy-in-Field.ensures in
           ap (λ n. or_else (seen (field_entries n rest) x) (get same_name c.match-part.fields x)) next
           ∙ field_seen k d.in-Field.name.text rest (get same_name old x) (get same_name c.match-part.fields x) _ x put
           (ap (λ p. or_else (seen (field_entries k (texts (field_names p))) x) (get same_name old x)) (sym here) ∙ c.loop-part.invariant x)
