@@ -1,3 +1,4 @@
+mod AbstractNames
 pub mod AtomsPut
 mod Blocks
 pub mod CyclesFound
@@ -7,6 +8,7 @@ mod ExamplesCycles
 mod ExamplesPrograms
 mod ExamplesRefusals
 mod ExamplesValues
+mod FieldsSeen
 mod Filling
 mod Finding
 pub mod Firsts
@@ -19,6 +21,7 @@ mod Marks
 mod MarksPut
 pub mod Mosts
 mod NamesOfThings
+mod Nexts
 mod Notings
 mod Opening
 mod Owned

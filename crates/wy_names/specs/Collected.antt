@@ -1,11 +1,11 @@
--- Names that a walk collects, and whether memory was wanting on the way.
-use Rattle.std.specs.Prelude.{◌≡◌, ℕ, Bool, false, List, ◌++◌}
+-- What a walk collects, and whether memory was wanting on the way.
+use Rattle.std.specs.Prelude.{◌≡◌, Bool, false, List, ◌++◌}
 
-pub record Collected : Type 0 where
-  pub list : List (List ℕ)
+pub record Collected (X : Type 0) : Type 0 where
+  pub list : List X
   pub wanting : Bool
 
--- these names are added, but for want of memory
-pub record Adds (names : List (List ℕ)) (old new : Collected) : Type 0 where
+-- these are added, but for want of memory
+pub record Adds {X : Type 0} (items : List X) (old new : Collected X) : Type 0 where
   pub enough : new.wanting ≡ false → old.wanting ≡ false
-  pub added : new.wanting ≡ false → new.list ≡ old.list ++ names
+  pub added : new.wanting ≡ false → new.list ≡ old.list ++ items

@@ -3,21 +3,23 @@
 ghost use Rattle.std.specs.Prelude.{◌≡◌, ◌≤◌, ◌++◌, ◌∷◌, [], List, map, length, IfOk, OnOk};
 ghost use Rattle.wy_types.specs.Primitive.{primitive_types};
 ghost use Rattle.wy_names.specs.Least.{noted};
+ghost use Rattle.wy_names.specs.Declarations.{repeated};
+ghost use Rattle.wy_names.specs.Collected.{Adds};
 ghost use Rattle.wy_names.specs.Meanings.{abstract_names};
 ghost use Rattle.wy_names.specs.Atoms.{member_scope, members_after};
 ghost use Rattle.wy_names.specs.TypeUses.{declaration_scope, defined_members, declared_methods, declaration, declarations_of, member_names, method_names, members_refusals, declaration_refusals, declarations_refusals};
 ghost use Rattle.wy_names.specs.Lent.{lent_name, lent_type};
 
 use crate::atom_scope::{AtomScope, Owners};
+use crate::collected::WrittenNames;
 use crate::meanings::Meanings;
 use crate::members::{add_abstract, add_defined, members_after, note_defined};
 use crate::refusal::Refusal;
 use crate::scoping::Meaning;
-use crate::signatures::{method_of, note_signature};
+use crate::signatures::read_method;
 use crate::tables::note_repeated;
 use std::alloc::Global;
 use wy_syntax::items::{Member, TypeDecl};
-use wy_syntax::types::Name;
 use wy_text::list::Items;
 use wy_text::text::{Memory, Text};
 use wy_types::resolved;
@@ -53,116 +55,63 @@ fn defined_members(alloc: Global, members: &[Meaning]) -> Result<Items<DefinedMe
     Ok(defined)
 }
 
-/// The methods of a declaration.
-fn declared_methods(
-    alloc: Global,
-    scope: &AtomScope,
-    members: &[Member],
-) -> Result<Items<Method>, Memory>
-    ensures { IfOk result (λ ms. ms ≡ declared_methods scope.now members.now) }
-{
-    let mut methods = Items::new(alloc);
-    for member in members {
-        match member {
-            Member::Abstract(_) | Member::Defined(_, _) => {}
-            Member::Method(signature) => {
-                methods.push(method_of(alloc, scope, false, signature)?)?
-            }
-        }
-    }
-    Ok(methods)
-}
-
-/// A type declaration with these members, whose methods see this scope.
+/// A type declaration with these members and methods.
 fn declared(
     alloc: Global,
-    scope: &AtomScope,
-    members: &[Meaning],
     decl: &TypeDecl,
+    members: &[Meaning],
+    methods: Items<Method>,
 ) -> Result<resolved::TypeDecl, Memory>
-    ensures { IfOk result (λ d. d ≡ record { name = decl.now.name.text; members = abstract_names members.now; defined = defined_members members.now; methods = declared_methods scope.now decl.now.members }) }
+    ensures { IfOk result (λ d. d ≡ record { name = decl.now.name.text; members = abstract_names members.now; defined = defined_members members.now; methods = methods }) }
 {
     Ok(resolved::TypeDecl {
         name: decl.name.text.copy()?,
         members: abstract_names(alloc, members)?,
         defined: defined_members(alloc, members)?,
-        methods: declared_methods(alloc, scope, decl.members.as_slice())?,
+        methods,
     })
 }
 
-/// A type declaration with its names resolved. `nothing` and `types` have no owners; these see the types.
-fn declaration(
-    alloc: Global,
-    nothing: &Owners,
-    types: &Owners,
-    decl: &TypeDecl,
-) -> Result<resolved::TypeDecl, Memory>
-    requires empty { nothing.now ≡ member_scope [] }
-    requires seen { types.now ≡ declaration_scope types.now.heads [] }
-    ensures { IfOk result (λ d. d ≡ declaration types.now.heads decl.now) }
+/// Adds the names of the effect members.
+fn add_member_names<'a>(names: &mut WrittenNames<'a>, members: &'a [Member])
+    ensures { Adds (member_names members.now) names.old names.new }
 {
-    let members = members_after(alloc, nothing, decl.members.as_slice())?;
-    let scope = AtomScope::new(types, 0, &members);
-    declared(alloc, &scope, members.as_slice(), decl)
-}
-
-/// Adds the declared types to the primitive ones.
-pub fn add_declarations(
-    alloc: Global,
-    nothing: &Owners,
-    types: &Owners,
-    list: &mut Items<resolved::TypeDecl>,
-    decls: &[&TypeDecl],
-) -> Result<(), Memory>
-    requires empty { nothing.now ≡ member_scope [] }
-    requires seen { types.now ≡ declaration_scope types.now.heads [] }
-    ensures { OnOk result (list.new ≡ list.old ++ map (declaration types.now.heads) (map lent_type decls.now)) }
-{
-    for decl in decls {
-        list.push(declaration(alloc, nothing, types, decl)?)?;
-    }
-    Ok(())
-}
-
-/// The names of the effect members.
-fn member_names<'a>(alloc: Global, members: &'a [Member]) -> Result<Vec<&'a Name>, Memory>
-    ensures { IfOk result (λ ns. map lent_name ns.items ≡ member_names members.now) }
-{
-    let mut names = Vec::new(alloc);
     for member in members {
         match member {
-            Member::Abstract(name) | Member::Defined(name, _) => names.push(name)?,
+            Member::Abstract(name) => names.add(name),
+            Member::Defined(name, _) => names.add(name),
             Member::Method(_) => {}
         }
     }
-    Ok(names)
 }
 
-/// The names of the methods.
-fn method_names<'a>(alloc: Global, members: &'a [Member]) -> Result<Vec<&'a Name>, Memory>
-    ensures { IfOk result (λ ns. map lent_name ns.items ≡ method_names members.now) }
+/// Adds the names of the methods.
+fn add_method_names<'a>(names: &mut WrittenNames<'a>, members: &'a [Member])
+    ensures { Adds (method_names members.now) names.old names.new }
 {
-    let mut names = Vec::new(alloc);
     for member in members {
         match member {
-            Member::Abstract(_) | Member::Defined(_, _) => {}
-            Member::Method(signature) => names.push(&signature.name)?,
+            Member::Abstract(_) => {}
+            Member::Defined(_, _) => {}
+            Member::Method(signature) => names.add(&signature.name),
         }
     }
-    Ok(names)
 }
 
-/// Notes the refusals inside members: the set of a defined one sees those before it, a signature all.
-fn note_members(
+/// The methods of a declaration. The refusals inside its members are noted: the set of a defined one sees
+/// those before it, a signature all.
+fn read_members(
     alloc: Global,
     nothing: &Owners,
     scope: &AtomScope,
     members: &[Member],
     least: &mut Option<Refusal>,
-) -> Result<(), Memory>
+) -> Result<Items<Method>, Memory>
     requires { nothing.now ≡ member_scope [] }
-    ensures { OnOk result (least.new ≡ noted least.old (members_refusals scope.now [] 0 members.now)) }
+    ensures methods { IfOk result (λ ms. ms ≡ declared_methods scope.now members.now) }
+    ensures noted { OnOk result (least.new ≡ noted least.old (members_refusals scope.now [] 0 members.now)) }
 {
+    let mut methods = Items::new(alloc);
     let mut before = Meanings::new(alloc);
     let mut number = 0;
     for member in members {
@@ -175,48 +124,71 @@ fn note_members(
                 note_defined(nothing, &before, set.as_slice(), least);
                 add_defined(alloc, nothing, &mut before, &name.text, set.as_slice())?;
             }
-            Member::Method(signature) => note_signature(alloc, scope, false, signature, least)?,
+            Member::Method(signature) => {
+                methods.push(read_method(alloc, scope, false, signature, least)?)?;
+            }
         }
     }
-    Ok(())
+    Ok(methods)
 }
 
-/// Notes the refusals of a type declaration.
+/// Notes Twice at each effect member and each method that repeats the name of one before it.
 #[tactic(auto, using(crate::proofs::Leasts::noted_append))]
-fn note_declaration(
+fn note_repeated_members(
+    alloc: Global,
+    members: &[Member],
+    least: &mut Option<Refusal>,
+) -> Result<(), Memory>
+    ensures { OnOk result (least.new ≡ noted least.old (repeated [] (member_names members.now) ++ repeated [] (method_names members.now))) }
+{
+    let mut effects = WrittenNames::new(alloc);
+    add_member_names(&mut effects, members);
+    let effects = effects.all()?;
+    note_repeated(alloc, &[], &effects, least)?;
+    let mut methods = WrittenNames::new(alloc);
+    add_method_names(&mut methods, members);
+    let methods = methods.all()?;
+    note_repeated(alloc, &[], &methods, least)
+}
+
+/// A type declaration with its names resolved. `nothing` and `types` have no owners; these see the types. Its
+/// refusals are noted.
+#[tactic(auto, using(crate::proofs::Leasts::noted_append))]
+fn read_declaration(
     alloc: Global,
     nothing: &Owners,
     types: &Owners,
     decl: &TypeDecl,
     least: &mut Option<Refusal>,
-) -> Result<(), Memory>
+) -> Result<resolved::TypeDecl, Memory>
     requires empty { nothing.now ≡ member_scope [] }
     requires seen { types.now ≡ declaration_scope types.now.heads [] }
-    ensures { OnOk result (least.new ≡ noted least.old (declaration_refusals types.now.heads decl.now)) }
+    ensures value { IfOk result (λ d. d ≡ declaration types.now.heads decl.now) }
+    ensures noted { OnOk result (least.new ≡ noted least.old (declaration_refusals types.now.heads decl.now)) }
 {
-    let names = member_names(alloc, decl.members.as_slice())?;
-    note_repeated(alloc, &[], &names, least)?;
-    let methods = method_names(alloc, decl.members.as_slice())?;
-    note_repeated(alloc, &[], &methods, least)?;
+    note_repeated_members(alloc, decl.members.as_slice(), least)?;
     let members = members_after(alloc, nothing, decl.members.as_slice())?;
     let scope = AtomScope::new(types, 0, &members);
-    note_members(alloc, nothing, &scope, decl.members.as_slice(), least)
+    let methods = read_members(alloc, nothing, &scope, decl.members.as_slice(), least)?;
+    declared(alloc, decl, members.as_slice(), methods)
 }
 
-/// Notes the refusals of type declarations.
-pub fn note_declarations(
+/// Adds the declared types to the primitive ones. Their refusals are noted.
+pub fn read_declarations(
     alloc: Global,
     nothing: &Owners,
     types: &Owners,
+    list: &mut Items<resolved::TypeDecl>,
     decls: &[&TypeDecl],
     least: &mut Option<Refusal>,
 ) -> Result<(), Memory>
     requires empty { nothing.now ≡ member_scope [] }
     requires seen { types.now ≡ declaration_scope types.now.heads [] }
-    ensures { OnOk result (least.new ≡ noted least.old (declarations_refusals types.now.heads (map lent_type decls.now))) }
+    ensures list { OnOk result (list.new ≡ list.old ++ map (declaration types.now.heads) (map lent_type decls.now)) }
+    ensures noted { OnOk result (least.new ≡ noted least.old (declarations_refusals types.now.heads (map lent_type decls.now))) }
 {
     for decl in decls {
-        note_declaration(alloc, nothing, types, decl, least)?;
+        list.push(read_declaration(alloc, nothing, types, decl, least)?)?;
     }
     Ok(())
 }

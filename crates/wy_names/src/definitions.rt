@@ -16,7 +16,7 @@ use crate::noting::note_at;
 use crate::owners::grant_opening;
 use crate::refusal::{Cause, Refusal};
 use crate::scoping::{Meaning, Opening};
-use crate::sets::{note_set, set_of};
+use crate::sets::{note_set, read_set, set_of};
 use crate::tables::Table;
 use crate::type_uses::{note_plain, note_type};
 use std::alloc::Global;
@@ -26,18 +26,21 @@ use wy_syntax::types::{AtomUse, Param};
 use wy_text::list::Items;
 use wy_text::text::{Memory, Text};
 
-/// Adds what a module defines, whose set sees the owners of the scope and the definitions before it.
-fn add_definition(
+/// Adds what a module defines, whose set sees the owners of the scope and the definitions before it. The
+/// refusals of the set are noted.
+fn read_definition(
     alloc: Global,
     owners: &Owners,
     visible: usize,
     before: &mut Meanings,
     name: &Text,
     set: &[AtomUse],
+    least: &mut Option<Refusal>,
 ) -> Result<(), Memory>
-    ensures { OnOk result (before.new ≡ before.old ++ defined_member name.now (set_of (atom_scope owners.now.heads owners.now.atoms (take visible owners.now.owners) before.old) set.now) ∷ []) }
+    ensures before { OnOk result (before.new ≡ before.old ++ defined_member name.now (set_of (atom_scope owners.now.heads owners.now.atoms (take visible owners.now.owners) before.old) set.now) ∷ []) }
+    ensures noted { OnOk result (least.new ≡ noted least.old (set_refusals (atom_scope owners.now.heads owners.now.atoms (take visible owners.now.owners) before.old) set.now)) }
 {
-    let atoms = set_of(alloc, &AtomScope::new(owners, visible, before), set)?;
+    let atoms = read_set(alloc, &AtomScope::new(owners, visible, before), set, least)?;
     before.push(Meaning {
         name: name.copy()?,
         is_abstract: false,
@@ -45,65 +48,30 @@ fn add_definition(
     })
 }
 
-/// What a module defines, in its order.
-pub fn definitions(
+/// What a module defines, in its order. The refusals of the sets are noted.
+pub fn read_definitions(
     alloc: Global,
     owners: &Owners,
     visible: usize,
     defines: &[Define],
+    least: &mut Option<Refusal>,
 ) -> Result<Meanings, Memory>
-    ensures { IfOk result (λ ms. ms ≡ definitions_after owners.now.heads owners.now.atoms (take visible owners.now.owners) [] defines.now) }
+    ensures value { IfOk result (λ ms. ms ≡ definitions_after owners.now.heads owners.now.atoms (take visible owners.now.owners) [] defines.now) }
+    ensures noted { OnOk result (least.new ≡ noted least.old (definitions_refusals owners.now.heads owners.now.atoms (take visible owners.now.owners) [] defines.now)) }
 {
     let mut before = Meanings::new(alloc);
     for define in defines {
-        add_definition(
+        read_definition(
             alloc,
             owners,
             visible,
             &mut before,
             &define.name.text,
             define.effect.as_slice(),
+            least,
         )?;
     }
     Ok(before)
-}
-
-/// Notes the refusals of a definition's set.
-fn note_definition(
-    owners: &Owners,
-    visible: usize,
-    before: &Meanings,
-    set: &[AtomUse],
-    least: &mut Option<Refusal>,
-)
-    ensures { least.new ≡ noted least.old (set_refusals (atom_scope owners.now.heads owners.now.atoms (take visible owners.now.owners) before.now) set.now) }
-{
-    note_set(&AtomScope::new(owners, visible, before), set, least);
-}
-
-/// Notes the refusals of the sets of definitions.
-pub fn note_definitions(
-    alloc: Global,
-    owners: &Owners,
-    visible: usize,
-    defines: &[Define],
-    least: &mut Option<Refusal>,
-) -> Result<(), Memory>
-    ensures { OnOk result (least.new ≡ noted least.old (definitions_refusals owners.now.heads owners.now.atoms (take visible owners.now.owners) [] defines.now)) }
-{
-    let mut before = Meanings::new(alloc);
-    for define in defines {
-        note_definition(owners, visible, &before, define.effect.as_slice(), least);
-        add_definition(
-            alloc,
-            owners,
-            visible,
-            &mut before,
-            &define.name.text,
-            define.effect.as_slice(),
-        )?;
-    }
-    Ok(())
 }
 
 /// What a name stands for; nothing where it stands for none.

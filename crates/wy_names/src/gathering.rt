@@ -2,7 +2,7 @@
 
 ghost use Rattle.std.specs.Prelude.{◌≡◌, ◌++◌, ◌∷◌, [], List, map, IfOk, OnOk};
 ghost use Rattle.wy_syntax.specs.Views.{item_tree, file_tree};
-ghost use Rattle.wy_names.specs.Declarations.{item_types, item_modules, item_programs, gathered, all_items, types_of, modules_of, programs_of};
+ghost use Rattle.wy_names.specs.Declarations.{item_types, item_modules, item_programs, all_items, types_of, modules_of, programs_of};
 ghost use Rattle.wy_names.specs.Lent.{lent_type, lent_program, module_tree};
 
 use std::alloc::Global;
@@ -82,73 +82,55 @@ fn plain_view<'a>(item: &'a PlainModule) -> ModuleView<'a>
     }
 }
 
-fn types_in<'a>(items: &'a [Item], list: &mut Vec<&'a TypeDecl>) -> Result<(), Memory>
-    ensures { OnOk result (map lent_type list.new.items ≡ map lent_type list.old.items ++ gathered item_types (map item_tree items.now)) }
+/// The declarations of files, each kind in their order.
+#[derive(Drop)]
+pub struct Gathered<'a> {
+    pub types: Vec<&'a TypeDecl>,
+    pub modules: Vec<ModuleView<'a>>,
+    pub programs: Vec<&'a Program>,
+}
+
+/// Adds what an item declares.
+fn add_item<'a>(found: &mut Gathered<'a>, item: &'a Item) -> Result<(), Memory>
+    ensures types { OnOk result (map lent_type found.new.types.items ≡ map lent_type found.old.types.items ++ item_types (item_tree item.now)) }
+    ensures modules { OnOk result (map module_tree found.new.modules.items ≡ map module_tree found.old.modules.items ++ item_modules (item_tree item.now)) }
+    ensures programs { OnOk result (map lent_program found.new.programs.items ≡ map lent_program found.old.programs.items ++ item_programs (item_tree item.now)) }
 {
-    for item in items {
-        match item {
-            Item::Type(decl) => list.push(decl)?,
-            Item::Pure(_) | Item::Resource(_) | Item::Plain(_) | Item::Program(_) => {}
-        }
+    match item {
+        Item::Type(decl) => found.types.push(decl)?,
+        Item::Pure(item) => found.modules.push(pure_view(item))?,
+        Item::Resource(item) => found.modules.push(resource_view(item))?,
+        Item::Plain(item) => found.modules.push(plain_view(item))?,
+        Item::Program(program) => found.programs.push(program)?,
     }
     Ok(())
 }
 
-/// The type declarations of all files, in order.
-pub fn types<'a>(alloc: Global, trees: &'a [Tree]) -> Result<Vec<&'a TypeDecl>, Memory>
-    ensures { IfOk result (λ ds. map lent_type ds.items ≡ types_of (all_items (map file_tree trees.now))) }
-{
-    let mut list = Vec::new(alloc);
-    for tree in trees {
-        types_in(&tree.items, &mut list)?;
-    }
-    Ok(list)
-}
-
-fn modules_in<'a>(items: &'a [Item], list: &mut Vec<ModuleView<'a>>) -> Result<(), Memory>
-    ensures { OnOk result (map module_tree list.new.items ≡ map module_tree list.old.items ++ gathered item_modules (map item_tree items.now)) }
+/// Adds what the items of a file declare.
+fn add_items<'a>(found: &mut Gathered<'a>, items: &'a [Item]) -> Result<(), Memory>
+    ensures types { OnOk result (map lent_type found.new.types.items ≡ map lent_type found.old.types.items ++ types_of (map item_tree items.now)) }
+    ensures modules { OnOk result (map module_tree found.new.modules.items ≡ map module_tree found.old.modules.items ++ modules_of (map item_tree items.now)) }
+    ensures programs { OnOk result (map lent_program found.new.programs.items ≡ map lent_program found.old.programs.items ++ programs_of (map item_tree items.now)) }
 {
     for item in items {
-        match item {
-            Item::Pure(item) => list.push(pure_view(item))?,
-            Item::Resource(item) => list.push(resource_view(item))?,
-            Item::Plain(item) => list.push(plain_view(item))?,
-            Item::Type(_) | Item::Program(_) => {}
-        }
+        add_item(found, item)?;
     }
     Ok(())
 }
 
-/// The modules of all files, in order.
-pub fn modules<'a>(alloc: Global, trees: &'a [Tree]) -> Result<Vec<ModuleView<'a>>, Memory>
-    ensures { IfOk result (λ ms. map module_tree ms.items ≡ modules_of (all_items (map file_tree trees.now))) }
+/// The declarations of all files, in order.
+pub fn gather<'a>(alloc: Global, trees: &'a [Tree]) -> Result<Gathered<'a>, Memory>
+    ensures types { IfOk result (λ g. map lent_type g.types.items ≡ types_of (all_items (map file_tree trees.now))) }
+    ensures modules { IfOk result (λ g. map module_tree g.modules.items ≡ modules_of (all_items (map file_tree trees.now))) }
+    ensures programs { IfOk result (λ g. map lent_program g.programs.items ≡ programs_of (all_items (map file_tree trees.now))) }
 {
-    let mut list = Vec::new(alloc);
+    let mut found = Gathered {
+        types: Vec::new(alloc),
+        modules: Vec::new(alloc),
+        programs: Vec::new(alloc),
+    };
     for tree in trees {
-        modules_in(&tree.items, &mut list)?;
+        add_items(&mut found, &tree.items)?;
     }
-    Ok(list)
-}
-
-fn programs_in<'a>(items: &'a [Item], list: &mut Vec<&'a Program>) -> Result<(), Memory>
-    ensures { OnOk result (map lent_program list.new.items ≡ map lent_program list.old.items ++ gathered item_programs (map item_tree items.now)) }
-{
-    for item in items {
-        match item {
-            Item::Program(program) => list.push(program)?,
-            Item::Type(_) | Item::Pure(_) | Item::Resource(_) | Item::Plain(_) => {}
-        }
-    }
-    Ok(())
-}
-
-/// The program blocks of all files, in order.
-pub fn programs<'a>(alloc: Global, trees: &'a [Tree]) -> Result<Vec<&'a Program>, Memory>
-    ensures { IfOk result (λ gs. map lent_program gs.items ≡ programs_of (all_items (map file_tree trees.now))) }
-{
-    let mut list = Vec::new(alloc);
-    for tree in trees {
-        programs_in(&tree.items, &mut list)?;
-    }
-    Ok(list)
+    Ok(found)
 }

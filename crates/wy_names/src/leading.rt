@@ -5,11 +5,13 @@ ghost use Rattle.std.specs.Prelude.{◌≡◌, ◌≤◌, ◌+◌, ◌++◌, [],
 ghost use Rattle.wy_names.specs.Least.{noted};
 ghost use Rattle.wy_names.specs.Declarations.{first_from, texts, module_names, module_number};
 ghost use Rattle.wy_names.specs.Cycles.{named_modules};
+ghost use Rattle.wy_names.specs.Collected as collected;
 ghost use Rattle.wy_names.specs.Lines.{line_module};
 ghost use Rattle.wy_names.specs.Leading.{numbers_of, edges_of, Adds, EachOnce, LeadsInside};
 ghost use Rattle.wy_names.specs.CycleRefusals.{AreReached, word_refusals, words_refusals, cycle_refusals, NotesCycles};
 ghost use Rattle.wy_names.specs.Lent.{lent_name, module_tree};
 
+use crate::collected::WrittenNames;
 use crate::cycles::reached_from;
 use crate::gathering::ModuleView;
 use crate::marked::{Marked, Marks};
@@ -34,13 +36,12 @@ fn line_module(line: &Line) -> &Name
 }
 
 /// Adds the names of the modules of lines.
-fn add_line_modules<'a>(words: &mut Vec<&'a Name>, lines: &'a [Line]) -> Result<(), Memory>
-    ensures { OnOk result (map lent_name words.new.items ≡ map lent_name words.old.items ++ map line_module lines.now) }
+fn add_line_modules<'a>(words: &mut WrittenNames<'a>, lines: &'a [Line])
+    ensures { collected.Adds (map line_module lines.now) words.old words.new }
 {
     for line in lines {
-        words.push(line_module(line))?;
+        words.add(line_module(line));
     }
-    Ok(())
 }
 
 /// The words that name modules in a module's uses and lines.
@@ -48,10 +49,10 @@ fn add_line_modules<'a>(words: &mut Vec<&'a Name>, lines: &'a [Line]) -> Result<
 fn named_modules<'a>(alloc: Global, view: &ModuleView<'a>) -> Result<Vec<&'a Name>, Memory>
     ensures { IfOk result (λ ws. map lent_name ws.items ≡ named_modules (module_tree view.now)) }
 {
-    let mut words = Vec::new(alloc);
-    add_names(&mut words, view.uses)?;
-    add_line_modules(&mut words, view.lines)?;
-    Ok(words)
+    let mut words = WrittenNames::new(alloc);
+    add_names(&mut words, view.uses);
+    add_line_modules(&mut words, view.lines);
+    words.all()
 }
 
 /// Adds the number of the module that a word names.

@@ -1,10 +1,10 @@
 //! Object literals: their fields, and what their methods use of the bodies round them (docs/LANGUAGE.md,
 //! "Names").
 
-ghost use Rattle.std.specs.Prelude.{◌≡◌, ◌++◌, [], List, map, IfOk, OnOk};
+ghost use Rattle.std.specs.Prelude.{◌≡◌, ◌++◌, [], List, IfOk, OnOk};
 ghost use Rattle.wy_syntax.specs.Views.{part_trees};
 ghost use Rattle.wy_names.specs.Least.{noted};
-ghost use Rattle.wy_names.specs.Lent.{lent_name};
+ghost use Rattle.wy_names.specs.Collected.{Adds};
 ghost use Rattle.wy_names.specs.Lending.{lent_within};
 ghost use Rattle.wy_names.specs.Sight.{written_of};
 ghost use Rattle.wy_names.specs.InSight.{entries};
@@ -14,6 +14,7 @@ ghost use Rattle.wy_names.specs.BodyRefusals.{field_names, def_names, repeated_p
 
 use crate::bodies::Within;
 use crate::captures::captures;
+use crate::collected::WrittenNames;
 use crate::refusal::Refusal;
 use crate::sight::Variables;
 use crate::tables::note_repeated;
@@ -35,35 +36,32 @@ fn is_var(kind: FieldKind) -> bool
     }
 }
 
-/// The names of the fields.
-fn field_names<'a>(alloc: Global, parts: &'a [Part]) -> Result<Vec<&'a Name>, Memory>
-    ensures { IfOk result (λ ns. map lent_name ns.items ≡ field_names (part_trees parts.now)) }
+/// Adds the names of the fields.
+fn add_field_names<'a>(names: &mut WrittenNames<'a>, parts: &'a [Part])
+    ensures { Adds (field_names (part_trees parts.now)) names.old names.new }
 {
-    let mut names = Vec::new(alloc);
     for part in parts {
         match part {
-            Part::Field(_, name, _, _) => names.push(name)?,
+            Part::Field(_, name, _, _) => names.add(name),
             Part::Method(_, _) => {}
         }
     }
-    Ok(names)
 }
 
-/// The names of the methods.
-fn def_names<'a>(alloc: Global, parts: &'a [Part]) -> Result<Vec<&'a Name>, Memory>
-    ensures { IfOk result (λ ns. map lent_name ns.items ≡ def_names (part_trees parts.now)) }
+/// Adds the names of the methods.
+fn add_def_names<'a>(names: &mut WrittenNames<'a>, parts: &'a [Part])
+    ensures { Adds (def_names (part_trees parts.now)) names.old names.new }
 {
-    let mut names = Vec::new(alloc);
     for part in parts {
         match part {
             Part::Field(_, _, _, _) => {}
-            Part::Method(signature, _) => names.push(&signature.name)?,
+            Part::Method(signature, _) => names.add(&signature.name),
         }
     }
-    Ok(names)
 }
 
 /// Notes Twice at each field and each method that repeats the name of one before it.
+#[tactic(auto, using(crate::proofs::Leasts::noted_append))]
 pub fn note_repeated_parts(
     alloc: Global,
     parts: &[Part],
@@ -71,9 +69,13 @@ pub fn note_repeated_parts(
 ) -> Result<(), Memory>
     ensures { OnOk result (least.new ≡ noted least.old (repeated_parts (part_trees parts.now))) }
 {
-    let fields = field_names(alloc, parts)?;
+    let mut fields = WrittenNames::new(alloc);
+    add_field_names(&mut fields, parts);
+    let fields = fields.all()?;
     note_repeated(alloc, &[], &fields, least)?;
-    let methods = def_names(alloc, parts)?;
+    let mut methods = WrittenNames::new(alloc);
+    add_def_names(&mut methods, parts);
+    let methods = methods.all()?;
     note_repeated(alloc, &[], &methods, least)
 }
 

@@ -2,7 +2,6 @@
 //! (docs/LANGUAGE.md, "Names").
 
 ghost use Rattle.std.specs.Prelude.{◌≡◌, ◌≤◌, ◌++◌, [], map, take, length, IfOk, OnOk};
-ghost use Rattle.std.specs.Option.{option_copied};
 ghost use Rattle.wy_types.specs.Types.{is_plain};
 ghost use Rattle.wy_names.specs.Least.{noted};
 ghost use Rattle.wy_names.specs.Declarations.{texts, module_names, repeated};
@@ -10,11 +9,12 @@ ghost use Rattle.wy_names.specs.Atoms.{head_names, type_number};
 ghost use Rattle.wy_names.specs.TypeUses.{lacking, not_abstract};
 ghost use Rattle.wy_names.specs.Fronts.{front_refusals};
 ghost use Rattle.wy_names.specs.Lines.{param_refusals, uses_refusals, lines_refusals};
-ghost use Rattle.wy_names.specs.Scopes.{atom_scope, line_words, define_names, param_scope, early_owners, module_owners, module_atoms, module_meanings, module_scope, module_own, definitions_at, definitions_refusals, sealed_refusals, init_refusals};
+ghost use Rattle.wy_names.specs.Scopes.{atom_scope, line_words, define_names, param_scope, early_owners, module_owners, module_atoms, module_meanings, module_scope, module_own, definitions_after, definitions_at, definitions_refusals, sealed_refusals};
 ghost use Rattle.wy_names.specs.Lent.{module_tree};
 
 use crate::atom_scope::{AtomScope, Owners};
-use crate::definitions::{definitions_for, note_definitions, note_init, note_params};
+use crate::collected::WrittenNames;
+use crate::definitions::{definitions_for, note_params, read_definitions};
 use crate::gathering::ModuleView;
 use crate::heads::Heads;
 use crate::lines::{add_lines, note_lines, note_uses};
@@ -154,10 +154,11 @@ pub fn note_words<T: Named>(
 ) -> Result<(), Memory>
     ensures { OnOk result (least.new ≡ noted least.old (repeated [] (map T.name_of handed.now ++ (uses.now ++ line_words lines.now)))) }
 {
-    let mut words = Vec::new(alloc);
-    add_names(&mut words, handed)?;
-    add_names(&mut words, uses)?;
-    add_names(&mut words, lines)?;
+    let mut words = WrittenNames::new(alloc);
+    add_names(&mut words, handed);
+    add_names(&mut words, uses);
+    add_names(&mut words, lines);
+    let words = words.all()?;
     note_repeated(alloc, &[], &words, least)
 }
 
@@ -222,20 +223,18 @@ pub fn note_front(
     Ok(())
 }
 
-/// Notes the refusals of a module's definitions and of the declared effect of its start.
+/// What a module defines, in its order. The refusals of its definitions are noted.
 #[tactic(auto, using(crate::proofs::Leasts::noted_append))]
-pub fn note_defined(
+pub fn read_defined(
     alloc: Global,
     owners: &Owners,
     visible: usize,
-    scope: &AtomScope,
     view: &ModuleView,
     least: &mut Option<Refusal>,
-) -> Result<(), Memory>
-    ensures { OnOk result (least.new ≡ noted least.old (repeated [] (define_names view.now.defines.now) ++ (definitions_refusals owners.now.heads owners.now.atoms (take visible owners.now.owners) [] view.now.defines.now ++ init_refusals [] [] scope.now (option_copied view.now.init)))) }
+) -> Result<Meanings, Memory>
+    ensures value { IfOk result (λ ms. ms ≡ definitions_after owners.now.heads owners.now.atoms (take visible owners.now.owners) [] view.now.defines.now) }
+    ensures noted { OnOk result (least.new ≡ noted least.old (repeated [] (define_names view.now.defines.now) ++ definitions_refusals owners.now.heads owners.now.atoms (take visible owners.now.owners) [] view.now.defines.now)) }
 {
     note_repeated(alloc, &[], view.defines, least)?;
-    note_definitions(alloc, owners, visible, view.defines, least)?;
-    note_init(scope, view.init, least);
-    Ok(())
+    read_definitions(alloc, owners, visible, view.defines, least)
 }

@@ -6,7 +6,7 @@ ghost use Rattle.wy_names.specs.Atoms.{all_names, primitive_names};
 ghost use Rattle.wy_names.specs.Lent.{lent_type, module_tree};
 
 use crate::gathering::ModuleView;
-use crate::tables::{Table, name_table};
+use crate::tables::{Table, add_texts, name_table};
 use std::alloc::Global;
 use wy_syntax::items::TypeDecl;
 use wy_text::text::{Memory, Text, from_bytes};
@@ -31,13 +31,12 @@ pub fn primitive_names(alloc: Global) -> Result<Vec<Text>, Memory>
 }
 
 /// The names of all types, by their numbers.
+#[tactic(auto, using(crate::proofs::NamesOfThings::types_named))]
 pub fn type_table(alloc: Global, types: &[&TypeDecl]) -> Result<Table, Memory>
     ensures { IfOk result (λ t. t ≡ all_names (map lent_type types.now)) }
 {
     let mut names = primitive_names(alloc)?;
-    for decl in types {
-        names.push(decl.name.text.copy()?)?;
-    }
+    add_texts(&mut names, types)?;
     Table::new(alloc, names)
 }
 

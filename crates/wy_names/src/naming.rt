@@ -1,19 +1,20 @@
 //! Things that have names.
 
-ghost use Rattle.std.specs.Prelude.{◌≡◌, ◌++◌, List, map, OnOk};
+ghost use Rattle.std.specs.Prelude.{◌≡◌, List, map};
 ghost use Rattle.wy_syntax.specs.declared.types.Name.{Name};
 ghost use Rattle.wy_syntax.specs.declared.types.Param.{Param};
 ghost use Rattle.wy_syntax.specs.declared.types.MemberSet.{MemberSet};
 ghost use Rattle.wy_syntax.specs.declared.items.Define.{Define};
 ghost use Rattle.wy_syntax.specs.declared.items.Grant.{Grant};
+ghost use Rattle.wy_names.specs.Collected.{Adds};
 ghost use Rattle.wy_names.specs.Lent.{lent_name};
 ghost use Rattle.wy_names.specs.Things.{type_name, module_name};
 ghost use Rattle.wy_names.specs.Lines.{line_word};
 
+use crate::collected::WrittenNames;
 use crate::gathering::ModuleView;
 use wy_syntax::items::{Define, Grant, Line, TypeDecl};
 use wy_syntax::types::{MemberSet, Name, Param};
-use wy_text::text::Memory;
 
 /// Something with a name.
 pub trait Named {
@@ -101,11 +102,10 @@ impl<'a> Named for ModuleView<'a> {
 }
 
 /// Adds the names of things.
-pub fn add_names<'a, T: Named>(names: &mut Vec<&'a Name>, things: &'a [T]) -> Result<(), Memory>
-    ensures { OnOk result (map lent_name names.new.items ≡ map lent_name names.old.items ++ map T.name_of things.now) }
+pub fn add_names<'a, T: Named>(names: &mut WrittenNames<'a>, things: &'a [T])
+    ensures { Adds (map T.name_of things.now) names.old names.new }
 {
     for thing in things {
-        names.push(thing.name())?;
+        names.add(thing.name());
     }
-    Ok(())
 }

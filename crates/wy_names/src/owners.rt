@@ -1,11 +1,13 @@
 //! The names of a scope that open atoms (docs/LANGUAGE.md, "Names").
 
-ghost use Rattle.std.specs.Prelude.{◌≡◌, ◌≤◌, ◌++◌, ◌∷◌, [], ℕ, List, map, length, IfOk, OnOk};
+ghost use Rattle.std.specs.Prelude.{◌≡◌, ◌≤◌, ◌++◌, ◌∷◌, [], ℕ, List, map, length, IfOk};
 ghost use Rattle.wy_names.specs.Declarations.{first_from, module_number, module_names, texts};
 ghost use Rattle.wy_names.specs.Atoms.{type_number, opened, primitive_opening, param_opening, params_owners, grant_owner, sealed_opening, module_at, module_opening, use_owner, line_owner};
+ghost use Rattle.wy_names.specs.Collected.{Adds};
 ghost use Rattle.wy_types.specs.Types.{is_plain};
 ghost use Rattle.wy_names.specs.Lent.{module_tree};
 
+use crate::collected::OwnerList;
 use crate::gathering::ModuleView;
 use crate::scoping::{Opening, Owner};
 use crate::tables::Table;
@@ -84,104 +86,95 @@ pub fn module_opening(
     }
 }
 
-/// Adds the parameters of a module.
-pub fn add_params(
-    owners: &mut Items<Owner>,
-    types: &Table,
-    plain: bool,
-    params: &[Param],
-) -> Result<(), Memory>
+/// Adds a parameter of a module.
+fn add_param(owners: &mut OwnerList, types: &Table, plain: bool, param: &Param)
     requires { length types.now ≤ 1028 }
-    ensures { OnOk result (owners.new ≡ owners.old ++ params_owners types.now plain params.now) }
+    ensures { Adds (params_owners types.now plain (param.now ∷ [])) owners.old owners.new }
+{
+    let opening = if plain {
+        Opening::Nothing
+    } else {
+        param_opening(types, &param.type_use)
+    };
+    owners.add(&param.name.text, opening);
+}
+
+/// Adds the parameters of a module.
+fn add_params(owners: &mut OwnerList, types: &Table, plain: bool, params: &[Param])
+    requires { length types.now ≤ 1028 }
+    ensures { Adds (params_owners types.now plain params.now) owners.old owners.new }
 {
     for param in params {
-        let opening = if plain {
-            Opening::Nothing
-        } else {
-            param_opening(types, &param.type_use)
-        };
-        owners.push(Owner {
-            name: param.name.text.copy()?,
-            opening,
-        })?;
+        add_param(owners, types, plain, param);
     }
-    Ok(())
 }
 
 /// Adds the grants of a program block.
-pub fn add_grants(owners: &mut Items<Owner>, types: &Table, grants: &[Grant]) -> Result<(), Memory>
+fn add_grants(owners: &mut OwnerList, types: &Table, grants: &[Grant])
     requires { length types.now ≤ 1028 }
-    ensures { OnOk result (owners.new ≡ owners.old ++ map (grant_owner types.now) grants.now) }
+    ensures { Adds (map (grant_owner types.now) grants.now) owners.old owners.new }
 {
     for grant in grants {
-        owners.push(Owner {
-            name: grant.name.text.copy()?,
-            opening: grant_opening(types, &grant.kind.text),
-        })?;
+        owners.add(&grant.name.text, grant_opening(types, &grant.kind.text));
     }
-    Ok(())
 }
 
 /// Adds the used modules of a scope.
-pub fn add_uses(
-    owners: &mut Items<Owner>,
+fn add_uses(
+    owners: &mut OwnerList,
     types: &Table,
     numbers: &Table,
     modules: &[ModuleView],
     uses: &[Name],
-) -> Result<(), Memory>
+)
     requires few { length types.now ≤ 1028 }
     requires numbered { numbers.now ≡ texts (module_names (map module_tree modules.now)) }
-    ensures { OnOk result (owners.new ≡ owners.old ++ map (use_owner types.now (map module_tree modules.now)) uses.now) }
+    ensures { Adds (map (use_owner types.now (map module_tree modules.now)) uses.now) owners.old owners.new }
 {
     for name in uses {
-        owners.push(Owner {
-            name: name.text.copy()?,
-            opening: module_opening(types, numbers, modules, &name.text),
-        })?;
+        owners.add(
+            &name.text,
+            module_opening(types, numbers, modules, &name.text),
+        );
     }
-    Ok(())
 }
 
-/// What a line's name is, and what it opens.
-fn line_owner(
+/// Adds a line: what its name is, and what it opens.
+fn add_line(
+    owners: &mut OwnerList,
     types: &Table,
     numbers: &Table,
     modules: &[ModuleView],
     line: &Line,
-) -> Result<Owner, Memory>
+)
     requires few { length types.now ≤ 1028 }
     requires numbered { numbers.now ≡ texts (module_names (map module_tree modules.now)) }
-    ensures { IfOk result (λ o. o ≡ line_owner types.now (map module_tree modules.now) line.now) }
+    ensures { Adds (line_owner types.now (map module_tree modules.now) line.now ∷ []) owners.old owners.new }
 {
     match line {
-        Line::Instance(name, named, _arguments) => Ok(Owner {
-            name: name.text.copy()?,
-            opening: module_opening(types, numbers, modules, &named.text),
-        }),
-        Line::Import(name, _named, _arguments, _bound) => Ok(Owner {
-            name: name.text.copy()?,
-            opening: Opening::Nothing,
-        }),
+        Line::Instance(name, named, _arguments) => owners.add(
+            &name.text,
+            module_opening(types, numbers, modules, &named.text),
+        ),
+        Line::Import(name, _named, _arguments, _bound) => owners.add(&name.text, Opening::Nothing),
     }
 }
 
 /// Adds the lines of a scope.
-pub fn add_lines(
-    owners: &mut Items<Owner>,
+fn add_lines(
+    owners: &mut OwnerList,
     types: &Table,
     numbers: &Table,
     modules: &[ModuleView],
     lines: &[Line],
-) -> Result<(), Memory>
+)
     requires few { length types.now ≤ 1028 }
     requires numbered { numbers.now ≡ texts (module_names (map module_tree modules.now)) }
-    ensures { OnOk result (owners.new ≡ owners.old ++ map (line_owner types.now (map module_tree modules.now)) lines.now) }
+    ensures { Adds (map (line_owner types.now (map module_tree modules.now)) lines.now) owners.old owners.new }
 {
     for line in lines {
-        owners.push(line_owner(types, numbers, modules, line)?)?;
+        add_line(owners, types, numbers, modules, line);
     }
-    Ok(())
 }
 
 /// The owners of a module: its parameters, its used modules and its lines.
@@ -196,16 +189,12 @@ pub fn module_owners(
     requires numbered { numbers.now ≡ texts (module_names (map module_tree modules.now)) }
     ensures { IfOk result (λ os. os ≡ (params_owners types.now (is_plain view.now.kind) view.now.params.now ++ map (use_owner types.now (map module_tree modules.now)) view.now.uses.now) ++ map (line_owner types.now (map module_tree modules.now)) view.now.lines.now) }
 {
-    let mut owners = Items::new(alloc);
-    add_params(
-        &mut owners,
-        types,
-        view.kind == ScopeKind::Plain,
-        view.params,
-    )?;
-    add_uses(&mut owners, types, numbers, modules, view.uses)?;
-    add_lines(&mut owners, types, numbers, modules, view.lines)?;
-    Ok(owners)
+    let mut owners = OwnerList::new(alloc);
+    let plain = view.kind == ScopeKind::Plain;
+    add_params(&mut owners, types, plain, view.params);
+    add_uses(&mut owners, types, numbers, modules, view.uses);
+    add_lines(&mut owners, types, numbers, modules, view.lines);
+    owners.all()
 }
 
 /// The owners of a program block: its grants, its used modules and its lines.
@@ -220,21 +209,21 @@ pub fn program_owners(
     requires numbered { numbers.now ≡ texts (module_names (map module_tree modules.now)) }
     ensures { IfOk result (λ os. os ≡ (map (grant_owner types.now) program.now.grants ++ map (use_owner types.now (map module_tree modules.now)) program.now.uses) ++ map (line_owner types.now (map module_tree modules.now)) program.now.lines) }
 {
-    let mut owners = Items::new(alloc);
-    add_grants(&mut owners, types, program.grants.as_slice())?;
+    let mut owners = OwnerList::new(alloc);
+    add_grants(&mut owners, types, program.grants.as_slice());
     add_uses(
         &mut owners,
         types,
         numbers,
         modules,
         program.uses.as_slice(),
-    )?;
+    );
     add_lines(
         &mut owners,
         types,
         numbers,
         modules,
         program.lines.as_slice(),
-    )?;
-    Ok(owners)
+    );
+    owners.all()
 }

@@ -14,9 +14,8 @@ ghost use Rattle.wy_names.specs.Names.{Resolves, Refused};
 ghost use Rattle.wy_names.specs.Lent.{lent_type, lent_program, module_tree, lent_declared};
 
 use crate::atom_scope::Owners;
-use crate::declarations::{add_declarations, note_declarations};
-use crate::gathering;
-use crate::gathering::ModuleView;
+use crate::declarations::read_declarations;
+use crate::gathering::{ModuleView, gather};
 use crate::heads::Heads;
 use crate::leading::note_cycles;
 use crate::limits::first_limit;
@@ -171,8 +170,7 @@ fn declare_types(
     ensures noted { OnOk result (least.new ≡ noted least.old (declarations_refusals heads.now (map lent_type types.now))) }
 {
     let seen = without_owners(alloc, heads)?;
-    note_declarations(alloc, nothing, &seen, types, least)?;
-    add_declarations(alloc, nothing, &seen, declarations, types)
+    read_declarations(alloc, nothing, &seen, declarations, types, least)
 }
 
 /// The declarations, the modules and the program blocks, over the primitive types. All refusals are noted.
@@ -299,16 +297,12 @@ pub fn resolve(alloc: Global, trees: &[Tree]) -> Result<Core, NameRefusal>
     ensures core { IfOk result (λ core. Resolves (all_items (map file_tree trees.now)) (program_of core)) }
     ensures refusal { IfErr result (λ r. Refused (all_items (map file_tree trees.now)) r) }
 {
-    let (Ok(types), Ok(modules), Ok(programs)) = (
-        gathering::types(alloc, trees),
-        gathering::modules(alloc, trees),
-        gathering::programs(alloc, trees),
-    ) else {
+    let Ok(found) = gather(alloc, trees) else {
         return Err(NameRefusal::Memory);
     };
-    match first_limit(alloc, &types, &modules, &programs) {
+    match first_limit(alloc, &found.types, &found.modules, &found.programs) {
         Err(_) => Err(NameRefusal::Memory),
         Ok(Some(limit)) => Err(NameRefusal::Limit(limit)),
-        Ok(None) => judge(alloc, &types, &modules, &programs),
+        Ok(None) => judge(alloc, &found.types, &found.modules, &found.programs),
     }
 }

@@ -11,11 +11,11 @@ ghost use Rattle.wy_names.specs.Lent.{module_tree, program_tree};
 
 use crate::atom_scope::{AtomScope, Owners};
 use crate::bodies::{Resolved, Within, module_parts, program_block};
-use crate::definitions::{definitions, start_effect};
+use crate::definitions::{note_init, start_effect};
 use crate::gathering::ModuleView;
 use crate::heads::Heads;
 use crate::meanings::Meanings;
-use crate::module_heads::{definitions_at, note_defined, note_front, own_of, owners_of};
+use crate::module_heads::{definitions_at, note_front, own_of, owners_of, read_defined};
 use crate::program_heads::{note_program, program_own, program_owners_of};
 use crate::refusal::Refusal;
 use crate::sets::{note_set, set_of};
@@ -54,15 +54,15 @@ fn parts_of(
 {
     let plain = view.kind == ScopeKind::Plain;
     let visible = owners.names().len();
-    let meanings = definitions(alloc, owners, visible, view.defines)?;
+    note_front(alloc, owners, numbers, modules, view, least)?;
+    let meanings = read_defined(alloc, owners, visible, view, least)?;
     let scope = AtomScope::new(owners, visible, &meanings);
     let within = Within {
         atoms: &scope,
         plain,
         own: owners.names(),
     };
-    note_front(alloc, owners, numbers, modules, view, least)?;
-    note_defined(alloc, owners, visible, &scope, view, least)?;
+    note_init(&scope, view.init, least);
     let resolved = module_parts(alloc, &within, view.parts, least)?;
     let number = owners.heads().number(&view.sealed.text);
     Ok(Parts {

@@ -108,3 +108,17 @@ pub fn note_set(scope: &AtomScope, uses: &[AtomUse], least: &mut Option<Refusal>
         note_atom(scope, used, least);
     }
 }
+
+/// What a written set stands for. Its refusals are noted.
+pub fn read_set(
+    alloc: Global,
+    scope: &AtomScope,
+    uses: &[AtomUse],
+    least: &mut Option<Refusal>,
+) -> Result<EffSet, Memory>
+    ensures value { IfOk result (λ e. e ≡ set_of scope.now uses.now) }
+    ensures noted { least.new ≡ noted least.old (set_refusals scope.now uses.now) }
+{
+    note_set(scope, uses, least);
+    set_of(alloc, scope, uses)
+}

@@ -1,6 +1,6 @@
 //! Tables of names.
 
-ghost use Rattle.std.specs.Prelude.{◌≡◌, ◌||◌, ◌<◌, ◌∷◌, [], ℕ, List, map, length, is_some, IfOk, OnOk, IfSome, if◌then◌else◌};
+ghost use Rattle.std.specs.Prelude.{◌≡◌, ◌||◌, ◌<◌, ◌∷◌, ◌++◌, [], ℕ, List, map, length, is_some, IfOk, OnOk, IfSome, if◌then◌else◌};
 ghost use Rattle.indexmap.specs.IndexMap.{get};
 ghost use Rattle.wy_names.specs.Least.{noted, refusal_at};
 ghost use Rattle.wy_names.specs.Declarations.{same_name, first_from, has_name, repeated, texts};
@@ -127,13 +127,21 @@ impl Table {
     }
 }
 
+/// Adds the names of things.
+pub fn add_texts<T: Named>(names: &mut Vec<Text>, things: &[T]) -> Result<(), Memory>
+    ensures { OnOk result (names.new.items ≡ names.old.items ++ texts (map T.name_of things.now)) }
+{
+    for thing in things {
+        names.push(thing.name().text.copy()?)?;
+    }
+    Ok(())
+}
+
 /// The names of things as a table.
 pub fn name_table<T: Named>(alloc: Global, things: &[T]) -> Result<Table, Memory>
     ensures { IfOk result (λ t. t ≡ texts (map T.name_of things.now)) }
 {
     let mut names = Vec::new(alloc);
-    for thing in things {
-        names.push(thing.name().text.copy()?)?;
-    }
+    add_texts(&mut names, things)?;
     Table::new(alloc, names)
 }

@@ -15,7 +15,7 @@ use crate::noting::note_at;
 use crate::refusal::{Cause, Refusal};
 use crate::scoping::Meaning;
 use crate::sets::{note_set, set_of};
-use crate::tables::{Table, note_repeated};
+use crate::tables::{Table, name_table, note_repeated};
 use std::alloc::Global;
 use wy_effects::set::{EffSet, SetList};
 use wy_syntax::types::{AtomUse, MemberSet, Name, TypeUse};
@@ -27,11 +27,7 @@ use wy_types::types::TypeRef;
 fn set_table(alloc: Global, sets: &[MemberSet]) -> Result<Table, Memory>
     ensures { IfOk result (λ t. t ≡ texts_of sets.now) }
 {
-    let mut names = Vec::new(alloc);
-    for set in sets {
-        names.push(set.name.text.copy()?)?;
-    }
-    Table::new(alloc, names)
+    name_table(alloc, sets)
 }
 
 fn set_at(sets: &[MemberSet], number: usize) -> Option<&MemberSet>

@@ -17,9 +17,9 @@ returns-clause-core c =
     let before = lent_declared c.deref.result.now c.deref-2.result.now c.deref-3.result.now in
     let d = lent_declared c.deref-in-Ok-None.result.now c.deref-in-Ok-None-2.result.now c.deref-in-Ok-None-3.result.now in
     let was : before ≡ declared items = declared_is items before
-    (ap (map lent_type) c.deref.ensures.value ∙ c.in-Ok-Ok-Ok.ensures) (ap (map module_tree) c.deref-2.ensures.value ∙ c.in-Ok-Ok-Ok.ensures') (ap (map lent_program) c.deref-3.ensures.value ∙ c.in-Ok-Ok-Ok.ensures'') in
+    (ap (map lent_type) c.deref.ensures.value ∙ c.in-Ok.ensures.types) (ap (map module_tree) c.deref-2.ensures.value ∙ c.in-Ok.ensures.modules) (ap (map lent_program) c.deref-3.ensures.value ∙ c.in-Ok.ensures.programs) in
     let is : d ≡ declared items = declared_is items d
-    (ap (map lent_type) c.deref-in-Ok-None.ensures.value ∙ c.in-Ok-Ok-Ok.ensures) (ap (map module_tree) c.deref-in-Ok-None-2.ensures.value ∙ c.in-Ok-Ok-Ok.ensures') (ap (map lent_program) c.deref-in-Ok-None-3.ensures.value ∙ c.in-Ok-Ok-Ok.ensures'') in
+    (ap (map lent_type) c.deref-in-Ok-None.ensures.value ∙ c.in-Ok.ensures.types) (ap (map module_tree) c.deref-in-Ok-None-2.ensures.value ∙ c.in-Ok.ensures.modules) (ap (map lent_program) c.deref-in-Ok-None-3.ensures.value ∙ c.in-Ok.ensures.programs) in
     let within : first_passed limits d ≡ None = ap (first_passed limits) is ∙ sym (ap (first_passed limits) was) ∙ search rules in
     ok_map c.judge.result (λ (core : Core). IsBound d (program_of core)) (λ (core : Core). Resolves items (program_of core))
     (λ core h. resolves items d (program_of core) is within h) c.judge.ensures.core
@@ -30,8 +30,8 @@ returns-clause-refusal c =
     let before = lent_declared c.deref.result.now c.deref-2.result.now c.deref-3.result.now in
     let d = lent_declared c.deref-in-Ok-None.result.now c.deref-in-Ok-None-2.result.now c.deref-in-Ok-None-3.result.now in
     let was : before ≡ declared items = declared_is items before
-    (ap (map lent_type) c.deref.ensures.value ∙ c.in-Ok-Ok-Ok.ensures) (ap (map module_tree) c.deref-2.ensures.value ∙ c.in-Ok-Ok-Ok.ensures') (ap (map lent_program) c.deref-3.ensures.value ∙ c.in-Ok-Ok-Ok.ensures'') in
+    (ap (map lent_type) c.deref.ensures.value ∙ c.in-Ok.ensures.types) (ap (map module_tree) c.deref-2.ensures.value ∙ c.in-Ok.ensures.modules) (ap (map lent_program) c.deref-3.ensures.value ∙ c.in-Ok.ensures.programs) in
     let is : d ≡ declared items = declared_is items d
-    (ap (map lent_type) c.deref-in-Ok-None.ensures.value ∙ c.in-Ok-Ok-Ok.ensures) (ap (map module_tree) c.deref-in-Ok-None-2.ensures.value ∙ c.in-Ok-Ok-Ok.ensures') (ap (map lent_program) c.deref-in-Ok-None-3.ensures.value ∙ c.in-Ok-Ok-Ok.ensures'') in
+    (ap (map lent_type) c.deref-in-Ok-None.ensures.value ∙ c.in-Ok.ensures.types) (ap (map module_tree) c.deref-in-Ok-None-2.ensures.value ∙ c.in-Ok.ensures.modules) (ap (map lent_program) c.deref-in-Ok-None-3.ensures.value ∙ c.in-Ok.ensures.programs) in
     let within : first_passed limits d ≡ None = ap (first_passed limits) is ∙ sym (ap (first_passed limits) was) ∙ search rules in
     err_map c.judge.result (IsRefusal d) (λ (r : NameRefusal). Refused items r) (λ r h. refused items d r is within h) c.judge.ensures.refusal

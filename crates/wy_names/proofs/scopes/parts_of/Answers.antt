@@ -1,4 +1,4 @@
-use Rattle.std.proofs.Common.{◌≡◌, [], ◌∷◌, ◌++◌, map, length, ap, ◌∙◌, rules}
+use Rattle.std.proofs.Common.{◌≡◌, [], ◌∷◌, ◌++◌, map, length, ap, ◌∙◌, append_assoc, rules}
 use Rattle.std.proofs.lemmas.List.{length-map}
 use Rattle.wy_types.specs.Program.{Init}
 use Rattle.wy_types.specs.Types.{is_plain}
@@ -12,6 +12,7 @@ use Rattle.wy_names.specs.BodyRefusals.{repeated_parts, parts_refusals}
 use Rattle.wy_names.specs.Scopes.{define_names, definitions_refusals, definitions_at, start_effect, init_refusals, module_scope, module_meanings, module_owners, module_atoms}
 use Rattle.wy_names.specs.Lent.{module_tree}
 use Rattle.wy_names.proofs.Fronts.{init_same, start_same, definitions_same}
+use Rattle.wy_names.proofs.Leasts.{noted_then}
 use Rattle.wy_names.proofs.ScopesMade.{meanings_are, scope_is, defined_are, within_is, module_noted}
 use Rattle.wy_names.proofs.scopes.parts_of.Goals as goal
 
@@ -25,9 +26,9 @@ returns-clause-parts c =
     let visible : c.len-visible.result ≡ length o.owners = search (length-map, rules) in
     let plain : c.eq-plain.result ≡ is_plain m.kind = search rules in
     let number : c.number-number.result ≡ type_number (head_names o.heads) m.sealed.text = search rules in
-    let meanings = meanings_are o.heads modules m o.atoms o.owners c.len-visible.result atoms owners visible c.in_ok-meanings.meanings c.in_ok-meanings.ensures in
+    let meanings = meanings_are o.heads modules m o.atoms o.owners c.len-visible.result atoms owners visible c.in_ok-meanings.meanings c.in_ok-meanings.ensures.value in
     let scope : c.new-scope.result ≡ module_scope o.heads modules m =
-    c.new-scope.ensures ∙ scope_is o.heads modules m o.atoms o.owners c.len-visible.result atoms owners visible c.in_ok-meanings.meanings c.in_ok-meanings.ensures in
+    c.new-scope.ensures ∙ scope_is o.heads modules m o.atoms o.owners c.len-visible.result atoms owners visible c.in_ok-meanings.meanings c.in_ok-meanings.ensures.value in
     let w : Within = record { atoms = c.new-scope.result; plain = c.eq-plain.result; own = c.names-2.result.now } in
     let within = within_is o.heads modules m w scope plain (c.names-2.ensures ∙ ap owner_names owners) in
     let parts = m.parts in
@@ -56,18 +57,21 @@ returns-clause-noted c =
     let visible : c.len-visible.result ≡ length o.owners = search (length-map, rules) in
     let plain : c.eq-plain.result ≡ is_plain m.kind = search rules in
     let scope : c.new-scope.result ≡ module_scope o.heads modules m =
-    c.new-scope.ensures ∙ scope_is o.heads modules m o.atoms o.owners c.len-visible.result atoms owners visible c.in_ok-meanings.meanings c.in_ok-meanings.ensures in
+    c.new-scope.ensures ∙ scope_is o.heads modules m o.atoms o.owners c.len-visible.result atoms owners visible c.in_ok-meanings.meanings c.in_ok-meanings.ensures.value in
     let w : Within = record { atoms = c.new-scope.result; plain = c.eq-plain.result; own = c.names-2.result.now } in
     let within = within_is o.heads modules m w scope plain (c.names-2.ensures ∙ ap owner_names owners) in
     let parts = m.parts in
     let defines = repeated [] (define_names m.defines) in
     let init = init_refusals o.heads modules (module_scope o.heads modules m) m.init in
     let definitions = definitions_refusals o.heads (module_atoms o.heads modules m) (module_owners o.heads modules m) [] m.defines in
-    let defined : c.note_defined.new.least ≡ noted c.note_front.new.least (defines ++ (definitions ++ init)) =
-    c.in_ok-note_defined.ensures
-    ∙ ap (λ l. noted c.note_front.new.least (defines ++ (l ++ init_refusals [] [] c.new-scope.result m.init)))
-    (defined_are o.heads modules m o.atoms o.owners c.len-visible.result atoms owners visible)
-    ∙ ap (λ l. noted c.note_front.new.least (defines ++ (definitions ++ l)))
-    (init_same [] o.heads [] modules c.new-scope.result m.init ∙ ap (λ s. init_refusals o.heads modules s m.init) scope) in
-    let bodies = c.in_ok-resolved.ensures.noted ∙ ap (λ x. noted c.note_defined.new.least (repeated_parts parts ++ parts_refusals x outermost (inside outermost parts) at_start parts)) within in
-    module_noted o.heads modules m c.args.least.now c.note_front.new.least c.note_defined.new.least c.module_parts.new.least c.in_ok-note_front.ensures defined bodies
+    let front = c.note_front.new.least in
+    let read : c.read_defined.new.least ≡ noted front (defines ++ definitions) =
+    c.in_ok-meanings.ensures.noted ∙ ap (λ l. noted front (defines ++ l)) (defined_are o.heads modules m o.atoms o.owners c.len-visible.result atoms owners visible) in
+    let started : c.note_init.new.least ≡ noted c.read_defined.new.least init =
+    c.note_init.ensures
+    ∙ ap (noted c.read_defined.new.least) (init_same [] o.heads [] modules c.new-scope.result m.init ∙ ap (λ s. init_refusals o.heads modules s m.init) scope) in
+    let defined : c.note_init.new.least ≡ noted front (defines ++ (definitions ++ init)) =
+    noted_then front c.read_defined.new.least c.note_init.new.least (defines ++ definitions) init read started
+    ∙ ap (noted front) (append_assoc defines definitions init) in
+    let bodies = c.in_ok-resolved.ensures.noted ∙ ap (λ x. noted c.note_init.new.least (repeated_parts parts ++ parts_refusals x outermost (inside outermost parts) at_start parts)) within in
+    module_noted o.heads modules m c.args.least.now c.note_front.new.least c.note_init.new.least c.module_parts.new.least c.in_ok-note_front.ensures defined bodies

@@ -1,8 +1,0 @@
-use Rattle.std.proofs.Common.{◌≡◌, ◌++◌, drop, map}
-use Rattle.wy_syntax.specs.Views.{file_tree}
-use Rattle.wy_names.specs.Declarations.{types_of, all_items}
-use Rattle.wy_names.specs.Lent.{lent_type}
-use Rattle.wy_names.proofs.gathering.types.Given as goal
-
-abbrev pub invariant-loop-tree : goal.invariant-loop-tree
-invariant-loop-tree l = map lent_type l.list.items ++ types_of (all_items (map file_tree (drop l.tree-index l.trees))) ≡ types_of (all_items (map file_tree l.trees))
