@@ -16,4 +16,4 @@ returns-in_default g c = accepted (program_of c.in-Ok.accepted.core) c.in-Ok.ens
 pub returns : goal.returns
 returns g c =
     let P : Authority → Type 0 = λ a. Wrote (report_text a) (g.O.Sink.state c.args.out.now) (g.O.Sink.state c.write_report_out.new.out) c.write_report_out.result in
-    accepted (program_of c.in-Ok.accepted.core) c.in-Ok.ensures.resolved c.in-Ok.ensures.accepted.accepted (subst P c.in-Ok-authority.ensures c.write_report_out.ensures)
+    accepted (program_of c.in-Ok.accepted.core) c.in-Ok.ensures.resolved c.in-Ok.ensures.accepted.accepted (subst P c.in-Ok-authority_of.ensures c.write_report_out.ensures)
