@@ -14,4 +14,5 @@ pub mod Owning
 pub mod Reaching
 pub mod Reflecting
 pub mod Rows
+mod Spans
 pub mod Worked

@@ -1,3 +1,4 @@
+pub mod Bodies
 pub mod Code
 pub mod Core
 pub mod Few

@@ -2,6 +2,7 @@
 //! everything in a program goes by.
 #![tactic(auto)]
 
+pub mod bodies;
 pub mod code;
 pub mod key;
 pub mod laws;

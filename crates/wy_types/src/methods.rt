@@ -121,12 +121,12 @@ fn declared(core: &Core, decl: u16) -> &[Method]
     }
 }
 
-/// The bodies of a scope.
-fn bodies(core: &Core, scope: u16) -> &[Body]
-    ensures { map body_of result.now ≡ scope_bodies (slice_get (program_of core.now).scopes scope) }
+/// Bodies of a scope among which are all those of an owner.
+fn bodies_around(core: &Core, scope: u16, owner: u32) -> &[Body]
+    ensures { methods_of_owner owner (map body_of result.now) ≡ methods_of_owner owner (scope_bodies (slice_get (program_of core.now).scopes scope)) }
 {
     match core.scopes.get(scope as usize) {
-        Some(s) => s.bodies.as_slice(),
+        Some(s) => s.bodies.around(owner),
         None => &[],
     }
 }
@@ -155,7 +155,7 @@ pub fn methods(alloc: Global, core: &Core, scope: u16, t: &TypeRef) -> Result<Ve
             with_members(alloc, declared(core, *decl), members.as_slice())
         }
         TypeRef::At { decl, bound } => bounded(alloc, declared(core, *decl), bound),
-        TypeRef::Own { literal } => owned(alloc, bodies(core, scope), *literal),
+        TypeRef::Own { literal } => owned(alloc, bodies_around(core, scope, *literal), *literal),
     }
 }
 
@@ -242,7 +242,11 @@ pub fn find_method(
             named_method(alloc, core, scope, *decl, members.as_slice(), name)
         }
         TypeRef::At { decl, bound } => bounded_method(alloc, core, *decl, bound, name),
-        TypeRef::Own { literal } => match find_owned(bodies(core, scope), *literal, name) {
+        TypeRef::Own { literal } => match find_owned(
+            bodies_around(core, scope, *literal),
+            *literal,
+            name,
+        ) {
             None => Ok(None),
             Some(m) => Ok(Some(copied(alloc, m)?)),
         },

@@ -1,3 +1,4 @@
+use crate::bodies::Bodies;
 use crate::code::{Block, Value, Variable};
 use crate::types::{Method, TypeRef};
 use wy_effects::atom::AtomTable;
@@ -121,7 +122,7 @@ pub struct Scope {
     pub start_effect: EffSet,
     pub start: Start,
     /// The methods of the module and its literals, by the order of their `def` words.
-    pub bodies: Items<Body>,
+    pub bodies: Bodies,
 }
 
 /// A program whose names are resolved.
