@@ -109,6 +109,15 @@ def recursion(n: int) -> str:
     return program(lines, "{}", [f"val n = m.go({n - 1})", "()"], ["use m"])
 
 
+def chain(n: int) -> str:
+    """Sixteen methods, each of which calls the next, 2^n times."""
+    names = [f"c{m}" for m in range(16)]
+    lines = ["type T", "  def go(n: Int): {} Int", *[f"  def {name}(x: Int): {{}} Int" for name in names], "module m: T"]
+    lines += [f"  def {name}(x: Int): {{}} Int = this.{after}(x)" for name, after in zip(names, names[1:])] + ["  def c15(x: Int): {} Int = x"]
+    lines += ["  def go(n: Int): {} Int = if n < 1 then this.c0(1) else this.go(n - 1) + this.go(n - 1)"]
+    return program(lines, "{}", [f"val n = m.go({n})", "()"], ["use m"])
+
+
 def objects(n: int) -> str:
     """2^n objects, made and asked once each."""
     lines = ["type Box", "  def get(): {} Int", "type T", "  def go(n: Int): {} Int", "module m: T", "  def box(n: Int): {} Box", "    new", "      def get(): {} Int = n"]
@@ -138,6 +147,7 @@ KINDS = {
     "methods": (methods, ["check"], (32, 64, 128)),
     "report": (report, ["authority"], (64, 128, 256)),
     "recursion": (recursion, RUN, (19, 21, 23)),
+    "chain": (chain, RUN, (14, 16, 18)),
     "objects": (objects, RUN, (16, 18, 20)),
     "texts": (texts, RUN, (16, 18, 20)),
 }

@@ -1,3 +1,7 @@
+ghost use Rattle.wy_types.specs.Fitting.{IsTypeOf};
+ghost use Rattle.wy_types.specs.InRange.{IsInRange};
+ghost use Rattle.wy_types.specs.Program.{program_of};
+
 use crate::ranges::{is_in_range, is_type_of};
 use std::alloc::Global;
 use std::test::Fail;
@@ -7,6 +11,7 @@ use wy_effects::set::{EffSet, SetList};
 use wy_text::fault::Place;
 use wy_text::list::Items;
 use wy_text::text::{Memory, from_bytes};
+use wy_types::bodies::Bodies;
 use wy_types::code::{Block, Expr, Value};
 use wy_types::primitive::primitives;
 use wy_types::resolved::{Body, Core, Literal, Scope, ScopeKind, Start, TypeDecl};
@@ -69,9 +74,9 @@ fn declare(alloc: Global, core: &mut Core, m: Method) -> Result<(), Memory> {
 }
 
 /// Bodies with one method of the module, `def m(): {8} A[E = {5}]`.
-fn own_bodies(alloc: Global) -> Result<Items<Body>, Memory> {
+fn own_bodies(alloc: Global) -> Result<Bodies, Memory> {
     let last = Box::new(alloc, Value::Plain(Expr::Unit(PLACE)))?;
-    let mut bodies = Items::new(alloc);
+    let mut bodies = Vec::new(alloc);
     bodies.push(Body {
         owner: 0,
         place: PLACE,
@@ -81,7 +86,7 @@ fn own_bodies(alloc: Global) -> Result<Items<Body>, Memory> {
             last,
         },
     })?;
-    Ok(bodies)
+    Bodies::new(alloc, bodies)
 }
 
 /// A core of one scope, with the primitive types alone.
@@ -91,6 +96,7 @@ fn empty_core(alloc: Global, kind: ScopeKind) -> Result<Core, Memory> {
         captures: Items::new(alloc),
         fields: Items::new(alloc),
     })?;
+    let bodies = own_bodies(alloc)?;
     let mut scopes = Items::new(alloc);
     scopes.push(Scope {
         kind,
@@ -104,7 +110,7 @@ fn empty_core(alloc: Global, kind: ScopeKind) -> Result<Core, Memory> {
         start_place: PLACE,
         start_effect: EffSet::empty(alloc),
         start: Start::Init(Vec::new(alloc)),
-        bodies: own_bodies(alloc)?,
+        bodies,
     })?;
     Ok(Core {
         declarations: primitives(alloc)?,
@@ -146,6 +152,35 @@ fn ring_core(alloc: Global, number: u16) -> Result<Core, Memory> {
     Ok(core)
 }
 
+/// Whether the table of a type's paths has these sets.
+fn table_has(
+    alloc: Global,
+    core: &Core,
+    t: &TypeRef,
+    given: &EffSet,
+    taken: &EffSet,
+) -> Result<bool, Memory>
+    requires core { IsInRange (program_of core.now) }
+    requires typ { IsTypeOf (program_of core.now) 0 t.now }
+{
+    let matrix = Matrix::build(alloc, core, 0, t)?;
+    Ok(matrix.effects() == *given && matrix.ho_effects() == *taken)
+}
+
+/// Whether the table of a type's paths calls it safe for a set, and safe in higher order.
+fn table_answers(
+    alloc: Global,
+    core: &Core,
+    t: &TypeRef,
+    e: &EffSet,
+) -> Result<(bool, bool), Memory>
+    requires core { IsInRange (program_of core.now) }
+    requires typ { IsTypeOf (program_of core.now) 0 t.now }
+{
+    let matrix = Matrix::build(alloc, core, 0, t)?;
+    Ok((matrix.is_safe(e), matrix.is_ho_safe(e)))
+}
+
 /// Whether these are the type's effects and higher-order effects, also by the table of its paths.
 fn has_effects(
     alloc: Global,
@@ -160,13 +195,12 @@ fn has_effects(
     if !is_type_of(core, 0, t)? {
         return Ok(false);
     }
-    let given = effects(alloc, core, 0, t)?;
-    let taken = ho_effects(alloc, core, 0, t)?;
-    let matrix = Matrix::build(alloc, core, 0, t)?;
-    if matrix.effects() != given || matrix.ho_effects() != taken {
+    let given = set_of(alloc, positive)?;
+    let taken = set_of(alloc, negative)?;
+    if !table_has(alloc, core, t, &given, &taken)? {
         return Ok(false);
     }
-    Ok(given == set_of(alloc, positive)? && taken == set_of(alloc, negative)?)
+    Ok(effects(alloc, core, 0, t)? == given && ho_effects(alloc, core, 0, t)? == taken)
 }
 
 /// What is answered of safety and of higher-order safety; `None` where the table of the type's paths
@@ -184,13 +218,10 @@ fn answers(
         return Ok(None);
     }
     let e = set_of(alloc, atoms)?;
+    let (is_safe, is_ho_safe) = table_answers(alloc, core, t, &e)?;
     let given = safe(alloc, core, 0, t, &e)?;
     let taken = ho_safe(alloc, core, 0, t, &e)?;
-    let matrix = Matrix::build(alloc, core, 0, t)?;
-    if matrix.is_safe(&e) != (given == Safety::Yes) {
-        return Ok(None);
-    }
-    if matrix.is_ho_safe(&e) != (taken == Safety::Yes) {
+    if is_safe != (given == Safety::Yes) || is_ho_safe != (taken == Safety::Yes) {
         return Ok(None);
     }
     Ok(Some((given, taken)))

@@ -14,6 +14,7 @@ use wy_subtype::{
 use wy_text::fault::Place;
 use wy_text::list::Items;
 use wy_text::text::{Memory, from_bytes};
+use wy_types::bodies::Bodies;
 use wy_types::primitive::primitives;
 use wy_types::resolved::{Core, Literal, Scope, ScopeKind, Start, TypeDecl};
 use wy_types::types::{Method, TypeList, TypeRef};
@@ -50,6 +51,7 @@ fn empty_core(alloc: Global, kind: ScopeKind) -> Result<Core, Memory> {
         captures: Items::new(alloc),
         fields: Items::new(alloc),
     })?;
+    let bodies = Bodies::new(alloc, Vec::new(alloc))?;
     let mut scopes = Items::new(alloc);
     scopes.push(Scope {
         kind,
@@ -63,7 +65,7 @@ fn empty_core(alloc: Global, kind: ScopeKind) -> Result<Core, Memory> {
         start_place: PLACE,
         start_effect: EffSet::empty(alloc),
         start: Start::Init(Vec::new(alloc)),
-        bodies: Items::new(alloc),
+        bodies,
     })?;
     Ok(Core {
         declarations: primitives(alloc)?,

@@ -5,6 +5,7 @@ use wy_effects::set::{EffSet, SetList};
 use wy_text::fault::Place;
 use wy_text::list::Items;
 use wy_text::text::{Memory, from_bytes};
+use wy_types::bodies::Bodies;
 use wy_types::code::{Block, Expr, Value};
 use wy_types::key::{key_of_mark, key_of_pair};
 use wy_types::methods::methods;
@@ -56,6 +57,7 @@ fn small_core(alloc: Global, kind: ScopeKind, ascribed: Option<u16>) -> Result<C
         fields: Items::new(alloc),
     })?;
     let last = Box::new(alloc, Value::Plain(Expr::Unit(PLACE)))?;
+    let bodies = Bodies::new(alloc, Vec::new(alloc))?;
     let mut scopes = Items::new(alloc);
     scopes.push(Scope {
         kind,
@@ -72,7 +74,7 @@ fn small_core(alloc: Global, kind: ScopeKind, ascribed: Option<u16>) -> Result<C
             statements: Vec::new(alloc),
             last,
         }),
-        bodies: Items::new(alloc),
+        bodies,
     })?;
     Ok(Core {
         declarations: primitives(alloc)?,

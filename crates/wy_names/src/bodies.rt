@@ -21,7 +21,8 @@ use wy_syntax::statements::{Part, Tail};
 use wy_text::fault::Place;
 use wy_text::list::Items;
 use wy_text::text::Memory;
-use wy_types::resolved::{Body, Literal, Start};
+use wy_types::bodies::Bodies;
+use wy_types::resolved::{Literal, Start};
 
 /// A scope as its bodies see it: its atoms, whether it is a plain module, and its own names.
 #[derive(Drop)]
@@ -36,7 +37,7 @@ pub struct Within<'a> {
 pub struct Resolved {
     pub literals: Items<Literal>,
     pub start: Start,
-    pub bodies: Items<Body>,
+    pub bodies: Bodies,
 }
 
 /// What is found at the start of a scope whose literal 0 is this one.
@@ -67,17 +68,6 @@ fn no_fields(alloc: Global) -> Literal
         captures: Items::new(alloc),
         fields: Items::new(alloc),
     }
-}
-
-/// Bodies as a list.
-fn listed(alloc: Global, bodies: Vec<Body>) -> Result<Items<Body>, Memory>
-    ensures { IfOk result (λ l. l ≡ bodies.items) }
-{
-    let mut list = Items::new(alloc);
-    for body in bodies {
-        list.push(body)?;
-    }
-    Ok(list)
 }
 
 /// The fields and methods of a module. Their refusals are noted.
@@ -112,7 +102,7 @@ pub fn module_parts(
     Ok(Resolved {
         literals: found.literals,
         start: Start::Init(values),
-        bodies: listed(alloc, found.bodies)?,
+        bodies: Bodies::new(alloc, found.bodies)?,
     })
 }
 
@@ -138,6 +128,6 @@ pub fn program_block(
     Ok(Resolved {
         literals: found.literals,
         start: Start::Run(block),
-        bodies: listed(alloc, found.bodies)?,
+        bodies: Bodies::new(alloc, found.bodies)?,
     })
 }

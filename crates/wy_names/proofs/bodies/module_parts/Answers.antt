@@ -44,7 +44,7 @@ returns-clause-bodies c =
     (found_of c.in_ok-found.found) (found_of c.part_values.new.found) c.in_ok-literal.literal c.args.least.now c.note_repeated_parts.new.least c.in_ok-found.ensures
     (module_literal w fr ks c.new-variables.ensures c.outermost-outer.ensures ps c.in_ok-inner.inner c.in_ok-inner.ensures c.in_ok-literal.literal c.in_ok-literal.ensures.captures c.in_ok-literal.ensures.fields)
     c.in_ok-note_repeated_parts.ensures c.in_ok-values.ensures.found in
-    ap (map body_of) c.in_ok-listed.ensures ∙ ap (λ (g : Found). g.bodies) found
+    ap (map body_of) c.in_ok-new.ensures ∙ ap (λ (g : Found). g.bodies) found
 
 pub returns-clause-noted : goal.returns-clause-noted
 returns-clause-noted c =

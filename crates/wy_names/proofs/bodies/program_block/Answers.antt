@@ -39,7 +39,7 @@ returns-clause-bodies c =
     let ks = c.new-variables.result in
     let found = program_found w fr ks c.new-variables.ensures c.outermost-frame.ensures b (found_of c.in_ok-found.found) (found_of c.tail_block.new.found) c.no_fields-literal.result (record { captures = []; fields = [] }) c.args.least.now
     c.in_ok-found.ensures c.no_fields-literal.ensures c.in_ok-block.ensures.found in
-    ap (map body_of) c.in_ok-listed.ensures ∙ ap (λ (g : Found). g.bodies) found
+    ap (map body_of) c.in_ok-new.ensures ∙ ap (λ (g : Found). g.bodies) found
 
 pub returns-clause-noted : goal.returns-clause-noted
 returns-clause-noted c =
