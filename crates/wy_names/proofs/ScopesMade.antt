@@ -31,9 +31,9 @@ module _ (heads : List Head) (modules : List ModuleTree) (m : ModuleTree) (atoms
       is ∙ ap (λ o. definitions_after heads atoms o [] m.defines) (take_all owners visible all ∙ os)
       ∙ ap (λ a. definitions_after heads a (module_owners heads modules m) [] m.defines) at
 
-  pub scope_is : (meanings : List Meaning) → meanings ≡ definitions_after heads atoms (take visible owners) [] m.defines → atom_scope heads atoms (take visible owners) meanings ≡ module_scope heads modules m
+  pub scope_is : (meanings : List Meaning) → meanings ≡ module_meanings heads modules m → atom_scope heads atoms (take visible owners) meanings ≡ module_scope heads modules m
   scope_is meanings is =
-      ap (λ x. atom_scope heads atoms (take visible owners) x) (meanings_are meanings is)
+      ap (λ x. atom_scope heads atoms (take visible owners) x) is
       ∙ ap (λ o. atom_scope heads atoms o (module_meanings heads modules m)) (take_all owners visible all ∙ os)
       ∙ ap (λ a. atom_scope heads a (module_owners heads modules m) (module_meanings heads modules m)) at
 
@@ -56,11 +56,11 @@ five a b c d e r =
 three : (a b c r : List Refusal) → (a ++ (b ++ c)) ++ r ≡ a ++ (b ++ (c ++ r))
 three a b c r = append_assoc a (b ++ c) r ∙ ap (λ l. a ++ l) (append_assoc b c r)
 
--- what is noted of the head, of the definitions and of the bodies
+-- what is noted of the head, of the definitions, and of what stands behind them
 pub module_noted : (heads : List Head) (modules : List ModuleTree) (m : ModuleTree) (old front defined end : Option Refusal) →
     front ≡ noted old (front_refusals heads modules m) →
-    defined ≡ noted front (repeated [] (define_names m.defines) ++ (definitions_refusals heads (module_atoms heads modules m) (module_owners heads modules m) [] m.defines ++ init_refusals heads modules (module_scope heads modules m) m.init)) →
-    end ≡ noted defined (repeated_parts m.parts ++ parts_refusals (module_within heads modules m) outermost (inside outermost m.parts) at_start m.parts) →
+    defined ≡ noted front (repeated [] (define_names m.defines) ++ definitions_refusals heads (module_atoms heads modules m) (module_owners heads modules m) [] m.defines) →
+    end ≡ noted defined (init_refusals heads modules (module_scope heads modules m) m.init ++ (repeated_parts m.parts ++ parts_refusals (module_within heads modules m) outermost (inside outermost m.parts) at_start m.parts)) →
     end ≡ noted old (module_refusals heads modules m)
 module_noted heads modules m old front defined end f d e =
     let sealed = sealed_refusals heads modules m (type_number (head_names heads) m.sealed.text) in
@@ -72,8 +72,8 @@ module_noted heads modules m old front defined end f d e =
     let definitions = definitions_refusals heads (module_atoms heads modules m) (module_owners heads modules m) [] m.defines in
     let init = init_refusals heads modules (module_scope heads modules m) m.init in
     let parts = repeated_parts m.parts ++ parts_refusals (module_within heads modules m) outermost (inside outermost m.parts) at_start m.parts in
-    noted_then old front end (front_refusals heads modules m) ((defines ++ (definitions ++ init)) ++ parts) f (noted_then front defined end (defines ++ (definitions ++ init)) parts d e)
-    ∙ ap (λ l. noted old (front_refusals heads modules m ++ l)) (three defines definitions init parts)
+    noted_then old front end (front_refusals heads modules m) ((defines ++ definitions) ++ (init ++ parts)) f (noted_then front defined end (defines ++ definitions) (init ++ parts) d e)
+    ∙ ap (λ l. noted old (front_refusals heads modules m ++ l)) (append_assoc defines definitions (init ++ parts))
     ∙ ap (noted old) (five sealed words params uses lines (defines ++ (definitions ++ (init ++ parts))))
 
 -- a scope by its parts

@@ -1,5 +1,6 @@
 -- What is found in a part and then in the rest, and what is in sight there.
 use Rattle.std.proofs.Common.{◌≡◌, ℕ, ◌≤◌, List, [], ◌∷◌, ◌++◌, map, length, take, drop, true, Bool, refl, sym, ap, ap₂, ◌∙◌, Option, append_assoc, arith, ◌+◌, false, if◌then◌else◌}
+use Rattle.std.specs.Prelude.{Result, Ok, Err, OnOk}
 use Rattle.std.proofs.lemmas.List.{map-append, take-append-le, drop-append-le, take_all, drop_all, take-append-drop}
 use Rattle.wy_text.specs.declared.fault.Place.{Place}
 use Rattle.wy_syntax.specs.declared.types.Name.{Name}
@@ -24,11 +25,16 @@ use Rattle.wy_names.specs.InSight.{Known, known, known_entry, entries, Frame, fr
 use Rattle.wy_names.specs.TypeUses.{signature_refusals}
 use Rattle.wy_names.specs.Bodies.{Within, Count, one_val, one_literal, one_body, stmts_after, stmt_sight, stmt_after, fields_of, literal_of, method_body, parts_literals, stmts_literals, stmt_literals, part_literals, stmts_bodies, stmt_bodies, part_bodies, parts_bodies, part_after}
 use Rattle.wy_names.specs.BodyRefusals.{field_names, expr_refusals, value_refusals, typed_refusals, typed_if_refusals, repeated_parts, stmts_refusals, stmt_refusals, part_refusals, parts_refusals, rhs_refusals, tail_refusals}
-use Rattle.wy_names.specs.FoundBodies.{Found, noting, after_rhs, after_stmt, after_stmts, after_part, after_parts, after_tail, with_stmt}
+use Rattle.wy_names.specs.FoundBodies.{Found, noting, one_method, with_literal, after_rhs, after_stmt, after_stmts, after_part, after_parts, after_tail, with_stmt}
 use Rattle.wy_names.proofs.Leasts.{noted_append}
 
 abbrev pub made : Count → List Literal → List Body → Option Refusal → Found
 made n ls bs o = record { count = n; literals = ls; bodies = bs; least = o }
+
+-- what holds in any case holds of a result
+pub on_ok : {A B P : Type 0} (r : Result A B) → P → OnOk r P
+on_ok (Ok a) p = p
+on_ok (Err b) p = tt
 
 abbrev literal_with : List Variable → List Field → Literal
 literal_with c d = record { captures = c; fields = d }
@@ -129,27 +135,40 @@ module _ (w : Within) where
   parts_end s within owner f = ap₂ (λ l b. made f.count l b f.least) (sym (append_nil f.literals)) (sym (append_nil f.bodies))
 
   -- a method, as it is put together
-  pub method_turn : (s within si : Sight) (owner : ℕ) (f m : Found) (g : Signature) (b : t.TailTree) (n : ℕ) (o : Option Refusal) (bs first : List Body) (body : Body) →
-      si ≡ with_params within f.count.bodies g.params → n ≡ f.count.bodies + 1 → first ≡ [] → o ≡ noted f.least (signature_refusals w.atoms w.plain g) →
-      m ≡ after_tail w si (made (record { vals = f.count.vals; literals = f.count.literals; bodies = n }) f.literals first o) b →
+  pub method_turn : (s within : Sight) (owner : ℕ) (f m : Found) (g : Signature) (b : t.TailTree) (first bs : List Body) (body : Body) →
+      first ≡ [] → m ≡ after_tail w (with_params within f.count.bodies g.params) (one_method (made f.count f.literals first f.least) (signature_refusals w.atoms w.plain g)) b →
       body ≡ method_body w within f.count owner g b → bs ≡ f.bodies ++ (body ∷ m.bodies) →
       made m.count m.literals bs m.least ≡ after_part w s within owner f (t.method g b)
-  method_turn s within si owner f m g b n o bs first body hs hn hf ho hm hb hall =
-      let m' = hm
-      ∙ ap₂ (λ x k. after_tail w x (made (record { vals = f.count.vals; literals = f.count.literals; bodies = k }) f.literals first o) b) hs hn
-      ∙ ap₂ (λ x y. after_tail w (with_params within f.count.bodies g.params) (made (one_body f.count) f.literals x y) b) hf ho in
+  method_turn s within owner f m g b first bs body hf hm hb hall =
+      let rs = signature_refusals w.atoms w.plain g in
       ap (λ x. made m.count m.literals x m.least) (hall ∙ ap (λ x. f.bodies ++ (x ∷ m.bodies)) hb)
-      ∙ method_next s within owner f m g b m'
+      ∙ method_next s within owner f m g b (hm ∙ ap (λ x. after_tail w (with_params within f.count.bodies g.params) (one_method (made f.count f.literals x f.least) rs) b) hf)
+
+  -- its body
+  pub body_found : (si within : Sight) (f m : Found) (g : Signature) (b : t.TailTree) (n : ℕ) (o : Option Refusal) →
+      si ≡ with_params within f.count.bodies g.params → n ≡ f.count.bodies + 1 → o ≡ noted f.least (signature_refusals w.atoms w.plain g) →
+      m ≡ after_tail w si (made (record { vals = f.count.vals; literals = f.count.literals; bodies = n }) f.literals f.bodies o) b →
+      m ≡ after_tail w (with_params within f.count.bodies g.params) (one_method f (signature_refusals w.atoms w.plain g)) b
+  body_found si within f m g b n o hs hn ho hm =
+      hm
+      ∙ ap₂ (λ x k. after_tail w x (made (record { vals = f.count.vals; literals = f.count.literals; bodies = k }) f.literals f.bodies o) b) hs hn
+      ∙ ap (λ x. after_tail w (with_params within f.count.bodies g.params) (made (one_body f.count) f.literals f.bodies x) b) ho
+
+  -- a literal, before its methods
+  pub literal_begun : (f : Found) (ps : t.PartTrees) (captures : List Variable) (n : ℕ) (ls : List Literal) (l : Literal) (o : Option Refusal) →
+      n ≡ f.count.literals + 1 → ls ≡ f.literals ++ l ∷ [] → l.captures ≡ captures → l.fields ≡ fields_of w ps → o ≡ noted f.least (repeated_parts ps) →
+      made (record { vals = f.count.vals; literals = n; bodies = f.count.bodies }) ls f.bodies o ≡ with_literal w captures f ps
+  literal_begun f ps captures n ls l o hn hl hc hd ho =
+      ap₂ (λ k x. made (record { vals = f.count.vals; literals = k; bodies = f.count.bodies }) x f.bodies o) hn (hl ∙ ap (λ x. f.literals ++ x ∷ []) (ap₂ literal_with hc hd))
+      ∙ ap (made (one_literal f.count) (f.literals ++ literal_with captures (fields_of w ps) ∷ []) f.bodies) ho
 
   -- a literal, as it is put together
-  pub literal_turn : (s inner : Sight) (f h : Found) (p : Place) (ps : t.PartTrees) (n : ℕ) (ls : List Literal) (l : Literal) (o : Option Refusal) →
-      inner ≡ inside s ps → n ≡ f.count.literals + 1 → ls ≡ f.literals ++ l ∷ [] → l.captures ≡ written_of (variables s.entries) ps → l.fields ≡ fields_of w ps → o ≡ noted f.least (repeated_parts ps) →
-      h ≡ after_parts w s inner f.count.literals (made (record { vals = f.count.vals; literals = n; bodies = f.count.bodies }) ls f.bodies o) ps → h ≡ after_rhs w s f (t.literal p ps)
-  literal_turn s inner f h p ps n ls l o hi hn hl hc hf ho hh =
-      let here : l ≡ literal_of w s ps = ap₂ literal_with hc hf in
+  pub literal_turn : (s inner : Sight) (f g h : Found) (p : Place) (ps : t.PartTrees) (captures : List Variable) →
+      inner ≡ inside s ps → captures ≡ written_of (variables s.entries) ps → g ≡ with_literal w captures f ps →
+      h ≡ after_parts w s inner f.count.literals g ps → h ≡ after_rhs w s f (t.literal p ps)
+  literal_turn s inner f g h p ps captures hi hc hg hh =
       hh
-      ∙ ap₂ (λ x k. after_parts w s x f.count.literals (made (record { vals = f.count.vals; literals = k; bodies = f.count.bodies }) ls f.bodies o) ps) hi hn
-      ∙ ap₂ (λ x y. after_parts w s (inside s ps) f.count.literals (made (one_literal f.count) x f.bodies y) ps) (hl ∙ ap (λ x. f.literals ++ x ∷ []) here) ho
+      ∙ ap₂ (λ x y. after_parts w s x f.count.literals y ps) hi (hg ∙ ap (λ x. with_literal w x f ps) hc)
       ∙ literal_next s f p ps
 
 -- a method, and those in it behind it

@@ -3,6 +3,7 @@ use Rattle.std.specs.Prelude.{ℕ, List, [], ◌∷◌, ◌++◌, map, Option}
 use Rattle.wy_text.specs.declared.fault.Place.{Place}
 use Rattle.wy_syntax.specs.Trees as t
 use Rattle.wy_types.specs.declared.code.Stmt as s
+use Rattle.wy_types.specs.declared.code.Variable.{Variable}
 use Rattle.wy_types.specs.declared.code.Variable.TheVariants.{Local}
 use Rattle.wy_types.specs.declared.resolved.Literal.{Literal}
 use Rattle.wy_types.specs.declared.types.TypeRef.{TypeRef}
@@ -15,8 +16,8 @@ use Rattle.wy_names.specs.declared.statements.Found as found
 use Rattle.wy_names.specs.Least.{noted}
 use Rattle.wy_names.specs.Sight.{Sight}
 use Rattle.wy_names.specs.InSight.{Known, known}
-use Rattle.wy_names.specs.Bodies.{Within, Count, at_start, one_val, rhs_after, stmt_after, stmts_after, part_after, parts_after, tail_after, bound, typed_if, rhs_value, rhs_literals, stmt_literals, stmts_literals, part_literals, parts_literals, tail_literals, rhs_bodies, stmt_bodies, stmts_bodies, part_bodies, parts_bodies, tail_bodies}
-use Rattle.wy_names.specs.BodyRefusals.{rhs_refusals, stmt_refusals, stmts_refusals, part_refusals, parts_refusals, tail_refusals}
+use Rattle.wy_names.specs.Bodies.{Within, Count, at_start, one_val, one_literal, one_body, fields_of, rhs_after, stmt_after, stmts_after, part_after, parts_after, tail_after, bound, typed_if, rhs_value, rhs_literals, stmt_literals, stmts_literals, part_literals, parts_literals, tail_literals, rhs_bodies, stmt_bodies, stmts_bodies, part_bodies, parts_bodies, tail_bodies}
+use Rattle.wy_names.specs.BodyRefusals.{repeated_parts, rhs_refusals, stmt_refusals, stmts_refusals, part_refusals, parts_refusals, tail_refusals}
 
 pub record Found : Type 0 where
   pub count : Count
@@ -37,6 +38,19 @@ begun literal least = record { count = at_start; literals = literal ∷ []; bodi
 -- a type's refusals alone, or those of names
 abbrev pub noting : Found → List Refusal → Found
 noting f rs = record { count = f.count; literals = f.literals; bodies = f.bodies; least = noted f.least rs }
+
+-- one method more, whose signature has these refusals
+abbrev pub one_method : Found → List Refusal → Found
+one_method f rs = record { count = one_body f.count; literals = f.literals; bodies = f.bodies; least = noted f.least rs }
+
+-- one literal more, with these captures and the fields of these parts
+abbrev pub with_literal : Within → List Variable → Found → t.PartTrees → Found
+with_literal w captures f ps = record {
+  count = one_literal f.count;
+  literals = f.literals ++ record { captures = captures; fields = fields_of w ps } ∷ [];
+  bodies = f.bodies;
+  least = noted f.least (repeated_parts ps);
+}
 
 module _ (w : Within) where
   abbrev pub after_rhs : Sight → Found → t.RhsTree → Found

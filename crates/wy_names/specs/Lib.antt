@@ -25,4 +25,5 @@ pub mod Scopes
 pub mod Sight
 pub mod Things
 pub mod TypeUses
+pub mod ValueRows
 pub mod Written

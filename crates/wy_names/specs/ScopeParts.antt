@@ -1,7 +1,10 @@
 -- What a scope has besides its atoms, part by part.
-use Rattle.std.specs.Prelude.{◌≡◌, ◌∷◌, [], List, map}
+use Rattle.std.specs.Prelude.{◌≡◌, ◌∷◌, [], ℕ, List, map, Option}
+use Rattle.wy_text.specs.declared.fault.Place.{Place}
+use Rattle.wy_text.specs.declared.fault.AtomName.{AtomName}
+use Rattle.wy_types.specs.declared.resolved.ScopeKind.{ScopeKind}
 use Rattle.wy_types.specs.Types.{is_plain}
-use Rattle.wy_types.specs.Program.{body_of, start_of, Init, Run}
+use Rattle.wy_types.specs.Program.{Scope, body_of, start_of, Init, Run}
 use Rattle.wy_names.specs.declared.scopes.Parts.{Parts}
 use Rattle.wy_names.specs.declared.scoping.Head.{Head}
 use Rattle.wy_names.specs.Declarations.{ModuleTree, ProgramTree}
@@ -26,3 +29,20 @@ module _ (heads : List Head) (modules : List ModuleTree) where
     pub literals : p.resolved.literals ≡ record { captures = []; fields = [] } ∷ tail_literals (program_within heads modules g) outermost at_start g.body
     pub start : start_of p.resolved.start ≡ Run (tail_block (program_within heads modules g) g.run outermost at_start g.body)
     pub bodies : map body_of p.resolved.bodies ≡ tail_bodies (program_within heads modules g) outermost at_start g.body
+
+-- a scope of these parts
+abbrev pub scope_with : ScopeKind → List ℕ → Place → List AtomName → Option ℕ → Place → Parts → Scope
+scope_with kind name place atoms ascribed at p = record {
+  kind = kind;
+  name = name;
+  place = place;
+  atoms = atoms;
+  names = p.names;
+  ascribed = ascribed;
+  definitions = p.definitions;
+  literals = p.resolved.literals;
+  start_place = at;
+  start_effect = p.start_effect;
+  start = start_of p.resolved.start;
+  bodies = map body_of p.resolved.bodies;
+}

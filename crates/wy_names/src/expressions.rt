@@ -9,19 +9,20 @@ ghost use Rattle.wy_names.specs.Lending.{lent_within};
 ghost use Rattle.wy_names.specs.InSight.{sight_of};
 ghost use Rattle.wy_names.specs.Bodies.{bound, operand, expr_value, expr_values};
 ghost use Rattle.wy_names.specs.BodyRefusals.{value_refusals, this_refusals, expr_refusals, exprs_refusals};
+ghost use Rattle.wy_names.specs.ValueRows.{values_then};
 
 use crate::bodies::Within;
 use crate::noting::note_at;
 use crate::refusal::{Cause, Refusal};
 use crate::sight::{Frame, Variables, binding_of};
 use crate::type_uses::read_type;
-use crate::values::{call, choice, last, one, operand, operator_of, text_call, three, two};
+use crate::values::{call, choice, last, operand, operator_of, text_call};
 use std::alloc::Global;
 use wy_syntax::expressions::Expr;
 use wy_syntax::types::Name;
 use wy_text::fault::Place;
 use wy_text::text::Memory;
-use wy_types::code::{self, Binding, TextOperator, UnaryOperator, Value};
+use wy_types::code::{self, Binding, Block, TextOperator, UnaryOperator, Value};
 
 /// What a name stands for; Unknown is noted where it is nowhere in sight.
 pub fn bound(
@@ -98,31 +99,53 @@ pub fn expr_value(
             Ok(call(name.place, receiver, name.text.copy()?, arguments))
         }
         Expr::TextSize(e, place) => {
-            let first = expr_value(alloc, within, frame, variables, least, e)?;
-            Ok(text_call(*place, TextOperator::Size, one(alloc, first)?))
+            text_of_one(
+                alloc,
+                within,
+                frame,
+                variables,
+                least,
+                *place,
+                TextOperator::Size,
+                e,
+            )
         }
         Expr::TextPart(e, from, to, place) => {
-            let first = expr_value(alloc, within, frame, variables, least, e)?;
-            let second = expr_value(alloc, within, frame, variables, least, from)?;
-            let third = expr_value(alloc, within, frame, variables, least, to)?;
-            Ok(text_call(
-                *place,
-                TextOperator::Part,
-                three(alloc, first, second, third)?,
-            ))
+            let mut values = Vec::new(alloc);
+            push_value(alloc, within, frame, variables, least, e, &mut values)?;
+            push_value(alloc, within, frame, variables, least, from, &mut values)?;
+            push_value(alloc, within, frame, variables, least, to, &mut values)?;
+            Ok(text_call(*place, TextOperator::Part, values))
         }
         Expr::TextCode(e, at, place) => {
-            let first = expr_value(alloc, within, frame, variables, least, e)?;
-            let second = expr_value(alloc, within, frame, variables, least, at)?;
-            Ok(text_call(*place, TextOperator::Code, two(alloc, first, second)?))
+            let mut values = Vec::new(alloc);
+            push_value(alloc, within, frame, variables, least, e, &mut values)?;
+            push_value(alloc, within, frame, variables, least, at, &mut values)?;
+            Ok(text_call(*place, TextOperator::Code, values))
         }
         Expr::TextByte(e, place) => {
-            let first = expr_value(alloc, within, frame, variables, least, e)?;
-            Ok(text_call(*place, TextOperator::Byte, one(alloc, first)?))
+            text_of_one(
+                alloc,
+                within,
+                frame,
+                variables,
+                least,
+                *place,
+                TextOperator::Byte,
+                e,
+            )
         }
         Expr::TextShow(e, place) => {
-            let first = expr_value(alloc, within, frame, variables, least, e)?;
-            Ok(text_call(*place, TextOperator::Show, one(alloc, first)?))
+            text_of_one(
+                alloc,
+                within,
+                frame,
+                variables,
+                least,
+                *place,
+                TextOperator::Show,
+                e,
+            )
         }
         Expr::Ascribe(e, type_use, place) => {
             let value = expr_value(alloc, within, frame, variables, least, e)?;
@@ -132,9 +155,9 @@ pub fn expr_value(
         }
         Expr::Choice(test, first, second, place) => {
             let test = operand_value(alloc, within, frame, variables, least, test)?;
-            let first = expr_value(alloc, within, frame, variables, least, first)?;
-            let second = expr_value(alloc, within, frame, variables, least, second)?;
-            Ok(choice(*place, test, last(alloc, first)?, last(alloc, second)?))
+            let first = last_value(alloc, within, frame, variables, least, first)?;
+            let second = last_value(alloc, within, frame, variables, least, second)?;
+            Ok(choice(*place, test, first, second))
         }
     }
 }
@@ -171,7 +194,62 @@ fn expr_values(
 {
     let mut values = Vec::new(alloc);
     for e in es {
-        values.push(expr_value(alloc, within, frame, variables, least, e)?)?;
+        push_value(alloc, within, frame, variables, least, e, &mut values)?;
     }
     Ok(values)
+}
+
+/// Adds the value of an expression.
+#[cycle(expressions)]
+fn push_value(
+    alloc: Global,
+    within: &Within,
+    frame: &Frame,
+    variables: &Variables,
+    least: &mut Option<Refusal>,
+    e: &Expr,
+    values: &mut Vec<Value>,
+) -> Result<(), Memory>
+    ensures values { OnOk result ((rest : plain.Values) → values_then values.new.items rest ≡ values_then values.old.items (plain.more (expr_value (lent_within within.now) (sight_of frame.now variables.now) (expr_tree e.now)) rest)) }
+    ensures noted { OnOk result (least.new ≡ noted least.old (expr_refusals (lent_within within.now) (sight_of frame.now variables.now) (expr_tree e.now))) }
+{
+    values.push(expr_value(alloc, within, frame, variables, least, e)?)?;
+    Ok(())
+}
+
+/// An operation on one text.
+#[cycle(expressions)]
+fn text_of_one(
+    alloc: Global,
+    within: &Within,
+    frame: &Frame,
+    variables: &Variables,
+    least: &mut Option<Refusal>,
+    place: Place,
+    operator: TextOperator,
+    e: &Expr,
+) -> Result<Value, Memory>
+    ensures value { IfOk result (λ v. value_of v ≡ plain.Plain (plain.TextCall place operator (plain.more (expr_value (lent_within within.now) (sight_of frame.now variables.now) (expr_tree e.now)) plain.none))) }
+    ensures noted { OnOk result (least.new ≡ noted least.old (expr_refusals (lent_within within.now) (sight_of frame.now variables.now) (expr_tree e.now))) }
+{
+    let mut values = Vec::new(alloc);
+    push_value(alloc, within, frame, variables, least, e, &mut values)?;
+    Ok(text_call(place, operator, values))
+}
+
+/// A block of an expression alone.
+#[cycle(expressions)]
+fn last_value(
+    alloc: Global,
+    within: &Within,
+    frame: &Frame,
+    variables: &Variables,
+    least: &mut Option<Refusal>,
+    e: &Expr,
+) -> Result<Block, Memory>
+    ensures value { IfOk result (λ b. block_of b ≡ plain.Last (expr_value (lent_within within.now) (sight_of frame.now variables.now) (expr_tree e.now))) }
+    ensures noted { OnOk result (least.new ≡ noted least.old (expr_refusals (lent_within within.now) (sight_of frame.now variables.now) (expr_tree e.now))) }
+{
+    let value = expr_value(alloc, within, frame, variables, least, e)?;
+    last(alloc, value)
 }

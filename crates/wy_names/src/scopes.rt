@@ -1,12 +1,16 @@
 //! Modules and the program with their names resolved (docs/LANGUAGE.md, "Names").
 
-ghost use Rattle.std.specs.Prelude.{◌≡◌, ◌≤◌, [], map, length, IfOk, OnOk};
+ghost use Rattle.std.specs.Prelude.{◌≡◌, ◌≤◌, ◌++◌, [], map, length, IfOk, OnOk};
 ghost use Rattle.std.specs.Option.{option_copied};
 ghost use Rattle.wy_types.specs.Program.{scope_of};
 ghost use Rattle.wy_names.specs.Least.{noted};
 ghost use Rattle.wy_names.specs.Declarations.{texts, module_names};
-ghost use Rattle.wy_names.specs.Scopes.{atom_scope, start_place, module_atoms, module_owners, scope_of_module, module_refusals, program_atoms, program_owners, scope_of_program, program_refusals};
-ghost use Rattle.wy_names.specs.ScopeParts.{ArePartsOfModule, ArePartsOfProgram};
+ghost use Rattle.wy_names.specs.Scopes.{atom_scope, start_place, init_refusals, module_atoms, module_owners, module_meanings, module_scope, module_within, scope_of_module, module_refusals, program_atoms, program_owners, scope_of_program, program_refusals};
+ghost use Rattle.wy_names.specs.ScopeParts.{ArePartsOfModule, ArePartsOfProgram, scope_with};
+ghost use Rattle.wy_names.specs.Sight.{outermost, inside};
+ghost use Rattle.wy_names.specs.Bodies.{at_start};
+ghost use Rattle.wy_names.specs.BodyRefusals.{repeated_parts, parts_refusals};
+ghost use Rattle.wy_syntax.specs.Views.{part_trees};
 ghost use Rattle.wy_names.specs.Lent.{module_tree, program_tree};
 
 use crate::atom_scope::{AtomScope, Owners};
@@ -21,11 +25,12 @@ use crate::refusal::Refusal;
 use crate::sets::{note_set, set_of};
 use crate::tables::Table;
 use std::alloc::Global;
+use wy_effects::atom::AtomTable;
 use wy_effects::set::{EffSet, SetList};
 use wy_syntax::items::Program;
 use wy_text::fault::Place;
 use wy_text::list::Items;
-use wy_text::text::{Memory, from_bytes};
+use wy_text::text::{Memory, Text, from_bytes};
 use wy_types::resolved::{OwnName, Scope, ScopeKind};
 
 /// What a module has besides its atoms.
@@ -52,23 +57,47 @@ fn parts_of(
     ensures parts { IfOk result (ArePartsOfModule owners.now.heads (map module_tree modules.now) (module_tree view.now)) }
     ensures noted { OnOk result (least.new ≡ noted least.old (module_refusals owners.now.heads (map module_tree modules.now) (module_tree view.now))) }
 {
-    let plain = view.kind == ScopeKind::Plain;
     let visible = owners.names().len();
     note_front(alloc, owners, numbers, modules, view, least)?;
     let meanings = read_defined(alloc, owners, visible, view, least)?;
-    let scope = AtomScope::new(owners, visible, &meanings);
+    parts_with(alloc, owners, numbers, modules, view, &meanings, least)
+}
+
+/// The same, by what the module defines. The refusals of its `init` and of what stands behind it are noted.
+fn parts_with(
+    alloc: Global,
+    owners: &Owners,
+    numbers: &Table,
+    modules: &[ModuleView],
+    view: &ModuleView,
+    meanings: &Meanings,
+    least: &mut Option<Refusal>,
+) -> Result<Parts, Memory>
+    requires few { length numbers.now ≤ 256 }
+    requires numbered { numbers.now ≡ texts (module_names (map module_tree modules.now)) }
+    requires owned { owners.now ≡ atom_scope owners.now.heads (module_atoms owners.now.heads (map module_tree modules.now) (module_tree view.now)) (module_owners owners.now.heads (map module_tree modules.now) (module_tree view.now)) [] }
+    requires defined { meanings.now ≡ module_meanings owners.now.heads (map module_tree modules.now) (module_tree view.now) }
+    ensures parts { IfOk result (ArePartsOfModule owners.now.heads (map module_tree modules.now) (module_tree view.now)) }
+    ensures noted { OnOk result (least.new ≡ noted least.old (init_refusals owners.now.heads (map module_tree modules.now) (module_scope owners.now.heads (map module_tree modules.now) (module_tree view.now)) (option_copied view.now.init) ++ (repeated_parts (part_trees view.now.parts.now) ++ parts_refusals (module_within owners.now.heads (map module_tree modules.now) (module_tree view.now)) outermost (inside outermost (part_trees view.now.parts.now)) at_start (part_trees view.now.parts.now)))) }
+{
+    let plain = view.kind == ScopeKind::Plain;
+    let visible = owners.names().len();
+    let scope = AtomScope::new(owners, visible, meanings);
     let within = Within {
         atoms: &scope,
         plain,
         own: owners.names(),
     };
+    let number = owners.heads().number(&view.sealed.text);
+    let own = own_of(alloc, owners, numbers, modules, view)?;
+    let definitions = definitions_at(alloc, owners.heads(), plain, meanings, number)?;
+    let start_effect = start_effect(alloc, &scope, view.init)?;
     note_init(&scope, view.init, least);
     let resolved = module_parts(alloc, &within, view.parts, least)?;
-    let number = owners.heads().number(&view.sealed.text);
     Ok(Parts {
-        names: own_of(alloc, owners, numbers, modules, view)?,
-        definitions: definitions_at(alloc, owners.heads(), plain, &meanings, number)?,
-        start_effect: start_effect(alloc, &scope, view.init)?,
+        names: own,
+        definitions,
+        start_effect,
         resolved,
     })
 }
@@ -80,6 +109,45 @@ fn start_place(view: &ModuleView) -> Place
     match view.init {
         None => view.place,
         Some(init) => init.place,
+    }
+}
+
+/// A scope of these parts.
+fn scope_with(
+    kind: ScopeKind,
+    name: Text,
+    place: Place,
+    atoms: AtomTable,
+    ascribed: Option<u16>,
+    start_place: Place,
+    parts: Parts,
+) -> Scope
+    ensures { scope_of result ≡ scope_with kind name place atoms ascribed start_place parts }
+{
+    let Parts {
+        names,
+        definitions,
+        start_effect,
+        resolved,
+    } = parts;
+    let Resolved {
+        literals,
+        start,
+        bodies,
+    } = resolved;
+    Scope {
+        kind,
+        name,
+        place,
+        atoms,
+        names,
+        ascribed,
+        definitions,
+        literals,
+        start_place,
+        start_effect,
+        start,
+        bodies,
     }
 }
 
@@ -97,32 +165,13 @@ pub fn module_scope(
     ensures scope { IfOk result (λ s. scope_of s ≡ scope_of_module heads.now (map module_tree modules.now) (module_tree view.now)) }
     ensures noted { OnOk result (least.new ≡ noted least.old (module_refusals heads.now (map module_tree modules.now) (module_tree view.now))) }
 {
+    let name = view.name.text.copy()?;
     let owners = owners_of(alloc, heads, numbers, modules, view)?;
-    let Parts {
-        names,
-        definitions,
-        start_effect,
-        resolved,
-    } = parts_of(alloc, &owners, numbers, modules, view, least)?;
-    let Resolved {
-        literals,
-        start,
-        bodies,
-    } = resolved;
-    Ok(Scope {
-        kind: view.kind,
-        name: view.name.text.copy()?,
-        place: view.name.place,
-        atoms: owners.into_atoms(),
-        names,
-        ascribed: heads.number(&view.sealed.text),
-        definitions,
-        literals,
-        start_place: start_place(view),
-        start_effect,
-        start,
-        bodies,
-    })
+    let parts = parts_of(alloc, &owners, numbers, modules, view, least)?;
+    let ascribed = heads.number(&view.sealed.text);
+    let atoms = owners.into_atoms();
+    let at = start_place(view);
+    Ok(scope_with(view.kind, name, view.name.place, atoms, ascribed, at, parts))
 }
 
 /// What the program has besides its atoms, by its owners. Its refusals are noted.
@@ -147,13 +196,18 @@ fn program_parts(
         plain: false,
         own: owners.names(),
     };
+    let effect = program.effect.as_slice();
+    let definitions = Items::new(alloc);
+    let own = program_own(alloc, owners, numbers, modules, program)?;
+    let start_effect = set_of(alloc, &scope, effect)?;
     note_program(alloc, owners, numbers, modules, program, least)?;
-    note_set(&scope, program.effect.as_slice(), least);
+    note_set(&scope, effect, least);
+    let resolved = program_block(alloc, &within, program.run, &program.body, least)?;
     Ok(Parts {
-        resolved: program_block(alloc, &within, program.run, &program.body, least)?,
-        names: program_own(alloc, owners, numbers, modules, program)?,
-        definitions: Items::new(alloc),
-        start_effect: set_of(alloc, &scope, program.effect.as_slice())?,
+        names: own,
+        definitions,
+        start_effect,
+        resolved,
     })
 }
 
@@ -171,30 +225,17 @@ pub fn program_scope(
     ensures scope { IfOk result (λ s. scope_of s ≡ scope_of_program heads.now (map module_tree modules.now) (program_tree program.now)) }
     ensures noted { OnOk result (least.new ≡ noted least.old (program_refusals heads.now (map module_tree modules.now) (program_tree program.now))) }
 {
+    let name = from_bytes(alloc, b"main")?;
     let owners = program_owners_of(alloc, heads, numbers, modules, program)?;
-    let Parts {
-        names,
-        definitions,
-        start_effect,
-        resolved,
-    } = program_parts(alloc, &owners, numbers, modules, program, least)?;
-    let Resolved {
-        literals,
-        start,
-        bodies,
-    } = resolved;
-    Ok(Scope {
-        kind: ScopeKind::Program,
-        name: from_bytes(alloc, b"main")?,
-        place: program.place,
-        atoms: owners.into_atoms(),
-        names,
-        ascribed: None,
-        definitions,
-        literals,
-        start_place: program.run,
-        start_effect,
-        start,
-        bodies,
-    })
+    let parts = program_parts(alloc, &owners, numbers, modules, program, least)?;
+    let atoms = owners.into_atoms();
+    Ok(scope_with(
+        ScopeKind::Program,
+        name,
+        program.place,
+        atoms,
+        None,
+        program.run,
+        parts,
+    ))
 }

@@ -8,13 +8,14 @@ ghost use Rattle.wy_types.specs.View.{value_of, values_of, block_of};
 ghost use Rattle.wy_types.specs.Program.{body_of};
 ghost use Rattle.wy_syntax.specs.Trees as t;
 ghost use Rattle.wy_syntax.specs.Views.{rhs_tree, stmt_tree, stmt_trees, part_trees, tail_tree};
-ghost use Rattle.wy_names.specs.Sight.{Sight};
-ghost use Rattle.wy_names.specs.InSight.{sight_of, IsLonger, known_params};
+ghost use Rattle.wy_names.specs.Sight.{Sight, with_params, written_of};
+ghost use Rattle.wy_names.specs.TypeUses.{signature_refusals};
+ghost use Rattle.wy_names.specs.InSight.{sight_of, entries, IsLonger, known_params};
 ghost use Rattle.wy_names.specs.Lending.{lent_within};
-ghost use Rattle.wy_names.specs.Bodies.{bound, typed_if, rhs_value, stmts_block, part_values, tail_block};
+ghost use Rattle.wy_names.specs.Bodies.{bound, typed_if, rhs_value, stmts_block, part_values, method_body, tail_block};
 ghost use Rattle.wy_names.specs.BodyRefusals.{typed_refusals, typed_if_refusals, repeated_parts};
 ghost use Rattle.wy_names.specs.Least.{noted};
-ghost use Rattle.wy_names.specs.FoundBodies.{found_of, noting, after_rhs, after_stmt, after_stmts, after_part, after_parts, after_tail, form_of, stmt_form, ended, with_stmt};
+ghost use Rattle.wy_names.specs.FoundBodies.{found_of, noting, one_method, with_literal, after_rhs, after_stmt, after_stmts, after_part, after_parts, after_tail, form_of, stmt_form, ended, with_stmt};
 
 use crate::bodies::Within;
 use crate::expressions::{bound, expr_value, operand_value};
@@ -108,6 +109,23 @@ fn ended(alloc: Global, place: Place, mut statements: Vec<code::Stmt>) -> Result
     }
 }
 
+/// Adds the literal with these fields and methods. The refusals of their names are noted.
+fn begin_literal(
+    alloc: Global,
+    within: &Within,
+    variables: &Variables,
+    found: &mut Found,
+    parts: &[Part],
+) -> Result<(), Memory>
+    ensures { OnOk result (found_of found.new ≡ with_literal (lent_within within.now) (written_of (entries variables.now) (part_trees parts.now)) (found_of found.old) (part_trees parts.now)) }
+{
+    note_repeated_parts(alloc, parts, &mut found.least)?;
+    let literal = literal_of(alloc, within, variables, parts)?;
+    found.literals.push(literal)?;
+    found.count.literals = one_more(found.count.literals)?;
+    Ok(())
+}
+
 /// The value of a right side.
 #[cycle(statements)]
 pub fn rhs_value(
@@ -154,10 +172,7 @@ fn literal_value(
     ensures value { IfOk result (λ v. value_of v ≡ rhs_value (lent_within within.now) (sight_of frame.now variables.old) (found_of found.old).count (t.literal place (part_trees parts.now))) }
 {
     let number = found.count.literals;
-    note_repeated_parts(alloc, parts, &mut found.least)?;
-    let literal = literal_of(alloc, within, variables, parts)?;
-    found.literals.push(literal)?;
-    found.count.literals = one_more(number)?;
+    begin_literal(alloc, within, variables, found, parts)?;
     let inner = Frame::inside(alloc, variables.len(), parts)?;
     let values = part_values(
         alloc, within, frame, &inner, variables, found, number, parts,
@@ -243,8 +258,38 @@ fn method(
     ensures sight { OnOk result (variables.new ≡ variables.old) }
     ensures found { OnOk result ((s : Sight) → found_of found.new ≡ after_part (lent_within within.now) s (sight_of frame.now variables.old) owner (found_of found.old) (t.method signature.now (tail_tree body.now))) }
 {
+    let mut before = mem::replace(&mut found.bodies, Vec::new(alloc));
+    let done = method_body(
+        alloc, within, frame, variables, found, owner, signature, body,
+    )?;
+    before.push(done)?;
+    before.append(&mut found.bodies)?;
+    found.bodies = before;
+    Ok(())
+}
+
+/// The same, where those of the literals in it are found and it is not.
+#[cycle(statements)]
+fn method_body(
+    alloc: Global,
+    within: &Within,
+    frame: &Frame,
+    variables: &mut Variables,
+    found: &mut Found,
+    owner: u32,
+    signature: &Signature,
+    body: &Tail,
+) -> Result<Body, Memory>
+    requires frame { frame.now.start ≤ length variables.old }
+    requires in_method { frame.now.in_method ≡ true }
+    ensures sight { OnOk result (variables.new ≡ variables.old) }
+    ensures found { OnOk result (found_of found.new ≡ after_tail (lent_within within.now) (with_params (sight_of frame.now variables.old) (found_of found.old).count.bodies signature.now.params) (one_method (found_of found.old) (signature_refusals (lent_within within.now).atoms (lent_within within.now).plain signature.now)) (tail_tree body.now)) }
+    ensures body { IfOk result (λ b. body_of b ≡ method_body (lent_within within.now) (sight_of frame.now variables.old) (found_of found.old).count owner signature.now (tail_tree body.now)) }
+{
     let depth = variables.len();
     let number = found.count.bodies;
+    found.count.bodies = one_more(number)?;
+    push_params(variables, number, signature.params.as_slice())?;
     let resolved = read_method(
         alloc,
         within.atoms,
@@ -252,9 +297,6 @@ fn method(
         signature,
         &mut found.least,
     )?;
-    push_params(variables, number, signature.params.as_slice())?;
-    found.count.bodies = one_more(number)?;
-    let mut before = mem::replace(&mut found.bodies, Vec::new(alloc));
     let block = tail_block(
         alloc,
         within,
@@ -265,15 +307,12 @@ fn method(
         body,
     )?;
     variables.truncate(depth);
-    before.push(Body {
+    Ok(Body {
         owner,
         place: signature.place,
         signature: resolved,
         block,
-    })?;
-    before.append(&mut found.bodies)?;
-    found.bodies = before;
-    Ok(())
+    })
 }
 
 /// The block of a body.

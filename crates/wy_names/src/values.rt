@@ -43,36 +43,6 @@ pub fn operand(value: Value) -> Expr
     }
 }
 
-/// One value as a list.
-pub fn one(alloc: Global, first: Value) -> Result<Vec<Value>, Memory>
-    ensures { IfOk result (λ vs. values_of vs.items ≡ code.more (value_of first) code.none) }
-{
-    let mut values = Vec::new(alloc);
-    values.push(first)?;
-    Ok(values)
-}
-
-/// Two values as a list.
-pub fn two(alloc: Global, first: Value, second: Value) -> Result<Vec<Value>, Memory>
-    ensures { IfOk result (λ vs. values_of vs.items ≡ code.more (value_of first) (code.more (value_of second) code.none)) }
-{
-    let mut values = Vec::new(alloc);
-    values.push(first)?;
-    values.push(second)?;
-    Ok(values)
-}
-
-/// Three values as a list.
-pub fn three(alloc: Global, first: Value, second: Value, third: Value) -> Result<Vec<Value>, Memory>
-    ensures { IfOk result (λ vs. values_of vs.items ≡ code.more (value_of first) (code.more (value_of second) (code.more (value_of third) code.none))) }
-{
-    let mut values = Vec::new(alloc);
-    values.push(first)?;
-    values.push(second)?;
-    values.push(third)?;
-    Ok(values)
-}
-
 /// An operation on texts.
 pub fn text_call(place: Place, operator: TextOperator, values: Vec<Value>) -> Value
     ensures { value_of result ≡ code.Plain (code.TextCall place operator (values_of values.items)) }

@@ -5,7 +5,7 @@ use Rattle.wy_names.specs.Lending.{lent_within}
 use Rattle.wy_names.specs.InSight.{sight_of}
 use Rattle.wy_names.specs.Bodies.{expr_values}
 use Rattle.wy_names.specs.BodyRefusals.{exprs_refusals}
-use Rattle.wy_names.proofs.ValueRows.{values_then}
+use Rattle.wy_names.specs.ValueRows.{values_then}
 use Rattle.wy_names.proofs.expressions.+expressions.Given as goal
 
 abbrev pub invariant-expr_values-loop-e : goal.invariant-expr_values-loop-e

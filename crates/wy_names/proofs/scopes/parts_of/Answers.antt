@@ -1,51 +1,23 @@
-use Rattle.std.proofs.Common.{◌≡◌, [], ◌∷◌, ◌++◌, map, length, ap, ◌∙◌, append_assoc, rules}
+use Rattle.std.proofs.Common.{◌≡◌, [], ◌++◌, map, length, ap, ◌∙◌, rules}
 use Rattle.std.proofs.lemmas.List.{length-map}
-use Rattle.wy_types.specs.Program.{Init}
-use Rattle.wy_types.specs.Types.{is_plain}
+use Rattle.std.proofs.lemmas.Result.{on_ok_weaker}
 use Rattle.wy_names.specs.Least.{noted}
 use Rattle.wy_names.specs.Declarations.{repeated}
-use Rattle.wy_names.specs.Atoms.{AtomScope, head_names, type_number}
-use Rattle.wy_names.specs.Lines.{owner_names}
-use Rattle.wy_names.specs.Sight.{outermost, inside}
-use Rattle.wy_names.specs.Bodies.{Within, at_start, part_values, literal_of, parts_literals, parts_bodies}
-use Rattle.wy_names.specs.BodyRefusals.{repeated_parts, parts_refusals}
-use Rattle.wy_names.specs.Scopes.{define_names, definitions_refusals, definitions_at, start_effect, init_refusals, module_scope, module_meanings, module_owners, module_atoms}
+use Rattle.wy_names.specs.Atoms.{AtomScope}
+use Rattle.wy_names.specs.Scopes.{define_names}
 use Rattle.wy_names.specs.Lent.{module_tree}
-use Rattle.wy_names.proofs.Fronts.{init_same, start_same, definitions_same}
-use Rattle.wy_names.proofs.Leasts.{noted_then}
-use Rattle.wy_names.proofs.ScopesMade.{meanings_are, scope_is, defined_are, within_is, module_noted}
+use Rattle.wy_names.proofs.ScopesMade.{meanings_are, defined_are, module_noted}
 use Rattle.wy_names.proofs.scopes.parts_of.Goals as goal
 
-pub returns-clause-parts : goal.returns-clause-parts
-returns-clause-parts c =
+pub parts_with-requires-clause-defined : goal.parts_with-requires-clause-defined
+parts_with-requires-clause-defined c =
     let o = c.args.owners.now in
     let modules = map module_tree c.args.modules.now in
     let m = module_tree c.args.view.now in
     let atoms = ap (λ (s : AtomScope). s.atoms) c.requires.owned in
     let owners = ap (λ (s : AtomScope). s.owners) c.requires.owned in
     let visible : c.len-visible.result ≡ length o.owners = search (length-map, rules) in
-    let plain : c.eq-plain.result ≡ is_plain m.kind = search rules in
-    let number : c.number-number.result ≡ type_number (head_names o.heads) m.sealed.text = search rules in
-    let meanings = meanings_are o.heads modules m o.atoms o.owners c.len-visible.result atoms owners visible c.in_ok-meanings.meanings c.in_ok-meanings.ensures.value in
-    let scope : c.new-scope.result ≡ module_scope o.heads modules m =
-    c.new-scope.ensures ∙ scope_is o.heads modules m o.atoms o.owners c.len-visible.result atoms owners visible c.in_ok-meanings.meanings c.in_ok-meanings.ensures.value in
-    let w : Within = record { atoms = c.new-scope.result; plain = c.eq-plain.result; own = c.names-2.result.now } in
-    let within = within_is o.heads modules m w scope plain (c.names-2.ensures ∙ ap owner_names owners) in
-    let parts = m.parts in
-    record {
-      names = c.in_ok-own_of.ensures;
-      definitions =
-          c.in_ok-definitions_at.ensures
-          ∙ definitions_same c.heads-2.result.now [] modules c.eq-plain.result c.in_ok-meanings.meanings c.number-number.result
-          ∙ ap (λ h. definitions_at h modules c.eq-plain.result c.in_ok-meanings.meanings c.number-number.result) c.heads-2.ensures
-          ∙ ap (λ p. definitions_at o.heads modules p c.in_ok-meanings.meanings c.number-number.result) plain
-          ∙ ap (λ l. definitions_at o.heads modules (is_plain m.kind) l c.number-number.result) meanings
-          ∙ ap (definitions_at o.heads modules (is_plain m.kind) (module_meanings o.heads modules m)) number;
-      effect = c.in_ok-start_effect.ensures ∙ start_same [] o.heads [] modules c.new-scope.result m.init ∙ ap (λ s. start_effect o.heads modules s m.init) scope;
-      literals = c.in_ok-resolved.ensures.literals ∙ ap (λ x. literal_of x outermost parts ∷ parts_literals x outermost (inside outermost parts) at_start parts) within;
-      start = c.in_ok-resolved.ensures.start ∙ ap (λ x. Init (part_values x outermost at_start parts)) within;
-      bodies = c.in_ok-resolved.ensures.bodies ∙ ap (λ x. parts_bodies x outermost (inside outermost parts) 0 at_start parts) within;
-    }
+    meanings_are o.heads modules m o.atoms o.owners c.len-visible.result atoms owners visible c.in_ok-meanings.meanings c.in_ok-meanings.ensures.value
 
 pub returns-clause-noted : goal.returns-clause-noted
 returns-clause-noted c =
@@ -55,23 +27,9 @@ returns-clause-noted c =
     let atoms = ap (λ (s : AtomScope). s.atoms) c.requires.owned in
     let owners = ap (λ (s : AtomScope). s.owners) c.requires.owned in
     let visible : c.len-visible.result ≡ length o.owners = search (length-map, rules) in
-    let plain : c.eq-plain.result ≡ is_plain m.kind = search rules in
-    let scope : c.new-scope.result ≡ module_scope o.heads modules m =
-    c.new-scope.ensures ∙ scope_is o.heads modules m o.atoms o.owners c.len-visible.result atoms owners visible c.in_ok-meanings.meanings c.in_ok-meanings.ensures.value in
-    let w : Within = record { atoms = c.new-scope.result; plain = c.eq-plain.result; own = c.names-2.result.now } in
-    let within = within_is o.heads modules m w scope plain (c.names-2.ensures ∙ ap owner_names owners) in
-    let parts = m.parts in
-    let defines = repeated [] (define_names m.defines) in
-    let init = init_refusals o.heads modules (module_scope o.heads modules m) m.init in
-    let definitions = definitions_refusals o.heads (module_atoms o.heads modules m) (module_owners o.heads modules m) [] m.defines in
     let front = c.note_front.new.least in
-    let read : c.read_defined.new.least ≡ noted front (defines ++ definitions) =
-    c.in_ok-meanings.ensures.noted ∙ ap (λ l. noted front (defines ++ l)) (defined_are o.heads modules m o.atoms o.owners c.len-visible.result atoms owners visible) in
-    let started : c.note_init.new.least ≡ noted c.read_defined.new.least init =
-    c.note_init.ensures
-    ∙ ap (noted c.read_defined.new.least) (init_same [] o.heads [] modules c.new-scope.result m.init ∙ ap (λ s. init_refusals o.heads modules s m.init) scope) in
-    let defined : c.note_init.new.least ≡ noted front (defines ++ (definitions ++ init)) =
-    noted_then front c.read_defined.new.least c.note_init.new.least (defines ++ definitions) init read started
-    ∙ ap (noted front) (append_assoc defines definitions init) in
-    let bodies = c.in_ok-resolved.ensures.noted ∙ ap (λ x. noted c.note_init.new.least (repeated_parts parts ++ parts_refusals x outermost (inside outermost parts) at_start parts)) within in
-    module_noted o.heads modules m c.args.least.now c.note_front.new.least c.note_init.new.least c.module_parts.new.least c.in_ok-note_front.ensures defined bodies
+    let read = c.in_ok-meanings.ensures.noted
+    ∙ ap (λ l. noted front (repeated [] (define_names m.defines) ++ l)) (defined_are o.heads modules m o.atoms o.owners c.len-visible.result atoms owners visible) in
+    on_ok_weaker c.parts_with.result
+    (λ h. module_noted o.heads modules m c.args.least.now front c.read_defined.new.least c.parts_with.new.least c.in_ok-note_front.ensures read h)
+    c.parts_with.ensures.noted

@@ -1,7 +1,7 @@
 use Rattle.std.proofs.Common.{Vec, Global, ◌≡◌, ℕ, ◌<◌, ◌≤◌, ◌+◌, [], ◌∷◌, ◌++◌, map, length, take, drop, true, rules, arith, refl, sym, ap, ap₂, subst, ◌∙◌, Option}
 use Rattle.std.proofs.lemmas.List.{drop_all}
 use Rattle.std.proofs.lemmas.Result.{on_ok_weaker}
-use Rattle.std.specs.Prelude.{Result, Ok, Err, OnOk, IfOk}
+use Rattle.std.specs.Prelude.{OnOk, IfOk}
 use Rattle.wy_text.specs.declared.fault.Place.{Place}
 use Rattle.wy_types.specs.declared.types.Method.{Method}
 use Rattle.wy_types.specs.declared.code.Value.{Value}
@@ -15,7 +15,7 @@ use Rattle.wy_syntax.specs.Views.{expr_tree, rhs_tree, stmt_tree, stmt_trees, pa
 use Rattle.wy_names.specs.declared.refusal.Refusal.{Refusal}
 use Rattle.wy_names.specs.Declarations.{texts}
 use Rattle.wy_names.specs.Sight.{written_of}
-use Rattle.wy_names.specs.InSight.{known, Frame, frame, sight_of, known_params}
+use Rattle.wy_names.specs.InSight.{known, entries, Frame, frame, sight_of, known_params}
 use Rattle.wy_names.specs.Lending.{lent_within}
 use Rattle.wy_names.specs.Bodies.{stmts_block, part_values, rhs_value, tail_block}
 use Rattle.wy_names.specs.BodyRefusals.{field_names, typed_refusals}
@@ -23,18 +23,15 @@ use Rattle.wy_names.specs.FoundBodies.{Found, found_of, noting, after_rhs, after
 use Rattle.wy_names.proofs.Turns.{next_of}
 use Rattle.wy_syntax.proofs.Layers.{rhs_tree-Branch}
 use Rattle.wy_names.proofs.TreeLayers.{rhs_tree-Value, stmt_tree-Val, stmt_tree-Assign, stmt_tree-Run, part_tree-Field, part_tree-Method}
-use Rattle.wy_names.proofs.ValueRows.{values_then, values_turn, values_then-none, if_of}
-use Rattle.wy_names.proofs.Walks.{made, value_next, branch_next, val_next, assign_next, field_next, parts_turn, parts_end, method_turn, literal_turn, bodies_are, with_params_is, variables_are, inside_is}
+use Rattle.wy_names.specs.ValueRows.{values_then}
+use Rattle.wy_names.proofs.ValueRows.{values_turn, values_then-none, if_of}
+use Rattle.wy_names.proofs.Walks.{on_ok, made, value_next, branch_next, val_next, assign_next, field_next, parts_turn, parts_end, method_turn, body_found, literal_turn, bodies_are, with_params_is, variables_are, inside_is}
 use Rattle.wy_names.proofs.Blocks.{joined, joined_none, longer_none, longer_back, longer_start, found_end, block_longer, block_found, block_value, start_kept}
 use Rattle.wy_names.proofs.statements.+statements.Goals as goal
 use Rattle.wy_names.proofs.statements.+statements.Goals.{part_values-in-Field+in_ok-field_value-in-Field+in_ok-push-in-Field, part_values-in-Method+in_ok-method-in-Method}
 
 abbrev body_with : ℕ → Place → Method → code.Block → Body
 body_with owner place signature block = record { owner = owner; place = place; signature = signature; block = block }
-
-on_ok : {A B P : Type 0} (r : Result A B) → P → OnOk r P
-on_ok (Ok a) p = p
-on_ok (Err b) p = tt
 
 pub block-loop-one-init : goal.block-loop-one-init
 block-loop-one-init t c =
@@ -179,10 +176,10 @@ literal_value-returns-clause-found t c =
     let s = sight_of fr ks in
     let f = found_of c.args.found.now in
     let ps = part_trees c.args.parts.now in
-    literal_turn w s (sight_of c.in_ok-inner.inner ks) f (found_of c.part_values.new.found) c.args.place ps c.in_ok-found.field-0 c.push.new.self c.in_ok-literal.literal c.note_repeated_parts.new.least
+    literal_turn w s (sight_of c.in_ok-inner.inner ks) f (found_of c.begin_literal.new.found) (found_of c.part_values.new.found) c.args.place ps (written_of (entries ks) ps)
     (ap (λ x. sight_of x ks) (c.in_ok-inner.ensures ∙ ap (λ n. frame n (texts (field_names ps)) true) c.len.ensures) ∙ inside_is fr ks ps)
-    c.in_ok-found.ensures c.in_ok-push.ensures.ok (c.in_ok-literal.ensures.captures ∙ ap (λ es. written_of es ps) (sym (variables_are fr ks))) c.in_ok-literal.ensures.fields
-    c.in_ok-note_repeated_parts.ensures c.in_ok-values.ensures.found
+    (ap (λ es. written_of es ps) (sym (variables_are fr ks)))
+    c.in_ok-begin_literal.ensures c.in_ok-values.ensures.found
 
 pub literal_value-returns-clause-value : goal.literal_value-returns-clause-value
 literal_value-returns-clause-value t c =
@@ -194,21 +191,50 @@ literal_value-returns-clause-value t c =
     let ps = part_trees c.args.parts.now in
     c.object.ensures
     ∙ ap (λ x. code.Plain (code.New c.args.place c.args.found.now.count.literals x))
-    (c.in_ok-values.ensures.value ∙ ap (λ m. part_values w s (record { vals = f.count.vals; literals = m; bodies = f.count.bodies }) ps) c.in_ok-found.ensures)
+    (c.in_ok-values.ensures.value ∙ ap (λ (g : Found). part_values w s g.count ps) c.in_ok-begin_literal.ensures)
 
-pub method-tail_block-requires : goal.method-tail_block-requires
-method-tail_block-requires t c =
+pub method_body-tail_block-requires : goal.method_body-tail_block-requires
+method_body-tail_block-requires t c =
     let ks = c.args.variables.now in
     let longer = longer_start c.args.frame.now.start ks c.push_params.new.variables c.requires.frame (record { more = known_params c.args.found.now.count.bodies 0 c.as_slice.result.now; is = c.in_ok-push_params.ensures }) in
     (search rules, longer)
 
-pub method-returns-clause-sight : goal.method-returns-clause-sight
-method-returns-clause-sight t c =
+pub method_body-returns-clause-sight : goal.method_body-returns-clause-sight
+method_body-returns-clause-sight t c =
     let ks = c.args.variables.now in
     let more = known_params c.args.found.now.count.bodies 0 c.as_slice.result.now in
     c.truncate.ensures
     ∙ ap₂ (λ n l. take n l) c.len-depth.ensures (c.in_ok-block.ensures.sight ∙ c.in_ok-push_params.ensures)
     ∙ longer_back ks (ks ++ more) (record { more = more; is = refl })
+
+pub method_body-returns-clause-found : goal.method_body-returns-clause-found
+method_body-returns-clause-found t c =
+    let w = lent_within c.args.within.now in
+    let fr = c.args.frame.now in
+    let ks = c.args.variables.now in
+    let s = sight_of fr ks in
+    let f = found_of c.args.found.now in
+    let number = c.args.found.now.count.bodies in
+    let g = c.args.signature.now in
+    let pushed = c.in_ok-push_params.ensures ∙ ap (λ l. ks ++ known_params number 0 l) c.as_slice.ensures in
+    let sight = ap (sight_of fr) pushed ∙ with_params_is fr ks number g.params c.requires.frame c.requires.in_method in
+    body_found w (sight_of fr c.push_params.new.variables) s f (found_of c.tail_block.new.found) g (tail_tree c.args.body.now) c.in_ok-found.field-0 c.read_method.new.least
+    sight c.in_ok-found.ensures c.in_ok-resolved.ensures.noted c.in_ok-block.ensures.found
+
+pub method_body-returns-clause-body : goal.method_body-returns-clause-body
+method_body-returns-clause-body t c =
+    let w = lent_within c.args.within.now in
+    let fr = c.args.frame.now in
+    let ks = c.args.variables.now in
+    let s = sight_of fr ks in
+    let f = found_of c.args.found.now in
+    let number = c.args.found.now.count.bodies in
+    let g = c.args.signature.now in
+    let b = tail_tree c.args.body.now in
+    let pushed = c.in_ok-push_params.ensures ∙ ap (λ l. ks ++ known_params number 0 l) c.as_slice.ensures in
+    let sight = ap (sight_of fr) pushed ∙ with_params_is fr ks number g.params c.requires.frame c.requires.in_method in
+    ap₂ (body_with c.args.owner g.place) c.in_ok-resolved.ensures.value
+    (c.in_ok-block.ensures.value ∙ ap₂ (λ x k. tail_block w g.place x (record { vals = f.count.vals; literals = f.count.literals; bodies = k }) b) sight c.in_ok-found.ensures)
 
 pub method-returns-clause-found : goal.method-returns-clause-found
 method-returns-clause-found t c =
@@ -217,22 +243,14 @@ method-returns-clause-found t c =
     let ks = c.args.variables.now in
     let s = sight_of fr ks in
     let f = found_of c.args.found.now in
-    let number = c.args.found.now.count.bodies in
-    let params = c.args.signature.now.params in
-    let pushed = c.in_ok-push_params.ensures ∙ ap (λ l. ks ++ known_params number 0 l) c.as_slice.ensures in
     let g = c.args.signature.now in
     let b = tail_tree c.args.body.now in
-    let m = found_of c.tail_block.new.found in
-    let si = sight_of fr c.push_params.new.variables in
-    let sight = ap (sight_of fr) pushed ∙ with_params_is fr ks number params c.requires.frame c.requires.in_method in
+    let m = found_of c.method_body.new.found in
     let none = ap (λ (v : Vec resolved.Body Global). map body_of v.items) c.replace-before.ensures.after ∙ ap (map body_of) c.new.ensures.items in
-    let block = c.in_ok-block.ensures.value ∙ ap₂ (λ x k. tail_block w g.place x (record { vals = f.count.vals; literals = f.count.literals; bodies = k }) b) sight c.in_ok-found.ensures in
-    let here = ap₂ (body_with c.args.owner g.place) c.in_ok-resolved.ensures.value block in
-    let made_body : resolved.Body = record { owner = c.args.owner; place = g.place; signature = c.in_ok-resolved.resolved; block = c.in_ok-block.block } in
-    let all = bodies_are c.args.found.now.bodies.items c.replace-before.result.items c.tail_block.new.found.bodies.items c.push.new.self.items c.append.new.self.items made_body
+    let all = bodies_are c.args.found.now.bodies.items c.replace-before.result.items c.method_body.new.found.bodies.items c.push.new.self.items c.append.new.self.items c.in_ok-done.done
     (ap (λ (v : Vec resolved.Body Global). v.items) c.replace-before.ensures.value) c.in_ok-push.ensures.items c.in_ok-append.ensures.items in
-    λ round. method_turn w round s si c.args.owner f m g b c.in_ok-found.field-0 c.read_method.new.least (map body_of c.append.new.self.items) (map body_of c.replace-before.new.dest.items) (body_of made_body)
-    sight c.in_ok-found.ensures none c.in_ok-resolved.ensures.noted c.in_ok-block.ensures.found here all
+    λ round. method_turn w round s c.args.owner f m g b (map body_of c.replace-before.new.dest.items) (map body_of c.append.new.self.items) (body_of c.in_ok-done.done)
+    none c.in_ok-done.ensures.found c.in_ok-done.ensures.body all
 
 pub part_values-loop-part-preserved : goal.part_values-loop-part-preserved
 part_values-loop-part-preserved t c =

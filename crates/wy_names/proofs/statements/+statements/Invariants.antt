@@ -5,7 +5,7 @@ use Rattle.wy_names.specs.InSight.{sight_of, IsLonger}
 use Rattle.wy_names.specs.Bodies.{part_values, stmts_block}
 use Rattle.wy_names.specs.FoundBodies.{found_of, after_parts, after_stmts}
 use Rattle.wy_names.proofs.Blocks.{joined}
-use Rattle.wy_names.proofs.ValueRows.{values_then}
+use Rattle.wy_names.specs.ValueRows.{values_then}
 use Rattle.wy_names.proofs.statements.+statements.Given as goal
 
 abbrev pub invariant-part_values-loop-part : goal.invariant-part_values-loop-part
