@@ -22,6 +22,19 @@ added_then one rest old new end a b = record {
   added = λ w. b.added w ∙ ap (λ l. l ++ rest) (a.added (b.enough w)) ∙ append_assoc old.list one rest;
 }
 
+pub collected_turn : {Y : Type 0} (old new start : Collected Y) (one rest left whole : List Y) → Adds one old new → left ≡ one ++ rest →
+    ((end : Collected Y) → Adds left old end → Adds whole start end) → (end : Collected Y) → Adds rest new end → Adds whole start end
+collected_turn {Y} old new start one rest left whole a at h = λ end b.
+    let P : List Y → Type 0 = λ l. Adds l old end in
+    h end (subst P (sym at) (added_then one rest old new end a b))
+
+pub collected_kept : {Y : Type 0} (old new start : Collected Y) (rest left whole : List Y) → new ≡ old → left ≡ rest →
+    ((end : Collected Y) → Adds left old end → Adds whole start end) → (end : Collected Y) → Adds rest new end → Adds whole start end
+collected_kept {Y} old new start rest left whole is at h = λ end b.
+    let P : List Y → Type 0 = λ l. Adds l old end in
+    let Q : Collected Y → Type 0 = λ n. Adds rest n end in
+    h end (subst P (sym at) (subst Q is b))
+
 module _ {X : Type 0} (xs : List X) (i : ℕ) (x : X) (lt : i < length xs) (at : x ≡ get_or xs i x) where
   -- the same, where `f` gives the parts of what is left
   pub added_next : {Y : Type 0} (f : List X → List Y) (old new one whole : List Y) →
@@ -38,9 +51,7 @@ module _ {X : Type 0} (xs : List X) (i : ℕ) (x : X) (lt : i < length xs) (at :
   pub collected_next : {Y : Type 0} (f : List X → List Y) (old new start : Collected Y) (one : List Y) →
       Adds one old new → f (x ∷ drop (i + 1) xs) ≡ one ++ f (drop (i + 1) xs) →
       ((end : Collected Y) → Adds (f (drop i xs)) old end → Adds (f xs) start end) → (end : Collected Y) → Adds (f (drop (i + 1) xs)) new end → Adds (f xs) start end
-  collected_next {Y} f old new start one a more h = λ end b.
-      let P : List Y → Type 0 = λ l. Adds l old end in
-      h end (subst P (sym (ap f (next_of xs i x lt at) ∙ more)) (added_then one (f (drop (i + 1) xs)) old new end a b))
+  collected_next f old new start one a more h = collected_turn old new start one (f (drop (i + 1) xs)) (f (drop i xs)) (f xs) a (ap f (next_of xs i x lt at) ∙ more) h
 
 -- nothing is left: all is collected
 pub collected_end : {X Y : Type 0} (f : List X → List Y) (xs : List X) (i : ℕ) (old start : Collected Y) → length xs ≤ i → f [] ≡ [] →

@@ -1,25 +1,26 @@
 //! Type declarations with their names resolved (docs/LANGUAGE.md, "Types").
 
-ghost use Rattle.std.specs.Prelude.{◌≡◌, ◌≤◌, ◌++◌, ◌∷◌, [], List, map, length, IfOk, OnOk};
+ghost use Rattle.std.specs.Prelude.{◌≡◌, ◌≤◌, ◌++◌, ◌∷◌, [], false, List, map, length, IfOk, OnOk};
 ghost use Rattle.wy_types.specs.Primitive.{primitive_types};
 ghost use Rattle.wy_names.specs.Least.{noted};
 ghost use Rattle.wy_names.specs.Declarations.{repeated};
 ghost use Rattle.wy_names.specs.Collected.{Adds};
 ghost use Rattle.wy_names.specs.Meanings.{abstract_names};
 ghost use Rattle.wy_names.specs.Atoms.{member_scope, members_after};
-ghost use Rattle.wy_names.specs.TypeUses.{declaration_scope, defined_members, declared_methods, declaration, declarations_of, member_names, method_names, members_refusals, declaration_refusals, declarations_refusals};
+ghost use Rattle.wy_names.specs.TypeUses.{declaration_scope, defined_members, declared_methods, method_of, signature_refusals, declaration, declarations_of, member_names, method_names, members_refusals, declaration_refusals, declarations_refusals};
 ghost use Rattle.wy_names.specs.Lent.{lent_name, lent_type};
 
 use crate::atom_scope::{AtomScope, Owners};
 use crate::collected::WrittenNames;
 use crate::meanings::Meanings;
-use crate::members::{add_abstract, add_defined, members_after, note_defined};
+use crate::members::{add_abstract, members_after, read_defined};
 use crate::refusal::Refusal;
 use crate::scoping::Meaning;
 use crate::signatures::read_method;
 use crate::tables::note_repeated;
 use std::alloc::Global;
 use wy_syntax::items::{Member, TypeDecl};
+use wy_syntax::types::Signature;
 use wy_text::list::Items;
 use wy_text::text::{Memory, Text};
 use wy_types::resolved;
@@ -98,6 +99,21 @@ fn add_method_names<'a>(names: &mut WrittenNames<'a>, members: &'a [Member])
     }
 }
 
+/// Adds a method. The refusals of its signature are noted.
+fn add_method(
+    alloc: Global,
+    scope: &AtomScope,
+    methods: &mut Items<Method>,
+    signature: &Signature,
+    least: &mut Option<Refusal>,
+) -> Result<(), Memory>
+    ensures methods { OnOk result (methods.new ≡ methods.old ++ method_of scope.now false signature.now ∷ []) }
+    ensures noted { OnOk result (least.new ≡ noted least.old (signature_refusals scope.now false signature.now)) }
+{
+    methods.push(read_method(alloc, scope, false, signature, least)?)?;
+    Ok(())
+}
+
 /// The methods of a declaration. The refusals inside its members are noted: the set of a defined one sees
 /// those before it, a signature all.
 fn read_members(
@@ -121,11 +137,11 @@ fn read_members(
                 number += 1;
             }
             Member::Defined(name, set) => {
-                note_defined(nothing, &before, set.as_slice(), least);
-                add_defined(alloc, nothing, &mut before, &name.text, set.as_slice())?;
+                let set = set.as_slice();
+                read_defined(alloc, nothing, &mut before, &name.text, set, least)?;
             }
             Member::Method(signature) => {
-                methods.push(read_method(alloc, scope, false, signature, least)?)?;
+                add_method(alloc, scope, &mut methods, signature, least)?;
             }
         }
     }

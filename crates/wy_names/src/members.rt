@@ -37,7 +37,7 @@ pub fn add_abstract(
 }
 
 /// Adds a defined member, whose set sees the members before it.
-pub fn add_defined(
+fn add_defined(
     alloc: Global,
     nothing: &Owners,
     members: &mut Meanings,
@@ -56,16 +56,28 @@ pub fn add_defined(
 }
 
 /// Notes the refusals of a defined member's set, which sees the members before it.
-pub fn note_defined(
-    nothing: &Owners,
-    members: &Meanings,
-    set: &[AtomUse],
-    least: &mut Option<Refusal>,
-)
+fn note_defined(nothing: &Owners, members: &Meanings, set: &[AtomUse], least: &mut Option<Refusal>)
     requires { nothing.now ≡ member_scope [] }
     ensures { least.new ≡ noted least.old (set_refusals (member_scope members.now) set.now) }
 {
     note_set(&AtomScope::new(nothing, 0, members), set, least);
+}
+
+/// Adds a defined member, whose set sees the members before it. The refusals of the set are noted.
+pub fn read_defined(
+    alloc: Global,
+    nothing: &Owners,
+    members: &mut Meanings,
+    name: &Text,
+    set: &[AtomUse],
+    least: &mut Option<Refusal>,
+) -> Result<(), Memory>
+    requires { nothing.now ≡ member_scope [] }
+    ensures members { OnOk result (members.new ≡ members.old ++ defined_member name.now (set_of (member_scope members.old) set.now) ∷ []) }
+    ensures noted { OnOk result (least.new ≡ noted least.old (set_refusals (member_scope members.old) set.now)) }
+{
+    note_defined(nothing, members, set, least);
+    add_defined(alloc, nothing, members, name, set)
 }
 
 /// The effect members of a type declaration, in their order.

@@ -1,4 +1,4 @@
-use Rattle.std.proofs.Common.{◌≡◌, ap, subst}
+use Rattle.std.proofs.Common.{◌≡◌, subst}
 use Rattle.std.specs.Prelude.{IfOk}
 use Rattle.wy_types.specs.declared.resolved.Literal.{Literal}
 use Rattle.wy_syntax.specs.Views.{part_trees}

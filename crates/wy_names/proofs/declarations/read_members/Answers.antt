@@ -8,7 +8,7 @@ use Rattle.wy_names.proofs.Turns.{next_of}
 use Rattle.wy_names.proofs.Leasts.{noted_turn, noted_same}
 use Rattle.wy_names.proofs.Nexts.{added_turn, kept_turn}
 use Rattle.wy_names.proofs.declarations.read_members.Goals as goal
-use Rattle.wy_names.proofs.declarations.read_members.Goals.{in-Abstract+in_ok-add_abstract-in-Abstract, in-Defined+in_ok-add_defined-in-Defined, in-Method+in_ok-read_method-in-Method+in_ok-push-in-Method}
+use Rattle.wy_names.proofs.declarations.read_members.Goals.{in-Abstract+in_ok-add_abstract-in-Abstract, in-Defined+in_ok-read_defined-in-Defined, in-Method+in_ok-add_method-in-Method}
 
 pub loop-member-preserved : goal.loop-member-preserved
 loop-member-preserved c =
@@ -33,7 +33,7 @@ loop-member-preserved c =
             ∙ sym (ap (λ b. follows b c.match-member.number) (w.before-is ∙ w.in_ok-add_abstract-in-Abstract.ensures) ∙ ap (follows (before ++ abstract_member w.in-Abstract.name.text k ∷ [])) w.number-is))
             c.loop-member.invariant.least;
       }
-      | in-Defined+in_ok-add_defined-in-Defined w ↦ record {
+      | in-Defined+in_ok-read_defined-in-Defined w ↦ record {
         number = search rules;
         methods = kept_turn c.loop-member.methods c.match-member.methods (methods left) given (methods c.args.members.now) w.methods-is
             (ap methods (next ∙ ap (λ (m : Member). m ∷ left) w.in-Defined.is)) c.loop-member.invariant.methods;
@@ -44,7 +44,7 @@ loop-member-preserved c =
             (sym (ap (λ b. follows b c.match-member.number) (search rules) ∙ ap (follows (before ++ defined_member w.in-Defined.name.text (set_of (member_scope before) w.in-Defined.set) ∷ [])) w.number-is)))
             c.loop-member.invariant.least;
       }
-      | in-Method+in_ok-read_method-in-Method+in_ok-push-in-Method w ↦ record {
+      | in-Method+in_ok-add_method-in-Method w ↦ record {
         number = search rules;
         methods = added_turn c.loop-member.methods c.match-member.methods (method_of s false w.in-Method.signature ∷ []) (methods left) given (methods c.args.members.now)
             (search rules) (ap methods (next ∙ ap (λ (m : Member). m ∷ left) w.in-Method.is)) c.loop-member.invariant.methods;

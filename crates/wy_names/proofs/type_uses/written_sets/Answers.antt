@@ -1,4 +1,4 @@
-use Rattle.std.proofs.Common.{◌≡◌, ◌<◌, ◌+◌, ◌∷◌, [], List, ℕ, true, false, ap, ◌∙◌, drop, length, map, rules}
+use Rattle.std.proofs.Common.{◌≡◌, ◌<◌, ◌+◌, ◌∷◌, [], List, ℕ, true, false, ap, ◌∙◌, drop, length, rules}
 use Rattle.wy_names.specs.declared.scoping.Meaning.{Meaning}
 use Rattle.wy_names.specs.Meanings.{abstract_names}
 use Rattle.wy_names.specs.TypeUses.{written_set, written_sets}
