@@ -59,7 +59,7 @@ pub struct Literal {
 /// The code of a module or of the program.
 #[derive(Drop)]
 pub struct Scope {
-    /// How many arguments its instances are handed.
+    /// How many arguments its instances are handed; the program is handed none.
     pub arguments: u32,
     /// The number of its `init` or `run` body.
     pub start: u32,

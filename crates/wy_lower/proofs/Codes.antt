@@ -14,7 +14,7 @@ use Rattle.wy_code.specs.declared.code.Literal as item
 use Rattle.wy_code.specs.Machine.{all_instances, scope_in, literal_of_scope, literal_of, name_in, body_called, body_numbered, method_of_literal}
 use Rattle.wy_lower.specs.Inside.{capture_sources}
 use Rattle.wy_lower.specs.Laws.{Stands}
-use Rattle.wy_lower.specs.Lowering.{declared_names, written_names, method_table, body_code, methods_code, inside_maker, captures_code, literals_code, instance_code, lowered}
+use Rattle.wy_lower.specs.Lowering.{declared_names, written_names, method_table, body_code, methods_code, inside_maker, captures_code, scope_arguments, literals_code, instance_code, lowered}
 use Rattle.wy_lower.specs.Parts.{number_in}
 use Rattle.wy_lower.proofs.Looking.{some_is}
 use Rattle.wy_lower.proofs.Numbers.{has_method_names}
@@ -82,7 +82,7 @@ module _ (p : Program) (st : Starts) where
     pub there : slice_get p.scopes instance.scope ≡ Some sc
     pub stands : Stands p st instance.scope sc
     pub code : scope_in (lowered p st) (slice_get (all_instances (lowered p st)) k) ≡ Some
-        (record { arguments = length sc.names; start = stands.first; literals = literals_code p st sc stands.first 0 sc.literals })
+        (record { arguments = scope_arguments sc; start = stands.first; literals = literals_code p st sc stands.first 0 sc.literals })
     pub name : name_in (slice_get (all_instances (lowered p st)) k) ≡ instance_name st k
 
   pub scope_coded : (k : ℕ) (sc : Scope) → scope_of_instance p st k ≡ Some sc → ScopeCoded k sc

@@ -49,7 +49,7 @@ logger_code : code_of logger logger_started
           body (codes "run") 0 0 3 (Push (constant.Instance 0) ∷ Push (constant.Text 1) ∷ Call 7 1 ∷ Finish ∷ []) ∷ [];
       scopes =
           record { arguments = 1; start = 0; literals = record { captures = []; fields = 0; methods = record { method = 7; body = 1 } ∷ [] } ∷ [] } ∷
-          record { arguments = 2; start = 2; literals = record { captures = []; fields = 0; methods = [] } ∷ [] } ∷ [];
+          record { arguments = 0; start = 2; literals = record { captures = []; fields = 0; methods = [] } ∷ [] } ∷ [];
       instances = record { name = codes "lg"; scope = 0; arguments = argument.Grant 0 ∷ [] } ∷ [];
       main = record { name = codes "main"; scope = 1; arguments = [] };
     }

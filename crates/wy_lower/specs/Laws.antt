@@ -15,7 +15,7 @@ use Rattle.wy_lower.specs.Counts.{body_count}
 use Rattle.wy_lower.specs.Inside.{Inside}
 use Rattle.wy_lower.specs.Listing.{block_listing}
 use Rattle.wy_lower.specs.Lowerable.{Lowerable}
-use Rattle.wy_lower.specs.Lowering.{declared_names, written_names, start_code, body_code, literals_code, lowered}
+use Rattle.wy_lower.specs.Lowering.{declared_names, written_names, start_code, body_code, scope_arguments, literals_code, lowered}
 use Rattle.wy_lower.specs.Parts.{scopes_parts, texts_in, number_in}
 
 -- the code has as many bodies as are counted
@@ -36,7 +36,7 @@ HasItsMethodNames p s =
 -- a scope is found at its number, its `init` or `run` at the number that it says, and its methods after that one
 pub record Stands (p : Program) (s : Starts) (c : ℕ) (sc : Scope) : Type 0 where
   pub first : ℕ
-  pub scope : slice_get (lowered p s).scopes c ≡ Some (let x : code.Scope = record { arguments = length sc.names; start = first; literals = literals_code p s sc first 0 sc.literals } in x)
+  pub scope : slice_get (lowered p s).scopes c ≡ Some (let x : code.Scope = record { arguments = scope_arguments sc; start = first; literals = literals_code p s sc first 0 sc.literals } in x)
   pub start : slice_get (lowered p s).bodies first ≡ Some (start_code p s sc)
   pub bodies : (k : ℕ) (b : Body) → slice_get sc.bodies k ≡ Some b → slice_get (lowered p s).bodies (first + 1 + k) ≡ Some (body_code p s sc k b)
 

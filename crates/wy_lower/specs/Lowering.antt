@@ -151,11 +151,15 @@ literals_code p starts s first k (x ∷ xs) =
       methods = methods_code p k (first + 1) s.bodies;
     } ∷ literals_code p starts s first (k + 1) xs
 
+-- how many arguments the instances of a scope are handed: one for each own name of a module, and none for the program
+abbrev pub scope_arguments : Scope → ℕ
+scope_arguments s = if is_program s.kind then 0 else length s.names
+
 -- the scopes, the first of which has this number as that of its first body
 abbrev pub scopes_code : Program → Starts → ℕ → List Scope → List s.Scope
 scopes_code p starts first [] = []
 scopes_code p starts first (s ∷ ss) =
-    record { arguments = length s.names; start = first; literals = literals_code p starts s first 0 s.literals } ∷
+    record { arguments = scope_arguments s; start = first; literals = literals_code p starts s first 0 s.literals } ∷
     scopes_code p starts (first + 1 + length s.bodies) ss
 
 ------------------------------------------------------------
