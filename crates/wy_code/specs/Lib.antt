@@ -1,5 +1,6 @@
 pub mod Laws
 pub mod Machine
+pub mod Named
 pub mod Operations
 pub mod Running
 pub mod Stores

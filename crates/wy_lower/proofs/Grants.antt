@@ -1,33 +1,20 @@
--- The code has the program's grants at their numbers, and the names of all methods that grants have.
-use Rattle.std.proofs.Common.{◌≡◌, ◌⊎◌, inl, inr, ℕ, zero, suc, Bool, true, false, List, [], ◌∷◌, ◌++◌, map, take, Option, Some, None, refl, sym, ap, ◌∙◌, subst, arith, bytes_eq, if◌then◌else◌}
-use Rattle.std.proofs.lemmas.Slice.Eq.{bytes_eq-Decides}
+-- The code has the program's grants at their numbers.
+use Rattle.std.proofs.Common.{◌≡◌, inl, inr, ℕ, zero, suc, List, [], ◌∷◌, ◌++◌, Option, Some, None, refl, sym, ap, ◌∙◌, subst, arith}
 use Rattle.std.specs.Prelude.{slice_get}
 use Rattle.wy_effects.specs.Members.{In}
-use Rattle.wy_effects.proofs.Lists.{In-left, In-right, In-cases}
 use Rattle.wy_types.specs.declared.types.TypeRef.{TypeRef}
 use Rattle.wy_types.specs.declared.types.TypeRef.TheVariants.{Int, Bool as Truth, Text, Unit as Nothing, Named, At, Own}
-use Rattle.wy_types.specs.declared.types.Method.{Method}
-use Rattle.wy_types.specs.declared.resolved.TypeDecl.{TypeDecl}
 use Rattle.wy_types.specs.declared.resolved.OwnName.{OwnName}
 use Rattle.wy_types.specs.declared.resolved.Origin.{Origin}
 use Rattle.wy_types.specs.declared.resolved.Origin.TheVariants as origin
 use Rattle.wy_types.specs.Core.{IsPrimitive, OriginFits}
-use Rattle.wy_types.specs.Primitive.{primitive_types}
 use Rattle.wy_types.specs.Program.{Program, Scope}
-use Rattle.wy_device.specs.Operation.{method_text}
-use Rattle.wy_device.specs.Requests.{operations_of, operation_called, operation_given}
-use Rattle.wy_device.specs.declared.operation.Op.{Op}
-use Rattle.wy_device.specs.declared.operation.OpName.{OpName}
-use Rattle.wy_device.specs.declared.operation.OpName.TheVariants as name
 use Rattle.wy_meaning.specs.Starts.{Starts, GrantIs, kind_of_type, grant_of_kind, grant_from, grant_named, grant_of, scope_names, last_scope}
 use Rattle.wy_code.specs.declared.code.Grant as g
 use Rattle.wy_lower.specs.Lowerable.{Lowerable, GrantsStandFirst}
-use Rattle.wy_lower.specs.Lowering.{declared_names, method_table, grant_code, grants_code, lowered}
-use Rattle.wy_lower.specs.Parts.{number_in}
+use Rattle.wy_lower.specs.Lowering.{grant_code, grants_code, lowered}
 use Rattle.wy_lower.proofs.Codes.{in_list}
 use Rattle.wy_lower.proofs.Looking.{some_is}
-use Rattle.wy_lower.proofs.Numbers.{has_method_names}
-use Rattle.wy_lower.proofs.Slots.{not_picked}
 use Rattle.wy_lower.proofs.Steps.{HasGrants}
 
 ------------------------------------------------------------
@@ -95,59 +82,9 @@ module _ (p : Program) (st : Starts) (ok : Lowerable p st) where
           let y = primitive_kind n n.typ fits.1 in
           (y.0, ap (λ (c : Origin). grant_from c n) h ∙ y.1)
 
-  ------------------------------------------------------------
-  -- The methods of grants
-
-  called_name : (method : List ℕ) (os : List OpName) (o : OpName) → operation_called method os ≡ Some o → method_text o ≡ method
-  called_name method [] o e = absurd cc
-  called_name method (c ∷ os) o e = of (bytes_eq (method_text c) method) refl (called_name method os o)
-    where
-      of : (b : Bool) → bytes_eq (method_text c) method ≡ b → (operation_called method os ≡ Some o → method_text o ≡ method) → method_text o ≡ method
-      of true t rest =
-          let z : c ≡ o = some_is (sym (ap (λ q. if q then Some c else operation_called method os) t) ∙ e) in
-          ap method_text (sym z) ∙ (bytes_eq-Decides (method_text c) method).0 t
-      of false t rest = rest (sym (not_picked (bytes_eq (method_text c) method) (Some c) (operation_called method os) t) ∙ e)
-
-  given_name : (ts : List (List ℕ)) (o : Option OpName) (op : Op) → operation_given o ts ≡ Some op → (c : OpName) × (o ≡ Some c)
-  given_name ts None op e = absurd cc
-  given_name ts (Some c) op e = (c, refl)
-
-  primitive_name : (o : OpName) → In (method_text o) (declared_names primitive_types)
-  primitive_name name.ConsoleRead = inl refl
-  primitive_name name.ConsoleWrite = inr (inl refl)
-  primitive_name name.FolderRead = inl refl
-  primitive_name name.FolderHas = inr (inr (inr (inl refl)))
-  primitive_name name.FolderWrite = inr (inl refl)
-  primitive_name name.FolderAppend = inr (inr (inr (inr (inr (inl refl)))))
-  primitive_name name.FolderNames = inr (inr (inr (inr (inr (inr (inl refl))))))
-  primitive_name name.ClockNow = inr (inr (inr (inr (inr (inr (inr (inl refl)))))))
-  primitive_name name.RandomWord = inr (inr (inr (inr (inr (inr (inr (inr (inl refl))))))))
-
-  taken_names : (k : ℕ) (ds : List TypeDecl) (x : List ℕ) → In x (declared_names (take k ds)) → In x (declared_names ds)
-  taken_names zero ds x j = absurd j
-  taken_names (suc k) [] x j = absurd j
-  taken_names (suc k) (d ∷ ds) x j = of (In-cases x (map (λ (m : Method). m.name) d.methods) (declared_names (take k ds)) j) (taken_names k ds x)
-    where
-      of : In x (map (λ (m : Method). m.name) d.methods) ⊎ In x (declared_names (take k ds)) →
-          (In x (declared_names (take k ds)) → In x (declared_names ds)) → In x (declared_names (d ∷ ds))
-      of (inl h) rest = In-left x _ _ h
-      of (inr h) rest = In-right x _ _ (rest h)
-
-  method_numbered : (method : List ℕ) → In method (declared_names p.declarations) →
-      slice_get (lowered p st).methods (number_in (method_table p) method) ≡ Some method
-  unfolding lowered
-  method_numbered method j = has_method_names p st method (In-left method _ _ j)
-
   coded_grants : (k : ℕ) (y : GrantIs) → grant_of p k ≡ Some y → slice_get (lowered p st).grants k ≡ Some (record { name = y.name; kind = y.kind })
   unfolding lowered
   coded_grants k y e = grants_from _ ok.grants kinds k y e
 
   pub has_grants : HasGrants p st
-  has_grants = record {
-    grants = coded_grants;
-    methods = λ y method ts op e.
-        let c = given_name ts (operation_called method (operations_of y.kind)) op e in
-        let z = called_name method (operations_of y.kind) c.0 c.1 in
-        let j = subst (λ (l : List TypeDecl). In (method_text c.0) (declared_names l)) (sym ok.core.primitives) (primitive_name c.0) in
-        method_numbered method (subst (λ (l : List ℕ). In l (declared_names p.declarations)) z (taken_names 4 p.declarations _ j));
-  }
+  has_grants = record { grants = coded_grants }

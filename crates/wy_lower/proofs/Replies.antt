@@ -151,11 +151,10 @@ module _ (p : Program) (s : Starts) (i : Inside) (x : ℕ) (sight : Sight) (w0 :
         (subst (λ (t : Tapes). Fits (answered grant op w (asked op w.tapes)) (code.answered grant op m (asked op t))) r.world.tapes
         (told_fits grant op (asked op w.tapes)))))
 
-    -- the machine has the grant, and the method's name where the grant has such an operation
+    -- the machine has the grant, and the method's name
     pub performed_fits : (place : Place) (g : Option GrantIs) (h : Option CodeGrant) (method : List ℕ) (name : Option (List ℕ)) (vs : List Value)
         (zs : List Word) → SameAll m.texts vs zs → ((y : GrantIs) → g ≡ Some y → h ≡ Some (record { name = y.name; kind = y.kind })) →
-        ((y : GrantIs) (ts : List (List ℕ)) (op : Op) → operation_of y.kind method ts ≡ Some op → name ≡ Some method) →
-        Fits (perform place g method vs w) (code.performed place h name zs m)
+        name ≡ Some method → Fits (perform place g method vs w) (code.performed place h name zs m)
     unfolding perform
     performed_fits place g h method name vs zs same grant there = of_grant g refl
       where
@@ -164,7 +163,7 @@ module _ (p : Program) (s : Starts) (i : Inside) (x : ℕ) (sight : Sight) (w0 :
         of_op y ts None e = wrong_fits w _
         of_op y ts (Some op) e =
             subst (λ o. Fits (requested place y.name w (Some op)) (code.requested_of place (record { name = y.name; kind = y.kind }) m o (Some ts)))
-            (sym (there y ts op e))
+            (sym there)
             (subst (λ o. Fits (requested place y.name w (Some op)) (code.requested place y.name m o)) (sym e) (asked_fits place y.name op))
 
         of_texts : (y : GrantIs) (o : Option (List (List ℕ))) → texts_named m zs ≡ o →

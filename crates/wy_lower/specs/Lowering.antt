@@ -1,10 +1,8 @@
 -- The code of a program with its instances in start order. (docs/LANGUAGE.md, "Code of programs")
 use Rattle.std.specs.Prelude.{codes, ℕ, ◌+◌, Bool, true, false, List, [], ◌∷◌, ◌++◌, length, map, Option, Some, None, nat_eq, slice_get, if◌then◌else◌}
-use Rattle.wy_types.specs.declared.types.Method.{Method}
 use Rattle.wy_types.specs.declared.code.Variable.{Variable}
 use Rattle.wy_types.specs.declared.linked.Actual.{Actual}
 use Rattle.wy_types.specs.declared.linked.Actual.TheVariants as actual
-use Rattle.wy_types.specs.declared.resolved.TypeDecl.{TypeDecl}
 use Rattle.wy_types.specs.declared.resolved.Literal.{Literal}
 use Rattle.wy_types.specs.declared.resolved.OwnName.{OwnName}
 use Rattle.wy_types.specs.declared.resolved.ScopeKind.{ScopeKind}
@@ -25,7 +23,7 @@ use Rattle.wy_code.specs.declared.instruction.Placed.{Placed}
 use Rattle.wy_code.specs.declared.instruction.Instruction.TheVariants.{Return, Finish}
 use Rattle.wy_meaning.specs.Starts.{Started, Starts, GrantIs, grant_named, scope_names, last_scope}
 use Rattle.wy_meaning.specs.Eval.{body_text}
-use Rattle.wy_lower.specs.Parts.{block_parts, scopes_parts, texts_in, make_literal, each_once, number_in}
+use Rattle.wy_lower.specs.Parts.{block_parts, scopes_parts, texts_in, calls_in, make_literal, each_once, number_in}
 use Rattle.wy_lower.specs.Inside.{Inside, capture_sources}
 use Rattle.wy_lower.specs.Listing.{one, block_listing, fields_listing}
 use Rattle.wy_lower.specs.Operands.{block_operands, start_operands}
@@ -36,17 +34,23 @@ use Rattle.wy_lower.specs.Operands.{block_operands, start_operands}
 abbrev pub text_table : Program → List (List ℕ)
 text_table p = each_once (texts_in (scopes_parts p.scopes))
 
-abbrev pub declared_names : List TypeDecl → List (List ℕ)
-declared_names [] = []
-declared_names (d ∷ ds) = map (λ (m : Method). m.name) d.methods ++ declared_names ds
+-- the names of the methods of the module (0) or of a literal
+abbrev pub owned_names : ℕ → List Body → List (List ℕ)
+owned_names l [] = []
+owned_names l (b ∷ bs) = if nat_eq b.owner l then b.signature.name ∷ owned_names l bs else owned_names l bs
 
-abbrev pub written_names : List Scope → List (List ℕ)
-written_names [] = []
-written_names (s ∷ ss) = map (λ (b : Body). b.signature.name) s.bodies ++ written_names ss
+-- those of the module and of all literals of a scope, from number k on
+abbrev pub kinds_names : ℕ → List Literal → List Body → List (List ℕ)
+kinds_names k [] bs = []
+kinds_names k (x ∷ xs) bs = owned_names k bs ++ kinds_names (k + 1) xs bs
 
--- the names of the methods of all types, and then of those of all modules and literals
+abbrev pub entry_names : List Scope → List (List ℕ)
+entry_names [] = []
+entry_names (s ∷ ss) = kinds_names 0 s.literals s.bodies ++ entry_names ss
+
+-- the names that calls have, and then those of the methods of modules and literals
 abbrev pub method_table : Program → List (List ℕ)
-method_table p = each_once (declared_names p.declarations ++ written_names p.scopes)
+method_table p = each_once (calls_in (scopes_parts p.scopes) ++ entry_names p.scopes)
 
 ------------------------------------------------------------
 -- Bodies

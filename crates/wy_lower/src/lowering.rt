@@ -10,7 +10,9 @@ ghost use Rattle.wy_lower.specs.EmitBodies.{IsWhole, whole_program, whole_starts
 ghost use Rattle.wy_lower.specs.EmitLowered.{IsLowerRefusal, scope_code};
 
 use crate::emitting::{Whole, add_bodies, is_program};
-use crate::indexes::{method_table, texts_of, word};
+use crate::entries::put_entries;
+use crate::gathering::Names;
+use crate::indexes::{texts_of, word};
 use crate::kinds::literals_code;
 use crate::limits::{body_count, some_slots_above};
 use crate::scopes::{Tables, tables_of_scopes};
@@ -78,9 +80,13 @@ fn whole_of<'a>(alloc: Global, core: &'a Core, linked: &'a Linked) -> Result<Who
     ensures linked { IfOk result (λ w. w.linked.now ≡ linked.now) }
 {
     let actuals = actuals_of(alloc, core, linked)?;
-    let mut texts = IndexSet::new(alloc);
-    let tables = tables_of_scopes(alloc, &mut texts, core.scopes.as_slice())?;
-    let methods = method_table(alloc, core)?;
+    let mut names = Names {
+        texts: IndexSet::new(alloc),
+        methods: IndexSet::new(alloc),
+    };
+    let tables = tables_of_scopes(alloc, &mut names, core.scopes.as_slice())?;
+    put_entries(alloc, &mut names.methods, core.scopes.as_slice())?;
+    let Names { texts, methods } = names;
     Ok(Whole {
         core,
         linked,
