@@ -1,13 +1,13 @@
 use crate::instruction::Placed;
-use wy_device::operation::Kind;
+use crate::primitive::Primitive;
 use wy_text::list::Items;
 use wy_text::text::Text;
 
-/// A grant of the program.
+/// A grant of the program, with its primitive type.
 #[derive(Drop)]
 pub struct Grant {
     pub name: Text,
-    pub kind: Kind,
+    pub primitive: Primitive,
 }
 
 /// What an instance is handed: the grant or the instance of a number.
@@ -24,7 +24,7 @@ pub struct Body {
     pub name: Text,
     /// How many parameters it has. Its slots begin with the current object and these.
     pub parameters: u32,
-    /// How many slots its `val` statements have, which come next.
+    /// How many slots its `val` statements have, which come next: up to the last slot that is stored into.
     pub vals: u32,
     /// How many slots it has in all: those, and the operands that it needs at once.
     pub slots: u32,
@@ -59,7 +59,7 @@ pub struct Literal {
 /// The code of a module or of the program.
 #[derive(Drop)]
 pub struct Scope {
-    /// How many arguments its instances are handed.
+    /// How many arguments its instances are handed; the program is handed none.
     pub arguments: u32,
     /// The number of its `init` or `run` body.
     pub start: u32,
@@ -79,9 +79,10 @@ pub struct Instance {
 #[derive(Drop)]
 pub struct Code {
     pub grants: Items<Grant>,
-    /// The names of methods, each once.
+    /// The names of methods, each once: those of calls in the order of bodies and instructions, and then those that the
+    /// methods of kinds of objects have, in the order of scopes and kinds.
     pub methods: Items<Text>,
-    /// The texts that the program writes out, each once.
+    /// The texts that the program writes out, each once, in the order of bodies and instructions.
     pub texts: Items<Text>,
     pub bodies: Items<Body>,
     pub scopes: Items<Scope>,

@@ -1,4 +1,4 @@
--- What is known of a form beforehand: its texts have numbers, its literals are made here alone, and its `val`s are the
+-- What is known of a form beforehand: its texts and the names of its calls have numbers, its literals are made here alone, and its `val`s are the
 -- body's own and not yet in sight.
 use Rattle.std.proofs.Common.{◌≡◌, inl, inr, ℕ, ◌<◌, Bool, true, false, List, [], ◌∷◌, ◌++◌, Option, Some, None, refl, sym, ◌∙◌, subst, arith}
 use Rattle.std.specs.Prelude.{slice_get}
@@ -18,7 +18,7 @@ use Rattle.wy_meaning.specs.Values.{Value, same_variable, value_named}
 use Rattle.wy_meaning.specs.Starts.{Starts}
 use Rattle.wy_meaning.specs.Eval.{Sight, with_local}
 use Rattle.wy_lower.specs.Inside.{Inside, is_val}
-use Rattle.wy_lower.specs.Lowering.{text_table, inside_maker}
+use Rattle.wy_lower.specs.Lowering.{text_table, inside_maker, lowered}
 use Rattle.wy_lower.specs.Operands.{two_operands, operands, value_operands, values_operands}
 use Rattle.wy_lower.specs.Parts.{number_in}
 use Rattle.wy_lower.proofs.Slots.{not_picked, variable_is}
@@ -45,6 +45,7 @@ apart_between (z ∷ xs) ys h x (inr j) k = apart_between xs ys h.1 x j k
 -- a literal is made in one body
 abbrev pub IsGood : Program → Starts → Scope → Inside → Expr → Type 0
 IsGood p s sc i (Quoted place bytes) = slice_get (text_table p) (number_in i.texts bytes) ≡ Some bytes
+IsGood p s sc i (Call place x name xs) = slice_get (lowered p s).methods (number_in i.methods name) ≡ Some name
 IsGood p s sc i (New place l xs) = inside_maker p s sc l 0 sc.bodies ≡ i
 IsGood p s sc i _ = Unit {0}
 
@@ -99,6 +100,10 @@ module _ (p : Program) (s : Starts) (sc : Scope) (i : Inside) where
                 let y : k ≡ n = cc in
                 absurd (h.apart.0 (subst (λ (m : ℕ). In m (ns ++ ms)) y (In-right k ns ms j)))
             of false e = e
+
+  -- what stands before an expression
+  pub before_allowed : (sight : Sight) (es fs : List Expr) (ns : List ℕ) → Allowed sight (es ++ fs) ns → Allowed sight es ns
+  before_allowed sight es fs ns h = record { good = λ e j. h.good e (In-left e es fs j); own = h.own; apart = h.apart; fresh = h.fresh }
 
   pub inner_allowed : (sight : Sight) (e : Expr) (es : List Expr) (ns : List ℕ) → Allowed sight (e ∷ es) ns → Allowed sight es ns
   inner_allowed sight e es ns h = record { good = λ f j. h.good f (inr j); own = h.own; apart = h.apart; fresh = h.fresh }

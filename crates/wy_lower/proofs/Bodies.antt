@@ -1,4 +1,4 @@
--- What is known beforehand of a program's bodies: their texts have numbers, each makes its literals alone, and their
+-- What is known beforehand of a program's bodies: their texts and the names of their calls have numbers, each makes its literals alone, and their
 -- `val`s are not captured by themselves.
 use Rattle.std.proofs.Common.{◌≡◌, ◌⊎◌, inl, inr, ℕ, zero, suc, ◌+◌, Bool, true, false, ◌||◌, List, [], ◌∷◌, ◌++◌, Some, refl, sym, ap, ◌∙◌, subst, arith, nat_eq, append_assoc}
 use Rattle.std.proofs.lemmas.Bool.{eqb-true, eq-eqb, or_cases}
@@ -6,17 +6,17 @@ use Rattle.std.specs.Prelude.{slice_get}
 use Rattle.wy_effects.specs.Members.{In, Apart}
 use Rattle.wy_effects.proofs.Lists.{In-left, In-right}
 use Rattle.wy_types.specs.declared.code.Variable.TheVariants.{Local}
-use Rattle.wy_types.specs.Code.{Expr, Number, Quoted, Truth, Nothing, This, Name, Unary, Binary, TextCall, Call, New, Ascribe, Assign}
+use Rattle.wy_types.specs.Code.{Expr, Number, Quoted, Truth, Nothing, This, Name, Unary, Binary, TextCall, Call, New, Ascribe, Assign, Values}
 use Rattle.wy_types.specs.Core.{CapturesBefore, literal_captures, block_vals, bodies_vals}
 use Rattle.wy_types.specs.Program.{Program, Scope, Body}
 use Rattle.wy_meaning.specs.Starts.{Starts}
 use Rattle.wy_lower.specs.Inside.{Inside, is_val}
 use Rattle.wy_lower.specs.Lowerable.{literal_made, literals_made_in, literals_made}
-use Rattle.wy_lower.specs.Lowering.{text_table, inside_start, inside_body, inside_maker, lowered}
-use Rattle.wy_lower.specs.Parts.{block_parts, start_parts, bodies_parts, scope_parts, scopes_parts, text_in, texts_in, makes_literal, make_literal, number_in}
+use Rattle.wy_lower.specs.Lowering.{entry_names, text_table, method_table, inside_start, inside_body, inside_maker, lowered}
+use Rattle.wy_lower.specs.Parts.{block_parts, start_parts, bodies_parts, scope_parts, scopes_parts, text_in, texts_in, call_in, calls_in, makes_literal, make_literal, number_in}
 use Rattle.wy_lower.proofs.Allowed.{apart_first, apart_rest, apart_between, IsGood}
 use Rattle.wy_lower.proofs.Looking.{some_is}
-use Rattle.wy_lower.proofs.Numbers.{has_texts}
+use Rattle.wy_lower.proofs.Numbers.{has_texts, has_method_names}
 use Rattle.wy_lower.proofs.Slots.{picked, not_picked}
 
 ------------------------------------------------------------
@@ -130,23 +130,37 @@ module _ (p : Program) (st : Starts) (sc : Scope) where
   text_numbered h place bytes j = has_texts p st bytes
       (text_among bytes place (scopes_parts p.scopes) (scope_among p.scopes h (Quoted place bytes) j))
 
+  call_among : (name : List ℕ) (place : _) (x : Expr) (xs : Values) (es : List Expr) → In (Call place x name xs) es → In name (calls_in es)
+  call_among name place x xs [] j = absurd j
+  call_among name place x xs (e ∷ es) (inl same) = In-left name (call_in e) (calls_in es)
+      (subst (λ (f : Expr). In name (call_in f)) (sym same) (inl refl))
+  call_among name place x xs (e ∷ es) (inr j) = In-right name (call_in e) (calls_in es) (call_among name place x xs es j)
+
+  call_numbered : In sc p.scopes → (place : _) (x : Expr) (name : List ℕ) (xs : Values) → In (Call place x name xs) (scope_parts sc) →
+      slice_get (lowered p st).methods (number_in (method_table p) name) ≡ Some name
+  unfolding lowered
+  call_numbered h place x name xs j = has_method_names p st name
+      (In-left name (calls_in (scopes_parts p.scopes)) (entry_names p.scopes)
+      (call_among name place x xs (scopes_parts p.scopes) (scope_among p.scopes h (Call place x name xs) j)))
+
   -- the parts of a body are good in it
-  good_part : (i : Inside) → i.texts ≡ text_table p → In sc p.scopes → (e : Expr) → In e (scope_parts sc) →
+  good_part : (i : Inside) → i.texts ≡ text_table p → i.methods ≡ method_table p → In sc p.scopes → (e : Expr) → In e (scope_parts sc) →
       ((l : ℕ) → makes_literal l e ≡ true → inside_maker p st sc l 0 sc.bodies ≡ i) → IsGood p st sc i e
-  good_part i texts h (Quoted place bytes) j made =
+  good_part i texts methods h (Quoted place bytes) j made =
       subst (λ t. slice_get (text_table p) (number_in t bytes) ≡ Some bytes) (sym texts) (text_numbered h place bytes j)
-  good_part i texts h (New place l xs) j made = made l (eq-eqb l l refl)
-  good_part i texts h (Number place n) j made = tt
-  good_part i texts h (Truth place b) j made = tt
-  good_part i texts h (Nothing place) j made = tt
-  good_part i texts h (This place) j made = tt
-  good_part i texts h (Name place n) j made = tt
-  good_part i texts h (Unary place o x) j made = tt
-  good_part i texts h (Binary place o x y) j made = tt
-  good_part i texts h (TextCall place o xs) j made = tt
-  good_part i texts h (Call place x n xs) j made = tt
-  good_part i texts h (Ascribe place x t) j made = tt
-  good_part i texts h (Assign place n x) j made = tt
+  good_part i texts methods h (Call place x name xs) j made =
+      subst (λ t. slice_get (lowered p st).methods (number_in t name) ≡ Some name) (sym methods) (call_numbered h place x name xs j)
+  good_part i texts methods h (New place l xs) j made = made l (eq-eqb l l refl)
+  good_part i texts methods h (Number place n) j made = tt
+  good_part i texts methods h (Truth place b) j made = tt
+  good_part i texts methods h (Nothing place) j made = tt
+  good_part i texts methods h (This place) j made = tt
+  good_part i texts methods h (Name place n) j made = tt
+  good_part i texts methods h (Unary place o x) j made = tt
+  good_part i texts methods h (Binary place o x y) j made = tt
+  good_part i texts methods h (TextCall place o xs) j made = tt
+  good_part i texts methods h (Ascribe place x t) j made = tt
+  good_part i texts methods h (Assign place n x) j made = tt
 
   body_among : (bodies : List Body) (k : ℕ) (b : Body) → slice_get bodies k ≡ Some b → (e : Expr) → In e (block_parts b.block) →
       In e (bodies_parts bodies)
@@ -160,7 +174,7 @@ module _ (p : Program) (st : Starts) (sc : Scope) where
   body_good h apart k b stands e j =
       let split = apart_rest (literals_made_in (start_parts sc.start)) _
       (subst (λ m. Apart m) (joined_literals (start_parts sc.start) (bodies_parts sc.bodies)) apart) in
-      good_part (inside_body p st sc k b) refl h e (In-right e (start_parts sc.start) (bodies_parts sc.bodies) (body_among sc.bodies k b stands e j))
+      good_part (inside_body p st sc k b) refl refl h e (In-right e (start_parts sc.start) (bodies_parts sc.bodies) (body_among sc.bodies k b stands e j))
       (λ l makes.
       let z : 0 + k ≡ k = omega arith in
       maker_from l 0 k sc.bodies b split stands (new_makes l e (block_parts b.block) j makes) ∙ ap (λ (y : ℕ). inside_body p st sc y b) z)
@@ -168,7 +182,7 @@ module _ (p : Program) (st : Starts) (sc : Scope) where
   pub start_good : In sc p.scopes → Apart (literals_made sc) → (e : Expr) → In e (start_parts sc.start) → IsGood p st sc (inside_start p st sc) e
   start_good h apart e j =
       let split = subst (λ m. Apart m) (joined_literals (start_parts sc.start) (bodies_parts sc.bodies)) apart in
-      good_part (inside_start p st sc) refl h e (In-left e (start_parts sc.start) (bodies_parts sc.bodies) j)
+      good_part (inside_start p st sc) refl refl h e (In-left e (start_parts sc.start) (bodies_parts sc.bodies) j)
       (λ l makes. start_from l 0 sc.bodies
       (λ i. apart_between _ _ split l (made_here l (start_parts sc.start) (new_makes l e (start_parts sc.start) j makes)) i))
 

@@ -14,8 +14,8 @@ use Rattle.wy_code.specs.declared.code.Literal as item
 use Rattle.wy_code.specs.Machine.{all_instances, scope_in, literal_of_scope, literal_of, name_in, body_called, body_numbered, method_of_literal}
 use Rattle.wy_lower.specs.Inside.{capture_sources}
 use Rattle.wy_lower.specs.Laws.{Stands}
-use Rattle.wy_lower.specs.Lowering.{declared_names, written_names, method_table, body_code, methods_code, inside_maker, captures_code, literals_code, instance_code, lowered}
-use Rattle.wy_lower.specs.Parts.{number_in}
+use Rattle.wy_lower.specs.Lowering.{owned_names, kinds_names, entry_names, method_table, body_code, methods_code, inside_maker, captures_code, scope_arguments, literals_code, instance_code, lowered}
+use Rattle.wy_lower.specs.Parts.{scopes_parts, calls_in, number_in}
 use Rattle.wy_lower.proofs.Looking.{some_is}
 use Rattle.wy_lower.proofs.Numbers.{has_method_names}
 use Rattle.wy_lower.proofs.Slots.{picked, not_picked}
@@ -82,7 +82,7 @@ module _ (p : Program) (st : Starts) where
     pub there : slice_get p.scopes instance.scope ≡ Some sc
     pub stands : Stands p st instance.scope sc
     pub code : scope_in (lowered p st) (slice_get (all_instances (lowered p st)) k) ≡ Some
-        (record { arguments = length sc.names; start = stands.first; literals = literals_code p st sc stands.first 0 sc.literals })
+        (record { arguments = scope_arguments sc; start = stands.first; literals = literals_code p st sc stands.first 0 sc.literals })
     pub name : name_in (slice_get (all_instances (lowered p st)) k) ≡ instance_name st k
 
   pub scope_coded : (k : ℕ) (sc : Scope) → scope_of_instance p st k ≡ Some sc → ScopeCoded k sc
@@ -158,11 +158,11 @@ module _ (p : Program) (st : Starts) where
       let z : a ≡ b = some_is (sym h ∙ (ap (slice_get (method_table p)) same ∙ k)) in
       both_ways (bytes_eq a b) e ((bytes_eq-Decides a b).1 z))
 
-  called_from : (k l : ℕ) (name : List ℕ) (bodies : List Body) (first : ℕ) (m : Method) → ((b : Body) → In b bodies → HasNumber b.signature.name) →
+  called_from : (k l : ℕ) (name : List ℕ) (bodies : List Body) (first : ℕ) (m : Method) → ((b : Body) → In b bodies → nat_eq b.owner l ≡ true → HasNumber b.signature.name) →
       HasNumber name → find_body k l name bodies ≡ Some m → Called k l name bodies first m
   called_from k l name [] first m all h e = absurd cc
   called_from k l name (b ∷ bs) first m all h e =
-      of (nat_eq b.owner l) (bytes_eq b.signature.name name) refl refl (λ f j. called_from (k + 1) l name bs j m (λ c i. all c (inr i)) h f)
+      of (nat_eq b.owner l) (bytes_eq b.signature.name name) refl refl (λ f j. called_from (k + 1) l name bs j m (λ c i o. all c (inr i) o) h f)
     where
       T : List (List ℕ)
       T = method_table p
@@ -209,33 +209,54 @@ module _ (p : Program) (st : Starts) where
           })
       of true false t u rest = later (rest (sym (found true false t u) ∙ e) (first + 1))
           (methods true t ∙ not_picked (nat_eq (number_in T b.signature.name) (number_in T name)) (Some first)
-          (body_called (number_in T name) (methods_code p l (first + 1) bs)) (numbers_differ b.signature.name name (all b (inl refl)) h u))
+          (body_called (number_in T name) (methods_code p l (first + 1) bs)) (numbers_differ b.signature.name name (all b (inl refl) t) h u))
       of false d t u rest = later (rest (sym (found false d t u) ∙ e) (first + 1)) (methods false t)
 
   found_named : (k l : ℕ) (name : List ℕ) (bodies : List Body) (m : Method) → find_body k l name bodies ≡ Some m → (b : Body) × In b bodies ×
-      (b.signature.name ≡ name)
+      (nat_eq b.owner l ≡ true) × (b.signature.name ≡ name)
   found_named k l name [] m e = absurd cc
   found_named k l name (b ∷ bs) m e = of (nat_eq b.owner l && bytes_eq b.signature.name name) refl (λ f. found_named (k + 1) l name bs m f)
     where
       of : (c : Bool) → (nat_eq b.owner l && bytes_eq b.signature.name name) ≡ c →
-          ((find_body (k + 1) l name bs ≡ Some m) → (y : Body) × In y bs × (y.signature.name ≡ name)) → (y : Body) × In y (b ∷ bs) ×
-          (y.signature.name ≡ name)
-      of true t rest = (b, inl refl, (bytes_eq-Decides b.signature.name name).0 (and_parts _ _ t).1)
-      of false t rest = let r = rest (sym (not_picked _ _ _ t) ∙ e) in (r.0, inr r.1, r.2)
+          ((find_body (k + 1) l name bs ≡ Some m) → (y : Body) × In y bs × (nat_eq y.owner l ≡ true) × (y.signature.name ≡ name)) → (y : Body) × In y (b ∷ bs) ×
+          (nat_eq y.owner l ≡ true) × (y.signature.name ≡ name)
+      of true t rest = (b, inl refl, (and_parts _ _ t).0, (bytes_eq-Decides b.signature.name name).0 (and_parts _ _ t).1)
+      of false t rest = let r = rest (sym (not_picked _ _ _ t) ∙ e) in (r.0, inr r.1, r.2, r.3)
 
-  written_in : (scopes : List Scope) (sc : Scope) (b : Body) → In sc scopes → In b sc.bodies → In b.signature.name (written_names scopes)
-  written_in [] sc b h j = absurd h
-  written_in (y ∷ ys) sc b (inl e) j = In-left _ _ _ (mapped y.bodies (subst (λ (z : Scope). In b z.bodies) (sym e) j))
+  owned_in : (l : ℕ) (bs : List Body) (b : Body) → In b bs → nat_eq b.owner l ≡ true → In b.signature.name (owned_names l bs)
+  owned_in l [] b j e = absurd j
+  owned_in l (c ∷ bs) b (inl same) e =
+      let z : nat_eq c.owner l ≡ true = ap (λ (y : Body). nat_eq y.owner l) same ∙ e in
+      subst (λ t. In b.signature.name (if t then c.signature.name ∷ owned_names l bs else owned_names l bs)) (sym z)
+      (inl (ap (λ (y : Body). y.signature.name) same))
+  owned_in l (c ∷ bs) b (inr j) e = of (nat_eq c.owner l) (owned_in l bs b j e)
     where
-      mapped : (bs : List Body) → In b bs → In b.signature.name (map (λ (c : Body). c.signature.name) bs)
-      mapped [] i = absurd i
-      mapped (c ∷ bs) (inl z) = inl (ap (λ (d : Body). d.signature.name) z)
-      mapped (c ∷ bs) (inr i) = inr (mapped bs i)
-  written_in (y ∷ ys) sc b (inr h) j = In-right _ _ _ (written_in ys sc b h j)
+      of : (t : Bool) → In b.signature.name (owned_names l bs) → In b.signature.name (if t then c.signature.name ∷ owned_names l bs else owned_names l bs)
+      of true h = inr h
+      of false h = h
 
-  body_has_number : (sc : Scope) → In sc p.scopes → (b : Body) → In b sc.bodies → HasNumber b.signature.name
+  kinds_in : (k l : ℕ) (xs : List Literal) (literal : Literal) → slice_get xs l ≡ Some literal → (bs : List Body) (b : Body) → In b bs →
+      nat_eq b.owner (k + l) ≡ true → In b.signature.name (kinds_names k xs bs)
+  kinds_in k l [] literal e bs b j h = absurd cc
+  kinds_in k zero (x ∷ xs) literal e bs b j h =
+      let z : k + 0 ≡ k = omega arith in
+      In-left _ _ _ (owned_in k bs b j (subst (λ (n : ℕ). nat_eq b.owner n ≡ true) z h))
+  kinds_in k (suc l) (x ∷ xs) literal e bs b j h =
+      let z : k + suc l ≡ k + 1 + l = omega arith in
+      In-right _ _ _ (kinds_in (k + 1) l xs literal e bs b j (subst (λ (n : ℕ). nat_eq b.owner n ≡ true) z h))
+
+  entry_in : (scopes : List Scope) (sc : Scope) (x : List ℕ) → In sc scopes → In x (kinds_names 0 sc.literals sc.bodies) → In x (entry_names scopes)
+  entry_in [] sc x h j = absurd h
+  entry_in (y ∷ ys) sc x (inl e) j = In-left _ _ _ (subst (λ (z : Scope). In x (kinds_names 0 z.literals z.bodies)) (sym e) j)
+  entry_in (y ∷ ys) sc x (inr h) j = In-right _ _ _ (entry_in ys sc x h j)
+
+  body_has_number : (sc : Scope) → In sc p.scopes → (l : ℕ) (literal : Literal) → slice_get sc.literals l ≡ Some literal → (b : Body) → In b sc.bodies →
+      nat_eq b.owner l ≡ true → HasNumber b.signature.name
   unfolding lowered
-  body_has_number sc h b j = has_method_names p st b.signature.name (In-right _ (declared_names p.declarations) _ (written_in p.scopes sc b h j))
+  body_has_number sc h l literal there b j owner =
+      let z : l ≡ 0 + l = omega arith in
+      has_method_names p st b.signature.name (In-right _ (calls_in (scopes_parts p.scopes)) _
+      (entry_in p.scopes sc b.signature.name h (kinds_in 0 l sc.literals literal there sc.bodies b j (subst (λ (n : ℕ). nat_eq b.owner n ≡ true) z owner))))
 
   -- the method that the meaning finds stands among the code's bodies at the number that the literal has for it
   pub method_coded : (k : ℕ) (sc : Scope) → scope_of_instance p st k ≡ Some sc → (l : ℕ) (literal : Literal) →
@@ -245,9 +266,9 @@ module _ (p : Program) (st : Starts) where
   method_coded k sc here l literal e name m f =
       let c = scope_coded k sc here in
       let inside = in_list p.scopes c.instance.scope sc c.there in
-      let all : (b : Body) → In b sc.bodies → HasNumber b.signature.name = body_has_number sc inside in
+      let all : (b : Body) → In b sc.bodies → nat_eq b.owner l ≡ true → HasNumber b.signature.name = body_has_number sc inside l literal e in
       let n = found_named 0 l name sc.bodies m f in
-      let h : HasNumber name = subst (λ (t : List ℕ). HasNumber t) n.2 (all n.0 n.1) in
+      let h : HasNumber name = subst (λ (t : List ℕ). HasNumber t) n.3 (all n.0 n.1 n.2) in
       let r = called_from 0 l name sc.bodies (c.stands.first + 1) m all h f in
       let z : r.offset ≡ m.number = omega (arith, r.number) in
       let is : slice_get sc.bodies m.number ≡ Some m.body = ap (slice_get sc.bodies) (sym z) ∙ r.is in (

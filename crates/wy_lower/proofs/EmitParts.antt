@@ -9,7 +9,8 @@ use Rattle.wy_types.specs.Code.{Expr, Binary, TextCall, Call, New, If, Values, B
 use Rattle.wy_types.specs.Core.{expr_vals, value_vals, values_vals, block_vals}
 use Rattle.wy_types.specs.View.{value_of, values_of, stmt_block, stmts_block}
 use Rattle.wy_lower.specs.declared.gathering.Found.{Found}
-use Rattle.wy_lower.specs.Parts.{expr_parts, value_parts, values_parts, block_parts, text_in, texts_in, each_once_after}
+use Rattle.wy_lower.specs.declared.gathering.Names.{Names}
+use Rattle.wy_lower.specs.Parts.{expr_parts, value_parts, values_parts, block_parts, text_in, texts_in, call_in, calls_in, each_once_after}
 use Rattle.wy_lower.specs.EmitGathers.{make_in, makes_in, statement_parts, statement_vals, Gathers}
 use Rattle.wy_lower.proofs.EmitLists.{split_at, drop_all}
 use Rattle.wy_lower.proofs.EmitPlaces.{once_append}
@@ -18,46 +19,54 @@ pub texts_append : (es fs : List Expr) → texts_in (es ++ fs) ≡ texts_in es +
 texts_append [] fs = refl
 texts_append (e ∷ es) fs = ap (λ l. text_in e ++ l) (texts_append es fs) ∙ sym (append_assoc (text_in e) (texts_in es) (texts_in fs))
 
+pub calls_append : (es fs : List Expr) → calls_in (es ++ fs) ≡ calls_in es ++ calls_in fs
+calls_append [] fs = refl
+calls_append (e ∷ es) fs = ap (λ l. call_in e ++ l) (calls_append es fs) ∙ sym (append_assoc (call_in e) (calls_in es) (calls_in fs))
+
 makes_append : (es fs : List Expr) → makes_in (es ++ fs) ≡ makes_in es ++ makes_in fs
 makes_append [] fs = refl
 makes_append (e ∷ es) fs = ap (λ l. make_in e ++ l) (makes_append es fs) ∙ sym (append_assoc (make_in e) (makes_in es) (makes_in fs))
 
 -- nothing
-pub gathers_none : (k : List (List ℕ)) (f : Found) → Gathers k k f f [] []
-gathers_none k f = record { texts = refl; makes = sym (append-nil f.makes.items); vals = sym (append-nil f.vals.items) }
+pub gathers_none : (k : Names) (f : Found) → Gathers k k f f [] []
+gathers_none k f = record { texts = refl; methods = refl; makes = sym (append-nil f.makes.items); vals = sym (append-nil f.vals.items) }
 
 -- two, one after the other
-pub gathers_then : (k l m : List (List ℕ)) (f g h : Found) (es fs : List Expr) (ns ms : List ℕ) → Gathers k l f g es ns → Gathers l m g h fs ms → Gathers k m f h (es ++ fs) (ns ++ ms)
+pub gathers_then : (k l m : Names) (f g h : Found) (es fs : List Expr) (ns ms : List ℕ) → Gathers k l f g es ns → Gathers l m g h fs ms → Gathers k m f h (es ++ fs) (ns ++ ms)
 gathers_then k l m f g h es fs ns ms x y = record {
-  texts = y.texts ∙ ap (λ z. each_once_after z (texts_in fs)) x.texts ∙ sym (once_append k (texts_in es) (texts_in fs)) ∙ ap (each_once_after k) (sym (texts_append es fs));
+  texts = y.texts ∙ ap (λ z. each_once_after z (texts_in fs)) x.texts ∙ sym (once_append k.texts.keys (texts_in es) (texts_in fs)) ∙ ap (each_once_after k.texts.keys) (sym (texts_append es fs));
+  methods = y.methods ∙ ap (λ z. each_once_after z (calls_in fs)) x.methods ∙ sym (once_append k.methods.keys (calls_in es) (calls_in fs)) ∙ ap (each_once_after k.methods.keys) (sym (calls_append es fs));
   makes = y.makes ∙ ap (λ z. z ++ makes_in fs) x.makes ∙ append_assoc f.makes.items (makes_in es) (makes_in fs) ∙ ap (λ z. f.makes.items ++ z) (sym (makes_append es fs));
   vals = y.vals ∙ ap (λ z. z ++ ms) x.vals ∙ append_assoc f.vals.items ns ms;
 }
 
 -- the same parts
-pub gathers_as : (k l : List (List ℕ)) (f g : Found) (es fs : List Expr) (ns ms : List ℕ) → es ≡ fs → ns ≡ ms → Gathers k l f g es ns → Gathers k l f g fs ms
+pub gathers_as : (k l : Names) (f g : Found) (es fs : List Expr) (ns ms : List ℕ) → es ≡ fs → ns ≡ ms → Gathers k l f g es ns → Gathers k l f g fs ms
 gathers_as k l f g es fs ns ms p q x = subst (λ (z : List Expr). Gathers k l f g z ms) p (subst (λ (z : List ℕ). Gathers k l f g es z) q x)
 
 ------------------------------------------------------------
 -- Several, in a loop
 
 -- what was collected so far, and what is left, are all
-pub record Gathering (before now : List (List ℕ)) (old new : Found) (left all : List Expr) (ns ms : List ℕ) : Type 0 where
-  pub texts : each_once_after now (texts_in left) ≡ each_once_after before (texts_in all)
+pub record Gathering (before now : Names) (old new : Found) (left all : List Expr) (ns ms : List ℕ) : Type 0 where
+  pub texts : each_once_after now.texts.keys (texts_in left) ≡ each_once_after before.texts.keys (texts_in all)
+  pub methods : each_once_after now.methods.keys (calls_in left) ≡ each_once_after before.methods.keys (calls_in all)
   pub makes : new.makes.items ++ makes_in left ≡ old.makes.items ++ makes_in all
   pub vals : new.vals.items ++ ns ≡ old.vals.items ++ ms
 
-gathering_less : (before now next : List (List ℕ)) (old new later : Found) (es left whole all : List Expr) (ns rest both ms : List ℕ) → whole ≡ es ++ left → both ≡ ns ++ rest →
+gathering_less : (before now next : Names) (old new later : Found) (es left whole all : List Expr) (ns rest both ms : List ℕ) → whole ≡ es ++ left → both ≡ ns ++ rest →
     Gathering before now old new whole all both ms → Gathers now next new later es ns → Gathering before next old later left all rest ms
 gathering_less before now next old new later es left whole all ns rest both ms p q x y = record {
   texts =
-      ap (λ z. each_once_after z (texts_in left)) y.texts ∙ sym (once_append now (texts_in es) (texts_in left)) ∙ ap (each_once_after now) (sym (ap texts_in p ∙ texts_append es left)) ∙ x.texts;
+      ap (λ z. each_once_after z (texts_in left)) y.texts ∙ sym (once_append now.texts.keys (texts_in es) (texts_in left)) ∙ ap (each_once_after now.texts.keys) (sym (ap texts_in p ∙ texts_append es left)) ∙ x.texts;
+  methods =
+      ap (λ z. each_once_after z (calls_in left)) y.methods ∙ sym (once_append now.methods.keys (calls_in es) (calls_in left)) ∙ ap (each_once_after now.methods.keys) (sym (ap calls_in p ∙ calls_append es left)) ∙ x.methods;
   makes =
       ap (λ z. z ++ makes_in left) y.makes ∙ append_assoc new.makes.items (makes_in es) (makes_in left) ∙ ap (λ z. new.makes.items ++ z) (sym (ap makes_in p ∙ makes_append es left)) ∙ x.makes;
   vals = ap (λ z. z ++ rest) y.vals ∙ append_assoc new.vals.items ns rest ∙ ap (λ z. new.vals.items ++ z) (sym q) ∙ x.vals;
 }
 
-pub values_more : (before now next : List (List ℕ)) (old new later : Found) (xs : List v.Value) (i : ℕ) (x : v.Value) (all : List Expr) (ms : List ℕ) → i < length xs → x ≡ get_or xs i x →
+pub values_more : (before now next : Names) (old new later : Found) (xs : List v.Value) (i : ℕ) (x : v.Value) (all : List Expr) (ms : List ℕ) → i < length xs → x ≡ get_or xs i x →
     Gathering before now old new (values_parts (values_of (drop i xs))) all (values_vals (values_of (drop i xs))) ms → Gathers now next new later (value_parts (value_of x)) (value_vals (value_of x)) →
     Gathering before next old later (values_parts (values_of (drop (i + 1) xs))) all (values_vals (values_of (drop (i + 1) xs))) ms
 values_more before now next old new later xs i x all ms lt same l e =
@@ -65,12 +74,13 @@ values_more before now next old new later xs i x all ms lt same l e =
     gathering_less before now next old new later (value_parts (value_of x)) (values_parts (values_of (drop (i + 1) xs))) (values_parts (values_of (drop i xs))) all (value_vals (value_of x)) (values_vals (values_of (drop (i + 1) xs))) (values_vals (values_of (drop i xs))) ms
     (ap (λ ys. values_parts (values_of ys)) at) (ap (λ ys. values_vals (values_of ys)) at) l e
 
-pub values_end : (before now : List (List ℕ)) (old new : Found) (xs : List v.Value) (i : ℕ) (all : List Expr) (ms : List ℕ) → length xs ≤ i →
+pub values_end : (before now : Names) (old new : Found) (xs : List v.Value) (i : ℕ) (all : List Expr) (ms : List ℕ) → length xs ≤ i →
     Gathering before now old new (values_parts (values_of (drop i xs))) all (values_vals (values_of (drop i xs))) ms → Gathers before now old new all ms
 values_end before now old new xs i all ms le x =
     let none = drop_all xs i le in
     record {
-      texts = ap (λ ys. each_once_after now (texts_in (values_parts (values_of ys)))) (sym none) ∙ x.texts;
+      texts = ap (λ ys. each_once_after now.texts.keys (texts_in (values_parts (values_of ys)))) (sym none) ∙ x.texts;
+      methods = ap (λ ys. each_once_after now.methods.keys (calls_in (values_parts (values_of ys)))) (sym none) ∙ x.methods;
       makes = sym (append-nil new.makes.items) ∙ ap (λ ys. new.makes.items ++ makes_in (values_parts (values_of ys))) (sym none) ∙ x.makes;
       vals = sym (append-nil new.vals.items) ∙ ap (λ ys. new.vals.items ++ values_vals (values_of ys)) (sym none) ∙ x.vals;
     }
@@ -83,7 +93,7 @@ vals_first : (x : s.Stmt) (rest : Block) → block_vals (stmt_block x rest) ≡ 
 vals_first (s.Val place n typ x) rest = refl
 vals_first (s.Do x) rest = refl
 
-pub block_more : (before now next : List (List ℕ)) (old new later : Found) (xs : List s.Stmt) (i : ℕ) (x : s.Stmt) (last : Block) (all : List Expr) (ms : List ℕ) → i < length xs → x ≡ get_or xs i x →
+pub block_more : (before now next : Names) (old new later : Found) (xs : List s.Stmt) (i : ℕ) (x : s.Stmt) (last : Block) (all : List Expr) (ms : List ℕ) → i < length xs → x ≡ get_or xs i x →
     Gathering before now old new (block_parts (stmts_block (drop i xs) last)) all (block_vals (stmts_block (drop i xs) last)) ms → Gathers now next new later (statement_parts x) (statement_vals x) →
     Gathering before next old later (block_parts (stmts_block (drop (i + 1) xs) last)) all (block_vals (stmts_block (drop (i + 1) xs) last)) ms
 block_more before now next old new later xs i x last all ms lt same l e =
@@ -92,14 +102,15 @@ block_more before now next old new later xs i x last all ms lt same l e =
     gathering_less before now next old new later (statement_parts x) (block_parts rest) (block_parts (stmts_block (drop i xs) last)) all (statement_vals x) (block_vals rest) (block_vals (stmts_block (drop i xs) last)) ms
     (ap (λ ys. block_parts (stmts_block ys last)) at ∙ parts_first x rest) (ap (λ ys. block_vals (stmts_block ys last)) at ∙ vals_first x rest) l e
 
-pub block_end : (before now next : List (List ℕ)) (old new later : Found) (xs : List s.Stmt) (i : ℕ) (x u : Value) (all : List Expr) (ms : List ℕ) → length xs ≤ i → u ≡ x →
+pub block_end : (before now next : Names) (old new later : Found) (xs : List s.Stmt) (i : ℕ) (x u : Value) (all : List Expr) (ms : List ℕ) → length xs ≤ i → u ≡ x →
     Gathering before now old new (block_parts (stmts_block (drop i xs) (Last x))) all (block_vals (stmts_block (drop i xs) (Last x))) ms → Gathers now next new later (value_parts u) (value_vals u) → Gathers before next old later all ms
 block_end before now next old new later xs i x u all ms le same l e =
     let none = drop_all xs i le in
     let parts = ap (λ ys. block_parts (stmts_block ys (Last x))) none ∙ ap value_parts (sym same) in
     let vals = ap (λ ys. block_vals (stmts_block ys (Last x))) none ∙ ap value_vals (sym same) in
     record {
-      texts = e.texts ∙ ap (λ z. each_once_after now (texts_in z)) (sym parts) ∙ l.texts;
+      texts = e.texts ∙ ap (λ z. each_once_after now.texts.keys (texts_in z)) (sym parts) ∙ l.texts;
+      methods = e.methods ∙ ap (λ z. each_once_after now.methods.keys (calls_in z)) (sym parts) ∙ l.methods;
       makes = e.makes ∙ ap (λ z. new.makes.items ++ makes_in z) (sym parts) ∙ l.makes;
       vals = e.vals ∙ ap (λ z. new.vals.items ++ z) (sym vals) ∙ l.vals;
     }
@@ -107,35 +118,40 @@ block_end before now next old new later xs i x u all ms le same l e =
 ------------------------------------------------------------
 -- Forms of several parts
 
-module _ (k : List (List ℕ)) (f : Found) where
-  gathers_expr : (l : List (List ℕ)) (g : Found) (u x : Expr) → u ≡ x → Gathers k l f g (expr_parts u) (expr_vals u) → Gathers k l f g (expr_parts x) (expr_vals x)
+module _ (k : Names) (f : Found) where
+  gathers_expr : (l : Names) (g : Found) (u x : Expr) → u ≡ x → Gathers k l f g (expr_parts u) (expr_vals u) → Gathers k l f g (expr_parts x) (expr_vals x)
   gathers_expr l g u x same h = subst (λ (z : Expr). Gathers k l f g (expr_parts z) (expr_vals z)) same h
 
-  pub gathers_text_call : (l : List (List ℕ)) (g : Found) (e : Expr) (place : Place) (o : TextOperator) (xs : Values) → e ≡ TextCall place o xs → Gathers k l f g (values_parts xs) (values_vals xs) → Gathers k l f g (expr_parts e) (expr_vals e)
-  gathers_text_call l g e place o xs form h = gathers_expr l g (TextCall place o xs) e (sym form) (record { texts = h.texts; makes = h.makes; vals = h.vals })
+  pub gathers_text_call : (l : Names) (g : Found) (e : Expr) (place : Place) (o : TextOperator) (xs : Values) → e ≡ TextCall place o xs → Gathers k l f g (values_parts xs) (values_vals xs) → Gathers k l f g (expr_parts e) (expr_vals e)
+  gathers_text_call l g e place o xs form h = gathers_expr l g (TextCall place o xs) e (sym form) (record { texts = h.texts; methods = h.methods; makes = h.makes; vals = h.vals })
 
-  pub gathers_new : (m : List (List ℕ)) (g h : Found) (e : Expr) (place : Place) (n : ℕ) (xs : Values) → e ≡ New place n xs → g.makes.items ≡ f.makes.items ++ n ∷ [] → g.vals.items ≡ f.vals.items →
+  pub gathers_new : (m : Names) (g h : Found) (e : Expr) (place : Place) (n : ℕ) (xs : Values) → e ≡ New place n xs → g.makes.items ≡ f.makes.items ++ n ∷ [] → g.vals.items ≡ f.vals.items →
       Gathers k m g h (values_parts xs) (values_vals xs) → Gathers k m f h (expr_parts e) (expr_vals e)
   gathers_new m g h e place n xs form made same x = gathers_expr m h (New place n xs) e (sym form) (record {
     texts = x.texts;
+    methods = x.methods;
     makes = x.makes ∙ ap (λ l. l ++ makes_in (values_parts xs)) made ∙ append_assoc f.makes.items (n ∷ []) (makes_in (values_parts xs));
     vals = x.vals ∙ ap (λ l. l ++ values_vals xs) same;
   })
 
-  pub gathers_binary : (l m : List (List ℕ)) (g h : Found) (e : Expr) (place : Place) (o : BinaryOperator) (x y u w : Expr) → e ≡ Binary place o x y → u ≡ x → w ≡ y →
+  pub gathers_binary : (l m : Names) (g h : Found) (e : Expr) (place : Place) (o : BinaryOperator) (x y u w : Expr) → e ≡ Binary place o x y → u ≡ x → w ≡ y →
       Gathers k l f g (expr_parts u) (expr_vals u) → Gathers l m g h (expr_parts w) (expr_vals w) → Gathers k m f h (expr_parts e) (expr_vals e)
   gathers_binary l m g h e place o x y u w form first second p q =
       let second = subst (λ (z : Expr). Gathers l m g h (expr_parts z) (expr_vals z)) second q in
       let r = gathers_then k l m f g h (expr_parts x) (expr_parts y) (expr_vals x) (expr_vals y) (gathers_expr l g u x first p) second in
-      gathers_expr m h (Binary place o x y) e (sym form) (record { texts = r.texts; makes = r.makes; vals = r.vals })
+      gathers_expr m h (Binary place o x y) e (sym form) (record { texts = r.texts; methods = r.methods; makes = r.makes; vals = r.vals })
 
-  pub gathers_call : (l m : List (List ℕ)) (g h : Found) (e : Expr) (place : Place) (x u : Expr) (name : List ℕ) (xs : Values) → e ≡ Call place x name xs → u ≡ x →
-      Gathers k l f g (expr_parts u) (expr_vals u) → Gathers l m g h (values_parts xs) (values_vals xs) → Gathers k m f h (expr_parts e) (expr_vals e)
-  gathers_call l m g h e place x u name xs form first p q =
-      let r = gathers_then k l m f g h (expr_parts x) (values_parts xs) (expr_vals x) (values_vals xs) (gathers_expr l g u x first p) q in
-      gathers_expr m h (Call place x name xs) e (sym form) (record { texts = r.texts; makes = r.makes; vals = r.vals })
+  pub gathers_call : (l m n : Names) (g h : Found) (e : Expr) (place : Place) (x u : Expr) (name : List ℕ) (xs : Values) → e ≡ Call place x name xs → u ≡ x →
+      Gathers k l f g (expr_parts u) (expr_vals u) → Gathers l m g h (values_parts xs) (values_vals xs) → n.texts.keys ≡ m.texts.keys → n.methods.keys ≡ each_once_after m.methods.keys (name ∷ []) →
+      Gathers k n f h (expr_parts e) (expr_vals e)
+  gathers_call l m n g h e place x u name xs form first p q same put =
+      let own : Gathers m n h h (Call place x name xs ∷ []) [] = record { texts = same; methods = put; makes = sym (append-nil h.makes.items); vals = sym (append-nil h.vals.items) } in
+      let rest = gathers_then l m n g h h (values_parts xs) (Call place x name xs ∷ []) (values_vals xs) [] q own in
+      let all = gathers_then k l n f g h (expr_parts x) (values_parts xs ++ Call place x name xs ∷ []) (expr_vals x) (values_vals xs ++ []) (gathers_expr l g u x first p) rest in
+      gathers_expr n h (Call place x name xs) e (sym form)
+      (gathers_as k n f h (expr_parts x ++ (values_parts xs ++ Call place x name xs ∷ [])) _ (expr_vals x ++ (values_vals xs ++ [])) _ refl (ap (λ l. expr_vals x ++ l) (append-nil (values_vals xs))) all)
 
-  pub gathers_if : (l m n : List (List ℕ)) (g h i : Found) (e : Value) (place : Place) (test u : Expr) (first second : Block) → e ≡ If place test first second → u ≡ test →
+  pub gathers_if : (l m n : Names) (g h i : Found) (e : Value) (place : Place) (test u : Expr) (first second : Block) → e ≡ If place test first second → u ≡ test →
       Gathers k l f g (expr_parts u) (expr_vals u) → Gathers l m g h (block_parts first) (block_vals first) → Gathers m n h i (block_parts second) (block_vals second) → Gathers k n f i (value_parts e) (value_vals e)
   gathers_if l m n g h i e place test u first second form same p q r =
       subst (λ (z : Value). Gathers k n f i (value_parts z) (value_vals z)) (sym form) (

@@ -2,6 +2,7 @@
 use Rattle.std.proofs.Common.{◌≡◌, inl, ℕ, suc, ◌+◌, ◌<◌, ◌≤◌, true, false, List, [], ◌∷◌, ◌++◌, length, drop, Option, Some, None, refl, sym, ap, ◌∙◌, subst, arith, if◌then◌else◌}
 use Rattle.std.proofs.lemmas.Bool.{lt-ltb}
 use Rattle.std.specs.Prelude.{slice_get, slice_set}
+use Rattle.wy_effects.proofs.Lists.{In-right}
 use Rattle.wy_text.specs.declared.fault.Place.{Place}
 use Rattle.wy_types.specs.declared.code.Variable.{Variable}
 use Rattle.wy_types.specs.declared.code.Variable.TheVariants.{Local}
@@ -32,7 +33,7 @@ use Rattle.wy_lower.specs.Lowering.{inside_maker, lowered}
 use Rattle.wy_lower.specs.Operands.{two_operands, operands, value_operands, values_operands, block_operands}
 use Rattle.wy_lower.specs.Parts.{expr_parts, value_parts, values_parts, block_parts, number_in}
 use Rattle.wy_lower.proofs.Addresses.{Stands, first_stands, rest_stands, end_stands, One, state, pushed, piled, acts, pushes}
-use Rattle.wy_lower.proofs.Allowed.{Allowed, first_allowed, rest_allowed, val_allowed, behind_allowed, inner_allowed, some_operands, some_value_operands}
+use Rattle.wy_lower.proofs.Allowed.{Allowed, first_allowed, rest_allowed, val_allowed, behind_allowed, before_allowed, inner_allowed, some_operands, some_value_operands}
 use Rattle.wy_lower.proofs.Leads.{Runs, give_runs, node_runs, tick_runs, bind_runs, finer_runs}
 use Rattle.wy_lower.proofs.Making.{new_runs}
 use Rattle.wy_lower.proofs.NamesFound.{Belongs, this_runs, name_runs}
@@ -220,13 +221,15 @@ module _ (p : Program) (s : Starts) (ok : Lowerable p s) (has : HasGrants p s) (
         (room_left c.store.texts w sight c.slots stack _ q.ready.holds room (some_operands p sc owner (TextCall place o es) seen f))
         (rest_stands b at _ _ end h)))
     expr_runs (Call place e name es) sight seen f al at end h w0 m0 w m slots r stack room =
-        let inner = inner_allowed p s sc i sight _ _ _ al in
+        let values = before_allowed p s sc i sight (values_parts es) (Call place e name es ∷ []) _
+        (rest_allowed p s sc i sight (expr_parts e) _ (expr_vals e) _ al) in
+        let named = al.good (Call place e name es) (In-right _ (expr_parts e) _ (In-right _ (values_parts es) _ (inl refl))) in
         let rest = rest_stands b at _ _ end h in
         node_runs _ _ _ _ _ _
-        (bind_runs _ _ _ _ _ _ _ _ _ (expr_runs e sight seen f.0 (first_allowed p s sc i sight _ _ _ _ inner) at _
+        (bind_runs _ _ _ _ _ _ _ _ _ (expr_runs e sight seen f.0 (first_allowed p s sc i sight (expr_parts e) _ (expr_vals e) _ al) at _
         (first_stands b at _ _ end h) w0 m0 w m slots r stack (omega arith))
         (λ v w1 c q. bind_runs _ _ _ _ _ _ _ _ _
-        (all_run es sight seen f.1 (rest_allowed p s sc i sight _ _ _ _ inner) _ _ (first_stands b _ _ _ end rest) w1 c.store w1 c.store c.slots
+        (all_run es sight seen f.1 values _ _ (first_stands b _ _ _ end rest) w1 c.store w1 c.store c.slots
         (ready_now p s i x sight w0 m0 w1 c.store c.slots q.ready) (c.word ∷ stack) (omega arith))
         (λ vs w2 a t.
         apply_runs p s has n d calls called i x sight w0 m0 b callers _ end stack w2 a.store a.slots
@@ -234,7 +237,8 @@ module _ (p : Program) (s : Starts) (ok : Lowerable p s) (has : HasGrants p s) (
         (room_left a.store.texts w2 sight a.slots stack _ t.ready.holds room (omega arith)) place v c.word name (value_count es) vs a.words
         (same_stays c.store.texts a.store.texts t.ready.later.texts v c.word q.same) t.same t.count
         (subst (λ l. Stands b (at + length (listing i at e) + length (values_listing i (at + length (listing i at e)) es))
-        (one place (CallMethod (number_in l name) (value_count es))) end) of_scope.methods (rest_stands b _ _ _ end rest)))))
+        (one place (CallMethod (number_in l name) (value_count es))) end) of_scope.methods (rest_stands b _ _ _ end rest))
+        (subst (λ l. slice_get (lowered p s).methods (number_in l name) ≡ Some name) of_scope.methods named))))
     expr_runs (New place l es) sight seen f al at end h w0 m0 w m slots r stack room =
         node_runs _ _ _ _ _ _
         (bind_runs _ _ _ _ _ _ _ _ _ (all_run es sight seen f.4 (inner_allowed p s sc i sight _ _ _ al) at _

@@ -29,6 +29,7 @@ pub mod LiteralsMade
 pub mod Looking
 pub mod Making
 pub mod NamesFound
+pub mod NamesInOrder
 pub mod Numbers
 pub mod Ready
 pub mod Relation
@@ -40,5 +41,6 @@ pub mod Standing
 pub mod StartingRuns
 pub mod Steps
 pub mod Tables
+pub mod ValsStored
 pub mod Whole
 pub mod Worlds

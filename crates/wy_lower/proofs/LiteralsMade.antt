@@ -1,5 +1,5 @@
 -- The literals of the `new` expressions among a scope's expressions are those that its start and its bodies make.
-use Rattle.std.proofs.Common.{◌≡◌, ℕ, List, [], ◌∷◌, ◌++◌, refl, sym, ◌∙◌, ap, append_assoc}
+use Rattle.std.proofs.Common.{◌≡◌, ℕ, List, [], ◌∷◌, ◌++◌, refl, sym, ◌∙◌, ap, append_assoc, append-nil}
 use Rattle.wy_types.specs.Code as code
 use Rattle.wy_types.specs.Code.{Expr, Number, Quoted, Truth, Nothing, This, Name, Unary, Binary, TextCall, Call, New, Ascribe, Assign, Plain, If, Values, none, more, Block, Last, Then, Val}
 use Rattle.wy_types.specs.Program.{Scope, Body, Start, Init, Run}
@@ -26,7 +26,8 @@ mutual
   expr_made (Unary place o x) = expr_made x
   expr_made (Binary place o x y) = made_both (expr_parts x) (expr_parts y) (expr_news x) (expr_news y) (expr_made x) (expr_made y)
   expr_made (TextCall place o xs) = values_made xs
-  expr_made (Call place x name xs) = made_both (expr_parts x) (values_parts xs) (expr_news x) (values_news xs) (expr_made x) (values_made xs)
+  expr_made (Call place x name xs) = made_both (expr_parts x) (values_parts xs ++ Call place x name xs ∷ []) (expr_news x) (values_news xs) (expr_made x)
+      (made_both (values_parts xs) (Call place x name xs ∷ []) (values_news xs) [] (values_made xs) refl ∙ append-nil (values_news xs))
   expr_made (New place l xs) = ap (λ ls. l ∷ ls) (values_made xs)
   expr_made (Ascribe place x t) = value_made x
   expr_made (Assign place name x) = value_made x

@@ -4,7 +4,7 @@ use Rattle.std.specs.Prelude.{slice_get}
 use Rattle.wy_types.specs.Program.{Program, Scope, Body}
 use Rattle.wy_code.specs.declared.code.Scope as code
 use Rattle.wy_meaning.specs.Starts.{Starts}
-use Rattle.wy_lower.specs.Lowering.{start_code, body_code, bodies_code, scopes_bodies, literals_code, scopes_code, lowered}
+use Rattle.wy_lower.specs.Lowering.{start_code, body_code, bodies_code, scopes_bodies, scope_arguments, literals_code, scopes_code, lowered}
 use Rattle.wy_lower.specs.Laws.{HasItsBodies}
 use Rattle.wy_lower.proofs.Counting.{methods_counted}
 
@@ -20,7 +20,7 @@ behind (x ∷ xs) ys k (suc n) e = behind xs ys k n (omega arith)
 
 module _ (p : Program) (starts : Starts) where
   abbrev scope_code : ℕ → Scope → code.Scope
-  scope_code first sc = record { arguments = length sc.names; start = first; literals = literals_code p starts sc first 0 sc.literals }
+  scope_code first sc = record { arguments = scope_arguments sc; start = first; literals = literals_code p starts sc first 0 sc.literals }
 
   method_stands : (sc : Scope) (bs : List Body) (j k n : ℕ) (b : Body) → n ≡ j + k → slice_get bs k ≡ Some b → slice_get (bodies_code p starts sc j bs) k ≡ Some (body_code p starts sc n b)
   method_stands sc [] j k n b e h = absurd cc

@@ -8,8 +8,6 @@ use Rattle.wy_types.specs.declared.code.TextOperator.{TextOperator}
 use Rattle.wy_types.specs.declared.code.TextOperator.TheVariants as text
 use Rattle.wy_types.specs.Core.{text_arity}
 use Rattle.wy_types.specs.Program.{Program}
-use Rattle.wy_device.specs.declared.operation.Op.{Op}
-use Rattle.wy_device.specs.Requests.{operation_of}
 use Rattle.wy_meaning.specs.Values.{Value, World}
 use Rattle.wy_meaning.specs.Starts.{Starts, GrantIs, grant_of}
 use Rattle.wy_meaning.specs.Eval.{Sight, Calls, choose, apply}
@@ -34,7 +32,7 @@ use Rattle.wy_lower.proofs.Addresses.{Stands, state, pushed, pile, takes, acts, 
 use Rattle.wy_lower.proofs.Leads.{Runs, give_runs, tick_runs, wrong_step_runs}
 use Rattle.wy_lower.proofs.Ready.{Ready, Fine}
 use Rattle.wy_lower.proofs.Relation.{Same, same_int, same_truth, same_nothing, same_text, same_object, same_grant, SameAll}
-use Rattle.wy_lower.proofs.Replies.{operated_fits, performed_fits}
+use Rattle.wy_lower.proofs.Replies.{operated_fits, HasGrant, performed_fits}
 
 unary_meant : (o : UnaryOperator) → operator_meant (unary_code o) ≡ unary_operator o
 unary_meant unary.Negate = refl
@@ -142,11 +140,9 @@ pub record CallsRun (p : Program) (s : Starts) (n d : ℕ) (calls : Calls) : Typ
       Does p s i x sight w0 m0 (lowered p s) n b callers end stack (state x b callers at slots (pile zs (word.Object a ∷ stack)) m)
       (tick (calls a name vs w))
 
--- the code has the program's grants, and the names of the methods that they have
+-- the code has the program's grants
 pub record HasGrants (p : Program) (s : Starts) : Type 0 where
-  pub grants : (k : ℕ) (y : GrantIs) → grant_of p k ≡ Some y → slice_get (lowered p s).grants k ≡ Some (record { name = y.name; kind = y.kind })
-  pub methods : (y : GrantIs) (name : List ℕ) (ts : List (List ℕ)) (op : Op) → operation_of y.kind name ts ≡ Some op →
-      slice_get (lowered p s).methods (number_in (method_table p) name) ≡ Some name
+  pub grants : (k : ℕ) (y : GrantIs) → grant_of p k ≡ Some y → HasGrant y (slice_get (lowered p s).grants k)
 
 module _ (p : Program) (s : Starts) (has : HasGrants p s) (n d : ℕ) (calls : Calls) (ok : CallsRun p s n d calls) (i : Inside) (x : ℕ) (sight : Sight)
     (w0 : World) (m0 : Store) (b : Body) (callers : List Frame) (at end : ℕ) (stack : List Word) (w : World) (m : Store) (slots : List Word)
@@ -154,22 +150,23 @@ module _ (p : Program) (s : Starts) (has : HasGrants p s) (n d : ℕ) (calls : C
   -- a call on an object, or an operation on a grant
   pub apply_runs : (place : Place) (v : Value) (z : Word) (name : List ℕ) (k : ℕ) (vs : List Value) (zs : List Word) → Same m.texts v z →
       SameAll m.texts vs zs → length zs ≡ k → Stands b at (one place (Call (number_in (method_table p) name) k)) end →
+      slice_get (lowered p s).methods (number_in (method_table p) name) ≡ Some name →
       Does p s i x sight w0 m0 (lowered p s) n b callers end stack (state x b callers at slots (pile zs (z ∷ stack)) m)
       (tick (apply p calls place v name vs w))
-  apply_runs place v z name k vs zs (same_object a) same many code =
+  apply_runs place v z name k vs zs (same_object a) same many code named =
       ok.by i x sight w0 m0 b callers at end stack w m slots r deep place a name k vs zs same many code
-  apply_runs place v z name k vs zs (same_grant a) same many code =
+  apply_runs place v z name k vs zs (same_grant a) same many code named =
       answer_runs x b callers (Fine p s i x sight w0 m0) slots (lowered p s) n end stack m _ room _ _
       (performed_fits p s i x sight w0 m0 slots w m r place (grant_of p a) (slice_get (lowered p s).grants a) name
-      (slice_get (lowered p s).methods (number_in (method_table p) name)) vs zs same (has.grants a) (λ y ts op e. has.methods y name ts op e))
+      (slice_get (lowered p s).methods (number_in (method_table p) name)) vs zs same (has.grants a) named)
       (acts x b callers (lowered p s) n at place _ end slots (pile zs (word.Grant a ∷ stack)) m code
       ∙ ap (λ t. on_taken t (state x b callers end slots (pile zs (word.Grant a ∷ stack)) m)
       (λ us u. pop u (λ c u. call_on (lowered p s) n place (number_in (method_table p) name) us c u))) (takes zs (word.Grant a ∷ stack) k many))
-  apply_runs place v z name k vs zs (same_int q) same many code =
+  apply_runs place v z name k vs zs (same_int q) same many code named =
       wrong_step_runs (lowered p s) n (Fine p s i x sight w0 m0) (pushed x b callers end stack) _ w
-  apply_runs place v z name k vs zs (same_truth q) same many code =
+  apply_runs place v z name k vs zs (same_truth q) same many code named =
       wrong_step_runs (lowered p s) n (Fine p s i x sight w0 m0) (pushed x b callers end stack) _ w
-  apply_runs place v z name k vs zs same_nothing same many code =
+  apply_runs place v z name k vs zs same_nothing same many code named =
       wrong_step_runs (lowered p s) n (Fine p s i x sight w0 m0) (pushed x b callers end stack) _ w
-  apply_runs place v z name k vs zs (same_text bytes q e) same many code =
+  apply_runs place v z name k vs zs (same_text bytes q e) same many code named =
       wrong_step_runs (lowered p s) n (Fine p s i x sight w0 m0) (pushed x b callers end stack) _ w

@@ -5,7 +5,8 @@ use Rattle.wy_types.specs.Code.{Expr, New}
 use Rattle.wy_types.specs.Core.{value_vals}
 use Rattle.wy_types.specs.View.{value_of}
 use Rattle.wy_lower.specs.declared.gathering.Found.{Found}
-use Rattle.wy_lower.specs.Parts.{value_parts, texts_in, each_once_after}
+use Rattle.wy_lower.specs.declared.gathering.Names.{Names}
+use Rattle.wy_lower.specs.Parts.{value_parts, texts_in, calls_in, each_once_after}
 
 abbrev pub make_in : Expr → List ℕ
 make_in (New place l xs) = l ∷ []
@@ -25,7 +26,8 @@ statement_vals (Val place n typ x) = n ∷ value_vals (value_of x)
 statement_vals (Do x) = value_vals (value_of x)
 
 -- these expressions, with these `val`s, were collected
-pub record Gathers (before after : List (List ℕ)) (old new : Found) (es : List Expr) (ns : List ℕ) : Type 0 where
-  pub texts : after ≡ each_once_after before (texts_in es)
+pub record Gathers (before after : Names) (old new : Found) (es : List Expr) (ns : List ℕ) : Type 0 where
+  pub texts : after.texts.keys ≡ each_once_after before.texts.keys (texts_in es)
+  pub methods : after.methods.keys ≡ each_once_after before.methods.keys (calls_in es)
   pub makes : new.makes.items ≡ old.makes.items ++ makes_in es
   pub vals : new.vals.items ≡ old.vals.items ++ ns

@@ -5,6 +5,8 @@ use Rattle.wy_types.specs.Code.{Block}
 use Rattle.wy_types.specs.Program.{Program, Scope, Body}
 use Rattle.wy_code.specs.declared.code.Scope as code
 use Rattle.wy_rules.specs.Acceptance.{Accepted}
+use Rattle.wy_code.specs.declared.code.Body as b
+use Rattle.wy_code.specs.Named.{HasStoredVals}
 use Rattle.wy_code.specs.Running.{NeverStuck, machine}
 use Rattle.wy_device.specs.Tapes.{Tapes}
 use Rattle.wy_meaning.specs.Starts.{Starts}
@@ -15,8 +17,8 @@ use Rattle.wy_lower.specs.Counts.{body_count}
 use Rattle.wy_lower.specs.Inside.{Inside}
 use Rattle.wy_lower.specs.Listing.{block_listing}
 use Rattle.wy_lower.specs.Lowerable.{Lowerable}
-use Rattle.wy_lower.specs.Lowering.{declared_names, written_names, start_code, body_code, literals_code, lowered}
-use Rattle.wy_lower.specs.Parts.{scopes_parts, texts_in, number_in}
+use Rattle.wy_lower.specs.Lowering.{entry_names, start_code, body_code, scope_arguments, literals_code, lowered}
+use Rattle.wy_lower.specs.Parts.{scopes_parts, texts_in, calls_in, number_in}
 
 -- the code has as many bodies as are counted
 abbrev pub HasCountedBodies : Program → Starts → Type 0
@@ -27,21 +29,25 @@ abbrev pub HasItsTexts : Program → Starts → Type 0
 HasItsTexts p s =
     (bytes : List ℕ) → In bytes (texts_in (scopes_parts p.scopes)) → slice_get (lowered p s).texts (number_in (lowered p s).texts bytes) ≡ Some bytes
 
--- so is the name of each method of its types, modules and literals
+-- so is the name of each call, and of each method of its modules and literals
 abbrev pub HasItsMethodNames : Program → Starts → Type 0
 HasItsMethodNames p s =
-    (name : List ℕ) → In name (declared_names p.declarations ++ written_names p.scopes) →
+    (name : List ℕ) → In name (calls_in (scopes_parts p.scopes) ++ entry_names p.scopes) →
     slice_get (lowered p s).methods (number_in (lowered p s).methods name) ≡ Some name
 
 -- a scope is found at its number, its `init` or `run` at the number that it says, and its methods after that one
 pub record Stands (p : Program) (s : Starts) (c : ℕ) (sc : Scope) : Type 0 where
   pub first : ℕ
-  pub scope : slice_get (lowered p s).scopes c ≡ Some (let x : code.Scope = record { arguments = length sc.names; start = first; literals = literals_code p s sc first 0 sc.literals } in x)
+  pub scope : slice_get (lowered p s).scopes c ≡ Some (let x : code.Scope = record { arguments = scope_arguments sc; start = first; literals = literals_code p s sc first 0 sc.literals } in x)
   pub start : slice_get (lowered p s).bodies first ≡ Some (start_code p s sc)
   pub bodies : (k : ℕ) (b : Body) → slice_get sc.bodies k ≡ Some b → slice_get (lowered p s).bodies (first + 1 + k) ≡ Some (body_code p s sc k b)
 
 abbrev pub HasItsBodies : Program → Starts → Type 0
 HasItsBodies p s = (c : ℕ) (sc : Scope) → slice_get p.scopes c ≡ Some sc → Stands p s c sc
+
+-- each of the code's bodies has as many `val`s as its instructions say
+abbrev pub HasItsVals : Program → Starts → Type 0
+HasItsVals p s = (b : b.Body) → In b (lowered p s).bodies → HasStoredVals b
 
 -- how long the code of a block is does not depend on where it begins
 abbrev pub HasFixedLength : Inside → Block → Type 0

@@ -1,14 +1,16 @@
 -- The code of a program with its instances in start order. (docs/LANGUAGE.md, "Code of programs")
 use Rattle.std.specs.Prelude.{codes, ℕ, ◌+◌, Bool, true, false, List, [], ◌∷◌, ◌++◌, length, map, Option, Some, None, nat_eq, slice_get, if◌then◌else◌}
-use Rattle.wy_types.specs.declared.types.Method.{Method}
 use Rattle.wy_types.specs.declared.code.Variable.{Variable}
 use Rattle.wy_types.specs.declared.linked.Actual.{Actual}
 use Rattle.wy_types.specs.declared.linked.Actual.TheVariants as actual
-use Rattle.wy_types.specs.declared.resolved.TypeDecl.{TypeDecl}
 use Rattle.wy_types.specs.declared.resolved.Literal.{Literal}
+use Rattle.wy_types.specs.declared.resolved.Origin.{Origin}
+use Rattle.wy_types.specs.declared.resolved.Origin.TheVariants as origin
 use Rattle.wy_types.specs.declared.resolved.OwnName.{OwnName}
 use Rattle.wy_types.specs.declared.resolved.ScopeKind.{ScopeKind}
 use Rattle.wy_types.specs.declared.resolved.ScopeKind.TheVariants as kind
+use Rattle.wy_types.specs.declared.types.TypeRef.{TypeRef}
+use Rattle.wy_types.specs.declared.types.TypeRef.TheVariants.{Int, Bool as Truth, Text, Unit as Nothing, Named, At, Own}
 use Rattle.wy_types.specs.Core.{literal_captures, block_vals, start_vals}
 use Rattle.wy_types.specs.Program.{Program, Scope, Body, Start, Init, Run}
 use Rattle.wy_code.specs.declared.code.Argument.{Argument}
@@ -21,11 +23,13 @@ use Rattle.wy_code.specs.declared.code.Literal as l
 use Rattle.wy_code.specs.declared.code.Method as m
 use Rattle.wy_code.specs.declared.code.Scope as s
 use Rattle.wy_code.specs.declared.code.Source.{Source}
+use Rattle.wy_code.specs.declared.primitive.Primitive.{Primitive}
+use Rattle.wy_code.specs.declared.primitive.Primitive.TheVariants as primitive
 use Rattle.wy_code.specs.declared.instruction.Placed.{Placed}
 use Rattle.wy_code.specs.declared.instruction.Instruction.TheVariants.{Return, Finish}
-use Rattle.wy_meaning.specs.Starts.{Started, Starts, GrantIs, grant_named, scope_names, last_scope}
+use Rattle.wy_meaning.specs.Starts.{Started, Starts, scope_names, last_scope}
 use Rattle.wy_meaning.specs.Eval.{body_text}
-use Rattle.wy_lower.specs.Parts.{block_parts, scopes_parts, texts_in, make_literal, each_once, number_in}
+use Rattle.wy_lower.specs.Parts.{block_parts, scopes_parts, texts_in, calls_in, make_literal, each_once, number_in}
 use Rattle.wy_lower.specs.Inside.{Inside, capture_sources}
 use Rattle.wy_lower.specs.Listing.{one, block_listing, fields_listing}
 use Rattle.wy_lower.specs.Operands.{block_operands, start_operands}
@@ -36,17 +40,23 @@ use Rattle.wy_lower.specs.Operands.{block_operands, start_operands}
 abbrev pub text_table : Program → List (List ℕ)
 text_table p = each_once (texts_in (scopes_parts p.scopes))
 
-abbrev pub declared_names : List TypeDecl → List (List ℕ)
-declared_names [] = []
-declared_names (d ∷ ds) = map (λ (m : Method). m.name) d.methods ++ declared_names ds
+-- the names of the methods of the module (0) or of a literal
+abbrev pub owned_names : ℕ → List Body → List (List ℕ)
+owned_names l [] = []
+owned_names l (b ∷ bs) = if nat_eq b.owner l then b.signature.name ∷ owned_names l bs else owned_names l bs
 
-abbrev pub written_names : List Scope → List (List ℕ)
-written_names [] = []
-written_names (s ∷ ss) = map (λ (b : Body). b.signature.name) s.bodies ++ written_names ss
+-- those of the module and of all literals of a scope, from number k on
+abbrev pub kinds_names : ℕ → List Literal → List Body → List (List ℕ)
+kinds_names k [] bs = []
+kinds_names k (x ∷ xs) bs = owned_names k bs ++ kinds_names (k + 1) xs bs
 
--- the names of the methods of all types, and then of those of all modules and literals
+abbrev pub entry_names : List Scope → List (List ℕ)
+entry_names [] = []
+entry_names (s ∷ ss) = kinds_names 0 s.literals s.bodies ++ entry_names ss
+
+-- the names that calls have, and then those of the methods of modules and literals
 abbrev pub method_table : Program → List (List ℕ)
-method_table p = each_once (declared_names p.declarations ++ written_names p.scopes)
+method_table p = each_once (calls_in (scopes_parts p.scopes) ++ entry_names p.scopes)
 
 ------------------------------------------------------------
 -- Bodies
@@ -151,24 +161,53 @@ literals_code p starts s first k (x ∷ xs) =
       methods = methods_code p k (first + 1) s.bodies;
     } ∷ literals_code p starts s first (k + 1) xs
 
+-- how many arguments the instances of a scope are handed: one for each own name of a module, and none for the program
+abbrev pub scope_arguments : Scope → ℕ
+scope_arguments s = if is_program s.kind then 0 else length s.names
+
 -- the scopes, the first of which has this number as that of its first body
 abbrev pub scopes_code : Program → Starts → ℕ → List Scope → List s.Scope
 scopes_code p starts first [] = []
 scopes_code p starts first (s ∷ ss) =
-    record { arguments = length s.names; start = first; literals = literals_code p starts s first 0 s.literals } ∷
+    record { arguments = scope_arguments s; start = first; literals = literals_code p starts s first 0 s.literals } ∷
     scopes_code p starts (first + 1 + length s.bodies) ss
 
 ------------------------------------------------------------
 -- Grants, instances, the whole
 
-abbrev pub grant_code : Option GrantIs → List g.Grant
-grant_code None = []
-grant_code (Some x) = record { name = x.name; kind = x.kind } ∷ []
+-- the primitive types have the first numbers among the declared ones
+abbrev pub primitive_numbered : ℕ → Option Primitive
+primitive_numbered d =
+    if nat_eq d 0 then Some primitive.Console
+    else if nat_eq d 1 then Some primitive.Folder
+    else if nat_eq d 2 then Some primitive.Clock
+    else if nat_eq d 3 then Some primitive.Random
+    else None
+
+abbrev pub primitive_of_type : TypeRef → Option Primitive
+primitive_of_type (Named d members) = primitive_numbered d
+primitive_of_type Int = None
+primitive_of_type Truth = None
+primitive_of_type Text = None
+primitive_of_type Nothing = None
+primitive_of_type (At d bound) = None
+primitive_of_type (Own l) = None
+
+abbrev pub grant_of_type : List ℕ → Option Primitive → List g.Grant
+grant_of_type name None = []
+grant_of_type name (Some t) = record { name = name; primitive = t } ∷ []
+
+abbrev pub grant_code : Origin → OwnName → List g.Grant
+grant_code origin.Grant n = grant_of_type n.name (primitive_of_type n.typ)
+grant_code (origin.Parameter bare) n = []
+grant_code (origin.Use m) n = []
+grant_code (origin.Instance m arguments) n = []
+grant_code (origin.Import m arguments bound) n = []
 
 -- the grants among the program's own names, of which they are the first
 abbrev pub grants_code : List OwnName → List g.Grant
 grants_code [] = []
-grants_code (n ∷ ns) = grant_code (grant_named (Some n)) ++ grants_code ns
+grants_code (n ∷ ns) = grant_code n.origin n ++ grants_code ns
 
 abbrev pub argument_of : Actual → Argument
 argument_of (actual.Grant g) = argument.Grant g

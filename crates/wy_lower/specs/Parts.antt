@@ -1,9 +1,11 @@
--- The expressions of a body, in evaluation order, each before its parts; and what is looked for among them.
+-- The expressions of a body, in evaluation order, each before its parts, but a call behind them, where its own
+-- instruction stands; and what is looked for among them.
 -- (docs/LANGUAGE.md, "Code of programs")
 use Rattle.std.specs.Prelude.{ℕ, ◌+◌, Bool, false, ◌||◌, List, [], ◌∷◌, ◌++◌, nat_eq, bytes_eq, if◌then◌else◌}
 use Rattle.wy_types.specs.Code as code
 use Rattle.wy_types.specs.Code.{Expr, Number, Quoted, Truth, Nothing, This, Name, Unary, Binary, TextCall, Call, New, Ascribe, Assign, Plain, If, Values, none, more, Block, Last, Then, Val}
 use Rattle.wy_types.specs.Program.{Scope, Body, Start, Init, Run}
+pub use Rattle.wy_code.specs.Named.{is_among, each_once_after, each_once}
 
 abbrev mutual
   pub expr_parts : Expr → List Expr
@@ -16,7 +18,7 @@ abbrev mutual
   expr_parts (Unary place o x) = Unary place o x ∷ expr_parts x
   expr_parts (Binary place o x y) = Binary place o x y ∷ (expr_parts x ++ expr_parts y)
   expr_parts (TextCall place o xs) = TextCall place o xs ∷ values_parts xs
-  expr_parts (Call place x name xs) = Call place x name xs ∷ (expr_parts x ++ values_parts xs)
+  expr_parts (Call place x name xs) = expr_parts x ++ (values_parts xs ++ Call place x name xs ∷ [])
   expr_parts (New place l xs) = New place l xs ∷ values_parts xs
   expr_parts (Ascribe place x t) = Ascribe place x t ∷ value_parts x
   expr_parts (Assign place name x) = Assign place name x ∷ value_parts x
@@ -51,7 +53,7 @@ scopes_parts [] = []
 scopes_parts (s ∷ ss) = scope_parts s ++ scopes_parts ss
 
 ------------------------------------------------------------
--- Texts and literals among them
+-- Texts, names of calls and literals among them
 
 abbrev pub text_in : Expr → List (List ℕ)
 text_in (Quoted place bytes) = bytes ∷ []
@@ -60,6 +62,15 @@ text_in _ = []
 abbrev pub texts_in : List Expr → List (List ℕ)
 texts_in [] = []
 texts_in (e ∷ es) = text_in e ++ texts_in es
+
+abbrev pub call_in : Expr → List (List ℕ)
+call_in (Call place x name xs) = name ∷ []
+call_in _ = []
+
+-- the names of the methods that they call
+abbrev pub calls_in : List Expr → List (List ℕ)
+calls_in [] = []
+calls_in (e ∷ es) = call_in e ++ calls_in es
 
 abbrev pub makes_literal : ℕ → Expr → Bool
 makes_literal l (New place k xs) = nat_eq k l
@@ -71,19 +82,7 @@ make_literal l [] = false
 make_literal l (e ∷ es) = makes_literal l e || make_literal l es
 
 ------------------------------------------------------------
--- Lists of names and texts, each once
-
-abbrev pub is_among : List ℕ → List (List ℕ) → Bool
-is_among x [] = false
-is_among x (y ∷ ys) = bytes_eq y x || is_among x ys
-
-abbrev pub each_once_after : List (List ℕ) → List (List ℕ) → List (List ℕ)
-each_once_after seen [] = seen
-each_once_after seen (x ∷ xs) = if is_among x seen then each_once_after seen xs else each_once_after (seen ++ x ∷ []) xs
-
--- the list without what stood in it before
-abbrev pub each_once : List (List ℕ) → List (List ℕ)
-each_once xs = each_once_after [] xs
+-- Numbers of names and texts
 
 abbrev pub number_from : ℕ → List ℕ → List (List ℕ) → ℕ
 number_from k x [] = k

@@ -40,7 +40,8 @@ pub(crate) struct Whole<'a> {
 // ----------------------------------------------------------------------------
 // What bodies see
 
-fn is_program(kind: ScopeKind) -> bool
+/// Whether a scope is the program.
+pub(crate) fn is_program(kind: ScopeKind) -> bool
     ensures { result ≡ is_program kind }
 {
     match kind {

@@ -1,5 +1,5 @@
-//! What is collected of bodies before their code is made: the texts that they write out, the literals that they make, and
-//! their `val`s.
+//! What is collected of bodies before their code is made: the texts that they write out, the names of the methods that they
+//! call, the literals that they make, and their `val`s.
 
 ghost use Rattle.std.specs.Prelude.{OnOk};
 ghost use Rattle.wy_types.specs.Core.{expr_vals, value_vals, values_vals, block_vals, start_vals};
@@ -14,6 +14,13 @@ use wy_text::text::{Memory, Text};
 use wy_types::code::{Block, Expr, Stmt, Value};
 use wy_types::resolved::Start;
 
+/// The texts that bodies write out, and the names of the methods that they call, each once.
+#[derive(Drop)]
+pub(crate) struct Names {
+    pub texts: IndexSet<Text>,
+    pub methods: IndexSet<Text>,
+}
+
 /// What a body makes: objects of literals and values of `val`s, by their numbers.
 #[derive(Drop)]
 pub(crate) struct Found {
@@ -23,13 +30,13 @@ pub(crate) struct Found {
 
 /// Collects what an expression has.
 #[cycle(gathering)]
-fn gather_expr(texts: &mut IndexSet<Text>, found: &mut Found, expr: &Expr) -> Result<(), Memory>
-    ensures { OnOk result (Gathers texts.old.keys texts.new.keys found.old found.new (expr_parts (expr_of expr.now)) (expr_vals (expr_of expr.now))) }
+fn gather_expr(names: &mut Names, found: &mut Found, expr: &Expr) -> Result<(), Memory>
+    ensures { OnOk result (Gathers names.old names.new found.old found.new (expr_parts (expr_of expr.now)) (expr_vals (expr_of expr.now))) }
 {
     match expr {
         Expr::Int(_, _) => Ok(()),
         Expr::Text(_, text) => {
-            put_text(texts, text)?;
+            put_text(&mut names.texts, text)?;
             Ok(())
         }
         Expr::Bool(_, _) => Ok(()),
@@ -37,34 +44,35 @@ fn gather_expr(texts: &mut IndexSet<Text>, found: &mut Found, expr: &Expr) -> Re
         Expr::This(_) => Ok(()),
         Expr::Name(_, _) => Ok(()),
         Expr::Unary(_, _, x) => {
-            gather_expr(texts, found, x)?;
+            gather_expr(names, found, x)?;
             Ok(())
         }
         Expr::Binary(_, _, x, y) => {
-            gather_expr(texts, found, x)?;
-            gather_expr(texts, found, y)?;
+            gather_expr(names, found, x)?;
+            gather_expr(names, found, y)?;
             Ok(())
         }
         Expr::TextCall(_, _, values) => {
-            gather_values(texts, found, values)?;
+            gather_values(names, found, values)?;
             Ok(())
         }
-        Expr::Call(_, receiver, _, values) => {
-            gather_expr(texts, found, receiver)?;
-            gather_values(texts, found, values)?;
+        Expr::Call(_, receiver, name, values) => {
+            gather_expr(names, found, receiver)?;
+            gather_values(names, found, values)?;
+            put_text(&mut names.methods, name)?;
             Ok(())
         }
         Expr::New(_, literal, values) => {
             found.makes.push(*literal)?;
-            gather_values(texts, found, values)?;
+            gather_values(names, found, values)?;
             Ok(())
         }
         Expr::Ascribe(_, value, _) => {
-            gather_value(texts, found, value)?;
+            gather_value(names, found, value)?;
             Ok(())
         }
         Expr::Assign(_, _, value) => {
-            gather_value(texts, found, value)?;
+            gather_value(names, found, value)?;
             Ok(())
         }
     }
@@ -72,18 +80,18 @@ fn gather_expr(texts: &mut IndexSet<Text>, found: &mut Found, expr: &Expr) -> Re
 
 /// Collects what a value has.
 #[cycle(gathering)]
-fn gather_value(texts: &mut IndexSet<Text>, found: &mut Found, value: &Value) -> Result<(), Memory>
-    ensures { OnOk result (Gathers texts.old.keys texts.new.keys found.old found.new (value_parts (value_of value.now)) (value_vals (value_of value.now))) }
+fn gather_value(names: &mut Names, found: &mut Found, value: &Value) -> Result<(), Memory>
+    ensures { OnOk result (Gathers names.old names.new found.old found.new (value_parts (value_of value.now)) (value_vals (value_of value.now))) }
 {
     match value {
         Value::Plain(expr) => {
-            gather_expr(texts, found, expr)?;
+            gather_expr(names, found, expr)?;
             Ok(())
         }
         Value::If(_, test, first, second) => {
-            gather_expr(texts, found, test)?;
-            gather_block(texts, found, first)?;
-            gather_block(texts, found, second)?;
+            gather_expr(names, found, test)?;
+            gather_block(names, found, first)?;
+            gather_block(names, found, second)?;
             Ok(())
         }
     }
@@ -91,36 +99,28 @@ fn gather_value(texts: &mut IndexSet<Text>, found: &mut Found, value: &Value) ->
 
 /// Collects what several values have.
 #[cycle(gathering)]
-fn gather_values(
-    texts: &mut IndexSet<Text>,
-    found: &mut Found,
-    values: &Vec<Value>,
-) -> Result<(), Memory>
-    ensures { OnOk result (Gathers texts.old.keys texts.new.keys found.old found.new (values_parts (values_of values.now.items)) (values_vals (values_of values.now.items))) }
+fn gather_values(names: &mut Names, found: &mut Found, values: &Vec<Value>) -> Result<(), Memory>
+    ensures { OnOk result (Gathers names.old names.new found.old found.new (values_parts (values_of values.now.items)) (values_vals (values_of values.now.items))) }
 {
     for i in 0..values.len() {
-        gather_value(texts, found, &values[i])?;
+        gather_value(names, found, &values[i])?;
     }
     Ok(())
 }
 
 /// Collects what a statement has.
 #[cycle(gathering)]
-fn gather_statement(
-    texts: &mut IndexSet<Text>,
-    found: &mut Found,
-    statement: &Stmt,
-) -> Result<(), Memory>
-    ensures { OnOk result (Gathers texts.old.keys texts.new.keys found.old found.new (statement_parts statement.now) (statement_vals statement.now)) }
+fn gather_statement(names: &mut Names, found: &mut Found, statement: &Stmt) -> Result<(), Memory>
+    ensures { OnOk result (Gathers names.old names.new found.old found.new (statement_parts statement.now) (statement_vals statement.now)) }
 {
     match statement {
         Stmt::Val(_, number, _, value) => {
             found.vals.push(*number)?;
-            gather_value(texts, found, value)?;
+            gather_value(names, found, value)?;
             Ok(())
         }
         Stmt::Do(value) => {
-            gather_value(texts, found, value)?;
+            gather_value(names, found, value)?;
             Ok(())
         }
     }
@@ -129,34 +129,34 @@ fn gather_statement(
 /// Collects what a block has.
 #[cycle(gathering)]
 pub(crate) fn gather_block(
-    texts: &mut IndexSet<Text>,
+    names: &mut Names,
     found: &mut Found,
     block: &Block,
 ) -> Result<(), Memory>
-    ensures { OnOk result (Gathers texts.old.keys texts.new.keys found.old found.new (block_parts (block_of block.now)) (block_vals (block_of block.now))) }
+    ensures { OnOk result (Gathers names.old names.new found.old found.new (block_parts (block_of block.now)) (block_vals (block_of block.now))) }
 {
     for i in 0..block.statements.len() {
-        gather_statement(texts, found, &block.statements[i])?;
+        gather_statement(names, found, &block.statements[i])?;
     }
-    gather_value(texts, found, &block.last)?;
+    gather_value(names, found, &block.last)?;
     Ok(())
 }
 
 /// Collects what the `init` or `run` of a scope has.
 pub(crate) fn gather_start(
-    texts: &mut IndexSet<Text>,
+    names: &mut Names,
     found: &mut Found,
     start: &Start,
 ) -> Result<(), Memory>
-    ensures { OnOk result (Gathers texts.old.keys texts.new.keys found.old found.new (start_parts (start_of start.now)) (start_vals (start_of start.now))) }
+    ensures { OnOk result (Gathers names.old names.new found.old found.new (start_parts (start_of start.now)) (start_vals (start_of start.now))) }
 {
     match start {
         Start::Init(values) => {
-            gather_values(texts, found, values)?;
+            gather_values(names, found, values)?;
             Ok(())
         }
         Start::Run(block) => {
-            gather_block(texts, found, block)?;
+            gather_block(names, found, block)?;
             Ok(())
         }
     }

@@ -1,13 +1,11 @@
 //! The tables of texts and of method names, and those of `val`s and captured variables, in which the place of each is found
 //! at once.
 
-ghost use Rattle.std.specs.Prelude.{◌≡◌, ◌+◌, ◌∷◌, [], ℕ, Bool, length, map, nat_eq, IfOk, OnOk};
+ghost use Rattle.std.specs.Prelude.{◌≡◌, ◌+◌, ◌∷◌, [], ℕ, Bool, length, nat_eq, IfOk, OnOk};
 ghost use Rattle.std.specs.List.{position_from};
 ghost use Rattle.indexmap.specs.IndexMap.{get};
-ghost use Rattle.wy_types.specs.Program.{program_of};
 ghost use Rattle.wy_lower.specs.Parts.{each_once_after, number_in};
 ghost use Rattle.wy_lower.specs.Inside.{place_from, is_val, capture_from};
-ghost use Rattle.wy_lower.specs.Lowering.{method_table};
 ghost use Rattle.wy_lower.specs.EmitIndexes.{key_of, same_key};
 
 use indexmap::{IndexMap, IndexSet};
@@ -16,8 +14,6 @@ use std::marker::Model;
 use wy_text::list::Items;
 use wy_text::text::{Memory, Text};
 use wy_types::code::Variable;
-use wy_types::resolved::{Body, Core};
-use wy_types::types::Method;
 
 /// A number as the code has it.
 pub(crate) fn word(number: usize) -> Result<u32, Memory>
@@ -75,40 +71,6 @@ pub(crate) fn texts_of(alloc: Global, table: &IndexSet<Text>) -> Result<Items<Te
         texts.push(text.copy()?)?;
     }
     Ok(texts)
-}
-
-/// Puts the names of declared methods into a table.
-fn put_declared(table: &mut IndexSet<Text>, methods: &[Method]) -> Result<(), Memory>
-    ensures { OnOk result (table.new.keys ≡ each_once_after table.old.keys (map (λ (m : Method). m.name) methods.now)) }
-{
-    for method in methods {
-        put_text(table, &method.name)?;
-    }
-    Ok(())
-}
-
-/// Puts the names of a scope's methods into a table.
-fn put_written(table: &mut IndexSet<Text>, bodies: &[Body]) -> Result<(), Memory>
-    ensures { OnOk result (table.new.keys ≡ each_once_after table.old.keys (map (λ (b : Body). b.signature.name) bodies.now)) }
-{
-    for body in bodies {
-        put_text(table, &body.signature.name)?;
-    }
-    Ok(())
-}
-
-/// The names of the methods of all types, modules and literals, each once.
-pub(crate) fn method_table(alloc: Global, core: &Core) -> Result<IndexSet<Text>, Memory>
-    ensures { IfOk result (λ t. t.keys ≡ method_table (program_of core.now)) }
-{
-    let mut table = IndexSet::new(alloc);
-    for declaration in core.declarations.as_slice() {
-        put_declared(&mut table, declaration.methods.as_slice())?;
-    }
-    for scope in core.scopes.as_slice() {
-        put_written(&mut table, scope.bodies.as_slice())?;
-    }
-    Ok(table)
 }
 
 // ----------------------------------------------------------------------------

@@ -1,10 +1,12 @@
 ghost use Rattle.wy_types.specs.Code.{Block};
 ghost use Rattle.wy_types.specs.Program.{Program};
 ghost use Rattle.wy_meaning.specs.Starts.{Starts};
+ghost use Rattle.wy_types.specs.Core.{IsCore};
+ghost use Rattle.wy_code.specs.Named.{HasPushedTexts, HasCalledMethods};
 ghost use Rattle.wy_code.specs.Running.{NeverStuck};
 ghost use Rattle.wy_lower.specs.Correct.{Compiles, NeverWrong};
 ghost use Rattle.wy_lower.specs.Inside.{Inside};
-ghost use Rattle.wy_lower.specs.Laws.{HasCountedBodies, HasItsTexts, HasItsMethodNames, HasItsBodies, HasFixedLength, AcceptedIsLowerable, AcceptedCodeFollows, AcceptedIsNeverStuck};
+ghost use Rattle.wy_lower.specs.Laws.{HasCountedBodies, HasItsTexts, HasItsMethodNames, HasItsBodies, HasItsVals, HasFixedLength, AcceptedIsLowerable, AcceptedCodeFollows, AcceptedIsNeverStuck};
 ghost use Rattle.wy_lower.specs.Lowerable.{Lowerable};
 ghost use Rattle.wy_lower.specs.Lowering.{lowered};
 
@@ -18,16 +20,34 @@ pub fn texts_have_numbers()
     ensures { (p : Program) (s : Starts) → HasItsTexts p s }
 {}
 
-/// The name of each method of a program's types, modules and literals is found in its code's table at
+/// The texts of a program's code are those that its instructions push, each once, in the order of bodies and
+/// instructions.
+pub fn texts_are_pushed()
+    ensures { (p : Program) (s : Starts) → HasPushedTexts (lowered p s) }
+{}
+
+/// The name of each call of a program, and of each method of its modules and literals, is found in its code's table at
 /// its number.
 pub fn method_names_have_numbers()
     ensures { (p : Program) (s : Starts) → HasItsMethodNames p s }
+{}
+
+/// The method names of a program's code are those of its calls, in the order of bodies and instructions, and then those
+/// of the methods of kinds of objects, in the order of scopes and kinds, each once.
+pub fn methods_are_called()
+    ensures { (p : Program) (s : Starts) → HasCalledMethods (lowered p s) }
 {}
 
 /// Each scope of a program stands in its code at its number, its `init` or `run` at the number that the
 /// scope says, and its methods after that one, in their order.
 pub fn bodies_stand_at_their_numbers()
     ensures { (p : Program) (s : Starts) → HasItsBodies p s }
+{}
+
+/// A body has as many `val`s as its instructions say: its parameters are the slots behind the current object, and its
+/// `val`s those behind them, up to the last slot that is stored into.
+pub fn vals_are_stored()
+    ensures { (p : Program) (s : Starts) → IsCore p → HasItsVals p s }
 {}
 
 /// How long the code of a block is does not depend on the address at which it begins.

@@ -3,6 +3,7 @@
 #![tactic(auto)]
 
 mod emitting;
+mod entries;
 mod expressions;
 mod gathering;
 mod indexes;

@@ -3,14 +3,16 @@
 ghost use Rattle.std.specs.Prelude.{◌≡◌, ◌++◌, ◌∷◌, [], None, length, map, slice_get, IfOk, IfErr, OnOk};
 ghost use Rattle.wy_types.specs.Program.{program_of, scope_of};
 ghost use Rattle.wy_meaning.specs.Starts.{starts_of, started_of, scope_names, last_scope, main_actuals};
-ghost use Rattle.wy_lower.specs.Lowering.{start_code, bodies_code, literals_code, grants_code, scopes_bodies, scopes_code, lowered};
+ghost use Rattle.wy_lower.specs.Lowering.{start_code, bodies_code, scope_arguments, literals_code, grants_code, scopes_bodies, scopes_code, lowered};
 ghost use Rattle.wy_lower.specs.Counts.{lowering_limit};
 ghost use Rattle.wy_lower.specs.EmitScopes.{IsTabled};
 ghost use Rattle.wy_lower.specs.EmitBodies.{IsWhole, whole_program, whole_starts};
 ghost use Rattle.wy_lower.specs.EmitLowered.{IsLowerRefusal, scope_code};
 
-use crate::emitting::{Whole, add_bodies};
-use crate::indexes::{method_table, texts_of, word};
+use crate::emitting::{Whole, add_bodies, is_program};
+use crate::entries::put_entries;
+use crate::gathering::Names;
+use crate::indexes::{texts_of, word};
 use crate::kinds::literals_code;
 use crate::limits::{body_count, some_slots_above};
 use crate::scopes::{Tables, tables_of_scopes};
@@ -78,9 +80,13 @@ fn whole_of<'a>(alloc: Global, core: &'a Core, linked: &'a Linked) -> Result<Who
     ensures linked { IfOk result (λ w. w.linked.now ≡ linked.now) }
 {
     let actuals = actuals_of(alloc, core, linked)?;
-    let mut texts = IndexSet::new(alloc);
-    let tables = tables_of_scopes(alloc, &mut texts, core.scopes.as_slice())?;
-    let methods = method_table(alloc, core)?;
+    let mut names = Names {
+        texts: IndexSet::new(alloc),
+        methods: IndexSet::new(alloc),
+    };
+    let tables = tables_of_scopes(alloc, &mut names, core.scopes.as_slice())?;
+    put_entries(alloc, &mut names.methods, core.scopes.as_slice())?;
+    let Names { texts, methods } = names;
     Ok(Whole {
         core,
         linked,
@@ -89,6 +95,17 @@ fn whole_of<'a>(alloc: Global, core: &'a Core, linked: &'a Linked) -> Result<Who
         methods,
         tables,
     })
+}
+
+/// How many arguments the instances of a scope are handed: one for each own name of a module, and none for the program.
+fn scope_arguments(scope: &resolved::Scope) -> usize
+    ensures { result ≡ scope_arguments (scope_of scope.now) }
+{
+    if is_program(scope.kind) {
+        0
+    } else {
+        scope.names.len()
+    }
 }
 
 /// Adds the code of a scope and of its bodies.
@@ -107,7 +124,7 @@ fn add_scope(
 {
     let first = bodies.len();
     add_bodies(alloc, whole, scope, tables, bodies)?;
-    let arguments = word(scope.names.len())?;
+    let arguments = word(scope_arguments(scope))?;
     let start = word(first)?;
     let literals = literals_code(alloc, whole, scope, tables, first)?;
     scopes.push(Scope {

@@ -3,14 +3,13 @@
 ghost use Rattle.std.specs.Prelude.{◌≡◌, ◌<◌, [], ℕ, None, Some, length, map, get_or, nat_eq, if◌then◌else◌, IfOk, OnOk};
 ghost use Rattle.wy_types.specs.declared.resolved.Literal.{Literal};
 ghost use Rattle.wy_types.specs.Program.{body_of, scope_of};
-ghost use Rattle.wy_lower.specs.Parts.{each_once_after, texts_in, bodies_parts, scope_parts, scopes_parts};
+ghost use Rattle.wy_lower.specs.Parts.{each_once_after, texts_in, calls_in, bodies_parts, scope_parts, scopes_parts};
 ghost use Rattle.wy_lower.specs.EmitScopes.{or_first, maker_noted, maker_of, bodies_vals, IsTabled, AreTabled};
 
-use crate::gathering::{Found, gather_block, gather_start};
+use crate::gathering::{Found, Names, gather_block, gather_start};
 use crate::indexes::{Captures, Vals};
-use indexmap::IndexSet;
 use std::alloc::Global;
-use wy_text::text::{Memory, Text};
+use wy_text::text::Memory;
 use wy_types::resolved::{Body, Literal, Scope};
 
 /// What is known of a scope: the `val`s of its `init` or `run` and of each method, what each literal captures, and for each
@@ -81,15 +80,16 @@ fn captures_of(alloc: Global, literals: &[Literal]) -> Result<Vec<Captures>, Mem
     Ok(captures)
 }
 
-/// The `val`s of each method. The literals that they make have these makers, and the texts that they write out are put into
-/// the table.
+/// The `val`s of each method. The literals that they make have these makers, and the texts that they write out and the names
+/// of the methods that they call are put into their tables.
 fn bodies_of(
     alloc: Global,
-    texts: &mut IndexSet<Text>,
+    names: &mut Names,
     makers: &mut Vec<Option<usize>>,
     bodies: &[Body],
 ) -> Result<Vec<Vals>, Memory>
-    ensures texts { OnOk result (texts.new.keys ≡ each_once_after texts.old.keys (texts_in (bodies_parts (map body_of bodies.now)))) }
+    ensures texts { OnOk result (names.new.texts.keys ≡ each_once_after names.old.texts.keys (texts_in (bodies_parts (map body_of bodies.now)))) }
+    ensures methods { OnOk result (names.new.methods.keys ≡ each_once_after names.old.methods.keys (calls_in (bodies_parts (map body_of bodies.now)))) }
     ensures vals { IfOk result (λ v. v.items ≡ bodies_vals (map body_of bodies.now)) }
     ensures long { length makers.new.items ≡ length makers.old.items }
     ensures makers { OnOk result ((l : ℕ) → l < length makers.old.items → get_or makers.old.items l None ≡ None → get_or makers.new.items l None ≡ maker_of l (map body_of bodies.now)) }
@@ -97,7 +97,7 @@ fn bodies_of(
     let mut all = Vec::new(alloc);
     for k in 0..bodies.len() {
         let mut found = nothing_found(alloc);
-        gather_block(texts, &mut found, &bodies[k].block)?;
+        gather_block(names, &mut found, &bodies[k].block)?;
         let Found { makes, vals } = found;
         note_makers(makers, &makes, k);
         all.push(Vals::new(alloc, vals)?)?;
@@ -105,18 +105,20 @@ fn bodies_of(
     Ok(all)
 }
 
-/// What is known of a scope. The texts that it writes out are put into the table.
-fn tables_of(alloc: Global, texts: &mut IndexSet<Text>, scope: &Scope) -> Result<Tables, Memory>
-    ensures texts { OnOk result (texts.new.keys ≡ each_once_after texts.old.keys (texts_in (scope_parts (scope_of scope.now)))) }
+/// What is known of a scope. The texts that it writes out and the names of the methods that it calls are put into their
+/// tables.
+fn tables_of(alloc: Global, names: &mut Names, scope: &Scope) -> Result<Tables, Memory>
+    ensures texts { OnOk result (names.new.texts.keys ≡ each_once_after names.old.texts.keys (texts_in (scope_parts (scope_of scope.now)))) }
+    ensures methods { OnOk result (names.new.methods.keys ≡ each_once_after names.old.methods.keys (calls_in (scope_parts (scope_of scope.now)))) }
     ensures tables { IfOk result (λ t. IsTabled (scope_of scope.now) t) }
 {
     let mut found = nothing_found(alloc);
-    gather_start(texts, &mut found, &scope.start)?;
+    gather_start(names, &mut found, &scope.start)?;
     let Found { makes: _, vals } = found;
     let start = Vals::new(alloc, vals)?;
     let captures = captures_of(alloc, scope.literals.as_slice())?;
     let mut makers = no_makers(alloc, scope.literals.len())?;
-    let bodies = bodies_of(alloc, texts, &mut makers, scope.bodies.as_slice())?;
+    let bodies = bodies_of(alloc, names, &mut makers, scope.bodies.as_slice())?;
     let nothing = Captures::new(alloc, &[])?;
     Ok(Tables {
         start,
@@ -127,18 +129,20 @@ fn tables_of(alloc: Global, texts: &mut IndexSet<Text>, scope: &Scope) -> Result
     })
 }
 
-/// What is known of each scope. The texts that they write out are put into the table.
+/// What is known of each scope. The texts that they write out and the names of the methods that they call are put into
+/// their tables.
 pub(crate) fn tables_of_scopes(
     alloc: Global,
-    texts: &mut IndexSet<Text>,
+    names: &mut Names,
     scopes: &[Scope],
 ) -> Result<Vec<Tables>, Memory>
-    ensures texts { OnOk result (texts.new.keys ≡ each_once_after texts.old.keys (texts_in (scopes_parts (map scope_of scopes.now)))) }
+    ensures texts { OnOk result (names.new.texts.keys ≡ each_once_after names.old.texts.keys (texts_in (scopes_parts (map scope_of scopes.now)))) }
+    ensures methods { OnOk result (names.new.methods.keys ≡ each_once_after names.old.methods.keys (calls_in (scopes_parts (map scope_of scopes.now)))) }
     ensures tables { IfOk result (λ t. AreTabled (map scope_of scopes.now) t.items) }
 {
     let mut all = Vec::new(alloc);
     for scope in scopes {
-        all.push(tables_of(alloc, texts, scope)?)?;
+        all.push(tables_of(alloc, names, scope)?)?;
     }
     Ok(all)
 }

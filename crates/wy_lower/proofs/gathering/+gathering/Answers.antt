@@ -15,10 +15,10 @@ gather_expr-returns-in_ok-gather_values-in-TextCall t c =
     let form = ap expr_of c.in-TextCall.is ∙ expr_text_call c.in-TextCall.field-0 c.in-TextCall.field-1 c.in-TextCall.values in
     gathers_text_call _ _ _ _ _ _ _ _ form c.in_ok-gather_values-in-TextCall.ensures
 
-pub gather_expr-returns-in_ok-gather_values-in-Call : goal.gather_expr-returns-in_ok-gather_values-in-Call
-gather_expr-returns-in_ok-gather_values-in-Call t c =
-    let form = ap expr_of c.in-Call.is ∙ expr_call c.in-Call.field-0 c.in-Call.receiver c.in-Call.field-2 c.in-Call.values in
-    gathers_call _ _ _ _ _ _ _ _ _ _ _ _ form (ap expr_of c.deref-in-Call.ensures) c.in_ok-gather_expr-in-Call.ensures c.in_ok-gather_values-in-Call.ensures
+pub gather_expr-returns-in_ok-put_text-in-Call : goal.gather_expr-returns-in_ok-put_text-in-Call
+gather_expr-returns-in_ok-put_text-in-Call t c =
+    let form = ap expr_of c.in-Call.is ∙ expr_call c.in-Call.field-0 c.in-Call.receiver c.in-Call.name c.in-Call.values in
+    gathers_call _ _ _ _ _ _ _ _ _ _ _ _ _ form (ap expr_of c.deref-in-Call.ensures) c.in_ok-gather_expr-in-Call.ensures c.in_ok-gather_values-in-Call.ensures refl c.in_ok-put_text-in-Call.ensures
 
 pub gather_expr-returns-in_ok-gather_values-in-New : goal.gather_expr-returns-in_ok-gather_values-in-New
 gather_expr-returns-in_ok-gather_values-in-New t c =

@@ -10,10 +10,10 @@ abbrev pub invariant-gather_values-loop-i : goal.invariant-gather_values-loop-i
 invariant-gather_values-loop-i l =
     let left = values_of (drop l.i l.values.items) in
     let all = values_of l.values.items in
-    Gathering l.initial.texts.keys l.texts.keys l.initial.found l.found (values_parts left) (values_parts all) (values_vals left) (values_vals all)
+    Gathering l.initial.names l.names l.initial.found l.found (values_parts left) (values_parts all) (values_vals left) (values_vals all)
 
 abbrev pub invariant-gather_block-loop-i : goal.invariant-gather_block-loop-i
 invariant-gather_block-loop-i l =
     let left = stmts_block (drop l.i l.block.statements.items) (Last (value_of l.block.last.value)) in
     let all = block_of l.block in
-    Gathering l.initial.texts.keys l.texts.keys l.initial.found l.found (block_parts left) (block_parts all) (block_vals left) (block_vals all)
+    Gathering l.initial.names l.names l.initial.found l.found (block_parts left) (block_parts all) (block_vals left) (block_vals all)

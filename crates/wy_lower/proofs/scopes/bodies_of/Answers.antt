@@ -2,12 +2,12 @@ use Rattle.std.proofs.Common.{rules, ◌≡◌, ◌<◌, ◌+◌, [], ◌∷◌,
 use Rattle.wy_types.specs.Core.{block_vals}
 use Rattle.wy_types.specs.Program.{Body, body_of}
 use Rattle.wy_types.specs.View.{block_of}
-use Rattle.wy_lower.specs.Parts.{each_once_after, texts_in, block_parts, bodies_parts}
+use Rattle.wy_lower.specs.Parts.{each_once_after, texts_in, calls_in, block_parts, bodies_parts}
 use Rattle.wy_lower.specs.EmitScopes.{maker_noted, maker_of, bodies_vals}
 use Rattle.wy_lower.specs.EmitGathers.{makes_in}
 use Rattle.wy_lower.proofs.EmitLists.{read_any, split_at, taken_more}
 use Rattle.wy_lower.proofs.EmitPlaces.{once_append}
-use Rattle.wy_lower.proofs.EmitParts.{texts_append}
+use Rattle.wy_lower.proofs.EmitParts.{texts_append, calls_append}
 use Rattle.wy_lower.proofs.EmitMakers.{noted_is, maker_more}
 use Rattle.wy_lower.proofs.scopes.bodies_of.Goals as goal
 
@@ -17,7 +17,8 @@ loop-k-preserved c =
     let k = c.loop-k.k in
     let r = c.index-bodies-k.result in
     let b = get_or bs k r in
-    let keys = c.loop-k.texts.keys in
+    let keys = c.loop-k.names.texts.keys in
+    let called = c.loop-k.names.methods.keys in
     let lt : k < length bs = search rules in
     let at = read_any bs k r b lt in
     let here = block_parts (block_of b.block) in
@@ -29,6 +30,9 @@ loop-k-preserved c =
       texts =
           ap (λ z. each_once_after z (texts_in rest)) found.texts ∙ sym (once_append keys (texts_in here) (texts_in rest)) ∙ ap (each_once_after keys) (sym (texts_append here rest))
           ∙ ap (λ l. each_once_after keys (texts_in (bodies_parts (map body_of l)))) (sym (split_at bs k b lt at)) ∙ c.loop-k.invariant.texts;
+      methods =
+          ap (λ z. each_once_after z (calls_in rest)) found.methods ∙ sym (once_append called (calls_in here) (calls_in rest)) ∙ ap (each_once_after called) (sym (calls_append here rest))
+          ∙ ap (λ l. each_once_after called (calls_in (bodies_parts (map body_of l)))) (sym (split_at bs k b lt at)) ∙ c.loop-k.invariant.methods;
       vals =
           c.in_ok-push.ensures.items ∙ ap₂ (λ l v. l ++ v ∷ []) c.loop-k.invariant.vals (c.in_ok-new.ensures ∙ vals)
           ∙ sym (ap bodies_vals (taken_more body_of bs k b lt at) ∙ vals_end (map body_of (take k bs)) (body_of b));
