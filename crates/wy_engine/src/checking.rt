@@ -54,7 +54,10 @@ pub fn judge_trees(alloc: Global, trees: &[Tree]) -> Result<Accepted, Status>
         Err(why) => return Err(names_status(why)),
     };
     match check(alloc, &core) {
-        Ok(links) => Ok(Accepted { core, links }),
+        Ok(checked) => Ok(Accepted {
+            core,
+            links: checked.links,
+        }),
         Err(why) => Err(check_status(why)),
     }
 }

@@ -29,6 +29,7 @@ pub mod Fitting
 pub mod Judgings
 pub mod Lacking
 pub mod Lists
+pub mod ListsPut
 pub mod Making
 pub mod Moving
 pub mod Naming

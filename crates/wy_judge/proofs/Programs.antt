@@ -153,3 +153,23 @@ last_of core h =
       there = subst (λ v. slice_get scopes v ≡ Some r.scope) same r.there;
       alone = r.alone 0 ∙ ap (λ n. record { number = n; scope = r.scope } ∷ []) number;
     }
+
+-- the last scope is of its turn, and no other is
+pub only_last : (ss : List Scope) → ProgramIsLast ss → (i : ℕ) (s : Scope) → slice_get ss i ≡ Some s → is_its_turn the_program (turn_of s.kind) ≡ true → i + 1 ≡ length ss
+only_last [] h i s there its = absurd h
+only_last (x ∷ []) h zero s there its = refl
+only_last (x ∷ []) h (suc i) s there its = cc
+only_last (x ∷ y ∷ rest) h zero s there its =
+    let same : x ≡ s = cc in
+    let other = subst (λ (v : Scope). is_its_turn the_program (turn_of v.kind) ≡ false) same (is_module x.kind h.0) in
+    cc
+only_last (x ∷ y ∷ rest) h (suc i) s there its = omega (arith, only_last (y ∷ rest) h.1 i s there its)
+
+pub last_its_turn : (ss : List Scope) → ProgramIsLast ss → (i : ℕ) (s : Scope) → slice_get ss i ≡ Some s → i + 1 ≡ length ss → is_its_turn the_program (turn_of s.kind) ≡ true
+last_its_turn [] h i s there e = absurd h
+last_its_turn (x ∷ []) h zero s there e =
+    let same : x ≡ s = cc in
+    subst (λ (v : Scope). is_its_turn the_program (turn_of v.kind) ≡ true) same (rw h refl)
+last_its_turn (x ∷ []) h (suc i) s there e = cc
+last_its_turn (x ∷ y ∷ rest) h zero s there e = absurd (omega (arith, e))
+last_its_turn (x ∷ y ∷ rest) h (suc i) s there e = last_its_turn (y ∷ rest) h.1 i s there (omega (arith, e))

@@ -1,11 +1,11 @@
 //! Checking: a scope within the limit on its types, and the modules of a program in their order.
 
-ghost use Rattle.std.specs.Prelude.{◌≡◌, ◌<◌, length, OnOk, IfOk, IfErr};
+ghost use Rattle.std.specs.Prelude.{◌≡◌, ◌<◌, length, slice_set, OnOk, IfOk, IfErr};
 ghost use Rattle.wy_types.specs.Program.{program_of};
 ghost use Rattle.wy_rules.specs.Refusals.{turn_of, is_its_turn, scopes_of};
 ghost use Rattle.wy_rules.specs.Ends.{ReachesTooMany, AllGoOn};
 ghost use Rattle.wy_rules.specs.Resolved.{CoreKeeps};
-ghost use Rattle.wy_judge.specs.Checking.{IsChecked, IsLimitRefusal, IsCheckRefusal, module_turn, IsFirstRefusal};
+ghost use Rattle.wy_judge.specs.Checking.{IsChecked, IsLimitRefusal, IsCheckRefusal, module_turn, IsFirstRefusal, PutsLists};
 
 use crate::scopes::{Judged, judge_scope};
 use std::alloc::Global;
@@ -77,17 +77,34 @@ fn is_its_turn(kind: ScopeKind, plain: bool) -> bool
     }
 }
 
-/// Checks the plain modules, or the annotated ones, in file order. The refusal is that of the first which is refused; the
-/// limit on a module's types comes before its faults (docs/LANGUAGE.md, "First failing node" and "Limits").
-pub fn check_modules(alloc: Global, core: &Core, plain: bool) -> Result<(), CheckRefusal>
-    requires { CoreKeeps (program_of core.now) }
+/// Puts the types of a scope's `val`s at its number.
+fn put_list(lists: &mut [TypeList], number: usize, checked: Checked)
+    requires { number < length lists.old }
+    ensures { lists.new ≡ slice_set lists.old number checked.locals }
+{
+    lists[number] = checked.locals;
+}
+
+/// Checks the plain modules, or the annotated ones, in file order, and puts the types of each one's `val`s at its number
+/// among these lists, of which there is one for each scope; the other lists stay. The refusal is that of the first which is
+/// refused; the limit on a module's types comes before its faults (docs/LANGUAGE.md, "First failing node" and "Limits").
+pub fn check_modules(
+    alloc: Global,
+    core: &Core,
+    plain: bool,
+    lists: &mut [TypeList],
+) -> Result<(), CheckRefusal>
+    requires keeps { CoreKeeps (program_of core.now) }
+    requires lists { length lists.old ≡ length core.now.scopes }
     ensures all { OnOk result (AllGoOn (program_of core.now) (scopes_of (module_turn plain) 0 (program_of core.now).scopes)) }
     ensures first { IfErr result (λ r. IsFirstRefusal (program_of core.now) (scopes_of (module_turn plain) 0 (program_of core.now).scopes) r) }
+    ensures puts { OnOk result (PutsLists (program_of core.now) (module_turn plain) lists.old lists.new) }
 {
     let scopes = core.scopes.as_slice();
     for number in 0..scopes.len() {
         if is_its_turn(scopes[number].kind, plain) {
-            check_scope(alloc, core, number as u16)?;
+            let checked = check_scope(alloc, core, number as u16)?;
+            put_list(lists, number, checked);
         }
     }
     Ok(())

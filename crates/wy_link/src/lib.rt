@@ -10,6 +10,6 @@ mod lines;
 mod linking;
 mod members;
 
-pub use checking::check;
+pub use checking::{CheckedProgram, check};
 pub use lines::judge_lines;
 pub use linking::{LinkRefusal, Links, link};
