@@ -1,13 +1,17 @@
 -- Code written by hand: what runs, and what is stuck.
 use Rattle.std.proofs.Common.{codes, ◌≡◌, ℕ, pos, List, [], ◌∷◌, map, true, false, refl}
 use Rattle.wy_text.specs.declared.fault.Place.{Place}
+use Rattle.wy_device.specs.Operation.{kind_named}
 use Rattle.wy_device.specs.Operators.{operate}
 use Rattle.wy_device.specs.RunEnds.{RunEnd, Ended, Trap, TooDeep, Spent, Wrong}
 use Rattle.wy_device.specs.Tapes.{Tapes}
 use Rattle.wy_device.specs.Traps.{BadName}
 use Rattle.wy_device.specs.declared.deed.Event.{Event}
 use Rattle.wy_device.specs.declared.deed.Event.TheVariants.{Enter, Leave}
-use Rattle.wy_device.specs.declared.operation.Kind.TheVariants.{Folder}
+use Rattle.wy_code.specs.declared.primitive.Primitive.{Primitive}
+use Rattle.wy_code.specs.declared.primitive.Primitive.TheVariants.{Console, Folder, Clock, Random}
+use Rattle.wy_code.specs.Primitives.{device_of, operations_of}
+use Rattle.wy_device.specs.declared.operation.OpName.{OpName}
 use Rattle.wy_code.specs.declared.instruction.Constant.TheVariants as constant
 use Rattle.wy_code.specs.declared.instruction.Operator.TheVariants as operator
 use Rattle.wy_code.specs.declared.instruction.Instruction.{Instruction}
@@ -26,7 +30,7 @@ no_tapes = record { console = []; folder = []; clock = []; random = [] }
 -- a program with one `val`, one literal that captures it and has one field and a method, and a folder as its grant
 abbrev code_with : ℕ → List Instruction → List Instruction → Code
 code_with slots run method = record {
-  grants = record { name = codes "disk"; kind = Folder } ∷ [];
+  grants = record { name = codes "disk"; primitive = Folder } ∷ [];
   methods = codes "read" ∷ codes "go" ∷ [];
   texts = codes "../x" ∷ [];
   bodies =
@@ -85,3 +89,8 @@ stuck_are = refl
 spent_is : machine (code_with 4 (int 1 ∷ Finish ∷ []) []) 1 1 no_tapes ≡ record { end = Spent; events = run_entered ∷ []; taken = 1 }
 unfolding run_entered step steps machine
 spent_is = refl
+
+-- each operation of a primitive type asks a device of the type's kind
+operations_are_the_devices : map (λ (t : Primitive). map kind_named (operations_of t)) (Console ∷ Folder ∷ Clock ∷ Random ∷ [])
+    ≡ map (λ (t : Primitive). map (λ (o : OpName). device_of t) (operations_of t)) (Console ∷ Folder ∷ Clock ∷ Random ∷ [])
+operations_are_the_devices = refl

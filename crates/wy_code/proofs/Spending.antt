@@ -8,9 +8,10 @@ use Rattle.wy_device.specs.declared.operation.Answer.{Answer}
 use Rattle.wy_device.specs.declared.operation.Answer.TheVariants as answer
 use Rattle.wy_device.specs.declared.operation.Op.{Op}
 use Rattle.wy_device.specs.Operators.{Computed, GivesNumber, GivesTruth, Builds, Traps, Misfits}
-use Rattle.wy_device.specs.Requests.{operation_of, has_good_name, answers_text, Told, Answers, Fails, Waits, asked}
+use Rattle.wy_device.specs.Requests.{has_good_name, answers_text, Told, Answers, Fails, Waits, asked}
 use Rattle.wy_device.specs.RunEnds.{TooDeep, Spent, Wrong}
 use Rattle.wy_device.specs.Traps.{most_texts, most_objects}
+use Rattle.wy_code.specs.Primitives.{operation_of}
 use Rattle.wy_code.specs.declared.code.Body.{Body}
 use Rattle.wy_code.specs.declared.code.Code.{Code}
 use Rattle.wy_code.specs.declared.code.Grant.{Grant as CodeGrant}
@@ -101,7 +102,7 @@ requested_ends place grant w (Some op) =
 requested_of_ends : (place : Place) (g : CodeGrant) (w : Store) (method : Option (List ℕ)) (texts : Option (List (List ℕ))) → ReplyEnds (requested_of place g w method texts)
 requested_of_ends place g w None texts = wrong_reply
 requested_of_ends place g w (Some method) None = wrong_reply
-requested_of_ends place g w (Some method) (Some texts) = requested_ends place g.name w (operation_of g.kind method texts)
+requested_of_ends place g w (Some method) (Some texts) = requested_ends place g.name w (operation_of g.primitive method texts)
 
 performed_ends : (place : Place) (g : Option CodeGrant) (method : Option (List ℕ)) (vs : List Word) (w : Store) → ReplyEnds (performed place g method vs w)
 performed_ends place None method vs w = wrong_reply

@@ -2,5 +2,6 @@ pub mod Laws
 pub mod Machine
 pub mod Named
 pub mod Operations
+pub mod Primitives
 pub mod Running
 pub mod Stores

@@ -1,13 +1,13 @@
 use crate::instruction::Placed;
-use wy_device::operation::Kind;
+use crate::primitive::Primitive;
 use wy_text::list::Items;
 use wy_text::text::Text;
 
-/// A grant of the program.
+/// A grant of the program, with its primitive type.
 #[derive(Drop)]
 pub struct Grant {
     pub name: Text,
-    pub kind: Kind,
+    pub primitive: Primitive,
 }
 
 /// What an instance is handed: the grant or the instance of a number.

@@ -5,3 +5,4 @@
 pub mod code;
 pub mod instruction;
 pub mod laws;
+pub mod primitive;

@@ -3,7 +3,7 @@ use Rattle.std.proofs.Common.{codes, ◌≡◌, ℕ, zero, suc, pos, List, [], �
 use Rattle.std.specs.Prelude.{slice_get}
 use Rattle.std.specs.Fmt.{digits}
 use Rattle.wy_types.specs.Program.{Program}
-use Rattle.wy_device.specs.declared.operation.Kind.TheVariants as kind
+use Rattle.wy_code.specs.declared.primitive.Primitive.TheVariants as primitive
 use Rattle.wy_code.specs.declared.instruction.Constant.TheVariants as constant
 use Rattle.wy_code.specs.declared.instruction.Operator.TheVariants as operator
 use Rattle.wy_code.specs.declared.instruction.Instruction.{Instruction}
@@ -17,7 +17,7 @@ use Rattle.wy_code.specs.declared.code.Literal.{Literal}
 use Rattle.wy_code.specs.declared.code.Scope.{Scope}
 use Rattle.wy_meaning.specs.Starts.{Started, starts_of}
 use Rattle.wy_meaning.proofs.Programs.{somewhere, number, nothing, then, last, main, bare, program}
-use Rattle.wy_meaning.proofs.Rows.{logger, logger_started, kept_callback, kept_callback_started, nested, nested_started, three_files, three_files_started, samples}
+use Rattle.wy_meaning.proofs.Rows.{logger, logger_started, kept_callback, kept_callback_started, nested, nested_started, readonly, readonly_started, three_files, three_files_started, samples}
 use Rattle.wy_lower.specs.Listing.{listing, value_listing, values_listing, block_listing, fields_listing}
 use Rattle.wy_lower.specs.Operands.{operands, value_operands, values_operands, block_operands, fields_operands}
 use Rattle.wy_lower.specs.Counts.{lowering_limit}
@@ -39,7 +39,7 @@ code_of p started = lowered p (starts_of p started)
 -- `def log(t) = disk.append("log", t)` and `lg.log("a")`. The calls have the names: 0 is `append`, and 1 is `log`
 logger_code : code_of logger logger_started
     ≡ record {
-      grants = record { name = codes "disk"; kind = kind.Folder } ∷ [];
+      grants = record { name = codes "disk"; primitive = primitive.Folder } ∷ [];
       methods = codes "append" ∷ codes "log" ∷ [];
       texts = codes "log" ∷ codes "a" ∷ [];
       bodies =
@@ -101,6 +101,12 @@ three_files_instances : (code_of three_files three_files_started).instances
     record { name = codes "rep"; scope = 2; arguments = argument.Instance 1 ∷ argument.Grant 1 ∷ [] } ∷ []
 unfolding digits listing value_listing values_listing block_listing fields_listing operands value_operands values_operands block_operands fields_operands lowered
 three_files_instances = refl
+
+-- the names of calls come first, in the order of their instructions, and then `append`, a method that nothing calls;
+-- the names of the other declared types are not listed
+readonly_methods : (code_of readonly readonly_started).methods ≡ codes "read" ∷ codes "has" ∷ codes "names" ∷ codes "write" ∷ codes "append" ∷ []
+unfolding lowered
+readonly_methods = refl
 
 ------------------------------------------------------------
 -- Limits

@@ -5,6 +5,7 @@ use Rattle.wy_types.specs.Program.{Program}
 use Rattle.wy_device.specs.declared.deed.Event.{Event}
 use Rattle.wy_device.specs.declared.operation.Answer.{Answer}
 use Rattle.wy_device.specs.declared.operation.Answer.TheVariants as answer
+use Rattle.wy_device.specs.declared.operation.Kind.{Kind}
 use Rattle.wy_device.specs.declared.operation.Op.{Op}
 use Rattle.wy_device.specs.Operators.{Computed, GivesNumber, GivesTruth, Builds, Traps, Misfits, operate}
 use Rattle.wy_device.specs.Requests.{operation_of, has_good_name, answers_text, Told, Answers as AnswersWith, Fails, Waits, asked}
@@ -18,6 +19,9 @@ use Rattle.wy_meaning.specs.Operating.{computed, operated}
 use Rattle.wy_meaning.specs.Performing.{text_of, with_text as with_first_text, texts_of, value_answered, answered, requested, requested_of, perform}
 use Rattle.wy_meaning.specs.Results.{Result, stop, told, settle}
 use Rattle.wy_code.specs.declared.code.Grant.{Grant as CodeGrant}
+use Rattle.wy_code.specs.declared.primitive.Primitive.{Primitive}
+use Rattle.wy_code.specs.declared.primitive.Primitive.TheVariants.{Console, Folder, Clock, Random}
+use Rattle.wy_code.specs.Primitives.{device_of, operation_of as code_operation}
 use Rattle.wy_code.specs.declared.instruction.Operator.{Operator as CodeOperator}
 use Rattle.wy_code.specs.Stores as word
 use Rattle.wy_code.specs.Stores.{Word, Store, Replies, Ends as EndsRun}
@@ -52,6 +56,19 @@ texts_are_named m vs zs (more_same v z us ys h r) =
     ap (λ o. with_first o (texts_named m ys)) (text_named m v z h)
     ∙ ap (with_first (text_of v)) (texts_are_named m us ys r)
     ∙ first_with (text_of v) (texts_of us)
+
+-- the code's grant has the name that the program's has, and a primitive type that asks for its kind of device
+pub record HasGrant (y : GrantIs) (o : Option CodeGrant) : Type 0 where
+  pub primitive : Primitive
+  pub device : device_of primitive ≡ y.kind
+  pub is : o ≡ Some (record { name = y.name; primitive = primitive })
+
+-- a primitive type has the operations of its device
+same_operation : (t : Primitive) (method : List ℕ) (ts : List (List ℕ)) → code_operation t method ts ≡ operation_of (device_of t) method ts
+same_operation Console method ts = refl
+same_operation Folder method ts = refl
+same_operation Clock method ts = refl
+same_operation Random method ts = refl
 
 module _ (p : Program) (s : Starts) (i : Inside) (x : ℕ) (sight : Sight) (w0 : World) (m0 : Store) (slots : List Word) where
   -- the machine replies as the result says, with a word for its value
@@ -153,31 +170,33 @@ module _ (p : Program) (s : Starts) (i : Inside) (x : ℕ) (sight : Sight) (w0 :
 
     -- the machine has the grant, and the method's name
     pub performed_fits : (place : Place) (g : Option GrantIs) (h : Option CodeGrant) (method : List ℕ) (name : Option (List ℕ)) (vs : List Value)
-        (zs : List Word) → SameAll m.texts vs zs → ((y : GrantIs) → g ≡ Some y → h ≡ Some (record { name = y.name; kind = y.kind })) →
-        name ≡ Some method → Fits (perform place g method vs w) (code.performed place h name zs m)
+        (zs : List Word) → SameAll m.texts vs zs → ((y : GrantIs) → g ≡ Some y → HasGrant y h) → name ≡ Some method →
+        Fits (perform place g method vs w) (code.performed place h name zs m)
     unfolding perform
     performed_fits place g h method name vs zs same grant there = of_grant g refl
       where
-        of_op : (y : GrantIs) (ts : List (List ℕ)) (op : Option Op) → operation_of y.kind method ts ≡ op →
-            Fits (requested place y.name w op) (code.requested_of place (record { name = y.name; kind = y.kind }) m name (Some ts))
-        of_op y ts None e = wrong_fits w _
-        of_op y ts (Some op) e =
-            subst (λ o. Fits (requested place y.name w (Some op)) (code.requested_of place (record { name = y.name; kind = y.kind }) m o (Some ts)))
+        of_op : (y : GrantIs) (t : Primitive) → device_of t ≡ y.kind → (ts : List (List ℕ)) (op : Option Op) → operation_of y.kind method ts ≡ op →
+            Fits (requested place y.name w op) (code.requested_of place (record { name = y.name; primitive = t }) m name (Some ts))
+        of_op y t d ts None e = wrong_fits w _
+        of_op y t d ts (Some op) e =
+            subst (λ o. Fits (requested place y.name w (Some op)) (code.requested_of place (record { name = y.name; primitive = t }) m o (Some ts)))
             (sym there)
-            (subst (λ o. Fits (requested place y.name w (Some op)) (code.requested place y.name m o)) (sym e) (asked_fits place y.name op))
+            (subst (λ o. Fits (requested place y.name w (Some op)) (code.requested place y.name m o))
+            (sym (same_operation t method ts ∙ ap (λ (k : Kind). operation_of k method ts) d ∙ e)) (asked_fits place y.name op))
 
-        of_texts : (y : GrantIs) (o : Option (List (List ℕ))) → texts_named m zs ≡ o →
+        of_texts : (y : GrantIs) (t : Primitive) → device_of t ≡ y.kind → (o : Option (List (List ℕ))) → texts_named m zs ≡ o →
             Fits (requested_of place (Some y) method w o)
-            (code.requested_of place (record { name = y.name; kind = y.kind }) m name (texts_named m zs))
-        of_texts y None e = wrong_fits w _
-        of_texts y (Some ts) e =
+            (code.requested_of place (record { name = y.name; primitive = t }) m name (texts_named m zs))
+        of_texts y t d None e = wrong_fits w _
+        of_texts y t d (Some ts) e =
             subst (λ o. Fits (requested place y.name w (operation_of y.kind method ts))
-            (code.requested_of place (record { name = y.name; kind = y.kind }) m name o)) (sym e) (of_op y ts _ refl)
+            (code.requested_of place (record { name = y.name; primitive = t }) m name o)) (sym e) (of_op y t d ts _ refl)
 
         of_grant : (o : Option GrantIs) → g ≡ o → Fits (requested_of place o method w (texts_of vs)) (code.performed place h name zs m)
         of_grant None e = wrong_fits w _
         of_grant (Some y) e =
-            subst (λ c. Fits (requested_of place (Some y) method w (texts_of vs)) (code.performed place c name zs m)) (sym (grant y e))
+            let c = grant y e in
+            subst (λ c. Fits (requested_of place (Some y) method w (texts_of vs)) (code.performed place c name zs m)) (sym c.is)
             (subst (λ o. Fits (requested_of place (Some y) method w o)
-            (code.requested_of place (record { name = y.name; kind = y.kind }) m name (texts_named m zs))) (texts_are_named m vs zs same)
-            (of_texts y _ refl))
+            (code.requested_of place (record { name = y.name; primitive = c.primitive }) m name (texts_named m zs))) (texts_are_named m vs zs same)
+            (of_texts y c.primitive c.device _ refl))

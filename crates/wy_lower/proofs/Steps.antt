@@ -32,7 +32,7 @@ use Rattle.wy_lower.proofs.Addresses.{Stands, state, pushed, pile, takes, acts, 
 use Rattle.wy_lower.proofs.Leads.{Runs, give_runs, tick_runs, wrong_step_runs}
 use Rattle.wy_lower.proofs.Ready.{Ready, Fine}
 use Rattle.wy_lower.proofs.Relation.{Same, same_int, same_truth, same_nothing, same_text, same_object, same_grant, SameAll}
-use Rattle.wy_lower.proofs.Replies.{operated_fits, performed_fits}
+use Rattle.wy_lower.proofs.Replies.{operated_fits, HasGrant, performed_fits}
 
 unary_meant : (o : UnaryOperator) → operator_meant (unary_code o) ≡ unary_operator o
 unary_meant unary.Negate = refl
@@ -142,7 +142,7 @@ pub record CallsRun (p : Program) (s : Starts) (n d : ℕ) (calls : Calls) : Typ
 
 -- the code has the program's grants
 pub record HasGrants (p : Program) (s : Starts) : Type 0 where
-  pub grants : (k : ℕ) (y : GrantIs) → grant_of p k ≡ Some y → slice_get (lowered p s).grants k ≡ Some (record { name = y.name; kind = y.kind })
+  pub grants : (k : ℕ) (y : GrantIs) → grant_of p k ≡ Some y → HasGrant y (slice_get (lowered p s).grants k)
 
 module _ (p : Program) (s : Starts) (has : HasGrants p s) (n d : ℕ) (calls : Calls) (ok : CallsRun p s n d calls) (i : Inside) (x : ℕ) (sight : Sight)
     (w0 : World) (m0 : Store) (b : Body) (callers : List Frame) (at end : ℕ) (stack : List Word) (w : World) (m : Store) (slots : List Word)

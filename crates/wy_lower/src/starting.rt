@@ -4,14 +4,14 @@ ghost use Rattle.std.specs.Prelude.{◌≡◌, ◌++◌, ◌∷◌, [], List, �
 ghost use Rattle.std.specs.List.{position_from};
 ghost use Rattle.indexmap.specs.IndexMap.{get};
 ghost use Rattle.wy_types.specs.declared.linked.Instance as linked;
-ghost use Rattle.wy_meaning.specs.Starts.{numbered_from, main_actual, main_actuals, started_of, kind_numbered, kind_of_type, grant_named};
-ghost use Rattle.wy_lower.specs.Lowering.{grant_code, grants_code, argument_of, instance_code};
+ghost use Rattle.wy_meaning.specs.Starts.{numbered_from, main_actual, main_actuals, started_of};
+ghost use Rattle.wy_lower.specs.Lowering.{primitive_numbered, primitive_of_type, grant_code, grants_code, argument_of, instance_code};
 
 use crate::indexes::word;
 use indexmap::IndexMap;
 use std::alloc::Global;
 use wy_code::code::{Argument, Grant, Instance};
-use wy_device::operation::Kind;
+use wy_code::primitive::Primitive;
 use wy_text::list::Items;
 use wy_text::text::{Memory, Text, from_bytes};
 use wy_types::linked::{Actual, Linked};
@@ -104,44 +104,44 @@ pub(crate) fn main_actuals(
 // ----------------------------------------------------------------------------
 // Grants
 
-/// The kind of device that the primitive type of a number asks for.
-fn kind_numbered(number: u16) -> Option<Kind>
-    ensures { result ≡ kind_numbered number }
+/// The primitive type of a number.
+fn primitive_numbered(number: u16) -> Option<Primitive>
+    ensures { result ≡ primitive_numbered number }
 {
     if number == 0 {
-        return Some(Kind::Console);
+        return Some(Primitive::Console);
     }
     if number == 1 {
-        return Some(Kind::Folder);
+        return Some(Primitive::Folder);
     }
     if number == 2 {
-        return Some(Kind::Clock);
+        return Some(Primitive::Clock);
     }
     if number == 3 {
-        return Some(Kind::Random);
+        return Some(Primitive::Random);
     }
     None
 }
 
-/// The kind of device that a type asks for.
-fn kind_of_type(typ: &TypeRef) -> Option<Kind>
-    ensures { result ≡ kind_of_type typ.now }
+/// The primitive type that a type is.
+fn primitive_of_type(typ: &TypeRef) -> Option<Primitive>
+    ensures { result ≡ primitive_of_type typ.now }
 {
     match typ {
-        TypeRef::Named { decl, members: _ } => kind_numbered(*decl),
+        TypeRef::Named { decl, members: _ } => primitive_numbered(*decl),
         _ => None,
     }
 }
 
 /// Adds the grant that an own name is, where it is one.
 fn add_grant(grants: &mut Items<Grant>, own: &OwnName) -> Result<(), Memory>
-    ensures { OnOk result (grants.new ≡ grants.old ++ grant_code (grant_named (Some own.now))) }
+    ensures { OnOk result (grants.new ≡ grants.old ++ grant_code own.now.origin own.now) }
 {
     if let Origin::Grant = own.origin {
-        if let Some(kind) = kind_of_type(&own.typ) {
+        if let Some(primitive) = primitive_of_type(&own.typ) {
             grants.push(Grant {
                 name: own.name.copy()?,
-                kind,
+                primitive,
             })?;
         }
     }

@@ -16,7 +16,8 @@ use Rattle.wy_device.specs.Device.{IsAnswerNamed, IsAnswerOf, IsBytesUpTo, IsTru
 use Rattle.wy_device.specs.Devices.{DevicesState, device_of}
 use Rattle.wy_device.specs.Events.{DidExactly}
 use Rattle.wy_device.specs.Operation.{name_of, kind_of}
-use Rattle.wy_device.specs.Requests.{operations_of, operation_called, has_good_name, answers_text, fits_operation, is_text_up_to, is_truth, is_number, is_done, Told, Answers, Fails, Waits, asked}
+use Rattle.wy_device.specs.Requests.{operation_called, has_good_name, answers_text, fits_operation, is_text_up_to, is_truth, is_number, is_done, Told, Answers, Fails, Waits, asked}
+use Rattle.wy_code.specs.Primitives.{operations_of}
 use Rattle.wy_device.specs.RunEnds as ends
 use Rattle.wy_device.specs.Tapes.{Tapes, spliced}
 use Rattle.wy_device.specs.Traps as device
@@ -26,7 +27,7 @@ use Rattle.wy_code.specs.declared.code.Grant.{Grant as CodeGrant}
 use Rattle.wy_code.specs.Operations.{deed_event, word_answered, answered, requested, requested_of, texts_named, performed}
 use Rattle.wy_code.specs.Stores.{Word, Text, Grant, Store, Reply, Replies, ended}
 use Rattle.wy_code.specs.Machine.{State, Next, Go, Halt, stuck, with_operands, has_room, push_reply}
-use Rattle.wy_machine.specs.declared.run_end.RunEnd.TheVariants.{Trap, DeviceFailed, Memory}
+use Rattle.wy_machine.specs.declared.run_end.RunEnd.TheVariants.{Trap, DeviceFailed}
 use Rattle.wy_machine.specs.declared.run_end.TrapKind.{TrapKind}
 use Rattle.wy_machine.specs.Requesting.{is_answered_by_text, asked_for, operation_with, first_text, refused, word_answer, HasPlace, word_received, store_received}
 use Rattle.wy_machine.specs.Runs.{tapes_of, AreSameDevices}
@@ -118,7 +119,7 @@ answered_goes grant op w (Answers answer.Unit tapes) s kind at = pushed_goes _ _
 answered_goes grant op w (Fails tapes) s kind at = λ e. cc
 answered_goes grant op w Waits s kind at = λ e. cc
 
-requests : (place : Place) (g : CodeGrant) (w : Store) (method : List ℕ) (o : Option (List (List ℕ))) → requested_of place g w (Some method) o ≡ requested place g.name w (asked_for g.kind method o)
+requests : (place : Place) (g : CodeGrant) (w : Store) (method : List ℕ) (o : Option (List (List ℕ))) → requested_of place g w (Some method) o ≡ requested place g.name w (asked_for g.primitive method o)
 requests place g w method None = refl
 requests place g w method (Some texts) = refl
 
@@ -147,9 +148,9 @@ module _ (code : Code) (depth : ℕ) (place : Place) (s : StackState) (w : Store
 
     module _ (method : List ℕ) (named : slice_get code.methods m ≡ Some method) where
       abbrev pub IsAskedFor : Option Op → Type 0
-      IsAskedFor op = (t : Tapes) → op ≡ asked_for grant.kind method (texts_named (store_of code w t) args)
+      IsAskedFor op = (t : Tapes) → op ≡ asked_for grant.primitive method (texts_named (store_of code w t) args)
 
-      replies_at : (t : Tapes) → next t ≡ push_reply (requested place grant.name (store_of code w t) (asked_for grant.kind method (texts_named (store_of code w t) args))) (state_of code from w t)
+      replies_at : (t : Tapes) → next t ≡ push_reply (requested place grant.name (store_of code w t) (asked_for grant.primitive method (texts_named (store_of code w t) args))) (state_of code from w t)
       replies_at t =
           grants t
           ∙ ap (λ o. push_reply (requested_of place grant (store_of code w t) o (texts_named (store_of code w t) args)) (state_of code from w t)) named
@@ -162,7 +163,7 @@ module _ (code : Code) (depth : ℕ) (place : Place) (s : StackState) (w : Store
       operation_there h e = h.holds no_tapes (replies None e no_tapes)
 
       -- an operation of this name
-      module _ (o : OpName) (is_called : operation_called method (operations_of grant.kind) ≡ Some o) where
+      module _ (o : OpName) (is_called : operation_called method (operations_of grant.primitive) ≡ Some o) where
         abbrev texts : Tapes → Option (List (List ℕ))
         texts t = texts_named (store_of code w t) args
 
@@ -170,13 +171,13 @@ module _ (code : Code) (depth : ℕ) (place : Place) (s : StackState) (w : Store
         trap_before t = refused o (first_text (store_of code w t) args) (length w.texts)
 
         pub asked_of : (op : Option Op) → ((t : Tapes) → op ≡ operation_with o (texts t)) → IsAskedFor op
-        asked_of op e t = e t ∙ sym (asked_with grant.kind method o is_called (texts t))
+        asked_of op e t = e t ∙ sym (asked_with grant.primitive method o is_called (texts t))
 
         pub no_such_texts : IsNotStuck next → ((t : Tapes) → None ≡ operation_with o (texts t)) → ⊥
         no_such_texts h e = operation_there h (asked_of None e)
 
         replies_with : (t : Tapes) → next t ≡ push_reply (requested place grant.name (store_of code w t) (operation_with o (texts t))) (state_of code from w t)
-        replies_with t = replies_at t ∙ ap (λ op. push_reply (requested place grant.name (store_of code w t) op) (state_of code from w t)) (asked_with grant.kind method o is_called (texts t))
+        replies_with t = replies_at t ∙ ap (λ op. push_reply (requested place grant.name (store_of code w t) op) (state_of code from w t)) (asked_with grant.primitive method o is_called (texts t))
 
         -- it traps where it is refused, or takes no such texts
         pub refusing : (t : Tapes) (kind : TrapKind) → trap_before t ≡ Some kind → (next t ≡ stuck) ⊎ (next t ≡ Halt (ends.Trap (trap_meant kind) place) [])

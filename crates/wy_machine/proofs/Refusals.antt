@@ -3,11 +3,12 @@ use Rattle.std.proofs.Common.{◌≡◌, ℕ, ◌<◌, Bool, true, false, not, �
 use Rattle.std.proofs.lemmas.Option.{same_Some}
 use Rattle.std.specs.Prelude.{if◌then◌else◌}
 use Rattle.wy_text.specs.declared.fault.Place.{Place}
-use Rattle.wy_device.specs.declared.operation.Kind.{Kind}
+use Rattle.wy_code.specs.declared.primitive.Primitive.{Primitive}
+use Rattle.wy_code.specs.Primitives.{operations_of}
 use Rattle.wy_device.specs.declared.operation.Op.{Op}
 use Rattle.wy_device.specs.declared.operation.OpName.{OpName}
 use Rattle.wy_device.specs.declared.operation.OpName.TheVariants as name
-use Rattle.wy_device.specs.Requests.{operations_of, operation_called, operation_given, operation_on, has_good_name, answers_text, asked}
+use Rattle.wy_device.specs.Requests.{operation_called, operation_given, operation_on, has_good_name, answers_text, asked}
 use Rattle.wy_device.specs.RunEnds as ends
 use Rattle.wy_device.specs.Traps.{most_texts}
 use Rattle.wy_code.specs.Operations.{operand_text, with_first, texts_named, answered, requested}
@@ -18,14 +19,14 @@ use Rattle.wy_machine.specs.Requesting.{asked_for, operation_with, first_text, i
 use Rattle.wy_machine.specs.TrapKinds.{trap_meant}
 
 -- the texts make an operation of the name that the method has
-pub asked_with : (kind : Kind) (method : List ℕ) (o : OpName) → operation_called method (operations_of kind) ≡ Some o → (texts : Option (List (List ℕ))) →
-    asked_for kind method texts ≡ operation_with o texts
-asked_with kind method o e None = refl
-asked_with kind method o e (Some texts) = ap (λ o. operation_given o texts) e
+pub asked_with : (primitive : Primitive) (method : List ℕ) (o : OpName) → operation_called method (operations_of primitive) ≡ Some o → (texts : Option (List (List ℕ))) →
+    asked_for primitive method texts ≡ operation_with o texts
+asked_with primitive method o e None = refl
+asked_with primitive method o e (Some texts) = ap (λ o. operation_given o texts) e
 
-pub asked_by_none : (kind : Kind) (method : List ℕ) → operation_called method (operations_of kind) ≡ None → (texts : Option (List (List ℕ))) → None ≡ asked_for kind method texts
-asked_by_none kind method e None = refl
-asked_by_none kind method e (Some texts) = ap (λ o. operation_given o texts) (sym e)
+pub asked_by_none : (primitive : Primitive) (method : List ℕ) → operation_called method (operations_of primitive) ≡ None → (texts : Option (List (List ℕ))) → None ≡ asked_for primitive method texts
+asked_by_none primitive method e None = refl
+asked_by_none primitive method e (Some texts) = ap (λ o. operation_given o texts) (sym e)
 
 ------------------------------------------------------------
 -- What is known before the texts are copied

@@ -11,7 +11,8 @@ use Rattle.wy_device.specs.declared.operation.Op.{Op}
 use Rattle.wy_device.specs.Operators as meant
 use Rattle.wy_device.specs.Operators.{Bytes}
 use Rattle.wy_device.specs.declared.operation.OpName.{OpName}
-use Rattle.wy_device.specs.Requests.{operations_of, operation_called, has_good_name, answers_text, Told, Answers, Fails, Waits, asked}
+use Rattle.wy_device.specs.Requests.{operation_called, has_good_name, answers_text, Told, Answers, Fails, Waits, asked}
+use Rattle.wy_code.specs.Primitives.{operations_of}
 use Rattle.wy_device.specs.RunEnds as ends
 use Rattle.wy_device.specs.Tapes.{Tapes}
 use Rattle.wy_device.specs.Traps.{most_texts, most_objects, BadName, Crowded}
@@ -305,7 +306,7 @@ module _ (code : Code) where
         pub shows_no_operation : IsAskedFor code depth place s w m k g receiver grant granted method named None → Shows code coming.Nothing (acting code depth place s w (Call m k))
         shows_no_operation e = shows_as coming.Nothing _ (λ t. stuck) (replies code depth place s w m k g receiver grant granted method named None e) (record { holds = λ t. refl })
 
-        pub shows_refused : (o : OpName) (is_called : operation_called method (operations_of grant.kind) ≡ Some o) (kind : TrapKind) →
+        pub shows_refused : (o : OpName) (is_called : operation_called method (operations_of grant.primitive) ≡ Some o) (kind : TrapKind) →
             ((t : Tapes) → trap_before code depth place s w m k g receiver grant granted method named o is_called t ≡ Some kind) → Shows code coming.Nothing (acting code depth place s w (Call m k))
         shows_refused o is_called kind e = record {
           holds = λ t. elim (refusing code depth place s w m k g receiver grant granted method named o is_called t kind (e t)) [

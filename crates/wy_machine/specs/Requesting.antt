@@ -12,11 +12,12 @@ use Rattle.wy_machine.specs.States.{store_of}
 use Rattle.wy_machine.specs.StoreStates.{StoreState}
 use Rattle.wy_device.specs.declared.operation.Answer.{Answer}
 use Rattle.wy_device.specs.declared.operation.Answer.TheVariants as answer
-use Rattle.wy_device.specs.declared.operation.Kind.{Kind}
+use Rattle.wy_code.specs.declared.primitive.Primitive.{Primitive}
+use Rattle.wy_code.specs.Primitives.{operations_of, operation_of}
 use Rattle.wy_device.specs.declared.operation.Op.{Op}
 use Rattle.wy_device.specs.declared.operation.OpName.{OpName}
 use Rattle.wy_device.specs.declared.operation.OpName.TheVariants as name
-use Rattle.wy_device.specs.Requests.{operations_of, operation_called, operation_on, operation_of, is_file_name}
+use Rattle.wy_device.specs.Requests.{operation_called, operation_on, is_file_name}
 use Rattle.wy_code.specs.Stores.{Word, Int, Truth, Nothing, Text, Grant, Store, operand}
 
 -- texts after these, where they are there
@@ -24,10 +25,10 @@ abbrev pub after_texts : List (List ℕ) → Option (List (List ℕ)) → Option
 after_texts first None = None
 after_texts first (Some more) = Some (first ++ more)
 
--- what a method of a kind of device asks for with these texts, where they are there
-abbrev pub asked_for : Kind → List ℕ → Option (List (List ℕ)) → Option Op
-asked_for kind method None = None
-asked_for kind method (Some texts) = operation_of kind method texts
+-- what a method of a primitive type asks for with these texts, where they are there
+abbrev pub asked_for : Primitive → List ℕ → Option (List (List ℕ)) → Option Op
+asked_for primitive method None = None
+asked_for primitive method (Some texts) = operation_of primitive method texts
 
 -- an operation with these texts, where they are there
 abbrev pub operation_with : OpName → Option (List (List ℕ)) → Option Op
@@ -115,7 +116,7 @@ pub record IsAsking (code : Code) (s : StackState) (m k : ℕ) (grant : CodeGran
   pub granted : slice_get code.grants number ≡ Some grant
   pub method : List ℕ
   pub named : slice_get code.methods m ≡ Some method
-  pub called : operation_called method (operations_of grant.kind) ≡ Some o
+  pub called : operation_called method (operations_of grant.primitive) ≡ Some o
 
 -- .. with the texts that make an operation of it
 pub record IsRequest (code : Code) (s : StackState) (w : StoreState) (m k : ℕ) (grant : CodeGrant) (op : Op) : Type 0 where
@@ -124,4 +125,4 @@ pub record IsRequest (code : Code) (s : StackState) (w : StoreState) (m k : ℕ)
   pub granted : slice_get code.grants number ≡ Some grant
   pub method : List ℕ
   pub named : slice_get code.methods m ≡ Some method
-  pub asked : (tapes : Tapes) → Some op ≡ asked_for grant.kind method (texts_named (store_of code w tapes) (reverse (take k s.running.operands)))
+  pub asked : (tapes : Tapes) → Some op ≡ asked_for grant.primitive method (texts_named (store_of code w tapes) (reverse (take k s.running.operands)))

@@ -101,7 +101,7 @@ fn deed_coming(
 {
     match code.grants.get(number as usize) {
         Some(grant) => match code.methods.get(method as usize) {
-            Some(name) => match operation_called(grant.kind, name.as_bytes()) {
+            Some(name) => match operation_called(grant.primitive, name.as_bytes()) {
                 Some(operation) => operation_coming(code, machine, method, count, grant, operation),
                 None => Ok(Coming::Nothing),
             },

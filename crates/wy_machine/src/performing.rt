@@ -156,7 +156,7 @@ pub fn perform<D: Device>(
 {
     match code.grants.get(number as usize) {
         Some(grant) => match code.methods.get(method as usize) {
-            Some(name) => match operation_called(grant.kind, name.as_bytes()) {
+            Some(name) => match operation_called(grant.primitive, name.as_bytes()) {
                 Some(operation) => request(
                     code, depth, machine, devices, place, method, count, grant, operation,
                 ),

@@ -1,7 +1,8 @@
-//! The operation that a method of a device asks for, and which are refused before memory is taken for them.
+//! The operation that a method of a grant asks for, and which are refused before memory is taken for them.
 
 ghost use Rattle.std.specs.Prelude.{◌≡◌, ◌≢◌, ◌∷◌, [], length, IfOk, MatchOption, Some, None};
 ghost use Rattle.wy_code.specs.Operations.{texts_named};
+ghost use Rattle.wy_code.specs.Primitives.{operations_of};
 ghost use Rattle.wy_device.specs.Requests as requests;
 ghost use Rattle.wy_device.specs.Tapes.{Tapes};
 ghost use Rattle.wy_machine.specs.Requesting.{first_text, names_file, is_well_named, is_answered_by_text, refused};
@@ -13,8 +14,9 @@ use crate::store::Store;
 use crate::texts::text_named;
 use crate::word::Word;
 use wy_code::code::Code;
+use wy_code::primitive::Primitive;
 use wy_device::file_name::is_file_name;
-use wy_device::operation::{Kind, Op, OpName};
+use wy_device::operation::{Op, OpName};
 use wy_text::text::{Memory, Text};
 
 /// Whether the first of these words names a text that is a file's name.
@@ -91,13 +93,13 @@ fn first_called(method: &[u8], names: &[OpName]) -> Option<OpName>
     None
 }
 
-/// The operation that a method of a kind of device asks for; `None` exactly where there is none.
-pub fn operation_called(kind: Kind, method: &[u8]) -> Option<OpName>
-    ensures { result ≡ requests.operation_called method.now (requests.operations_of kind) }
+/// The operation that a method of a primitive type asks for; `None` exactly where there is none.
+pub fn operation_called(primitive: Primitive, method: &[u8]) -> Option<OpName>
+    ensures { result ≡ requests.operation_called method.now (operations_of primitive) }
 {
-    match kind {
-        Kind::Console => first_called(method, &[OpName::ConsoleRead, OpName::ConsoleWrite]),
-        Kind::Folder => first_called(
+    match primitive {
+        Primitive::Console => first_called(method, &[OpName::ConsoleRead, OpName::ConsoleWrite]),
+        Primitive::Folder => first_called(
             method,
             &[
                 OpName::FolderRead,
@@ -107,8 +109,8 @@ pub fn operation_called(kind: Kind, method: &[u8]) -> Option<OpName>
                 OpName::FolderNames,
             ],
         ),
-        Kind::Clock => first_called(method, &[OpName::ClockNow]),
-        Kind::Random => first_called(method, &[OpName::RandomWord]),
+        Primitive::Clock => first_called(method, &[OpName::ClockNow]),
+        Primitive::Random => first_called(method, &[OpName::RandomWord]),
     }
 }
 

@@ -1,4 +1,4 @@
-use Rattle.std.proofs.Common.{◌≡◌, ◌<◌, ◌+◌, [], ◌∷◌, ◌++◌, length, map, drop, get_or, sym, ap, ◌∙◌, arith}
+use Rattle.std.proofs.Common.{◌<◌, ◌+◌, [], ◌∷◌, ◌++◌, length, map, drop, get_or, sym, ap, ◌∙◌, arith}
 use Rattle.wy_types.specs.Program.{body_of}
 use Rattle.wy_lower.specs.Lowering.{owned_names}
 use Rattle.wy_lower.proofs.EmitLists.{split_at, read_item, there_is, mapped_item, length_mapped}

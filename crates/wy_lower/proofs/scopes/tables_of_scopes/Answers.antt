@@ -1,4 +1,4 @@
-use Rattle.std.proofs.Common.{rules, ◌<◌, ◌+◌, length, map, drop, get_or, sym, ap, ◌∙◌}
+use Rattle.std.proofs.Common.{rules, ◌<◌, ◌+◌, length, map, drop, sym, ap, ◌∙◌}
 use Rattle.wy_types.specs.Program.{scope_of}
 use Rattle.wy_lower.specs.Parts.{each_once_after, texts_in, calls_in, scope_parts, scopes_parts}
 use Rattle.wy_lower.proofs.EmitLists.{split_at}

@@ -1,5 +1,6 @@
 use Rattle.std.proofs.Common.{ap, sym, ◌∙◌}
-use Rattle.wy_device.specs.Requests.{operation_called, operations_of}
+use Rattle.wy_device.specs.Requests.{operation_called}
+use Rattle.wy_code.specs.Primitives.{operations_of}
 use Rattle.wy_machine.specs.Stacks.{at_address}
 use Rattle.wy_machine.proofs.Refusals.{asked_by_none}
 use Rattle.wy_machine.proofs.Showings.{shows_no_grant, shows_no_method, shows_no_operation}
@@ -10,7 +11,7 @@ returns-in-None-operation_called c = λ depth place at.
     let m = c.args.machine.now in
     let grant = c.in-Some.grant.now in
     shows_no_operation c.args.code.now depth place (at_address at m.stack) m.store c.args.method c.args.count c.args.number c.requires grant (sym c.in-Some.ensures) c.in-Some-get.name.now (sym c.in-Some-get.ensures)
-    (λ t. asked_by_none grant.kind c.in-Some-get.name.now (ap (λ name. operation_called name (operations_of grant.kind)) (sym c.as_bytes.ensures) ∙ sym c.operation_called.ensures ∙ c.in-None-operation_called.is) _)
+    (λ t. asked_by_none grant.primitive c.in-Some-get.name.now (ap (λ name. operation_called name (operations_of grant.primitive)) (sym c.as_bytes.ensures) ∙ sym c.operation_called.ensures ∙ c.in-None-operation_called.is) _)
 
 pub returns-in-None-get : goal.returns-in-None-get
 returns-in-None-get c = λ depth place at.
