@@ -27,7 +27,7 @@ use Rattle.wy_code.specs.declared.code.Grant.{Grant as CodeGrant}
 use Rattle.wy_code.specs.Operations.{deed_event, word_answered, answered, requested, requested_of, texts_named, performed}
 use Rattle.wy_code.specs.Stores.{Word, Text, Grant, Store, Reply, Replies, ended}
 use Rattle.wy_code.specs.Machine.{State, Next, Go, Halt, stuck, with_operands, has_room, push_reply}
-use Rattle.wy_machine.specs.declared.run_end.RunEnd.TheVariants.{Trap, DeviceFailed, Memory}
+use Rattle.wy_machine.specs.declared.run_end.RunEnd.TheVariants.{Trap, DeviceFailed}
 use Rattle.wy_machine.specs.declared.run_end.TrapKind.{TrapKind}
 use Rattle.wy_machine.specs.Requesting.{is_answered_by_text, asked_for, operation_with, first_text, refused, word_answer, HasPlace, word_received, store_received}
 use Rattle.wy_machine.specs.Runs.{tapes_of, AreSameDevices}
