@@ -93,7 +93,7 @@ module _ (p : Program) where
       ap₂ (λ m n. m + n) (length-map (all_types p 0) (type_at 0) ∙ length-all_types p 0) (length-owns 0 (run_instances p)) ∙
       sum_up (declared_count 512 p.declarations) (owns_among p (run_instances p))
 
-  few_of_run : (us : List GroundType) → Apart us → ((u : GroundType) → In u us → IsOfRun p u) → length us ≤ ground_bound p
+  pub few_of_run : (us : List GroundType) → Apart us → ((u : GroundType) → In u us → IsOfRun p u) → length us ≤ ground_bound p
   few_of_run us apart each = subst (λ n. length us ≤ n) length-all_of_run (length-apart us all_of_run apart (λ t i. all_there t (each t i)))
 
 pub ground_types_are_few : GroundTypesAreFew
@@ -104,7 +104,7 @@ ground_types_are_few p us apart each = few_of_run p us apart each
 
 module _ (p : Program) where
   -- a type that can be written, as an instance reads it
-  of_run : (x : ℕ) (t : TypeRef) → FitsType p 512 0 t → IsOfRun p (type_at x t)
+  pub of_run : (x : ℕ) (t : TypeRef) → FitsType p 512 0 t → IsOfRun p (type_at x t)
   of_run x of.Int f = tt
   of_run x of.Bool f = tt
   of_run x of.Text f = tt
@@ -130,7 +130,7 @@ module _ (p : Program) where
       )
 
   -- types that can be written in a scope, with sets put in or at a bound
-  read_fits : (atoms : ℕ) (o : Option (List ℕ)) (sets : List (List ℕ)) (t : TypeRef) → AreSets 512 sets → ((b : List ℕ) → o ≡ Some b → IsSet 512 b) →
+  pub read_fits : (atoms : ℕ) (o : Option (List ℕ)) (sets : List (List ℕ)) (t : TypeRef) → AreSets 512 sets → ((b : List ℕ) → o ≡ Some b → IsSet 512 b) →
       FitsType p atoms 0 t → FitsType p 512 0 (read_by o sets t)
   read_fits atoms None sets t h b f = Fits-substituted p 0 atoms sets t h f
   read_fits atoms (Some bound) sets t h b f = Fits-annotated p 0 atoms bound t (b bound refl) f
@@ -175,7 +175,7 @@ module _ (p : Program) where
         (Fits-declared p (core_signatures_fit p c) 0 d (annotated bound) (λ e. bound) (λ atoms t g. Fits-annotated p 0 atoms bound t h.1 g) (λ e. h.1))
     methods_stay (Own x l) h = own_stay x l (slice_get (run_instances p) x) refl
 
-    next_stay : (t u : GroundType) → IsOfRun p t → In u (signature_types (ground_methods p t)) → IsOfRun p u
+    pub next_stay : (t u : GroundType) → IsOfRun p t → In u (signature_types (ground_methods p t)) → IsOfRun p u
     next_stay t u h i =
         let r = part_of_signature GroundType (ground_methods p) (ground_methods p t) u i in
         at_part r.0 (methods_stay t h r.0 r.1) r.2.0 r.2.1

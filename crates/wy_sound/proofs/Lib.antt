@@ -6,7 +6,9 @@ pub mod Calling
 pub mod Effects
 pub mod Evaluating
 mod Examples
+mod GroundLists
 pub mod GroundRange
+mod GroundReached
 pub mod Heaps
 pub mod Linked
 mod LinkingAdded

@@ -1,5 +1,5 @@
 -- The laws over whole runs: no end is a wrong one, and each deed is in the authority of every call that is open.
-use Rattle.std.proofs.Common.{◌≡◌, ◌≢◌, codes, ℕ, zero, suc, ◌+◌, ◌<◌, List, [], ◌∷◌, length, map, inl, inr, refl, sym, ap, ◌∙◌, subst, Some, arith, lt_irrefl}
+use Rattle.std.proofs.Common.{◌≡◌, ◌≢◌, codes, ℕ, zero, suc, ◌+◌, ◌<◌, List, [], ◌∷◌, length, map, inl, inr, refl, sym, ap, ◌∙◌, subst, Some, arith, append-nil, ◌≤◌, lt_irrefl}
 use Rattle.std.specs.Prelude.{slice_get}
 use Rattle.wy_types.specs.declared.linked.Instance.{Instance}
 use Rattle.wy_types.specs.Program.{Program}
@@ -31,7 +31,8 @@ use Rattle.wy_sound.proofs.Placing.{place}
 use Rattle.wy_sound.proofs.Results.{SoundTo, Valued}
 use Rattle.wy_sound.proofs.Evaluating.{value_sound, block_sound}
 use Rattle.wy_sound.proofs.Calling.{calls_sound}
-use Rattle.wy_sound.proofs.Starting.{FineTo, Fine, TopTo, Top, bind_top, whole_top, declared, done_now, init_fine, main_fine}
+use Rattle.wy_sound.specs.StartingObjects.{IsStartingObject, StartingObjectStays, StartingObjectsAreTyped}
+use Rattle.wy_sound.proofs.Starting.{FineTo, Fine, TopTo, Top, bind_top, whole_top, declared, filling_stays, done_now, init_fine, main_fine}
 
 module _ (p : Program) (linked : IsLinked p) where
   -- where the run has come to its end the heap is typed
@@ -209,3 +210,32 @@ start_preservation p r a x lt pl n w q =
 
 pub first_heap_is_typed : FirstHeapIsTyped
 first_heap_is_typed p r a = let l = linked p r a in (first_heap p l, first_rest p l)
+
+-- what is sound leaves the fields of the object that starts as they are
+sound_stays : (p : Program) (l : IsLinked p) (x : ℕ) (lt : x < instance_count p) (pl : Placed p x) (done : List GroundType) (f : List ℕ) (w0 : World) (t : GroundType) (o : Outcome Value) (w : World)
+    (es : List Event) → Filling p x pl done w0.objects → SoundTo p x f w0 (Valued p x t) o w es → Filling p x pl done w.objects
+sound_stays p l x lt pl done f w0 t (Stops e) w es q h = filling_stays p l x pl lt done w0.objects w.objects h.2.0 h.2.1 q
+sound_stays p l x lt pl done f w0 t (Gives v) w es q h = filling_stays p l x pl lt done w0.objects w.objects h.0 h.1 q
+
+pub starting_object_stays : StartingObjectStays
+starting_object_stays p r a x lt pl done sight other owner seen d v t e h fits n w sh q =
+    let l = linked p r a in
+    let le : x ≤ instance_count p = omega (arith, lt) in
+    sound_stays p l x lt pl done e w t _ _ _ q
+    (value_sound p l x le (open_calls p (program_starts p) n) (calls_sound p l x le n) e owner d v t e seen sight other w h (λ b i. i) fits sh q.heap).by
+
+-- .. and what it is handed has its types
+starting : (p : Program) (l : IsLinked p) (x : ℕ) (pl : Placed p x) (h : List Thing) → PartlyFilled p x pl h → IsStartingObject p x pl h
+starting p l x pl h q = record { arguments = λ k n e. l.arguments.each x pl.instance pl.scope k n pl.is.there pl.is.scope e; fields = q }
+
+fine_partly : (p : Program) (x : ℕ) (pl : Placed p x) (f : List ℕ) (o : Outcome Value) (w : World) (es : List Event) →
+    FineTo p f (λ w. PartlyFilled p x pl w.objects) (λ u w. Filling p x pl (fields_at p x pl 0) w.objects) o w es → PartlyFilled p x pl w.objects
+fine_partly p x pl f (Stops e) w es h = h.2
+fine_partly p x pl f (Gives v) w es h = (fields_at p x pl 0, [], append-nil (fields_at p x pl 0), h.1)
+
+pub starting_objects_are_typed : StartingObjectsAreTyped
+starting_objects_are_typed p r a x lt pl =
+    let l = linked p r a in (
+      λ h q. starting p l x pl h q,
+      λ n w q. starting p l x pl _ (fine_partly p x pl _ _ _ _ (init_fine p l n x pl lt w q).by),
+    )

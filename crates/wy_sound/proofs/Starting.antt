@@ -162,7 +162,7 @@ module _ (p : Program) (linked : IsLinked p) where
     not_ready z le below (inl l) = lt_irrefl x (omega (arith, le, l))
     not_ready z le below (inr ge) = lt_irrefl z (omega (arith, below, ge))
 
-    filling_stays : (done : List GroundType) (h h' : List Thing) → Extends p x h h' → WellHeap p x h' → Filling p x pl done h → Filling p x pl done h'
+    pub filling_stays : (done : List GroundType) (h h' : List Thing) → Extends p x h h' → WellHeap p x h' → Filling p x pl done h → Filling p x pl done h'
     filling_stays done h h' e wh q = record {
       heap = wh;
       values = q.values;

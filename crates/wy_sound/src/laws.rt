@@ -2,7 +2,9 @@
 //! here does anything: what it says is its clause.
 
 ghost use Rattle.wy_sound.specs.GroundRange.{GroundTypesAreFew, GroundTypesStay, GroundBelowIsSubtype};
+ghost use Rattle.wy_sound.specs.GroundReached.{GroundReachedIs, NoOtherGroundTypeOccurs};
 ghost use Rattle.wy_sound.specs.Laws.{Preservation, BlockPreservation, CallPreservation, StartPreservation, FirstHeapIsTyped, NeverWrong, EventsAreBounded, PureInstancesMayNothing, PureInstancesAreSilent};
+ghost use Rattle.wy_sound.specs.StartingObjects.{StartingObjectStays, StartingObjectsAreTyped};
 
 /// Preservation: evaluation of a value that has a derivation over the types of a run, in a heap that has its types,
 /// leaves a heap that has its types, and ends as the language says or gives a value of the value's type
@@ -25,6 +27,18 @@ pub fn call_preservation()
 /// value of its type; where it ends before the last, those that are set have theirs.
 pub fn start_preservation()
     ensures { StartPreservation }
+{}
+
+/// While an instance starts, evaluation of a value leaves the fields of its object that are set, and they keep their
+/// types, whether a value is given or evaluation ends.
+pub fn starting_object_stays()
+    ensures { StartingObjectStays }
+{}
+
+/// While an instance starts, and wherever its start comes to, what it is handed has its types, and so have the fields of
+/// its object that are set so far; a field that is not yet set has no value.
+pub fn starting_objects_are_typed()
+    ensures { StartingObjectsAreTyped }
 {}
 
 /// Before the first instance starts the heap has its types.
@@ -65,4 +79,16 @@ pub fn ground_types_stay()
 /// A type of a run that is equal to another or a subtype of it is a subtype of it: each is one of itself.
 pub fn ground_below_is_subtype()
     ensures { GroundBelowIsSubtype }
+{}
+
+/// The types that a run reaches are those of a list, which the program and its instances give, each once; and each is a
+/// type of the run.
+pub fn ground_reached_is()
+    ensures { GroundReachedIs }
+{}
+
+/// No other type occurs in an instance: in that list are all that its scope reaches, as the instance reads types, those
+/// of its `val`s, and those that its canonical derivation names.
+pub fn no_other_ground_type_occurs()
+    ensures { NoOtherGroundTypeOccurs }
 {}
