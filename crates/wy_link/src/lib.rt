@@ -9,6 +9,7 @@ pub mod laws;
 mod lines;
 mod linking;
 mod members;
+mod started;
 
 pub use checking::{CheckedProgram, check};
 pub use lines::judge_lines;

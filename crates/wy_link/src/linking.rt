@@ -11,6 +11,7 @@ ghost use Rattle.wy_rules.specs.Resolved.{CoreKeeps};
 ghost use Rattle.wy_link.specs.Linking.{IsLinked, IsLinkRefusal, ComesTo, CanSettle, CanSettleAll, visited, with_instance};
 
 use crate::members::{arguments_sets, members_of, names_of};
+use crate::started::Started;
 use std::alloc::Global;
 use wy_effects::atom::Atom;
 use wy_effects::set::{EffSet, SetList, substitute_sets};
@@ -155,7 +156,7 @@ fn add_instance(
     scope: u16,
     bound: Option<EffSet>,
     inner: Settled,
-    started: &mut Linked,
+    started: &mut Started,
     own: &mut Settled,
 ) -> Result<(), LinkRefusal>
     requires { length started.old ≤ 1024 }
@@ -182,7 +183,7 @@ fn settle_line(
     name: Text,
     scope: u16,
     inner: Settled,
-    started: &mut Linked,
+    started: &mut Started,
     own: &mut Settled,
 ) -> Result<(), LinkRefusal>
     requires { length started.old ≤ 1024 }
@@ -198,7 +199,7 @@ fn settle_import(
     scope: u16,
     bound: &EffSet,
     inner: Settled,
-    started: &mut Linked,
+    started: &mut Started,
     own: &mut Settled,
 ) -> Result<(), LinkRefusal>
     requires { length started.old ≤ 1024 }
@@ -206,19 +207,6 @@ fn settle_import(
 {
     let bound = bound.substitute(own.sets.as_slice())?;
     add_instance(name, scope, Some(bound), inner, started, own)
-}
-
-/// The number of the instance of a name.
-fn number_of(name: &Text, started: &[Instance]) -> Option<u16>
-    requires { length started.now ≤ 1024 }
-    ensures { result ≡ number_from 0 name.now started.now }
-{
-    for (i, instance) in started.iter().enumerate() {
-        if instance.name == *name {
-            return Some(i as u16);
-        }
-    }
-    None
 }
 
 /// The name of the instance of a pure module that is used by this name.
@@ -265,7 +253,7 @@ fn visit(
     scopes: usize,
     outer: &[OwnName],
     prefix: &Text,
-    started: &mut Linked,
+    started: &mut Started,
     own: &mut Settled,
 ) -> Result<(), LinkRefusal>
     requires core { IsCore (program_of core.now) }
@@ -292,7 +280,7 @@ fn visit_name(
     outer: &[OwnName],
     prefix: &Text,
     name: &OwnName,
-    started: &mut Linked,
+    started: &mut Started,
     own: &mut Settled,
 ) -> Result<(), LinkRefusal>
     requires core { IsCore (program_of core.now) }
@@ -335,14 +323,14 @@ fn visit_use(
     scopes: usize,
     name: &Text,
     scope: u16,
-    started: &mut Linked,
+    started: &mut Started,
     own: &mut Settled,
 ) -> Result<(), LinkRefusal>
     requires { length started.old ≤ 1024 }
     ensures { ComesTo (used (program_of core.now) (visit (program_of core.now) scopes) (visited started.old own.old) (codes "pure " ++ name.now) scope (number_from 0 (codes "pure " ++ name.now) started.old)) started.new own.new result }
 {
     let pure = pure_name(alloc, name)?;
-    if let Some(number) = number_of(&pure, started.as_slice()) {
+    if let Some(number) = started.number_of(&pure) {
         return Ok(settle_use(core, scope, number, started.as_slice(), own)?);
     }
     let mut inner = Settled {
@@ -361,7 +349,7 @@ fn visit_uses(
     core: &Core,
     scopes: usize,
     outer: &[OwnName],
-    started: &mut Linked,
+    started: &mut Started,
     own: &mut Settled,
 ) -> Result<(), LinkRefusal>
     requires { length started.old ≤ 1024 }
@@ -395,7 +383,7 @@ pub fn link(alloc: Global, core: &Core) -> Result<Links, LinkRefusal>
     ensures links { IfOk result (λ l. IsLinked (program_of core.now) l) }
     ensures refusal { IfErr result (λ r. IsLinkRefusal (program_of core.now) r) }
 {
-    let mut instances = Items::new(alloc);
+    let mut started = Started::new(alloc);
     let mut own = Settled {
         actuals: Items::new(alloc),
         sets: Items::new(alloc),
@@ -408,11 +396,11 @@ pub fn link(alloc: Global, core: &Core) -> Result<Links, LinkRefusal>
         core.scopes.len(),
         names,
         &prefix,
-        &mut instances,
+        &mut started,
         &mut own,
     )?;
     Ok(Links {
-        instances,
+        instances: started.into_linked(alloc)?,
         sets: own.sets,
     })
 }
