@@ -14,7 +14,7 @@ one_of i b = cond b (Some i) None
 
 number_last : (k : ℕ) (q : List ℕ) (xs : List Instance) (x : Instance) → number_from k q (xs ++ x ∷ []) ≡ or_else (number_from k q xs) (one_of (k + length xs) (bytes_eq x.name q))
 unfolding or_else one_of
-number_last k q [] x = (let start : k + 0 ≡ k = omega arith in ap (λ j. one_of j (bytes_eq x.name q)) (sym start) ) 
+number_last k q [] x = (let start : k + 0 ≡ k = omega arith in ap (λ j. one_of j (bytes_eq x.name q)) (sym start))
 number_last k q (y ∷ ys) x =
     let next : (k + 1) + length ys ≡ k + suc (length ys) = omega arith in
     let P : Bool → Type 0 = λ b. (if b then Some k else number_from (k + 1) q (ys ++ x ∷ [])) ≡ or_else (if b then Some k else number_from (k + 1) q ys) (one_of (k + suc (length ys)) (bytes_eq x.name q)) in

@@ -10,6 +10,7 @@ ghost use Rattle.wy_link.specs.Checking.{IsBeforeLines, IsCheckedProgram};
 
 use crate::lines::judge_lines;
 use crate::linking::{LinkRefusal, Links, link};
+use crate::lists::listed;
 use std::alloc::Global;
 use wy_judge::{CheckRefusal, Judged, check_modules, judge_scope, keep_limit};
 use wy_text::list::Items;
@@ -38,17 +39,6 @@ fn empty_lists(alloc: Global, scopes: usize) -> Result<Vec<TypeList>, Memory>
         lists.push(Items::new(alloc))?;
     }
     Ok(lists)
-}
-
-/// The lists, in their order.
-fn in_order(alloc: Global, lists: Vec<TypeList>) -> Result<LocalsList, Memory>
-    ensures { IfOk result (λ l. l ≡ lists.items) }
-{
-    let mut locals = Items::new(alloc);
-    for list in lists {
-        locals.push(list)?;
-    }
-    Ok(locals)
 }
 
 // ----------------------------------------------------------------------------
@@ -120,7 +110,7 @@ pub fn check(alloc: Global, core: &Core) -> Result<CheckedProgram, CheckRefusal>
         return Err(CheckRefusal::Memory);
     };
     let links = check_into(alloc, core, lists.as_mut_slice())?;
-    let Ok(locals) = in_order(alloc, lists) else {
+    let Ok(locals) = listed(alloc, lists) else {
         return Err(CheckRefusal::Memory);
     };
     Ok(CheckedProgram { links, locals })

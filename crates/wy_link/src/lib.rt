@@ -8,6 +8,7 @@ mod instances;
 pub mod laws;
 mod lines;
 mod linking;
+mod lists;
 mod members;
 mod started;
 

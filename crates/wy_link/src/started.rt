@@ -3,10 +3,10 @@
 ghost use Rattle.std.specs.Prelude.{◌≡◌, ◌<◌, ◌++◌, ◌∷◌, [], length, OnOk, IfOk};
 ghost use Rattle.wy_types.specs.Ground.{number_from};
 
+use crate::lists::listed;
 use indexmap::IndexMap;
 use std::alloc::Global;
 use std::marker::Model;
-use wy_text::list::Items;
 use wy_text::text::{Memory, Text};
 use wy_types::linked::{Instance, Linked};
 
@@ -82,15 +82,4 @@ impl Started {
     {
         listed(alloc, self.instances)
     }
-}
-
-/// Instances as a list.
-fn listed(alloc: Global, instances: Vec<Instance>) -> Result<Linked, Memory>
-    ensures { IfOk result (λ l. l ≡ instances.items) }
-{
-    let mut list = Items::new(alloc);
-    for instance in instances {
-        list.push(instance)?;
-    }
-    Ok(list)
 }
