@@ -58,11 +58,11 @@ def literals(n: int) -> str:
 
 
 def uses(n: int) -> str:
-    """n pure modules, each of which uses all before it."""
+    """n pure modules, each of which uses all before it, and a program that uses the last."""
     lines = ["type T", "  def f(): {} Int"]
     for number in range(n):
         lines += [f"module p{number}: T", *[f"  use p{before}" for before in range(number)], f"  def f(): {{}} Int = {number}"]
-    return program(lines, "{}", ["()"])
+    return program(lines, "{}", ["()"], [f"use p{n - 1}"])
 
 
 def instances(n: int) -> str:
