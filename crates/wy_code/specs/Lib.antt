@@ -1,5 +1,6 @@
 pub mod Laws
 pub mod Machine
+pub mod Marks
 pub mod Named
 pub mod Operations
 pub mod Primitives

@@ -6,6 +6,7 @@ mod Examples
 mod ExamplesNames
 mod FilesRead
 mod Givens
+mod MarksInFiles
 mod NamesJudged
 mod OneAnswer
 mod OneItem

@@ -5,6 +5,7 @@ pub mod FormatAgain
 pub mod Headline
 pub mod Judgement
 pub mod LastLine
+pub mod MarkFiles
 pub mod NameFaults
 pub mod Parsed
 pub mod ProgramLaws

@@ -2,13 +2,17 @@
 
 ghost use Rattle.wy_engine.specs.Completeness.{AcceptedTextsEnd};
 ghost use Rattle.wy_engine.specs.FormatAgain.{FormatAgain};
+ghost use Rattle.wy_engine.specs.MarkFiles.{MarksAreInFiles};
 ghost use Rattle.wy_engine.specs.ProgramLaws.{AcceptedRunAsMeant};
 ghost use Rattle.wy_engine.specs.ValsInOrder.{ValsStandInOrder};
 
 use wy_canonical::trees_have_words;
 use wy_code::laws::spent_takes_all;
-use wy_lower::laws::{accepted_code_follows, accepted_is_never_stuck};
+use wy_layout::laws::tokens_name_their_file;
+use wy_lower::laws::{accepted_code_follows, accepted_is_never_stuck, marks_are_of_the_program};
 use wy_meaning::laws::{answers_are_taken_in_order, nodes_cost_four};
+use wy_names::laws::marks_are_of_the_items;
+use wy_parser::laws::marks_are_of_the_tokens;
 use wy_sound::laws::events_are_bounded;
 use wy_sound::telling::allowed_is_reported;
 use wy_well_formed::{resolved_keeps_all, resolved_vals_are_in_order};
@@ -52,4 +56,14 @@ pub fn vals_stand_in_order()
     ensures { ValsStandInOrder }
 {
     resolved_vals_are_in_order();
+}
+
+/// The mark of each instruction of the code of accepted texts is in one of these files, which count from 1.
+pub fn marks_are_in_files()
+    ensures { MarksAreInFiles }
+{
+    tokens_name_their_file();
+    marks_are_of_the_tokens();
+    marks_are_of_the_items();
+    marks_are_of_the_program();
 }

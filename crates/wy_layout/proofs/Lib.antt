@@ -23,3 +23,4 @@ pub mod Examples
 pub mod Quoting
 pub mod NameCharacters
 pub mod SpanOrder
+pub mod FilesNamed

@@ -28,6 +28,10 @@ OneFault = (file : ℕ) (bs : List ℕ) (f g : Fault) (o p : ℕ) → IsLeast fi
 abbrev pub PlacesOfOffsets : Type 0
 PlacesOfOffsets = (file : ℕ) (bs : List ℕ) (ts : List Token) → Lexes file bs ts → AllByRecursion (λ t. t.place ≡ place_at file bs t.start) ts
 
+-- so it names the file
+abbrev pub TokensNameTheirFile : Type 0
+TokensNameTheirFile = (file : ℕ) (bs : List ℕ) (ts : List Token) → Lexes file bs ts → AllByRecursion (λ (t : Token). t.place.file ≡ file) ts
+
 -- one of the widths
 abbrev pub Has : ℕ → List ℕ → Type 0
 Has v [] = ⊥

@@ -3,7 +3,7 @@
 ghost use Rattle.wy_layout.specs.Printed.{PrintedWords, QuotedTexts, SpelledKinds};
 ghost use Rattle.wy_layout.specs.Characters.{NamesByCharacters};
 ghost use Rattle.wy_layout.specs.Spans.{SpansInOrder};
-ghost use Rattle.wy_layout.specs.Laws.{Decided, NothingWrong, OneFault, OneList, OneOutForEach, OpenByLines, OpenDescend, PlacesOfOffsets, StepByLines};
+ghost use Rattle.wy_layout.specs.Laws.{Decided, NothingWrong, OneFault, OneList, OneOutForEach, OpenByLines, OpenDescend, PlacesOfOffsets, StepByLines, TokensNameTheirFile};
 
 /// A file has at most one list of tokens.
 pub fn one_list()
@@ -28,6 +28,11 @@ pub fn one_fault()
 /// Each token has the place of its offset in the file.
 pub fn places_of_offsets()
     ensures { PlacesOfOffsets }
+{}
+
+/// The place of each token of a file has the number of the file.
+pub fn tokens_name_their_file()
+    ensures { TokensNameTheirFile }
 {}
 
 /// The open widths before a line are 0 and the widths of earlier lines, where no line between is narrower.

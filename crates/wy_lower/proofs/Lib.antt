@@ -28,6 +28,7 @@ pub mod Leads
 pub mod LiteralsMade
 pub mod Looking
 pub mod Making
+pub mod MarksKept
 pub mod NamesFound
 pub mod NamesInOrder
 pub mod Numbers

@@ -1,11 +1,14 @@
 -- Laws of lowering. (docs/LANGUAGE.md, "Code of programs")
-use Rattle.std.specs.Prelude.{◌≡◌, ℕ, ◌+◌, List, ◌++◌, Some, length, slice_get}
+use Rattle.std.specs.Prelude.{◌≡◌, ℕ, ◌+◌, Bool, List, ◌++◌, Some, length, slice_get}
+use Rattle.wy_text.specs.declared.fault.Place.{Place}
 use Rattle.wy_effects.specs.Members.{In}
 use Rattle.wy_types.specs.Code.{Block}
+use Rattle.wy_types.specs.Marks.{ProgramPasses}
 use Rattle.wy_types.specs.Program.{Program, Scope, Body}
 use Rattle.wy_code.specs.declared.code.Scope as code
 use Rattle.wy_rules.specs.Acceptance.{Accepted}
 use Rattle.wy_code.specs.declared.code.Body as b
+use Rattle.wy_code.specs.Marks.{CodePasses}
 use Rattle.wy_code.specs.Named.{HasStoredVals}
 use Rattle.wy_code.specs.Running.{NeverStuck, machine}
 use Rattle.wy_device.specs.Tapes.{Tapes}
@@ -48,6 +51,10 @@ HasItsBodies p s = (c : ℕ) (sc : Scope) → slice_get p.scopes c ≡ Some sc �
 -- each of the code's bodies has as many `val`s as its instructions say
 abbrev pub HasItsVals : Program → Starts → Type 0
 HasItsVals p s = (b : b.Body) → In b (lowered p s).bodies → HasStoredVals b
+
+-- a test that each mark of the program passes is passed by the mark of each instruction of its code
+abbrev pub HasItsMarks : Program → Starts → Type 0
+HasItsMarks p s = (test : Place → Bool) → ProgramPasses test p → CodePasses test (lowered p s)
 
 -- how long the code of a block is does not depend on where it begins
 abbrev pub HasFixedLength : Inside → Block → Type 0

@@ -6,7 +6,7 @@ ghost use Rattle.wy_code.specs.Named.{HasPushedTexts, HasCalledMethods};
 ghost use Rattle.wy_code.specs.Running.{NeverStuck};
 ghost use Rattle.wy_lower.specs.Correct.{Compiles, NeverWrong};
 ghost use Rattle.wy_lower.specs.Inside.{Inside};
-ghost use Rattle.wy_lower.specs.Laws.{HasCountedBodies, HasItsTexts, HasItsMethodNames, HasItsBodies, HasItsVals, HasFixedLength, AcceptedIsLowerable, AcceptedCodeFollows, AcceptedIsNeverStuck};
+ghost use Rattle.wy_lower.specs.Laws.{HasCountedBodies, HasItsTexts, HasItsMethodNames, HasItsBodies, HasItsVals, HasItsMarks, HasFixedLength, AcceptedIsLowerable, AcceptedCodeFollows, AcceptedIsNeverStuck};
 ghost use Rattle.wy_lower.specs.Lowerable.{Lowerable};
 ghost use Rattle.wy_lower.specs.Lowering.{lowered};
 
@@ -48,6 +48,12 @@ pub fn bodies_stand_at_their_numbers()
 /// `val`s those behind them, up to the last slot that is stored into.
 pub fn vals_are_stored()
     ensures { (p : Program) (s : Starts) → IsCore p → HasItsVals p s }
+{}
+
+/// What every mark of a program is, every mark of its code is: a test that each mark of the program passes is passed by the mark
+/// of each instruction.
+pub fn marks_are_of_the_program()
+    ensures { (p : Program) (s : Starts) → HasItsMarks p s }
 {}
 
 /// How long the code of a block is does not depend on the address at which it begins.

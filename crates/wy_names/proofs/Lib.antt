@@ -18,6 +18,7 @@ mod Judging
 mod Latests
 pub mod Leasts
 mod Marks
+pub mod MarksLeft
 mod MarksPut
 pub mod Mosts
 mod NamesOfThings

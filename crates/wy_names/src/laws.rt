@@ -1,6 +1,6 @@
 //! Laws of the definitions of names. No function here does anything: what it says is its clause.
 
-ghost use Rattle.wy_names.specs.Laws.{OneProgram, OneRefusal, ResolvedOrRefused};
+ghost use Rattle.wy_names.specs.Laws.{MarksOfItems, OneProgram, OneRefusal, ResolvedOrRefused};
 
 /// Names that resolve are those of one program.
 pub fn one_program()
@@ -15,4 +15,10 @@ pub fn resolved_or_refused()
 /// But for want of memory, names have one refusal: of those that there are, one comes before all others.
 pub fn one_refusal()
     ensures { OneRefusal }
+{}
+
+/// Each form of the program of names that resolve has the mark of its tree: a test that each mark of the trees passes is passed
+/// by each mark of the program.
+pub fn marks_are_of_the_items()
+    ensures { MarksOfItems }
 {}

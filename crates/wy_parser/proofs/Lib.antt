@@ -18,3 +18,4 @@ pub mod Depths
 pub mod Rows
 pub mod Ends
 pub mod Examples
+pub mod MarksSpelled

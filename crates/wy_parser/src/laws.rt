@@ -1,6 +1,6 @@
 //! Laws of the definition of grammar. No function here does anything: what it says is its clause.
 
-ghost use Rattle.wy_parser.specs.Laws.{NoTreeWithBadToken, OneFirstBadToken, OneTree, TreeOrFirstBadToken};
+ghost use Rattle.wy_parser.specs.Laws.{MarksOfTokens, NoTreeWithBadToken, OneFirstBadToken, OneTree, TreeOrFirstBadToken};
 
 /// No list of tokens spells two trees.
 pub fn one_tree()
@@ -20,4 +20,10 @@ pub fn no_tree_with_bad_token()
 /// One token is the first that is bad.
 pub fn one_first_bad_token()
     ensures { OneFirstBadToken }
+{}
+
+/// The marks of trees are places of the tokens that spell them: a test that the place of each token passes is passed by each mark
+/// of the trees.
+pub fn marks_are_of_the_tokens()
+    ensures { MarksOfTokens }
 {}

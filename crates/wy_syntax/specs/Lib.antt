@@ -2,6 +2,7 @@ pub mod Canonical
 pub mod ExprGrammar
 pub mod Grammar
 pub mod Languages
+pub mod Marks
 pub mod Nodes
 pub mod OwnWords
 pub mod Printing

@@ -7,6 +7,7 @@ pub mod Gathering
 pub mod Ground
 pub mod InRange
 pub mod Keys
+pub mod Marks
 pub mod Order
 pub mod Paths
 pub mod Primitive
