@@ -6,6 +6,7 @@ pub mod Calling
 pub mod Effects
 pub mod Evaluating
 mod Examples
+mod ExamplesGroundReached
 mod GroundLists
 pub mod GroundRange
 mod GroundReached
