@@ -1,6 +1,7 @@
 pub mod Scanning
 pub mod NameRuns
 pub mod LongestWord
+pub mod Guesses
 pub mod WordRead
 pub mod LineWords
 pub mod OpenWidths

@@ -57,7 +57,7 @@ lettered (b ∷ bs) = letter b && letters bs
 small : (b : ℕ) → letter b ≡ true → b < 128
 small b h = lt_is b 128 (and_left (nat_lt b 128) (is_ascii_alphabetic b || (b == 95)) h)
 
-no_more : (b : ℕ) → b < 128 → continuation_len b ≡ 0
+pub no_more : (b : ℕ) → b < 128 → continuation_len b ≡ 0
 no_more b h = let e : nat_lt b 128 ≡ true = lt-ltb _ _ h in rw e refl
 
 goes : (b : ℕ) → letter b ≡ true → (is_ascii_alphanumeric b || (b == 95)) ≡ true

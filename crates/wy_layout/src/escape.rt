@@ -1,5 +1,6 @@
-ghost use Rattle.std.specs.Prelude.{◌≡◌, ◌<◌, true};
+ghost use Rattle.std.specs.Prelude.{◌≡◌, ◌==◌, ◌<◌, ◌≤◌, ◌&&◌, length, not, true};
 ghost use Rattle.std.specs.Char.{is_ascii_hexdigit};
+ghost use Rattle.wy_lanes.specs.Runs.{front_len};
 ghost use Rattle.wy_layout.specs.Faults.{Sane};
 ghost use Rattle.wy_layout.specs.Gives.{LeadsOn};
 ghost use Rattle.wy_layout.specs.Read as read;
@@ -37,6 +38,21 @@ fn is_control(byte: u8) -> bool
     ensures { result ≡ spec.is_control byte }
 {
     (byte < 32 && byte != b'\t') || byte == 127
+}
+
+/// How many bytes at the front stand for themselves inside a text, where none of them is a quote.
+pub fn plain_len(bytes: &[u8]) -> usize
+    ensures value { result ≡ front_len (λ b. not (b == 92) && not (spec.is_control b)) bytes.now }
+    ensures within { result ≤ length bytes.now }
+{
+    let mut rest = bytes;
+    while let [byte, more @ ..] = rest {
+        if *byte == b'\\' || is_control(*byte) {
+            break;
+        }
+        rest = more;
+    }
+    bytes.len() - rest.len()
 }
 
 fn is_short(byte: u8) -> bool

@@ -3,6 +3,8 @@ ghost use Rattle.std.specs.Str.{continuation_len};
 ghost use Rattle.wy_layout.specs.Names as spec;
 ghost use Rattle.wy_layout.specs.Read as read;
 
+use wy_lanes::runs::{Class, run_len};
+
 /// The character at the front; NUL where there is none, or none that is whole.
 #[tactic(auto, unfolding(crate::specs::Names::head_char))]
 fn head_char(text: &[u8]) -> char
@@ -94,18 +96,29 @@ fn name_len(text: &[u8]) -> usize
     text.len() - rest.len()
 }
 
-/// Whether a name begins at the front.
+/// Whether a name begins with the character at the front.
 #[tactic(auto, unfolding(crate::specs::Names::starts))]
-pub fn starts(text: &[u8]) -> bool
+fn starts_by_character(text: &[u8]) -> bool
     ensures { result ≡ spec.starts text.now }
 {
     let first = head_char(text);
     unicode_ident::is_xid_start(first) || first == '_'
 }
 
-/// The length of the name at the front.
+/// Whether a name begins at the front.
+#[tactic(auto, using(crate::proofs::Guesses::starts_small))]
+pub fn starts(text: &[u8]) -> bool
+    ensures { result ≡ spec.starts text.now }
+{
+    match text {
+        [byte, ..] if *byte < 128 => byte.is_ascii_alphabetic() || *byte == b'_',
+        _ => starts_by_character(text),
+    }
+}
+
+/// The length of the name at the front, character by character.
 #[tactic(auto, using(crate::proofs::Past::first_is))]
-pub fn first_len(text: &[u8]) -> usize
+fn by_characters(text: &[u8]) -> usize
     requires { spec.starts text.now ≡ true }
     ensures value { result ≡ read.first_len text.now }
     ensures within { result ≤ length text.now }
@@ -118,4 +131,18 @@ pub fn first_len(text: &[u8]) -> usize
         return 0;
     }
     n + name_len(&text[n..])
+}
+
+/// The length of the name at the front. The bytes that a name can have, found by masks, are its length where they are
+/// all of ASCII; others are judged by their characters.
+pub fn first_len(text: &[u8]) -> usize
+    requires { spec.starts text.now ≡ true }
+    ensures value { result ≡ read.first_len text.now }
+    ensures within { result ≤ length text.now }
+{
+    let run = run_len(text, Class::Word);
+    if text[..run].is_ascii() {
+        return run;
+    }
+    by_characters(text)
 }

@@ -1,16 +1,17 @@
 ghost use Rattle.std.specs.Prelude.{◌≡◌, ◌∷◌, ◌++◌, [], ◌<◌, ◌≤◌, ◌+◌, length, pos, true, drop, IfOk, MatchOption};
-ghost use Rattle.wy_layout.specs.Gives.{GivesScan, GivesWord};
+ghost use Rattle.wy_layout.specs.Gives.{GivesScan, GivesWord, put_all};
 ghost use Rattle.wy_layout.specs.Names as names;
 ghost use Rattle.wy_layout.specs.Read as read;
 ghost use Rattle.wy_layout.specs.Tables.{pair_of, single_of};
 ghost use Rattle.wy_layout.specs.Words as spec;
 ghost use Rattle.wy_layout.specs.Words.{kind_of};
 
-use crate::escape::{Move, State, step};
+use crate::escape::{Move, State, plain_len, step};
 use crate::kinds::{one_kind, reserved_kind, two_kind};
 use crate::names::{first_len, starts};
 use crate::refusal::Fault;
 use std::alloc::Global;
+use wy_lanes::runs::{Class, gap_len};
 use wy_text::limit::MOST_NAME_BYTES;
 use wy_text::text::{Memory, from_bytes, from_vec};
 use wy_text::token::TokenKind;
@@ -22,11 +23,10 @@ pub enum Stop<'a> {
     Memory,
 }
 
-/// What stands inside a text, and what stands behind its closing quote.
-fn inside<'a>(alloc: Global, mut text: &'a [u8]) -> Result<(Vec<u8>, &'a [u8]), Stop<'a>>
-    ensures { GivesScan result (read.scan State.Plain text.entry.now) }
+/// What stands inside a text behind some bytes of it, and what stands behind its closing quote, byte by byte.
+fn by_bytes<'a>(mut out: Vec<u8>, mut text: &'a [u8]) -> Result<(Vec<u8>, &'a [u8]), Stop<'a>>
+    ensures { GivesScan result (put_all out.items (read.scan State.Plain text.entry.now)) }
 {
-    let mut out = Vec::new(alloc);
     let mut state = State::Plain;
     while let [byte, rest @ ..] = text {
         match step(state, *byte) {
@@ -43,6 +43,18 @@ fn inside<'a>(alloc: Global, mut text: &'a [u8]) -> Result<(Vec<u8>, &'a [u8]), 
         text = rest;
     }
     Err(Stop::At(Fault::OpenText, text))
+}
+
+/// What stands inside a text, and what stands behind its closing quote. Of the bytes before the first quote, which is found
+/// by masks, those that stand for themselves are taken at once.
+fn inside<'a>(alloc: Global, text: &'a [u8]) -> Result<(Vec<u8>, &'a [u8]), Stop<'a>>
+    ensures { GivesScan result (read.scan State.Plain text.now) }
+{
+    let taken = plain_len(&text[..gap_len(text, Class::Quote)]);
+    match Vec::from_slice(alloc, &text[..taken]) {
+        Ok(bytes) => by_bytes(bytes, &text[taken..]),
+        Err(_) => Err(Stop::Memory),
+    }
 }
 
 /// A text, behind its first quote.
