@@ -114,7 +114,7 @@ fn said(alloc: Global, bytes: &[u8]) -> Result<String, Fail> {
 #[test]
 fn files_are_refused_at_these_places(rt: HostRuntime) -> Result<(), Fail> {
     let alloc = rt.alloc();
-    let cases: [(&[u8], &str); 49] = [
+    let cases: [(&[u8], &str); 51] = [
         (b"program\xff", "NotUtf8 7:1:8"),
         (b"\xff\n\t", "NotUtf8 7:1:1"),
         (b"a // \xc3\n", "NotUtf8 7:1:6"),
@@ -150,6 +150,8 @@ fn files_are_refused_at_these_places(rt: HostRuntime) -> Result<(), Fail> {
         (b"\xef\xbb\xbfa", "BadCharacter 7:1:1"),
         (b"a\x00", "BadCharacter 7:1:2"),
         (b"\xcc\x81", "BadCharacter 7:1:1"),
+        (b"a\xe2\x80\x94b", "BadCharacter 7:1:2"),
+        (b"ab\xc3\xa9\xe2\x80\x94", "BadCharacter 7:1:5"),
         (
             b"program\n  grant console: Console\n  run: {console.Out}\n    console.write(\"a\n",
             "OpenText 7:4:21",
@@ -420,10 +422,19 @@ fn lex_ok(alloc: Global, bytes: &[u8]) -> Result<Vec<Token>, Fail> {
 #[test]
 fn names_and_texts_have_their_bytes(rt: HostRuntime) -> Result<(), Fail> {
     let alloc = rt.alloc();
-    let cases: [(&[u8], &[u8]); 4] = [
+    let cases: [(&[u8], &[u8]); 7] = [
         (b"text_sizes", b"text_sizes"),
         (b"_", b"_"),
+        (b"ab\xc3\xa9c_9", b"ab\xc3\xa9c_9"),
         (b"\"\"", b""),
+        (
+            b"\"0123456789012345678901234567890123456789012345678901234567890123456789\"",
+            b"0123456789012345678901234567890123456789012345678901234567890123456789",
+        ),
+        (
+            b"\"01234567890123456789012345678901234567890123456789012345678912\\\"0123456789012345678901234567890123456789012345678901234567890123456789\"",
+            b"01234567890123456789012345678901234567890123456789012345678912\"0123456789012345678901234567890123456789012345678901234567890123456789",
+        ),
         (
             b"\"\t\xc3\xa9//\\n\\t\\\\\\\"\\x0a\\xFf\"",
             b"\t\xc3\xa9//\n\t\\\"\n\xff",
