@@ -1,4 +1,5 @@
 pub mod Bounds
+mod ExamplesLocals
 mod FirstNames
 pub mod LineNodes
 pub mod LinesDecided
