@@ -33,6 +33,10 @@ mod names_table;
 #[cfg(test)]
 mod outside;
 #[cfg(test)]
+mod policies;
+#[cfg(test)]
+mod policies_table;
+#[cfg(test)]
 mod primitive;
 #[cfg(test)]
 mod primitive_table;

@@ -3,7 +3,7 @@ use std::alloc::Global;
 use std::test::Fail;
 
 /// Words that are no command line.
-static FAULTY: [&[&str]; 26] = [
+static FAULTY: [&[&str]; 29] = [
     &[],
     &["check"],
     &["check", "-b.wy"],
@@ -30,6 +30,9 @@ static FAULTY: [&[&str]; 26] = [
     &["sample", "201"],
     &["sample", "b.wy"],
     &["sample", "1", "2"],
+    &["policy"],
+    &["policy", "b.wy"],
+    &["policy", "--steps", "9", "b.wy"],
 ];
 
 /// Whether a call with these words, over a shelf with an empty `b.wy`, ends with the status of the number and the

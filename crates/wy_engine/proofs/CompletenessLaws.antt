@@ -24,7 +24,7 @@ use Rattle.wy_settings.specs.declared.command_line.Command.{Command}
 use Rattle.wy_settings.specs.declared.command_line.Command.TheVariants as command
 use Rattle.wy_engine.specs.Completeness.{EndsAsMeant, HasNoFault, IsWritten, RunsEnd, WritesEnd}
 use Rattle.wy_engine.specs.Headline.{Accepts, EndsAs, Headline, IsUncut, IsUnwritten, Runs, Settles, Writes, before_last_line, course_in}
-use Rattle.wy_engine.specs.Judgement.{Asks, Did, Passes, accepted_text, authority_text, checked, formatted, nothing, ran, reported}
+use Rattle.wy_engine.specs.Judgement.{Asks, Did, Passes, accepted_text, allowed_text, authority_text, checked, formatted, nothing, permitted, ran, reported}
 use Rattle.wy_engine.specs.ProgramLaws.{AcceptedRunAsMeant, RunsAsMeant}
 use Rattle.wy_engine.specs.Status.{IsOfEnd, IsOfOut}
 use Rattle.wy_engine.specs.TopCall.{IsGiven, IsSet, TopCall}
@@ -64,6 +64,7 @@ unwritten_run call command.Trace rest report out (inr is) = out is.1
 unwritten_run call command.Sample rest report out (inl is) = report is.rose
 unwritten_run call command.Sample rest report out (inr is) = out is.1
 unwritten_run call command.Format rest report out is = report is.rose
+unwritten_run call command.Policy rest report out is = report is.rose
 
 meant : (end : Status) (e : RunEnd) → IsOfEnd end e → e ≢ ends.Spent → ((grant : List ℕ) (op : OpName) → end ≢ status.DeviceFailed grant op) → EndsAsMeant end e
 meant status.Ended e is unspent unfailed = is
@@ -78,6 +79,8 @@ meant status.Spent e is unspent unfailed = unspent is
 meant (status.DeviceFailed grant op) e is unspent unfailed = unfailed grant op refl
 meant status.Unwritten e is unspent unfailed = is
 meant status.Memory e is unspent unfailed = is
+meant (status.Denied line instance atom) e is unspent unfailed = is
+meant (status.BadPolicy line) e is unspent unfailed = is
 
 passed : (named : Command) (texts : List (List ℕ)) (program : Program) → Asks named texts (ran program) → Passes texts program
 passed command.Check texts program asks = absurd asks
@@ -86,6 +89,7 @@ passed command.Run texts program asks = asks.passes
 passed command.Trace texts program asks = asks.passes
 passed command.Sample texts program asks = asks.passes
 passed command.Format texts program asks = absurd asks
+passed command.Policy texts program asks = absurd asks
 
 -- what is settled of a program that ran ends as it is meant
 settled_run : ((code : Code) → SpentTakesAll code) → (call : TopCall) (settings : Settings) → IsSet call settings → (program : Program) → RunsAsMeant program → Runs call program → TellsDeeds call.devices
@@ -119,6 +123,8 @@ memory_or status.Spent = inr (λ is. cc)
 memory_or (status.DeviceFailed grant op) = inr (λ is. cc)
 memory_or status.Unwritten = inr (λ is. cc)
 memory_or status.Memory = inl refl
+memory_or (status.Denied line instance atom) = inr (λ is. cc)
+memory_or (status.BadPolicy line) = inr (λ is. cc)
 
 -- what was settled was done, unless memory was wanting
 settled_did : (call : TopCall) (h : Headline call) → HasNoFault call → (named : Command) (texts : List (List ℕ)) → IsGiven call named texts → (did : Did) → Asks named texts did → h.settled ≢ status.Memory
@@ -159,6 +165,8 @@ out_ended status.Spent out written full = absurd out
 out_ended (status.DeviceFailed grant op) out written full = absurd out
 out_ended status.Unwritten out written full = absurd (written refl)
 out_ended status.Memory out written full = absurd (full refl)
+out_ended (status.Denied line instance atom) out written full = absurd out
+out_ended (status.BadPolicy line) out written full = absurd out
 
 written_ended : (call : TopCall) (named : Command) (text : List ℕ) → Writes call named text → ¬ Rose call.out.faults call.out_after.faults → call.status ≢ status.Memory → call.status ≡ status.Ended
 written_ended call named text writes out full = out_ended call.status writes.reached (λ is. out (writes.proper is).1) full
@@ -169,6 +177,7 @@ settled_written call settles checked is written out full = written_ended call co
 settled_written call settles (reported program) is written out full = written_ended call command.Authority (authority_text program) (settles.reports program is) out full
 settled_written call settles (ran program) is written out full = absurd written
 settled_written call settles (formatted tree) is written out full = written_ended call command.Format (canonical_form tree) (settles.formats tree is) out full
+settled_written call settles permitted is written out full = written_ended call command.Policy allowed_text (settles.allows is) out full
 
 pub writes_end : WritesEnd
 writes_end call h none named texts given did written asks =

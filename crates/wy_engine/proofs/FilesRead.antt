@@ -37,6 +37,7 @@ is_sample command.Run none = absurd (cc)
 is_sample command.Trace none = absurd (cc)
 is_sample command.Sample none = refl
 is_sample command.Format none = absurd (cc)
+is_sample command.Policy none = absurd (cc)
 
 pub reads_for : (asked : Command) (call : TopCall) (names : List (List ℕ)) → takes_files asked ≡ true → ReadsInOrder call names → ReadsFor asked call names
 reads_for command.Check call names takes order = order
@@ -45,6 +46,7 @@ reads_for command.Run call names takes order = order
 reads_for command.Trace call names takes order = order
 reads_for command.Sample call names takes order = absurd (cc)
 reads_for command.Format call names takes order = order
+reads_for command.Policy call names takes order = order
 
 tells_of : (asked : Command) (shelf : ShelfState) (names texts : List (List ℕ)) → takes_files asked ≡ true → HasTexts asked shelf names texts → TellsTexts shelf names texts
 tells_of command.Check shelf names texts takes has = has
@@ -53,6 +55,7 @@ tells_of command.Run shelf names texts takes has = has
 tells_of command.Trace shelf names texts takes has = has
 tells_of command.Sample shelf names texts takes has = absurd (cc)
 tells_of command.Format shelf names texts takes has = has
+tells_of command.Policy shelf names texts takes has = has
 
 -- the text that the number of a sample makes
 pub record SampleMade (names : List (List ℕ)) : Type 0 where

@@ -8,16 +8,25 @@ use Rattle.wy_text.specs.declared.shelf.NamedText.{NamedText}
 use Rattle.wy_layout.specs.Counts.{most_file_bytes}
 use Rattle.wy_syntax.specs.Trees.{ItemTree}
 use Rattle.wy_types.specs.Program.{Program}
+use Rattle.wy_authority.specs.Authority.{authority_of}
+use Rattle.wy_authority.specs.declared.rows.Authority.{Authority}
+use Rattle.wy_policy.specs.Allowed.{Allowed}
+use Rattle.wy_policy.specs.Policy.{HasTooMany, IsBad, IsPolicy, IsRefused}
+use Rattle.wy_policy.specs.declared.policy.PolicyRefusal.{PolicyRefusal}
+use Rattle.wy_policy.specs.declared.policy.PolicyRefusal.TheVariants as unread
+use Rattle.wy_policy.specs.declared.policy.PolicyRow.{PolicyRow}
 use Rattle.wy_canonical.specs.Printed.{HasTree}
 use Rattle.wy_engine.specs.FileTrees.{FirstNoTree, HasNoTree, HaveTrees}
-use Rattle.wy_engine.specs.Judgement.{Passes, Runnable, Stops}
+use Rattle.wy_engine.specs.Judgement.{KeepsToPolicy, Passes, Refuses, Runnable, Stops, StopsByPolicy, StopsTexts, UnderPolicy, by_policy, by_texts}
 use Rattle.wy_engine.specs.NameFaults.{NamesStop, ResolveTo}
 use Rattle.wy_engine.specs.Reading.{GivesFiles}
 use Rattle.wy_engine.specs.TopCall.{texts_of}
+use Rattle.wy_settings.specs.Settings.{texts_among}
 use Rattle.wy_settings.specs.declared.command_line.Command.{Command}
 use Rattle.wy_engine.specs.declared.status.Status.{Status}
 use Rattle.wy_engine.specs.declared.status.Status.TheVariants as status
 use Rattle.wy_engine.proofs.OneAnswer.{StopsBy, not_accepted, not_lowered, stops_by, stops_of, treeless, unresolved}
+use Rattle.wy_engine.proofs.TextsAmong.{among_map}
 use Rattle.wy_engine.proofs.OneTree.{IsWhy, Why, large, none_of, reason_of, unexpected, wrong}
 
 -- what is read of a text
@@ -117,8 +126,69 @@ stop_of_cut asked texts end (unresolved judges stop full) = unresolved judges (n
 stop_of_cut asked texts end (not_accepted judges why is named) = not_accepted judges why (record { program = is.program; read = core_of_cut texts is.program is.read; ends = is.ends }) named
 stop_of_cut asked texts end (not_lowered run name is named) = not_lowered run name (record { program = is.program; passes = passes_of_cut texts is.program is.passes; passed = is.passed }) named
 
-stops_of_cut : (asked : Command) (texts : List (List ℕ)) (end : Status) → Stops asked (map cut texts) end → Stops asked texts end
-stops_of_cut asked texts end stops = stops_of asked texts end (stop_of_cut asked texts end (stops_by asked (map cut texts) end stops))
+texts_stop_of_cut : (asked : Command) (texts : List (List ℕ)) (end : Status) → StopsTexts asked (map cut texts) end → StopsTexts asked texts end
+texts_stop_of_cut asked texts end stops = stops_of asked texts end (stop_of_cut asked texts end (stops_by asked (map cut texts) end stops))
+
+-- ---- a policy that is read says the same as the policy
+
+policy_of_cut : (bytes : List ℕ) (rows : List PolicyRow) → IsPolicy (cut bytes) rows → IsPolicy bytes rows
+policy_of_cut bytes rows is = subst (λ (x : List ℕ). IsPolicy x rows) (cut_whole bytes is.has.short) is
+
+refused_of_cut : (bytes : List ℕ) (why : PolicyRefusal) → IsRefused (cut bytes) why → IsRefused bytes why
+refused_of_cut bytes (unread.Limit name) (inl is) = inl (is.0, larger 1048576 bytes is.1)
+refused_of_cut bytes (unread.Limit name) (inr is) = inr (is.0, subst HasTooMany (cut_whole bytes is.1.short) is.1)
+refused_of_cut bytes (unread.BadPolicy line) is = subst (λ (x : List ℕ). IsBad x line) (cut_whole bytes is.are.short) is
+refused_of_cut bytes unread.Memory is = is
+
+refuses_of_cut : (bytes : List ℕ) (a : Authority) (end : Status) → Refuses (cut bytes) a end → Refuses bytes a end
+refuses_of_cut bytes a (status.Limit name) is = refused_of_cut bytes (unread.Limit name) is
+refuses_of_cut bytes a (status.BadPolicy line) is = refused_of_cut bytes (unread.BadPolicy line) is
+refuses_of_cut bytes a (status.Denied line name atom) is = (is.0, policy_of_cut bytes is.0 is.1, is.2)
+refuses_of_cut bytes a other is = is
+
+-- what is read of files under a policy, and what they are
+record UnderCut (files : List (List ℕ)) (read : UnderPolicy (map cut files)) : Type 0 where
+  under : UnderPolicy files
+  policy : read.policy ≡ cut under.policy
+  program : read.program ≡ under.program
+
+under_of_cut : (files : List (List ℕ)) (read : UnderPolicy (map cut files)) → UnderCut files read
+under_of_cut [] read = let e : [] ≡ read.policy ∷ read.texts = read.split in absurd (cc)
+under_of_cut (x ∷ xs) read =
+    let e : cut x ∷ map cut xs ≡ read.policy ∷ read.texts = read.split in
+    let first : read.policy ≡ cut x = cc in
+    let texts : read.texts ≡ map cut xs = cc in
+    let passes : Passes xs read.program = passes_of_cut xs read.program (subst (λ (ts : List (List ℕ)). Passes ts read.program) texts read.passes) in
+    record {
+      under = record { policy = x; texts = xs; split = refl; program = read.program; passes = passes };
+      policy = first;
+      program = refl;
+    }
+
+policy_stop_of_cut : (files : List (List ℕ)) (end : Status) → StopsByPolicy (map cut files) end → StopsByPolicy files end
+policy_stop_of_cut files end stop =
+    let so = under_of_cut files stop.under in
+    record {
+      under = so.under;
+      refuses = refuses_of_cut so.under.policy (authority_of so.under.program) end
+          (subst (λ (p : Program). Refuses (cut so.under.policy) (authority_of p) end) so.program
+          (subst (λ (bytes : List ℕ). Refuses bytes (authority_of stop.under.program) end) so.policy stop.refuses));
+    }
+
+keeps_of_cut : (files : List (List ℕ)) → KeepsToPolicy (map cut files) → KeepsToPolicy files
+keeps_of_cut files keeps =
+    let so = under_of_cut files keeps.under in
+    record {
+      under = so.under;
+      rows = keeps.rows;
+      is = policy_of_cut so.under.policy keeps.rows (subst (λ (bytes : List ℕ). IsPolicy bytes keeps.rows) so.policy keeps.is);
+      allowed = subst (λ (p : Program). Allowed keeps.rows (authority_of p)) so.program keeps.allowed;
+    }
+
+stops_of_cut : (asked : Command) (files : List (List ℕ)) (end : Status) → Stops asked (map cut files) end → Stops asked files end
+stops_of_cut asked files end (by_texts stop) =
+    by_texts (texts_stop_of_cut asked (texts_among asked files) end (subst (λ (ts : List (List ℕ)). StopsTexts asked ts end) (among_map cut asked files) stop))
+stops_of_cut asked files end (by_policy policy stop) = by_policy policy (policy_stop_of_cut files end stop)
 
 tree_of_cuts : (texts : List (List ℕ)) (tree : List ItemTree) → HaveTrees 1 (map cut texts) (tree ∷ []) → HaveTrees 1 texts (tree ∷ [])
 tree_of_cuts texts tree have = trees_of_cut 1 texts (tree ∷ []) have
@@ -142,6 +212,9 @@ runnable_read read texts program = by_read (λ (ts : List (List ℕ)). Runnable 
 
 pub tree_read : (read texts : List (List ℕ)) (tree : List ItemTree) → IsTextOf read texts → HaveTrees 1 read (tree ∷ []) → HaveTrees 1 texts (tree ∷ [])
 tree_read read texts tree = by_read (λ (ts : List (List ℕ)). HaveTrees 1 ts (tree ∷ [])) read texts (tree_of_cuts texts tree)
+
+pub keeps_read : (read files : List (List ℕ)) → IsTextOf read files → KeepsToPolicy read → KeepsToPolicy files
+keeps_read read files = by_read (λ (ts : List (List ℕ)). KeepsToPolicy ts) read files (keeps_of_cut files)
 
 pub stopped_read : (asked : Command) (read texts : List (List ℕ)) (end : Status) → IsTextOf read texts → (end ≡ status.Memory) ⊎ Stops asked read end → (end ≡ status.Memory) ⊎ Stops asked texts end
 stopped_read asked read texts end of (inl is) = inl is

@@ -13,12 +13,14 @@ mod OneItem
 mod OneTree
 mod OutWritten
 mod Outcomes
+mod PolicyAnswers
 mod ProgramsMeant
 mod ReadingOn
 mod RunsMade
 mod Settling
 mod Statuses
 mod SumsMade
+mod TextsAmong
 mod TextsAnswered
 mod TracesMade
 mod ValsInText

@@ -1,6 +1,6 @@
 -- The marks of the code of accepted texts are places in these texts: tokens name their file, the marks of trees are places of
 -- tokens, and those of a program and of its code are the trees'.
-use Rattle.std.proofs.Common.{◌≡◌, ℕ, suc, ◌+◌, ◌≤◌, ◌<◌, nat_lt, Bool, true, List, [], ◌∷◌, ◌++◌, length, inl, inr, sym, subst, arith, ltb-true}
+use Rattle.std.proofs.Common.{◌≡◌, ℕ, suc, ◌+◌, ◌≤◌, nat_lt, Bool, true, List, [], ◌∷◌, ◌++◌, length, inl, inr, sym, subst, arith, ltb-true}
 use Rattle.std.proofs.lemmas.Bool.{lt-ltb}
 use Rattle.std.specs.List.{AllByRecursion}
 use Rattle.wy_text.specs.declared.fault.Place.{Place}

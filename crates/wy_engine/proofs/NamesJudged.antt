@@ -13,7 +13,7 @@ use Rattle.wy_names.specs.declared.refusal.NameRefusal.{NameRefusal}
 use Rattle.wy_names.specs.declared.refusal.NameRefusal.TheVariants as refusal
 use Rattle.wy_names.proofs.OneAnswer.{one_refusal, resolved_or_refused}
 use Rattle.wy_engine.specs.FileTrees.{HaveTrees}
-use Rattle.wy_engine.specs.Judgement.{Stops}
+use Rattle.wy_engine.specs.Judgement.{StopsTexts}
 use Rattle.wy_engine.specs.NameFaults.{NamesResolve, NamesStop, names_status}
 use Rattle.wy_settings.specs.declared.command_line.Command.{Command}
 use Rattle.wy_settings.specs.declared.command_line.Command.TheVariants as command
@@ -45,25 +45,28 @@ JudgesNames command.Run = Unit {0}
 JudgesNames command.Trace = Unit {0}
 JudgesNames command.Sample = Unit {0}
 JudgesNames command.Format = ⊥
+JudgesNames command.Policy = Unit {0}
 
-stops_refused : (asked : Command) (texts : List (List ℕ)) (fault : Fault) → JudgesNames asked → NamesStop texts (status.Refused fault) → Stops asked texts (status.Refused fault)
+stops_refused : (asked : Command) (texts : List (List ℕ)) (fault : Fault) → JudgesNames asked → NamesStop texts (status.Refused fault) → StopsTexts asked texts (status.Refused fault)
 stops_refused command.Check texts fault judges stop = inl stop
 stops_refused command.Authority texts fault judges stop = inl stop
 stops_refused command.Run texts fault judges stop = inl stop
 stops_refused command.Trace texts fault judges stop = inl stop
 stops_refused command.Sample texts fault judges stop = inl stop
 stops_refused command.Format texts fault judges stop = absurd judges
+stops_refused command.Policy texts fault judges stop = inl stop
 
-stops_limit : (asked : Command) (texts : List (List ℕ)) (name : LimitName) → JudgesNames asked → NamesStop texts (status.Limit name) → Stops asked texts (status.Limit name)
+stops_limit : (asked : Command) (texts : List (List ℕ)) (name : LimitName) → JudgesNames asked → NamesStop texts (status.Limit name) → StopsTexts asked texts (status.Limit name)
 stops_limit command.Check texts name judges stop = inr (inl stop)
 stops_limit command.Authority texts name judges stop = inr (inl stop)
 stops_limit command.Run texts name judges stop = inl (inr (inl stop))
 stops_limit command.Trace texts name judges stop = inl (inr (inl stop))
 stops_limit command.Sample texts name judges stop = inl (inr (inl stop))
 stops_limit command.Format texts name judges stop = absurd judges
+stops_limit command.Policy texts name judges stop = inr (inl stop)
 
 -- what a refusal of names gives stops a command that judges them, but for want of memory
-stops_by_names : (asked : Command) (texts : List (List ℕ)) (why : NameRefusal) → JudgesNames asked → NamesStop texts (names_status why) → (names_status why ≡ status.Memory) ⊎ Stops asked texts (names_status why)
+stops_by_names : (asked : Command) (texts : List (List ℕ)) (why : NameRefusal) → JudgesNames asked → NamesStop texts (names_status why) → (names_status why ≡ status.Memory) ⊎ StopsTexts asked texts (names_status why)
 stops_by_names asked texts (refusal.Unknown place) judges stop = inr (stops_refused asked texts _ judges stop)
 stops_by_names asked texts (refusal.Twice place) judges stop = inr (stops_refused asked texts _ judges stop)
 stops_by_names asked texts (refusal.Cycle place) judges stop = inr (stops_refused asked texts _ judges stop)
@@ -75,13 +78,13 @@ stops_by_names asked texts (refusal.Limit name) judges stop = inr (stops_limit a
 stops_by_names asked texts refusal.Memory judges stop = inl refl
 
 pub names_stop : (asked : Command) (texts : List (List ℕ)) (trees : List (List ItemTree)) (why : NameRefusal) (end : Status) → JudgesNames asked → HaveTrees 1 texts trees → Refused (all_items trees) why
-    → end ≡ names_status why → (end ≡ status.Memory) ⊎ Stops asked texts end
+    → end ≡ names_status why → (end ≡ status.Memory) ⊎ StopsTexts asked texts end
 names_stop asked texts trees why end judges have is gives =
-    subst (λ (s : Status). (s ≡ status.Memory) ⊎ Stops asked texts s) (sym gives)
+    subst (λ (s : Status). (s ≡ status.Memory) ⊎ StopsTexts asked texts s) (sym gives)
     (stops_by_names asked texts why judges (record { trees = trees; have = have; why = why; refused = is; gives = refl }))
 
 -- and so it does where it is given
-pub stops_names : (asked : Command) (texts : List (List ℕ)) (end : Status) → JudgesNames asked → NamesStop texts end → end ≢ status.Memory → Stops asked texts end
+pub stops_names : (asked : Command) (texts : List (List ℕ)) (end : Status) → JudgesNames asked → NamesStop texts end → end ≢ status.Memory → StopsTexts asked texts end
 stops_names asked texts end judges stop full =
     elim (names_stop asked texts stop.trees stop.why end judges stop.have stop.refused stop.gives) [ inl is ↦ absurd (full is) | inr stops ↦ stops ]
 

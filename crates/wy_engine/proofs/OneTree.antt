@@ -91,6 +91,8 @@ reason_of file bytes status.Memory none = absurd none
 reason_of file bytes (status.Trap kind mark) none = absurd none
 reason_of file bytes status.TooDeep none = absurd none
 reason_of file bytes status.Spent none = absurd none
+reason_of file bytes (status.Denied row instance atom) none = absurd none
+reason_of file bytes (status.BadPolicy row) none = absurd none
 
 none_why : (file : ℕ) (bytes : List ℕ) (why : Why) → IsWhy file bytes why → HasNoTree file bytes (status_why why)
 none_why file bytes (wrong fault.NameBytes place) is = (place, is)

@@ -14,7 +14,7 @@ use Rattle.wy_engine.specs.Answering.{Answered}
 use Rattle.wy_engine.specs.Answering as answering
 use Rattle.wy_engine.specs.Headline.{Accepts, Closes, HasCommand, Headline, Runs, Settles, Writes, before_last_line}
 use Rattle.wy_engine.specs.LastLine.{LineWords, line_words}
-use Rattle.wy_engine.specs.Judgement.{accepted_text, authority_text, checked, formatted, nothing, ran, reported}
+use Rattle.wy_engine.specs.Judgement.{accepted_text, allowed_text, authority_text, checked, formatted, nothing, permitted, ran, reported}
 use Rattle.wy_engine.specs.ProgramLaws.{AcceptedRunAsMeant}
 use Rattle.wy_engine.specs.Reading.{StopsAfter, StopsAt}
 use Rattle.wy_settings.specs.Settings.{Settings, settings_of, takes}
@@ -27,16 +27,22 @@ use Rattle.wy_settings.specs.declared.command_line.SettingsRefusal.TheVariants a
 use Rattle.wy_engine.specs.declared.status.Status.{Status}
 use Rattle.wy_engine.specs.declared.status.Status.TheVariants as status
 use Rattle.wy_engine.proofs.FilesRead.{Came, is_sample, reads_all, reads_by, reads_for}
-use Rattle.wy_engine.proofs.Givens.{passes_read, runnable_read, tree_read}
+use Rattle.wy_engine.proofs.Givens.{keeps_read, passes_read, runnable_read, tree_read}
 use Rattle.wy_engine.proofs.OutWritten.{writes_by}
 use Rattle.wy_engine.proofs.RunsMade.{ran_counted, runs_by}
 use Rattle.wy_engine.proofs.Statuses.{idle_declined, out_past, out_run, out_wrote, past_declined, run_past, run_ran}
-use Rattle.wy_engine.proofs.TextsAnswered.{accepts_none, accepts_some, asks_check, asks_format, asks_report, asks_run}
+use Rattle.wy_engine.proofs.TextsAnswered.{accepts_none, accepts_some, asks_check, asks_format, asks_policy, asks_report, asks_run}
 
 -- `format` has one file
 pub one_of_format : (named : Command) (files : List (List ℕ)) → takes named files ≡ true → named ≡ command.Format → length files ≡ 1
 one_of_format named files is format =
     let fits : takes command.Format files ≡ true = subst (λ (c : Command). takes c files ≡ true) format is in
+    grind (arith, nat_tests)
+
+-- .. and `policy` two or more
+pub some_of_policy : (named : Command) (files : List (List ℕ)) → takes named files ≡ true → named ≡ command.Policy → 1 ≤ length files
+some_of_policy named files is policy =
+    let fits : takes command.Policy files ≡ true = subst (λ (c : Command). takes c files ≡ true) policy is in
     grind (arith, nat_tests)
 
 -- the words of a call name one number of files
@@ -61,6 +67,7 @@ quiet_settles call reads accepts quiet idle = record {
   checks = λ none. absurd (cc);
   reports = λ program none. absurd (cc);
   formats = λ tree none. absurd (cc);
+  allows = λ none. absurd (cc);
   counted = rw quiet.report (omega arith);
 }
 
@@ -148,6 +155,7 @@ settles_unread call settings file set takes few stops out report devices is = re
   checks = λ none. absurd (cc);
   reports = λ program none. absurd (cc);
   formats = λ tree none. absurd (cc);
+  allows = λ none. absurd (cc);
   counted = rw report (omega arith);
 }
 
@@ -177,6 +185,7 @@ settles_starved call settings set takes few stops out report devices is = record
   checks = λ none. absurd (cc);
   reports = λ program none. absurd (cc);
   formats = λ tree none. absurd (cc);
+  allows = λ none. absurd (cc);
   counted = rw report (omega arith);
 }
 
@@ -199,6 +208,7 @@ settles_answered law runs call settings read set few so (answering.declined why 
   checks = λ none. absurd (cc);
   reports = λ program none. absurd (cc);
   formats = λ tree none. absurd (cc);
+  allows = λ none. absurd (cc);
   counted = rw report (omega arith);
 }
 settles_answered law runs call settings read set few so (answering.checked program check passes wrote report devices) =
@@ -215,6 +225,7 @@ settles_answered law runs call settings read set few so (answering.checked progr
       checks = λ _. writes_by call command.Check accepted_text (has_command call settings command.Check set check) report devices wrote;
       reports = λ program none. absurd (cc);
       formats = λ tree none. absurd (cc);
+      allows = λ none. absurd (cc);
       counted = rw report (omega arith);
     }
 settles_answered law runs call settings read set few so (answering.reported program asks passes wrote report devices) =
@@ -232,6 +243,7 @@ settles_answered law runs call settings read set few so (answering.reported prog
       reports = λ other same. let e : program ≡ other = cc in subst (λ (p : Program). Writes call command.Authority (authority_text p)) e
           (writes_by call command.Authority (authority_text program) (has_command call settings command.Authority set asks) report devices wrote);
       formats = λ tree none. absurd (cc);
+      allows = λ none. absurd (cc);
       counted = rw report (omega arith);
     }
 settles_answered law runs call settings read set few so (answering.ran program way run number is ended) =
@@ -249,6 +261,7 @@ settles_answered law runs call settings read set few so (answering.ran program w
       checks = λ none. absurd (cc);
       reports = λ program none. absurd (cc);
       formats = λ tree none. absurd (cc);
+      allows = λ none. absurd (cc);
       counted = ran_counted way program settings.depth settings.steps call.out call.out_after call.report call.report_after call.devices call.devices_after call.status ended;
     }
 settles_answered law runs call settings read set few so (answering.formatted tree format have wrote report devices) =
@@ -266,6 +279,24 @@ settles_answered law runs call settings read set few so (answering.formatted tre
       reports = λ program none. absurd (cc);
       formats = λ other same. let e : tree ≡ other = cc in subst (λ (t : List ItemTree). Writes call command.Format (canonical_form t)) e
           (writes_by call command.Format (canonical_form tree) (has_command call settings command.Format set format) report devices wrote);
+      allows = λ none. absurd (cc);
+      counted = rw report (omega arith);
+    }
+settles_answered law runs call settings read set few so (answering.permitted asks keeps wrote report devices) =
+    let reached : IsOfOut call.status = out_wrote allowed_text call.out call.out_after call.status wrote in
+    record {
+      reads = reads_all call settings read set few so (out_past call.status reached);
+      did = permitted;
+      accepts = λ other texts given none. accepts_some law call settings read permitted set so
+          (λ told same. asks_policy settings.command told asks (keeps_read read told same keeps)) (out_run call.status reached) other texts given;
+      quiet = λ none. absurd (cc);
+      crowded = λ other same many. not_crowded call settings other set few same many;
+      idle = λ none. absurd (cc);
+      runs = λ program none. absurd (cc);
+      checks = λ none. absurd (cc);
+      reports = λ program none. absurd (cc);
+      formats = λ tree none. absurd (cc);
+      allows = λ _. writes_by call command.Policy allowed_text (has_command call settings command.Policy set asks) report devices wrote;
       counted = rw report (omega arith);
     }
 

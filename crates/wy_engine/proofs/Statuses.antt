@@ -13,10 +13,13 @@ use Rattle.wy_sound.specs.Programs.{program_starts}
 use Rattle.wy_types.specs.Program.{Program}
 use Rattle.wy_rules.specs.Ends.{FirstEnd, IsEnd, IsLimitEnd, limited}
 use Rattle.wy_rules.specs.Refusals.{Numbered}
-use Rattle.wy_engine.specs.Judgement.{Stops, StopsLimited}
+use Rattle.wy_authority.specs.Authority.{authority_of}
+use Rattle.wy_authority.specs.declared.rows.Authority.{Authority}
+use Rattle.wy_engine.specs.Judgement.{Refuses, Stops, StopsLimited, StopsTexts, by_policy, by_texts}
 use Rattle.wy_engine.specs.Running.{Ran, ThenWrote, performed, skipped, status_of, stopped, summary_in, summed}
 use Rattle.wy_engine.specs.Status.{IsOfOut, IsOfRun, IsOfTexts}
 use Rattle.wy_engine.specs.Writing.{Wrote, cut, starved, whole}
+use Rattle.wy_settings.specs.Settings.{texts_among}
 use Rattle.wy_settings.specs.declared.command_line.Command.{Command}
 use Rattle.wy_settings.specs.declared.command_line.Command.TheVariants as command
 use Rattle.wy_engine.specs.declared.running.Mode.{Mode}
@@ -25,6 +28,7 @@ use Rattle.wy_engine.specs.declared.status.Status.{Status}
 use Rattle.wy_engine.specs.declared.status.Status.TheVariants as status
 use Rattle.wy_engine.proofs.NamesJudged.{uncrowded}
 use Rattle.wy_engine.proofs.OneAnswer.{never}
+use Rattle.wy_engine.proofs.PolicyAnswers.{uncrowded_policy}
 
 -- ---- the limit on files is not one of judging programs
 
@@ -70,7 +74,7 @@ lowers_uncrowded p starts is = by (nat_lt (limit_number limit.Bodies) (body_coun
     by false true same = cc
     by false false same = cc
 
-crowds_none : (asked : Command) (texts : List (List ℕ)) → Stops asked texts (status.Limit limit.Files) → ⊥
+crowds_none : (asked : Command) (texts : List (List ℕ)) → StopsTexts asked texts (status.Limit limit.Files) → ⊥
 crowds_none command.Check texts stop = limited_uncrowded texts stop
 crowds_none command.Authority texts stop = limited_uncrowded texts stop
 crowds_none command.Run texts (inl stop) = limited_uncrowded texts stop
@@ -79,14 +83,26 @@ crowds_none command.Trace texts (inl stop) = limited_uncrowded texts stop
 crowds_none command.Trace texts (inr stop) = lowers_uncrowded stop.program (program_starts stop.program) stop.passed
 crowds_none command.Sample texts (inl stop) = limited_uncrowded texts stop
 crowds_none command.Sample texts (inr stop) = lowers_uncrowded stop.program (program_starts stop.program) stop.passed
+crowds_none command.Policy texts stop = limited_uncrowded texts stop
 crowds_none command.Format texts none = never (status.Limit limit.Files) (λ file bytes h. h) 1 texts none
 
-stops_past : (asked : Command) (texts : List (List ℕ)) (end : Status) → Stops asked texts end → IsPastReading end
-stops_past asked texts end stops = record {
-  usage = λ is. subst (λ (s : Status). Stops asked texts s) is stops;
-  unread = λ file is. subst (λ (s : Status). Stops asked texts s) is stops;
-  crowd = λ is. crowds_none asked texts (subst (λ (s : Status). Stops asked texts s) is stops);
+texts_past : (asked : Command) (texts : List (List ℕ)) (end : Status) → StopsTexts asked texts end → IsPastReading end
+texts_past asked texts end stops = record {
+  usage = λ is. subst (λ (s : Status). StopsTexts asked texts s) is stops;
+  unread = λ file is. subst (λ (s : Status). StopsTexts asked texts s) is stops;
+  crowd = λ is. crowds_none asked texts (subst (λ (s : Status). StopsTexts asked texts s) is stops);
 }
+
+policy_past : (bytes : List ℕ) (a : Authority) (end : Status) → Refuses bytes a end → IsPastReading end
+policy_past bytes a end refuses = record {
+  usage = λ is. subst (λ (s : Status). Refuses bytes a s) is refuses;
+  unread = λ file is. subst (λ (s : Status). Refuses bytes a s) is refuses;
+  crowd = λ is. uncrowded_policy bytes a (subst (λ (s : Status). Refuses bytes a s) is refuses);
+}
+
+stops_past : (asked : Command) (files : List (List ℕ)) (end : Status) → Stops asked files end → IsPastReading end
+stops_past asked files end (by_texts stops) = texts_past asked (texts_among asked files) end stops
+stops_past asked files end (by_policy policy stops) = policy_past stops.under.policy (authority_of stops.under.program) end stops.refuses
 
 pub run_past : (end : Status) → IsOfRun end → IsPastReading end
 run_past end run = record { usage = λ is. subst IsOfRun is run; unread = λ file is. subst IsOfRun is run; crowd = λ is. subst IsOfRun is run }
@@ -94,19 +110,31 @@ run_past end run = record { usage = λ is. subst IsOfRun is run; unread = λ fil
 pub out_past : (end : Status) → IsOfOut end → IsPastReading end
 out_past end out = record { usage = λ is. subst IsOfOut is out; unread = λ file is. subst IsOfOut is out; crowd = λ is. subst IsOfOut is out }
 
-stops_idle : (asked : Command) (texts : List (List ℕ)) (end : Status) → Stops asked texts end → ¬ IsOfRun end
-stops_idle asked texts status.Ended stops run = stops
-stops_idle asked texts status.Usage stops run = run
-stops_idle asked texts (status.Unread file) stops run = run
-stops_idle asked texts (status.Syntax place kind) stops run = run
-stops_idle asked texts (status.Refused fault) stops run = run
-stops_idle asked texts (status.Limit name) stops run = run
-stops_idle asked texts (status.Trap kind place) stops run = stops
-stops_idle asked texts status.TooDeep stops run = stops
-stops_idle asked texts status.Spent stops run = stops
-stops_idle asked texts (status.DeviceFailed grant op) stops run = stops
-stops_idle asked texts status.Unwritten stops run = stops
-stops_idle asked texts status.Memory stops run = stops
+texts_idle : (asked : Command) (texts : List (List ℕ)) (end : Status) → StopsTexts asked texts end → ¬ IsOfRun end
+texts_idle asked texts status.Ended stops run = stops
+texts_idle asked texts status.Usage stops run = run
+texts_idle asked texts (status.Unread file) stops run = run
+texts_idle asked texts (status.Syntax place kind) stops run = run
+texts_idle asked texts (status.Refused fault) stops run = run
+texts_idle asked texts (status.Limit name) stops run = run
+texts_idle asked texts (status.Trap kind place) stops run = stops
+texts_idle asked texts status.TooDeep stops run = stops
+texts_idle asked texts status.Spent stops run = stops
+texts_idle asked texts (status.DeviceFailed grant op) stops run = stops
+texts_idle asked texts status.Unwritten stops run = stops
+texts_idle asked texts status.Memory stops run = stops
+texts_idle asked texts (status.Denied line instance atom) stops run = run
+texts_idle asked texts (status.BadPolicy line) stops run = run
+
+policy_idle : (bytes : List ℕ) (a : Authority) (end : Status) → Refuses bytes a end → ¬ IsOfRun end
+policy_idle bytes a (status.Limit name) refuses run = run
+policy_idle bytes a (status.BadPolicy line) refuses run = run
+policy_idle bytes a (status.Denied line instance atom) refuses run = run
+policy_idle bytes a other refuses run = refuses
+
+stops_idle : (asked : Command) (files : List (List ℕ)) (end : Status) → Stops asked files end → ¬ IsOfRun end
+stops_idle asked files end (by_texts stops) run = texts_idle asked (texts_among asked files) end stops run
+stops_idle asked files end (by_policy policy stops) run = policy_idle stops.under.policy (authority_of stops.under.program) end stops.refuses run
 
 pub run_or_texts : (end : Status) → IsOfRun end → ¬ IsOfTexts end
 run_or_texts status.Ended run texts = texts
@@ -121,6 +149,8 @@ run_or_texts status.Spent run texts = texts
 run_or_texts (status.DeviceFailed grant op) run texts = texts
 run_or_texts status.Unwritten run texts = texts
 run_or_texts status.Memory run texts = texts
+run_or_texts (status.Denied line instance atom) run texts = run
+run_or_texts (status.BadPolicy line) run texts = run
 
 pub out_run : (end : Status) → IsOfOut end → IsOfRun end
 out_run status.Ended out = tt
@@ -135,6 +165,8 @@ out_run status.Spent out = tt
 out_run (status.DeviceFailed grant op) out = tt
 out_run status.Unwritten out = tt
 out_run status.Memory out = tt
+out_run (status.Denied line instance atom) out = out
+out_run (status.BadPolicy line) out = out
 
 pub run_of_end : (e : RunEnd) → IsOfRun (status_of e)
 run_of_end end.Ended = tt

@@ -5,7 +5,7 @@ use Rattle.wy_types.specs.Program.{Program}
 use Rattle.wy_well_formed.specs.WellFormed.{ResolvedIsCore}
 use Rattle.wy_engine.specs.FileTrees.{HaveTrees}
 use Rattle.wy_engine.specs.Headline.{Accepts}
-use Rattle.wy_engine.specs.Judgement.{Asks, Did, Passes, Runnable, Stops, checked, formatted, nothing, ran, reported, running}
+use Rattle.wy_engine.specs.Judgement.{Asks, Did, KeepsToPolicy, Passes, Runnable, Stops, checked, formatted, nothing, permitted, ran, reported, running}
 use Rattle.wy_settings.specs.Settings.{Settings}
 use Rattle.wy_engine.specs.Status.{IsOfRun, IsOfTexts}
 use Rattle.wy_engine.specs.TopCall.{IsGiven, IsSet, TopCall}
@@ -54,6 +54,9 @@ asks_run asked texts (mode.Summed number) program run is = subst (λ (c : Comman
 
 pub asks_format : (asked : Command) (texts : List (List ℕ)) (tree : List ItemTree) → asked ≡ command.Format → HaveTrees 1 texts (tree ∷ []) → Asks asked texts (formatted tree)
 asks_format asked texts tree format is = subst (λ (c : Command). Asks c texts (formatted tree)) (sym format) is
+
+pub asks_policy : (asked : Command) (files : List (List ℕ)) → asked ≡ command.Policy → KeepsToPolicy files → Asks asked files permitted
+asks_policy asked files policy is = subst (λ (c : Command). Asks c files permitted) (sym policy) is
 
 accepts_where : (call : TopCall) (asked other : Command) (did : Did) (read texts : List (List ℕ)) → IsRead asked other read texts
     → ((same : IsTextOf read texts) → Accepts call asked did texts) → Accepts call other did texts

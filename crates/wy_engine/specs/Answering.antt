@@ -13,9 +13,15 @@ use Rattle.wy_judge.specs.Checking.{IsAccepted, IsRefusalOf}
 use Rattle.wy_judge.specs.declared.checking.CheckRefusal.{CheckRefusal}
 use Rattle.wy_judge.specs.declared.checking.CheckRefusal.TheVariants as refusal
 use Rattle.wy_lower.specs.Counts.{lowering_limit}
+use Rattle.wy_authority.specs.Authority.{authority_of}
+use Rattle.wy_policy.specs.Allowed.{Allowed}
+use Rattle.wy_policy.specs.Policy.{IsPolicy}
+use Rattle.wy_policy.specs.declared.policy.PolicyRefusal.{PolicyRefusal}
+use Rattle.wy_policy.specs.declared.policy.PolicyRefusal.TheVariants as unread
+use Rattle.wy_policy.specs.declared.policy.PolicyRow.{PolicyRow}
 use Rattle.wy_sound.specs.Programs.{program_starts}
 use Rattle.wy_engine.specs.FileTrees.{HaveTrees}
-use Rattle.wy_engine.specs.Judgement.{IsNumbered, Passes, Runnable, Stops, accepted_text, authority_text, running}
+use Rattle.wy_engine.specs.Judgement.{IsNumbered, KeepsToPolicy, Passes, Refuses, Runnable, Stops, accepted_text, allowed_text, authority_text, running}
 use Rattle.wy_engine.specs.NameFaults.{names_status}
 use Rattle.wy_engine.specs.Running.{Ran}
 use Rattle.wy_engine.specs.Writing.{Wrote}
@@ -41,6 +47,25 @@ pub data ChecksTrees (text : Program → List ℕ) (trees : List (List ItemTree)
   fails : FailsCheck trees end → out' ≡ out → ChecksTrees text trees out out' end
   accepted : (program : Program) → Resolves (all_items trees) program → IsAccepted program → Wrote (text program) out out' end → ChecksTrees text trees out out' end
 
+-- the status of a call whose policy is refused
+abbrev pub policy_status : PolicyRefusal → Status
+policy_status (unread.Limit name) = status.Limit name
+policy_status (unread.BadPolicy line) = status.BadPolicy line
+policy_status unread.Memory = status.Memory
+
+-- what judging an accepted program by a policy did: nothing, since memory was wanting or it does not keep to it; or it was
+-- said that it does
+pub data JudgesByPolicy (policy : List ℕ) (program : Program) (out out' : SinkState) (end : Status) : Type 0 where
+  unjudged : end ≡ status.Memory → out' ≡ out → JudgesByPolicy policy program out out' end
+  denied : Refuses policy (authority_of program) end → out' ≡ out → JudgesByPolicy policy program out out' end
+  kept : (rows : List PolicyRow) → IsPolicy policy rows → Allowed rows (authority_of program) → Wrote allowed_text out out' end → JudgesByPolicy policy program out out' end
+
+-- .. and trees: nothing, since they do not pass; or their program was accepted
+pub data JudgesTreesByPolicy (policy : List ℕ) (trees : List (List ItemTree)) (out out' : SinkState) (end : Status) : Type 0 where
+  unaccepted : FailsCheck trees end → out' ≡ out → JudgesTreesByPolicy policy trees out out' end
+  judged : (program : Program) → Resolves (all_items trees) program → IsAccepted program → JudgesByPolicy policy program out out' end
+      → JudgesTreesByPolicy policy trees out out' end
+
 -- what running an accepted program did: nothing, since its code passes a limit or memory was wanting; or it was run
 pub data RunsAccepted (way : Mode) (program : Program) (depth steps : ℕ) (out out' report report' : SinkState) (devices devices' : DevicesState) (end : Status) : Type 0 where
   limited : (name : LimitName) → lowering_limit program (program_starts program) ≡ Some name → end ≡ status.Limit name → out' ≡ out → report' ≡ report → devices' ≡ devices
@@ -56,7 +81,8 @@ pub data RunsTrees (way : Mode) (trees : List (List ItemTree)) (depth steps : �
       → RunsTrees way trees depth steps out out' report report' devices devices' end
 
 -- what was done with texts: nothing, since memory was wanting or they stop the call; it was said that they are accepted;
--- the report of what their program may do was written; a program was run; or the canonical form of a file was written
+-- the report of what their program may do was written; a program was run; the canonical form of a file was written; or it
+-- was said that a program keeps to its policy
 pub data Answered (asked : Settings) (texts : List (List ℕ)) (out out' report report' : SinkState) (devices devices' : DevicesState) (end : Status) : Type 0 where
   declined : (end ≡ status.Memory) ⊎ Stops asked.command texts end → out' ≡ out → report' ≡ report → devices' ≡ devices
       → Answered asked texts out out' report report' devices devices' end
@@ -67,4 +93,6 @@ pub data Answered (asked : Settings) (texts : List (List ℕ)) (out out' report 
   ran : (program : Program) (way : Mode) → asked.command ≡ running way → IsNumbered way asked.files → Runnable texts program → Ran way program asked.depth asked.steps out out' report report' devices devices' end
       → Answered asked texts out out' report report' devices devices' end
   formatted : (tree : List ItemTree) → asked.command ≡ command.Format → HaveTrees 1 texts (tree ∷ []) → Wrote (canonical_form tree) out out' end → report' ≡ report → devices' ≡ devices
+      → Answered asked texts out out' report report' devices devices' end
+  permitted : asked.command ≡ command.Policy → KeepsToPolicy texts → Wrote allowed_text out out' end → report' ≡ report → devices' ≡ devices
       → Answered asked texts out out' report report' devices devices' end

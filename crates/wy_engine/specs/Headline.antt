@@ -23,7 +23,7 @@ use Rattle.wy_syntax.specs.Trees.{ItemTree}
 use Rattle.wy_types.specs.Program.{Program}
 use Rattle.wy_sound.specs.Laws.{course}
 use Rattle.wy_sound.specs.Programs.{allowed, program_starts}
-use Rattle.wy_engine.specs.Judgement.{Asks, Did, IsReported, RunsPrograms, Stops, accepted_text, authority_text, checked, formatted, nothing, ran, reported, summary_text}
+use Rattle.wy_engine.specs.Judgement.{Asks, Did, IsReported, RunsPrograms, Stops, accepted_text, allowed_text, authority_text, checked, formatted, nothing, permitted, ran, reported, summary_text}
 use Rattle.wy_engine.specs.LastLine.{LineWords, last_line, line_words}
 use Rattle.wy_settings.specs.Settings.{Settings, sample_number, settings_of}
 use Rattle.wy_engine.specs.Status.{IsOfEnd, IsOfOut, IsOfRun, IsOfTexts}
@@ -34,8 +34,8 @@ use Rattle.wy_engine.specs.declared.status.Status.{Status}
 use Rattle.wy_engine.specs.declared.status.Status.TheVariants as status
 
 -- Texts that the shelf tells and that were all read. A status that texts have by themselves is theirs, and comes
--- wherever it is; and so with the program that was run and the file whose canonical form was written. Only want of
--- memory may come in the place of these answers.
+-- wherever it is; and so with the program that was run, the file whose canonical form was written and the program that
+-- keeps to its policy. Only want of memory may come in the place of these answers.
 pub record Accepts (call : TopCall) (command : Command) (did : Did) (texts : List (List ℕ)) : Type 0 where
   pub stopped : IsOfTexts call.status → Stops command texts call.status
   pub stops : (end : Status) → Stops command texts end → call.status ≢ status.Memory → call.status ≡ end
@@ -209,6 +209,7 @@ pub record Settles (call : TopCall) : Type 0 where
   pub checks : did ≡ checked → Writes call command.Check accepted_text
   pub reports : (program : Program) → did ≡ reported program → Writes call command.Authority (authority_text program)
   pub formats : (tree : List ItemTree) → did ≡ formatted tree → Writes call command.Format (canonical_form tree)
+  pub allows : did ≡ permitted → Writes call command.Policy allowed_text
   pub counted : call.report.faults ≤ call.report_after.faults
 
 -- The last line of a settled status was written, whole unless the sink counted a fault; a fault changes no status.

@@ -8,6 +8,7 @@ use Rattle.wy_rules.specs.Ends.{End, IsEnd, limited, refused}
 use Rattle.wy_judge.specs.Checking.{IsAccepted}
 use Rattle.wy_authority.specs.Authority.{authority_of}
 use Rattle.wy_authority.specs.Report.{named_atoms, report_text}
+use Rattle.wy_authority.specs.declared.rows.Authority.{Authority}
 use Rattle.wy_authority.specs.declared.rows.BodyRow.{BodyRow}
 use Rattle.wy_authority.specs.declared.rows.InstanceRow.{InstanceRow}
 use Rattle.wy_effects.specs.Members.{In}
@@ -17,7 +18,11 @@ use Rattle.wy_sound.specs.Telling.{call_of}
 use Rattle.wy_engine.specs.FileTrees.{FirstNoTree, HaveTrees}
 use Rattle.wy_engine.specs.NameFaults.{NamesStop, ResolveTo}
 use Rattle.wy_sample.specs.Sample.{summary_line}
-use Rattle.wy_settings.specs.Settings.{sample_number}
+use Rattle.wy_policy.specs.Allowed.{Allowed, Denied}
+use Rattle.wy_policy.specs.Policy.{IsPolicy, IsRefused}
+use Rattle.wy_policy.specs.declared.policy.PolicyRefusal.TheVariants as refusal
+use Rattle.wy_policy.specs.declared.policy.PolicyRow.{PolicyRow}
+use Rattle.wy_settings.specs.Settings.{sample_number, texts_among}
 use Rattle.wy_settings.specs.declared.command_line.Command.{Command}
 use Rattle.wy_settings.specs.declared.command_line.Command.TheVariants as command
 use Rattle.wy_engine.specs.declared.running.Mode.{Mode}
@@ -69,6 +74,40 @@ body_lines (row ∷ rows) = length row.bodies + body_lines rows
 abbrev pub summary_text : ℕ → Program → List ℕ
 summary_text number program = summary_line number (body_lines (authority_of program).rows)
 
+-- ---- what a policy says of a program
+
+-- what is written where a program keeps to its policy
+abbrev pub allowed_text : List ℕ
+allowed_text = codes "allowed\n"
+
+-- The status that bytes give which a program of this authority is to keep to: they pass a limit; or else a line of them is
+-- no policy's; or else they are a policy that denies an instance what it may do.
+abbrev pub Refuses : List ℕ → Authority → Status → Type 0
+Refuses bytes a (status.Limit name) = IsRefused bytes (refusal.Limit name)
+Refuses bytes a (status.BadPolicy line) = IsRefused bytes (refusal.BadPolicy line)
+Refuses bytes a (status.Denied line instance atom) = (rows : List PolicyRow) × IsPolicy bytes rows × Denied rows a line instance atom
+Refuses bytes a other = ⊥
+
+-- the first of these files is there for a policy, and the others are texts that pass
+pub record UnderPolicy (files : List (List ℕ)) : Type 0 where
+  pub policy : List ℕ
+  pub texts : List (List ℕ)
+  pub split : files ≡ policy ∷ texts
+  pub program : Program
+  pub passes : Passes texts program
+
+-- .. and this is the status that the first gives
+pub record StopsByPolicy (files : List (List ℕ)) (end : Status) : Type 0 where
+  pub under : UnderPolicy files
+  pub refuses : Refuses under.policy (authority_of under.program) end
+
+-- .. and the program keeps to the policy that the first is
+pub record KeepsToPolicy (files : List (List ℕ)) : Type 0 where
+  pub under : UnderPolicy files
+  pub rows : List PolicyRow
+  pub is : IsPolicy under.policy rows
+  pub allowed : Allowed rows (authority_of under.program)
+
 -- ---- what a command does with texts
 
 -- a command that runs programs
@@ -79,6 +118,7 @@ RunsPrograms command.Run = ⊤
 RunsPrograms command.Trace = ⊤
 RunsPrograms command.Sample = ⊤
 RunsPrograms command.Format = ⊥
+RunsPrograms command.Policy = ⊥
 
 -- the command that runs programs in this way
 abbrev pub running : Mode → Command
@@ -96,33 +136,42 @@ abbrev pub StopsLimited : List (List ℕ) → LimitName → Type 0
 StopsLimited texts name = FirstNoTree 1 texts (status.Limit name) ⊎ (NamesStop texts (status.Limit name) ⊎ EndsJudging texts (limited name))
 
 -- The status with which texts end a call before anything is run or written to `out`: some file has no tree; or, of
--- texts that are to be checked, to be reported on or to run, the names are refused, or the program is; or, of those that
--- are to run, the code passes a limit. What is formatted may have any names.
-abbrev pub Stops : Command → List (List ℕ) → Status → Type 0
-Stops command texts (status.Syntax place kind) = FirstNoTree 1 texts (status.Syntax place kind)
-Stops command.Check texts (status.Limit name) = StopsLimited texts name
-Stops command.Authority texts (status.Limit name) = StopsLimited texts name
-Stops command.Run texts (status.Limit name) = StopsLimited texts name ⊎ EndsLowering texts name
-Stops command.Trace texts (status.Limit name) = StopsLimited texts name ⊎ EndsLowering texts name
-Stops command.Sample texts (status.Limit name) = StopsLimited texts name ⊎ EndsLowering texts name
-Stops command.Format texts (status.Limit name) = FirstNoTree 1 texts (status.Limit name)
-Stops command.Check texts (status.Refused fault) = NamesStop texts (status.Refused fault) ⊎ EndsJudging texts (refused fault)
-Stops command.Authority texts (status.Refused fault) = NamesStop texts (status.Refused fault) ⊎ EndsJudging texts (refused fault)
-Stops command.Run texts (status.Refused fault) = NamesStop texts (status.Refused fault) ⊎ EndsJudging texts (refused fault)
-Stops command.Trace texts (status.Refused fault) = NamesStop texts (status.Refused fault) ⊎ EndsJudging texts (refused fault)
-Stops command.Sample texts (status.Refused fault) = NamesStop texts (status.Refused fault) ⊎ EndsJudging texts (refused fault)
-Stops command texts other = ⊥
+-- texts that are to be checked, to be reported on, to keep to a policy or to run, the names are refused, or the program is; or, of
+-- those that are to run, the code passes a limit. What is formatted may have any names.
+abbrev pub StopsTexts : Command → List (List ℕ) → Status → Type 0
+StopsTexts command texts (status.Syntax place kind) = FirstNoTree 1 texts (status.Syntax place kind)
+StopsTexts command.Check texts (status.Limit name) = StopsLimited texts name
+StopsTexts command.Authority texts (status.Limit name) = StopsLimited texts name
+StopsTexts command.Run texts (status.Limit name) = StopsLimited texts name ⊎ EndsLowering texts name
+StopsTexts command.Trace texts (status.Limit name) = StopsLimited texts name ⊎ EndsLowering texts name
+StopsTexts command.Sample texts (status.Limit name) = StopsLimited texts name ⊎ EndsLowering texts name
+StopsTexts command.Format texts (status.Limit name) = FirstNoTree 1 texts (status.Limit name)
+StopsTexts command.Policy texts (status.Limit name) = StopsLimited texts name
+StopsTexts command.Check texts (status.Refused fault) = NamesStop texts (status.Refused fault) ⊎ EndsJudging texts (refused fault)
+StopsTexts command.Authority texts (status.Refused fault) = NamesStop texts (status.Refused fault) ⊎ EndsJudging texts (refused fault)
+StopsTexts command.Run texts (status.Refused fault) = NamesStop texts (status.Refused fault) ⊎ EndsJudging texts (refused fault)
+StopsTexts command.Trace texts (status.Refused fault) = NamesStop texts (status.Refused fault) ⊎ EndsJudging texts (refused fault)
+StopsTexts command.Sample texts (status.Refused fault) = NamesStop texts (status.Refused fault) ⊎ EndsJudging texts (refused fault)
+StopsTexts command.Policy texts (status.Refused fault) = NamesStop texts (status.Refused fault) ⊎ EndsJudging texts (refused fault)
+StopsTexts command texts other = ⊥
+
+-- The status with which the files of a command end a call so: the one of the texts among them; and under `policy`, where these
+-- pass, the one that the first file gives.
+pub data Stops (asked : Command) (files : List (List ℕ)) (end : Status) : Type 0 where
+  by_texts : StopsTexts asked (texts_among asked files) end → Stops asked files end
+  by_policy : asked ≡ command.Policy → StopsByPolicy files end → Stops asked files end
 
 -- what a call did: nothing, or it said that texts are accepted, or it reported what a program may do, or it ran a program,
--- or it wrote the canonical form of a file
+-- or it wrote the canonical form of a file, or it said that a program keeps to its policy
 pub data Did : Type 0 where
   nothing : Did
   checked : Did
   reported : Program → Did
   ran : Program → Did
   formatted : List ItemTree → Did
+  permitted : Did
 
--- what a command does with texts that do not stop it
+-- what a command does with files that do not stop it
 abbrev pub Asks : Command → List (List ℕ) → Did → Type 0
 Asks command.Check texts checked = (program : Program) × Passes texts program
 Asks command.Authority texts (reported program) = Passes texts program
@@ -130,4 +179,5 @@ Asks command.Run texts (ran program) = Runnable texts program
 Asks command.Trace texts (ran program) = Runnable texts program
 Asks command.Sample texts (ran program) = Runnable texts program
 Asks command.Format texts (formatted tree) = HaveTrees 1 texts (tree ∷ [])
+Asks command.Policy files permitted = KeepsToPolicy files
 Asks command texts other = ⊥

@@ -11,7 +11,7 @@ use Rattle.wy_device.specs.RunEnds.{RunEnd, Trap, TooDeep, Spent, DeviceFailed}
 use Rattle.wy_meaning.specs.EndLines.{end_line}
 use Rattle.wy_authority.specs.Report.{atom_text}
 use Rattle.wy_machine.specs.TrapKinds.{trap_meant}
-use Rattle.wy_settings.specs.Settings.{Settings, usual_steps, usual_depth}
+use Rattle.wy_settings.specs.Settings.{Settings, texts_among, usual_steps, usual_depth}
 use Rattle.wy_engine.specs.declared.status.Status.{Status}
 use Rattle.wy_engine.specs.declared.status.Status.TheVariants as status
 use Rattle.wy_engine.specs.declared.status.SyntaxKind.{SyntaxKind}
@@ -50,28 +50,37 @@ limit_line name = codes "limit: " ++ (limit_text name ++ (codes " " ++ (decimal 
 abbrev pub usage_line : List ℕ
 usage_line = codes "usage: wyvern COMMAND [--steps N] [--depth N] FILE...\n"
 
--- what the last line of a call needs of its words: the file words, and the bounds of a run
+-- a line of a policy, which is the first file, as `plugins.pol:3`
+abbrev pub row_text : List (List ℕ) → ℕ → List ℕ
+row_text names line = file_word names 1 ++ (codes ":" ++ decimal line)
+
+-- what a row denies: an instance, and what it may not do
+abbrev pub denial_line : List (List ℕ) → ℕ → List ℕ → AtomName → List ℕ
+denial_line names line instance atom = row_text names line ++ (codes ": denied: " ++ (instance ++ (codes " " ++ (atom_text atom ++ codes "\n"))))
+
+-- what the last line of a call needs of its words: the file words, those of the texts among them, and the bounds of a run
 pub record LineWords : Type 0 where
   pub names : List (List ℕ)
+  pub texts : List (List ℕ)
   pub steps : ℕ
   pub depth : ℕ
 
 -- .. where the words give no settings there are no files
 abbrev pub line_words : Option Settings → LineWords
-line_words None = record { names = []; steps = usual_steps; depth = usual_depth }
-line_words (Some settings) = record { names = settings.files; steps = settings.steps; depth = settings.depth }
+line_words None = record { names = []; texts = []; steps = usual_steps; depth = usual_depth }
+line_words (Some settings) = record { names = settings.files; texts = texts_among settings.command settings.files; steps = settings.steps; depth = settings.depth }
 
 -- the last line of a run that ended so
 abbrev pub run_line : LineWords → RunEnd → List ℕ
-run_line words end = end_line (file_word words.names) words.depth words.steps end
+run_line words end = end_line (file_word words.texts) words.depth words.steps end
 
 -- the last line of a call with these words
 abbrev pub last_line : LineWords → Status → List ℕ
 last_line words status.Ended = []
 last_line words status.Usage = usage_line
 last_line words (status.Unread file) = file_word words.names file ++ codes ": unread\n"
-last_line words (status.Syntax place kind) = place_text words.names place ++ (codes ": syntax: " ++ (syntax_text kind ++ codes "\n"))
-last_line words (status.Refused fault) = place_text words.names fault.place ++ (codes ": refused: " ++ (fault_text fault ++ codes "\n"))
+last_line words (status.Syntax place kind) = place_text words.texts place ++ (codes ": syntax: " ++ (syntax_text kind ++ codes "\n"))
+last_line words (status.Refused fault) = place_text words.texts fault.place ++ (codes ": refused: " ++ (fault_text fault ++ codes "\n"))
 last_line words (status.Limit name) = limit_line name
 last_line words (status.Trap kind place) = run_line words (Trap (trap_meant kind) place)
 last_line words status.TooDeep = run_line words TooDeep
@@ -79,3 +88,5 @@ last_line words status.Spent = run_line words Spent
 last_line words (status.DeviceFailed grant op) = run_line words (DeviceFailed grant op)
 last_line words status.Unwritten = codes "unwritten\n"
 last_line words status.Memory = codes "no memory\n"
+last_line words (status.Denied line instance atom) = denial_line words.names line instance atom
+last_line words (status.BadPolicy line) = row_text words.names line ++ codes ": bad policy\n"

@@ -22,6 +22,8 @@ number_of status.Spent = 8
 number_of (status.DeviceFailed grant op) = 9
 number_of status.Unwritten = 10
 number_of status.Memory = 11
+number_of (status.Denied line instance atom) = 16
+number_of (status.BadPolicy line) = 17
 
 -- the status of words that give no settings
 abbrev pub refusal_status : SettingsRefusal → Status
@@ -42,6 +44,8 @@ IsOfEnd status.Spent end = end ≡ ends.Spent
 IsOfEnd (status.DeviceFailed grant op) end = end ≡ ends.DeviceFailed grant op
 IsOfEnd status.Unwritten end = ⊥
 IsOfEnd status.Memory end = ⊥
+IsOfEnd (status.Denied line instance atom) end = ⊥
+IsOfEnd (status.BadPolicy line) end = ⊥
 
 -- a status that a call may have which ran a program, or began to
 abbrev pub IsOfRun : Status → Type 0
@@ -57,6 +61,8 @@ IsOfRun status.Spent = ⊤
 IsOfRun (status.DeviceFailed grant op) = ⊤
 IsOfRun status.Unwritten = ⊤
 IsOfRun status.Memory = ⊤
+IsOfRun (status.Denied line instance atom) = ⊥
+IsOfRun (status.BadPolicy line) = ⊥
 
 -- a status that a call may have which wrote to `out`, or began to
 abbrev pub IsOfOut : Status → Type 0
@@ -72,6 +78,8 @@ IsOfOut status.Spent = ⊥
 IsOfOut (status.DeviceFailed grant op) = ⊥
 IsOfOut status.Unwritten = ⊤
 IsOfOut status.Memory = ⊤
+IsOfOut (status.Denied line instance atom) = ⊥
+IsOfOut (status.BadPolicy line) = ⊥
 
 -- a status that texts may have by themselves, before anything is run or written to `out`
 abbrev pub IsOfTexts : Status → Type 0
@@ -87,3 +95,5 @@ IsOfTexts status.Spent = ⊥
 IsOfTexts (status.DeviceFailed grant op) = ⊥
 IsOfTexts status.Unwritten = ⊥
 IsOfTexts status.Memory = ⊥
+IsOfTexts (status.Denied line instance atom) = ⊤
+IsOfTexts (status.BadPolicy line) = ⊤

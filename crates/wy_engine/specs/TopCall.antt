@@ -58,8 +58,9 @@ takes_files command.Run = true
 takes_files command.Trace = true
 takes_files command.Sample = false
 takes_files command.Format = true
+takes_files command.Policy = true
 
--- the texts of a command: those that the shelf tells for its files, and of `sample` the one that its number makes
+-- the texts of a command: those that the shelf tells for its files, a policy among them, and of `sample` the one that its number makes
 abbrev pub HasTexts : Command → ShelfState → List (List ℕ) → List (List ℕ) → Type 0
 HasTexts command.Sample shelf names texts = sampled names ≡ Some texts
 HasTexts asked shelf names texts = TellsTexts shelf names texts

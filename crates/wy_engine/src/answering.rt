@@ -8,12 +8,13 @@ ghost use Rattle.wy_engine.specs.Judgement.{IsNumbered, RunsPrograms, running};
 use crate::checking::{check_trees, report_trees};
 use crate::formatting::write_form;
 use crate::parsing::parse_all;
+use crate::permitting::permit_trees;
 use crate::running::{Manner, Mode, run_trees};
 use crate::status::Status;
 use std::alloc::Global;
 use wy_device::device::Device;
 use wy_machine::devices::Devices;
-use wy_settings::{Command, CommandLine, sample_number};
+use wy_settings::{Command, CommandLine, sample_number, texts_among};
 use wy_text::sink::Sink;
 use wy_text::text::Text;
 
@@ -34,7 +35,7 @@ fn way_of(command: Command, files: &[String]) -> Mode
 }
 
 /// Does with texts what a command asks: parses them, and then checks their program, reports what it may do, runs it,
-/// or writes the canonical form of the one text.
+/// judges it by a policy, which is the first text, or writes the canonical form of the one text.
 pub fn answer<O: Sink, E: Sink, D: Device>(
     alloc: Global,
     asked: CommandLine<'_>,
@@ -46,10 +47,11 @@ pub fn answer<O: Sink, E: Sink, D: Device>(
     requires few { length texts.now ≤ 64 }
     requires fits { takes asked.command (map string_bytes asked.files.now) ≡ true }
     requires one { asked.command ≡ Command.Format → length texts.now ≡ 1 }
+    requires some { asked.command ≡ Command.Policy → 1 ≤ length texts.now }
     requires in_order { IsInOrder (states D.state devices.old) }
     ensures { Answered (record { command = asked.entry.command; steps = asked.entry.steps; depth = asked.entry.depth; files = map string_bytes asked.entry.files.now }) texts.now (O.state out.old) (O.state out.new) (E.state report.old) (E.state report.new) (states D.state devices.old) (states D.state devices.new) result }
 {
-    let trees = match parse_all(alloc, texts) {
+    let trees = match parse_all(alloc, texts_among(asked.command, texts)) {
         Ok(trees) => trees,
         Err(end) => return end,
     };
@@ -65,5 +67,6 @@ pub fn answer<O: Sink, E: Sink, D: Device>(
         Command::Trace => run_trees(alloc, trees.as_slice(), manner, out, report, devices),
         Command::Sample => run_trees(alloc, trees.as_slice(), manner, out, report, devices),
         Command::Format => write_form(alloc, &trees[0], out),
+        Command::Policy => permit_trees(alloc, trees.as_slice(), texts[0].as_bytes(), out),
     }
 }

@@ -41,8 +41,8 @@ pub fn accepted_run_as_meant()
 
 /// A call finds no excuse. Where no part of the outside counted a fault and no limit is passed, an accepted program that
 /// `run`, `trace` or `sample` runs, with a bound of at least four steps for each node that its meaning evaluates and four
-/// more, ends, traps or goes too deep as its meaning does; and texts that `check`, `authority` or `format` do not stop come
-/// to their good end. Only want of memory may come in the place of these.
+/// more, ends, traps or goes too deep as its meaning does; and texts that `check`, `authority`, `format` or `policy` do not
+/// stop come to their good end. Only want of memory may come in the place of these.
 pub fn accepted_texts_end()
     ensures { AcceptedTextsEnd }
 {

@@ -1,6 +1,6 @@
 //! The top call: it reads the files that the words name, judges them, prints the authority of what it
-//! accepts, and runs or traces it on the devices that were handed in; or it says whether they are accepted, or writes
-//! that authority, or a file's canonical form.
+//! accepts, and runs or traces it on the devices that were handed in; or it says whether they are accepted, or keep to a
+//! policy, or writes that authority, or a file's canonical form.
 #![tactic(auto)]
 
 pub mod answering;
@@ -10,6 +10,7 @@ pub mod judging;
 pub mod last_line;
 pub mod laws;
 pub mod parsing;
+pub mod permitting;
 pub mod reading;
 pub mod running;
 pub mod status;

@@ -1,6 +1,6 @@
 use wy_device::operation::OpName;
 use wy_machine::run_end::TrapKind;
-use wy_text::fault::{Fault, Place};
+use wy_text::fault::{AtomName, Fault, Place};
 use wy_text::limit::LimitName;
 use wy_text::text::Text;
 
@@ -28,23 +28,44 @@ pub enum Status {
     /// A file was not read. Its number among the file words counts from 1.
     Unread(u16),
     /// A file has no tokens or no tree. It is the first such file, and the place is the first in it.
-    Syntax { place: Place, kind: SyntaxKind },
+    Syntax {
+        place: Place,
+        kind: SyntaxKind,
+    },
     /// A name in the texts is refused, or else their program is.
     Refused(Fault),
     /// A limit is passed.
     Limit(LimitName),
     /// The program that was run trapped at a place.
-    Trap { kind: TrapKind, place: Place },
+    Trap {
+        kind: TrapKind,
+        place: Place,
+    },
     /// A call on an object was one too many that are open at once.
     TooDeep,
     /// The run took all the steps that it may take.
     Spent,
     /// An operation on a grant failed.
-    DeviceFailed { grant: Text, op: OpName },
+    DeviceFailed {
+        grant: Text,
+        op: OpName,
+    },
     /// The report, or what the command writes, was not written whole.
     Unwritten,
     /// Memory was wanting.
     Memory,
+    /// The program does not keep to its policy. The instance, or `main`, is the first that may do more than the policy
+    /// allows it. It goes by the row of this line, 0 where there is none, and the atom is the first of its authority that the
+    /// row does not allow.
+    Denied {
+        line: u32,
+        instance: Text,
+        atom: AtomName,
+    },
+    /// A line of a policy is neither blank nor a comment nor a row. It is the first such line, and counts from 1.
+    BadPolicy {
+        line: u32,
+    },
 }
 
 impl Status {
@@ -68,6 +89,8 @@ impl Status {
             Status::DeviceFailed { .. } => 9,
             Status::Unwritten => 10,
             Status::Memory => 11,
+            Status::Denied { .. } => 16,
+            Status::BadPolicy { .. } => 17,
         }
     }
 }

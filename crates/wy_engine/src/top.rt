@@ -19,6 +19,7 @@ use wy_machine::devices::Devices;
 use wy_sample::sample;
 use wy_settings::{
     Command, CommandLine, SettingsRefusal, USUAL_DEPTH, USUAL_STEPS, sample_number, settings,
+    texts_among,
 };
 use wy_text::limit::LimitName;
 use wy_text::shelf::Shelf;
@@ -34,8 +35,12 @@ fn takes_files(command: Command) -> bool
     ensures { result ≡ takes_files command }
 {
     match command {
-        Command::Check | Command::Authority | Command::Run | Command::Trace | Command::Format =>
-            true,
+        Command::Check
+        | Command::Authority
+        | Command::Run
+        | Command::Trace
+        | Command::Format
+        | Command::Policy => true,
         Command::Sample => false,
     }
 }
@@ -103,7 +108,7 @@ fn settle<S: Shelf, O: Sink, E: Sink, D: Device>(
 
 /// Writes the last line of a status that is settled, and gives the status of the whole call.
 fn close<E: Sink>(alloc: Global, words: LineWords<'_>, report: &mut E, settled: Status) -> Status
-    ensures { Closes (record { names = map string_bytes words.entry.names.now; steps = words.entry.steps; depth = words.entry.depth }) settled result (E.state report.old) (E.state report.new) }
+    ensures { Closes (record { names = map string_bytes words.entry.names.now; texts = map string_bytes words.entry.texts.now; steps = words.entry.steps; depth = words.entry.depth }) settled result (E.state report.old) (E.state report.new) }
 {
     let Ok(line) = last_line_of(alloc, words, &settled) else {
         return Status::Memory;
@@ -117,10 +122,11 @@ fn close<E: Sink>(alloc: Global, words: LineWords<'_>, report: &mut E, settled: 
 
 /// What the last line of a call needs of its command line.
 fn line_words(line: CommandLine<'_>) -> LineWords<'_>
-    ensures { line_words (Some (record { command = line.entry.command; steps = line.entry.steps; depth = line.entry.depth; files = map string_bytes line.entry.files.now })) ≡ record { names = map string_bytes result.names.now; steps = result.steps; depth = result.depth } }
+    ensures { line_words (Some (record { command = line.entry.command; steps = line.entry.steps; depth = line.entry.depth; files = map string_bytes line.entry.files.now })) ≡ record { names = map string_bytes result.names.now; texts = map string_bytes result.texts.now; steps = result.steps; depth = result.depth } }
 {
     LineWords {
         names: line.files,
+        texts: texts_among(line.command, line.files),
         steps: line.steps,
         depth: line.depth,
     }
@@ -128,10 +134,11 @@ fn line_words(line: CommandLine<'_>) -> LineWords<'_>
 
 /// What the last line of a call needs of words that give no settings.
 fn no_words() -> LineWords<'static>
-    ensures { line_words None ≡ record { names = map string_bytes result.names.now; steps = result.steps; depth = result.depth } }
+    ensures { line_words None ≡ record { names = map string_bytes result.names.now; texts = map string_bytes result.texts.now; steps = result.steps; depth = result.depth } }
 {
     LineWords {
         names: &[],
+        texts: &[],
         steps: USUAL_STEPS,
         depth: USUAL_DEPTH,
     }
@@ -152,8 +159,8 @@ fn status_of(refusal: SettingsRefusal) -> Status
 /// report of what the program's bodies may do to `out`; `run` judges as `check` does, lowers what is accepted to code, prints the
 /// report on `report`, and runs the code on the devices; `trace` does so too, and writes the line of each event of the
 /// run to `out`; `sample` runs the program that its number makes, reads no file, and writes a line that sums it up to `out`
-/// where the run ended; `format` writes the canonical form of its one file to `out`. The
-/// report ends with a line that says how the call ended, unless all was done (docs/LANGUAGE.md, "The command line",
+/// where the run ended; `format` writes the canonical form of its one file to `out`; `policy` judges the files behind its first as
+/// `check` does, and says on `out` that their program keeps to the policy that the first is, where it does. The report ends with a line that says how the call ended, unless all was done (docs/LANGUAGE.md, "The command line",
 /// "Authority and report" and "Statuses").
 ///
 /// The devices are of the four kinds in their order, which `devices` gives.

@@ -1,6 +1,6 @@
 use std::alloc::Global;
 use std::test::Fail;
-use wy_settings::{Command, Settings, SettingsRefusal, settings};
+use wy_settings::{Command, Settings, SettingsRefusal, settings, texts_among};
 
 /// The settings of these words.
 fn settings_of(alloc: Global, words: &[&str]) -> Result<Result<Settings, SettingsRefusal>, Fail> {
@@ -73,5 +73,18 @@ fn other_words_have_none(rt: HostRuntime) -> Result<(), Fail> {
             Err(SettingsRefusal::Usage)
         )
     );
+    Ok(())
+}
+
+#[test]
+fn the_first_file_is_no_text_of_policy_alone(rt: HostRuntime) -> Result<(), Fail> {
+    let files = ["a", "b", "c"];
+    let behind = texts_among(Command::Policy, files.as_slice());
+    assert_eq!(rt; behind, ["b", "c"].as_slice());
+    assert_eq!(rt;
+        texts_among(Command::Check, files.as_slice()),
+        files.as_slice()
+    );
+    assert_eq!(rt; texts_among(Command::Policy, behind).len(), 1);
     Ok(())
 }

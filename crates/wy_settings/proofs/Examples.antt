@@ -1,7 +1,7 @@
 -- The settings that words give, tried on examples.
 use Rattle.std.proofs.Common.{codes, ◌≡◌, ℕ, List, [], ◌∷◌, Some, None, refl}
 use Rattle.clap.proofs.OnLiterals.{clap_on_literals}
-use Rattle.wy_settings.specs.Settings.{Settings, most_depth, settings_of, usual_depth, usual_steps}
+use Rattle.wy_settings.specs.Settings.{Settings, most_depth, settings_of, texts_among, usual_depth, usual_steps}
 use Rattle.wy_settings.specs.declared.command_line.Command.{Command}
 use Rattle.wy_settings.specs.declared.command_line.Command.TheVariants as command
 
@@ -28,6 +28,17 @@ format_words = refl
 two_formats : settings_of (codes "format" ∷ codes "a.wy" ∷ codes "b.wy" ∷ []) ≡ None
 unfolding clap_on_literals
 two_formats = refl
+
+policy_words : settings_of (codes "policy" ∷ codes "p.pol" ∷ codes "a.wy" ∷ []) ≡ Some (usual command.Policy (codes "p.pol" ∷ codes "a.wy" ∷ []))
+unfolding clap_on_literals
+policy_words = refl
+
+policy_texts : texts_among command.Policy (codes "p.pol" ∷ codes "a.wy" ∷ []) ≡ codes "a.wy" ∷ []
+policy_texts = refl
+
+one_policy : settings_of (codes "policy" ∷ codes "p.pol" ∷ []) ≡ None
+unfolding clap_on_literals
+one_policy = refl
 
 no_words : settings_of [] ≡ None
 unfolding clap_on_literals

@@ -69,7 +69,7 @@ command_named word =
     (if bytes_eq word (codes "authority") then Some command.Authority else
     (if bytes_eq word (codes "run") then Some command.Run else
     (if bytes_eq word (codes "trace") then Some command.Trace else
-    (if bytes_eq word (codes "sample") then Some command.Sample else (if bytes_eq word (codes "format") then Some command.Format else None)))))
+    (if bytes_eq word (codes "sample") then Some command.Sample else (if bytes_eq word (codes "format") then Some command.Format else (if bytes_eq word (codes "policy") then Some command.Policy else None))))))
 
 abbrev pub most_sample : ℕ
 most_sample = 200
@@ -85,7 +85,7 @@ sample_number [] = None
 sample_number (word ∷ []) = from_one (number_up_to most_sample word)
 sample_number (word ∷ other ∷ words) = None
 
--- whether a command takes these files: `sample` its number, `format` one file, and each other one or more
+-- whether a command takes these files: `sample` its number, `format` one file, `policy` two or more, and each other one or more
 abbrev pub takes : Command → List (List ℕ) → Bool
 takes command.Check files = nat_le 1 (length files)
 takes command.Authority files = nat_le 1 (length files)
@@ -93,6 +93,12 @@ takes command.Run files = nat_le 1 (length files)
 takes command.Trace files = nat_le 1 (length files)
 takes command.Sample files = is_some (sample_number files)
 takes command.Format files = length files == 1
+takes command.Policy files = nat_le 2 (length files)
+
+-- the texts among the files of a command, or their words: all, and for `policy` those behind the first, which is the policy
+abbrev pub texts_among : {X : Type 0} → Command → List X → List X
+texts_among command.Policy (policy ∷ texts) = texts
+texts_among command files = files
 
 -- the number of an option, which is the usual one where the option is not there
 abbrev pub bound : ℕ → ℕ → Option (List ℕ) → Option ℕ

@@ -16,6 +16,8 @@ pub enum Command {
     Sample,
     /// Write the canonical form of one file.
     Format,
+    /// Judge the files behind the first, and say whether their program keeps to the policy that the first is.
+    Policy,
 }
 
 /// A command, how many steps a run may take, how many calls on objects may be open in it at once, and the file words.

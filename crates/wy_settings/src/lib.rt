@@ -10,4 +10,4 @@ pub use command_line::{
     Command, CommandLine, MOST_DEPTH, MOST_STEPS, Settings, SettingsRefusal, USUAL_DEPTH,
     USUAL_STEPS,
 };
-pub use reading::{sample_number, settings};
+pub use reading::{sample_number, settings, texts_among};

@@ -2,7 +2,7 @@ ghost use Rattle.std.specs.Prelude.{◌≡◌, ◌≤◌, IfErr, IfOk, Some, Non
 ghost use Rattle.std.specs.Option.{IfSome, option_copied, option_map};
 ghost use Rattle.clap.specs.Matches.{found_of};
 ghost use Rattle.clap.specs.Walk.{all_of, first_of, rows_of};
-ghost use Rattle.wy_settings.specs.Settings.{bound, command_named, files_in, heading_in, most_sample, most_steps, sample_number, settings_in, settings_kept, settings_of, takes};
+ghost use Rattle.wy_settings.specs.Settings.{bound, command_named, files_in, heading_in, most_sample, most_steps, sample_number, settings_in, settings_kept, settings_of, takes, texts_among};
 
 use crate::command_line::{
     Command, MOST_DEPTH, MOST_STEPS, Settings, SettingsRefusal, USUAL_DEPTH, USUAL_STEPS,
@@ -34,6 +34,7 @@ fn command_of(word: &str) -> Option<Command>
         "trace" => Some(Command::Trace),
         "sample" => Some(Command::Sample),
         "format" => Some(Command::Format),
+        "policy" => Some(Command::Policy),
         _ => None,
     }
 }
@@ -60,6 +61,18 @@ fn takes(command: Command, files: &[String]) -> bool
         Command::Check | Command::Authority | Command::Run | Command::Trace => files.len() >= 1,
         Command::Sample => sample_number(files).is_some(),
         Command::Format => files.len() == 1,
+        Command::Policy => files.len() >= 2,
+    }
+}
+
+/// The texts among the files of a command, or their words: all, and for `policy` those behind the first, which is the
+/// policy. It takes no memory.
+pub fn texts_among<X>(command: Command, files: &[X]) -> &[X]
+    ensures { result.now ≡ texts_among command files.now }
+{
+    match (command, files) {
+        (Command::Policy, [_, texts @ ..]) => texts,
+        _ => files,
     }
 }
 

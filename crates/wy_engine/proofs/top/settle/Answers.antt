@@ -4,7 +4,7 @@ use Rattle.wy_settings.specs.Settings.{Settings}
 use Rattle.wy_settings.specs.declared.command_line.Command.TheVariants as command
 use Rattle.wy_engine.proofs.FilesRead.{SampleMade, is_sample, made, read_well, sample_made}
 use Rattle.wy_engine.proofs.ReadingOn.{reads_exactly, reads_many}
-use Rattle.wy_engine.proofs.Settling.{one_of_format, settles_answered, settles_starved, settles_unread}
+use Rattle.wy_engine.proofs.Settling.{one_of_format, settles_answered, settles_starved, settles_unread, some_of_policy}
 use Rattle.wy_engine.proofs.top.settle.Goals as goal
 
 pub answer-requires-clause-few : goal.answer-requires-clause-few
@@ -17,6 +17,13 @@ answer-requires-clause-one g c = λ format.
     let read : length c.in-Ok.texts ≡ length (map string_bytes c.args.line.files.now) =
     reads_exactly (map string_bytes c.args.line.files.now) (length c.args.line.files.now) _ _ c.in-Ok.texts (sym (length-map c.args.line.files.now string_bytes)) c.in-Ok.ensures.all in
     rw c.as_slice.ensures (read ∙ one_of_format c.args.line.command (map string_bytes c.args.line.files.now) c.requires.fits format)
+
+pub answer-requires-clause-some : goal.answer-requires-clause-some
+answer-requires-clause-some g c = λ policy.
+    let read : length c.in-Ok.texts ≡ length (map string_bytes c.args.line.files.now) =
+    reads_exactly (map string_bytes c.args.line.files.now) (length c.args.line.files.now) _ _ c.in-Ok.texts (sym (length-map c.args.line.files.now string_bytes)) c.in-Ok.ensures.all in
+    let some : 1 ≤ length (map string_bytes c.args.line.files.now) = some_of_policy c.args.line.command (map string_bytes c.args.line.files.now) c.requires.fits policy in
+    rw c.as_slice.ensures (omega arith)
 
 pub returns-in-Err-Unread : goal.returns-in-Err-Unread
 returns-in-Err-Unread g c = λ words set.
