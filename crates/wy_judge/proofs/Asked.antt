@@ -5,8 +5,8 @@ use Rattle.wy_types.specs.Program.{Program}
 use Rattle.wy_types.specs.Fitting.{IsTypeOf}
 use Rattle.wy_subtype.specs.declared.verdict.Mode.{Mode}
 use Rattle.wy_subtype.specs.Decided.{About}
-use Rattle.wy_judge.specs.declared.outcomes.Inference.{Inference}
-use Rattle.wy_judge.specs.declared.outcomes.Fit.{Fit}
+use Rattle.wy_judge.specs.Inference.{Inference}
+use Rattle.wy_judge.specs.Fit.{Fit}
 use Rattle.wy_judge.specs.Targets.{about_in, IsInRangeOf, IsFittedIn}
 
 module _ (p : Program) (k : ℕ) (mode : Mode) (a : About) (is : a ≡ about_in p k mode) where
