@@ -1,8 +1,7 @@
 -- Operations on one or two operands as they are judged by themselves.
-use Rattle.std.proofs.Common.{◌≡◌, ◌↔◌, ℕ, List, inl, inr, refl, sym, subst, Option, Some, None, Bool as Truth, true, false}
+use Rattle.std.proofs.Common.{◌≡◌, ℕ, List, refl, sym, subst, Option, Some, None, Bool as Truth, true, false}
 use Rattle.wy_text.specs.declared.fault.Place.{Place}
 use Rattle.wy_text.specs.declared.fault.Fault.{Fault}
-use Rattle.wy_text.specs.declared.fault.RuleName.TheVariants.{TOp}
 use Rattle.wy_effects.specs.EffSet.{union}
 use Rattle.wy_types.specs.declared.types.TypeRef.{TypeRef}
 use Rattle.wy_types.specs.declared.code.UnaryOperator.{UnaryOperator}
@@ -10,13 +9,12 @@ use Rattle.wy_types.specs.declared.code.BinaryOperator.{BinaryOperator}
 use Rattle.wy_types.specs.Code.{Expr, Unary, Binary}
 use Rattle.wy_types.specs.Program.{Program, Scope}
 use Rattle.wy_types.specs.Core.{expr_vals}
-use Rattle.wy_types.proofs.Deciding.{decide_type}
 use Rattle.wy_rules.specs.Operators.{unary_rows, binary_rows}
 use Rattle.wy_rules.specs.Acceptance.{scope_reading}
 use Rattle.wy_rules.specs.Nodes.{expr_nodes}
 use Rattle.wy_judge.specs.Inference.{Inference}
 use Rattle.wy_judge.specs.Inference as inferred
-use Rattle.wy_judge.specs.Outcomes.{fault_at, IsSame, unary_result, binary_result, operation_outcome, unary_outcome, second_outcome, both_outcome, IsBoth}
+use Rattle.wy_judge.specs.Outcomes.{unary_result, binary_result, operation_outcome, unary_outcome, second_outcome, both_outcome, IsBoth}
 use Rattle.wy_judge.specs.Tables.{Table, IsScopeOf, ExprReady}
 use Rattle.wy_judge.specs.Targets.{IsInRangeOf}
 use Rattle.wy_judge.specs.Judging.{InferenceStands, InfersTo}
@@ -25,15 +23,6 @@ use Rattle.wy_judge.proofs.Lists.{fail_left}
 use Rattle.wy_judge.proofs.Moving.{agrees_before, moves_under, moves_both, moves_first, ready_left, ready_right}
 use Rattle.wy_judge.proofs.Operating.{unary_inferred, binary_inferred}
 use Rattle.wy_judge.proofs.Tables.{no_others, same_other, base_of, unary_table, binary_table}
-
--- whether two operands have the same type
-pub same_decided : (u v : Inference) → (same : Truth) × IsSame u v same
-same_decided (inferred.Least t e) (inferred.Least w f) = elim (decide_type t w) [
-  | inl same ↦ (true, (λ q. same, λ q. refl))
-  | inr other ↦ (false, (λ q. absurd (cc), λ q. absurd (other q)))
-]
-same_decided (inferred.Least t e) (inferred.Fails fault) = (true, tt)
-same_decided (inferred.Fails fault) v = (true, tt)
 
 module _ (p : Program) (k : ℕ) (s : Scope) (c : IsScopeOf p k s) (owner : Option ℕ) where
   ------------------------------------------------------------
@@ -117,15 +106,3 @@ module _ (p : Program) (k : ℕ) (s : Scope) (c : IsScopeOf p k s) (owner : Opti
             (h.judged locals (agrees_before p k s (scope_reading p k s) locals mid new (expr_vals z) (InferenceStands v) i.moves a)) (i.judged locals a) b.1;
       } in
       subst (λ o. InfersTo p k s owner old new (Binary q op x z) o) (sym b.2) whole
-
-  -- by the type that the operator gives, where both operands pass
-  pub binary_by : (old mid new : Table) (q : Place) (op : BinaryOperator) (x z : Expr) (t u : TypeRef) (e f : List ℕ) (o : Option TypeRef) (same : Truth) → InfersTo p k s owner old mid x (inferred.Least t e) →
-      InfersTo p k s owner mid new z (inferred.Least u f) → binary_result op t ≡ o → (same ≡ true) ↔ (t ≡ u) → InfersTo p k s owner old new (Binary q op x z) (second_outcome q o same (union e f))
-  binary_by old mid new q op x z t u e f o same h i g d =
-      subst (λ y. InfersTo p k s owner old new (Binary q op x z) (second_outcome q y same (union e f))) g
-      (binary_to old mid new q op x z (inferred.Least t e) (inferred.Least u f) (second_outcome q (binary_result op t) same (union e f)) h i (same, d, refl))
-
-  -- the operator does not take the first
-  pub binary_none : (old mid new : Table) (q : Place) (op : BinaryOperator) (x z : Expr) (t u : TypeRef) (e f : List ℕ) → InfersTo p k s owner old mid x (inferred.Least t e) → InfersTo p k s owner mid new z (inferred.Least u f) →
-      binary_result op t ≡ None → InfersTo p k s owner old new (Binary q op x z) (inferred.Fails (fault_at q TOp 1))
-  binary_none old mid new q op x z t u e f h i g = (let d = same_decided (inferred.Least t e) (inferred.Least u f) in binary_by old mid new q op x z t u e f None d.0 h i g d.1)

@@ -1,5 +1,5 @@
 -- What judging each part of a body comes to, with no table that may want memory: form by form, from what its parts come to.
-use Rattle.std.proofs.Common.{◌≡◌, ℕ, zero, suc, ◌+◌, ◌-◌, List, [], ◌∷◌, ◌++◌, inl, inr, length, refl, subst, Option, Some, None, true, false, arith, length-append}
+use Rattle.std.proofs.Common.{◌≡◌, ℕ, zero, suc, ◌+◌, ◌-◌, List, [], ◌∷◌, ◌++◌, inl, inr, length, refl, subst, Option, Some, None, Bool as Truth, true, false, arith, length-append}
 use Rattle.std.specs.Prelude.{slice_set}
 use Rattle.std.proofs.lemmas.Bool.{cases_lt}
 use Rattle.wy_text.specs.declared.fault.Place.{Place}
@@ -22,6 +22,7 @@ use Rattle.wy_types.specs.Program.{Program, Scope}
 use Rattle.wy_types.specs.Signature.{Signature, find_method}
 use Rattle.wy_types.specs.Types.{IsObject, is_plain, methods_of}
 use Rattle.wy_types.specs.Fitting.{IsTypeOf}
+use Rattle.wy_types.proofs.Deciding.{decide_type}
 use Rattle.wy_rules.specs.Derivations.{mark}
 use Rattle.wy_rules.specs.Typing.{field_types, var_field}
 use Rattle.wy_rules.specs.Nodes.{nothing, written}
@@ -34,14 +35,14 @@ use Rattle.wy_judge.specs.Fits as fits
 use Rattle.wy_judge.specs.Step.{Step}
 use Rattle.wy_judge.specs.Step as step
 use Rattle.wy_judge.specs.declared.targets.Target.TheVariants.{Without}
-use Rattle.wy_judge.specs.Outcomes.{fault_at, unary_outcome, both_outcome, text_operands, text_outcome, new_outcome, call_outcome, uncalled_outcome, ascribed_outcome, assigned_outcome, unassigned_outcome, fitted_outcome, probed_outcome, chosen_fit, chosen_fault, more_fits, fault_or, followed_fit, stated_step, untyped_fault}
+use Rattle.wy_judge.specs.Outcomes.{fault_at, IsSame, unary_outcome, both_outcome, text_operands, text_outcome, new_outcome, call_outcome, uncalled_outcome, ascribed_outcome, assigned_outcome, unassigned_outcome, fitted_outcome, probed_outcome, chosen_fit, chosen_fault, more_fits, fault_or, followed_fit, stated_step, untyped_fault}
 use Rattle.wy_judge.specs.Tables.{Table, IsKnown, IsScopeOf, HasOwner, IsKept, IsPut, Moves, ExprReady, ValueReady, ValuesReady, BlockReady}
 use Rattle.wy_judge.specs.Targets.{mode_of, IsTargetOf, IsInRangeOf, IsFittedIn}
 use Rattle.wy_judge.specs.Judging.{NoFault, FitStands, StepStands, TypesInRange, InfersTo, FitsTo, ProbesTo, BlockFitsTo, BlockProbesTo}
 use Rattle.wy_judge.proofs.ArmsOfCalls.{call_receiver, call_arguments, call_fails}
 use Rattle.wy_judge.proofs.ArmsOfNames.{number_to, quoted_to, truth_to, nothing_to, this_owned, this_to, name_to}
 use Rattle.wy_judge.proofs.ArmsOfObjects.{new_values, new_types, ascribed_value, ascribed_type, ascribed_to, assigned_value, var_type, assigned_to, unassigned_to}
-use Rattle.wy_judge.proofs.ArmsOfOperators.{same_decided, unary_to, binary_first, binary_second, binary_to}
+use Rattle.wy_judge.proofs.ArmsOfOperators.{unary_to, binary_first, binary_second, binary_to}
 use Rattle.wy_judge.proofs.ArmsOfTexts.{text_values, text_types}
 use Rattle.wy_judge.proofs.AtOnce.{ValuesFit, ValuesProbe, values_none, values_probe_none, values_more, values_probe_more, text_as_many, text_at, new_as_many, new_at, uncalled_at, found_at}
 use Rattle.wy_judge.proofs.Blocks.{typed_stated, typed_misfit, typed_fails, untyped_stated, untyped_fails, untyped_choice}
@@ -74,6 +75,14 @@ put_anywhere table n t = elim (cases_lt n (length table)) [
       let size : length r.0 ≡ length table + (n + 1 - length table) = r.2 in
       (slice_set r.0 n (Some t), put_in table r.0 n t r.1 (omega arith) (omega arith))
 ]
+
+same_decided : (u v : Inference) → (same : Truth) × IsSame u v same
+same_decided (inferred.Least t e) (inferred.Least w f) = elim (decide_type t w) [
+  | inl same ↦ (true, (λ q. same, λ q. refl))
+  | inr other ↦ (false, (λ q. absurd (cc), λ q. absurd (other q)))
+]
+same_decided (inferred.Least t e) (inferred.Fails fault) = (true, tt)
+same_decided (inferred.Fails fault) v = (true, tt)
 
 abbrev method_of : Signature TypeRef → Method
 method_of m = record { name = m.name; params = m.params; effect = m.effect; result = m.result }

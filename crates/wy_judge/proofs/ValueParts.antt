@@ -3,7 +3,6 @@
 use Rattle.std.proofs.Common.{◌≡◌, ℕ, List, ◌++◌, refl, sym, ◌∙◌, subst, Option, Some, None, Bool as Truth, true, false}
 use Rattle.wy_text.specs.declared.fault.Place.{Place}
 use Rattle.wy_text.specs.declared.fault.Fault.{Fault}
-use Rattle.wy_text.specs.declared.fault.RuleName.TheVariants.{TIf}
 use Rattle.wy_types.specs.declared.types.TypeRef.{TypeRef}
 use Rattle.wy_types.specs.declared.types.TypeRef.TheVariants.{Bool}
 use Rattle.wy_types.specs.Code.{Expr, Plain, If, Block}
@@ -20,7 +19,7 @@ use Rattle.wy_judge.specs.Inference.{Inference}
 use Rattle.wy_judge.specs.Inference as inferred
 use Rattle.wy_judge.specs.Fit.{Fit}
 use Rattle.wy_judge.specs.Fit as fit
-use Rattle.wy_judge.specs.Outcomes.{fault_at, fitted_outcome, probed_outcome, chosen_fit, chosen_fault, fault_or}
+use Rattle.wy_judge.specs.Outcomes.{fitted_outcome, probed_outcome, chosen_fit, chosen_fault, fault_or}
 use Rattle.wy_judge.specs.Results.{fit_of}
 use Rattle.wy_judge.specs.Judged.{Inferred, Fitted}
 use Rattle.wy_judge.specs.Tables.{Table, IsScopeOf, Moves, ExprReady, ValueReady, BlockReady}
@@ -59,17 +58,7 @@ chosen_stands q (fit.Has e) (fit.Has f) (fit.Has g) h = (tt, tt, tt)
 chosen_stands q (fit.Has e) (fit.Has f) fit.Misfit h = absurd h
 chosen_stands q (fit.Has e) (fit.Has f) (fit.Fails fault) h = absurd h
 
--- .. and where no node of a part fails, the condition is no truth value, or a branch has not the type
-pub condition_misfits : (q : Place) (m n : one.Fit) → chosen_fit q fit.Misfit (fit_of m) (fit_of n) ≡ fit.Fails (fault_at q TIf 1)
-condition_misfits q (at.Has f) (at.Has g) = refl
-condition_misfits q (at.Has f) at.Misfit = refl
-condition_misfits q at.Misfit (at.Has g) = refl
-condition_misfits q at.Misfit at.Misfit = refl
-
-pub first_misfits : (q : Place) (e : List ℕ) (n : one.Fit) → chosen_fit q (fit.Has e) fit.Misfit (fit_of n) ≡ fit.Fails (fault_at q TIf 2)
-first_misfits q e (at.Has g) = refl
-first_misfits q e at.Misfit = refl
-
+-- a node fails in the second branch, and none before it
 pub second_fails_last : (q : Place) (e m : one.Fit) (fault : Fault) → chosen_fit q (fit_of e) (fit_of m) (fit.Fails fault) ≡ fit.Fails fault
 second_fails_last q (at.Has e) (at.Has f) fault = refl
 second_fails_last q (at.Has e) at.Misfit fault = refl

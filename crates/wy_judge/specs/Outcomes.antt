@@ -140,9 +140,6 @@ IsSame (inferred.Fails fault) z same = Unit {0}
 abbrev pub IsBoth : Place → BinaryOperator → Inference → Inference → Inference → Type 0
 IsBoth place op x z u = (same : Truth) × IsSame x z same × (u ≡ both_outcome place op same x z)
 
-abbrev pub IsSecond : Place → BinaryOperator → TypeRef → List ℕ → Inference → Inference → Type 0
-IsSecond place op t e z u = IsBoth place op (inferred.Least t e) z u
-
 -- the numbers of premises are small
 abbrev pub FewOperands : Fits → Type 0
 FewOperands (fits.Have e) = Unit {0}
