@@ -5,25 +5,21 @@ use Rattle.wy_types.specs.declared.code.Value as v
 use Rattle.wy_types.specs.Code.{Expr, Call}
 use Rattle.wy_types.specs.View.{values_of}
 use Rattle.wy_types.specs.Program.{Program, Scope}
-use Rattle.wy_judge.specs.declared.outcomes.Inference.{Inference}
+use Rattle.wy_judge.specs.Inference.{Inference}
 use Rattle.wy_judge.specs.declared.targets.Target.{Target}
-use Rattle.wy_judge.specs.declared.targets.Target.TheVariants.{Failed, Without, Found}
+use Rattle.wy_judge.specs.declared.targets.Target.TheVariants.{Without, Found}
 use Rattle.wy_judge.specs.Tables.{Table, IsScopeOf}
 use Rattle.wy_judge.specs.Targets.{IsTargetOf}
 use Rattle.wy_judge.specs.Judging.{InfersTo, IsCallable, ArgumentsTo}
-use Rattle.wy_judge.proofs.ArmsOfCalls.{failed_to, without_to, found_types, found_count, found_to}
+use Rattle.wy_judge.proofs.ArmsOfCalls.{without_to, found_types, found_count, found_to}
 
 module _ (p : Program) (k : ℕ) (s : Scope) (c : IsScopeOf p k s) (owner : Option ℕ) where
   pub callable : (old mid : Table) (x : Expr) (name : List ℕ) (xs : List v.Value) (receiver : Inference) (target : Target) → InfersTo p k s owner old mid x receiver → IsTargetOf p k receiver name (length xs) target → IsCallable p k s owner xs target
-  callable old mid x name xs receiver (Failed fault) h t = tt
   callable old mid x name xs receiver (Without premise) h t = tt
   callable old mid x name xs receiver (Found effect m) h t = (found_types p k s c owner receiver name (length xs) effect m h.range t, found_count p k s c owner receiver name (length xs) effect m t)
 
   pub called_to : (old mid new : Table) (q : Place) (x : Expr) (name : List ℕ) (xs : List v.Value) (receiver u : Inference) (target : Target) → InfersTo p k s owner old mid x receiver →
       IsTargetOf p k receiver name (length xs) target → ArgumentsTo p k s owner mid new q target xs u → InfersTo p k s owner old new (Call q x name (values_of xs)) u
-  called_to old mid new q x name xs receiver u (Failed fault) h t a =
-      subst (λ z. InfersTo p k s owner old z (Call q x name (values_of xs)) u) (sym a.0)
-      (subst (λ z. InfersTo p k s owner old mid (Call q x name (values_of xs)) z) (sym a.1) (failed_to p k s c owner old mid q x name xs receiver fault h t))
   called_to old mid new q x name xs receiver u (Without premise) h t a =
       subst (λ z. InfersTo p k s owner old new (Call q x name (values_of xs)) z) (sym a.2) (without_to p k s c owner old mid new q x name xs receiver premise a.0 h t a.1)
   called_to old mid new q x name xs receiver u (Found effect m) h t a =

@@ -15,12 +15,11 @@ use Rattle.wy_types.specs.Types.{IsObject, signature, methods_of}
 use Rattle.wy_types.specs.Fitting.{IsTypeOf}
 use Rattle.wy_rules.specs.Acceptance.{scope_reading}
 use Rattle.wy_rules.specs.Nodes.{argument_spots}
-use Rattle.wy_judge.specs.declared.outcomes.Inference.{Inference}
-use Rattle.wy_judge.specs.declared.outcomes.Inference.TheVariants as inferred
-use Rattle.wy_judge.specs.declared.outcomes.Fits.{Fits}
-use Rattle.wy_judge.specs.declared.outcomes.Fits.TheVariants as fits
-use Rattle.wy_judge.specs.declared.targets.Target.{Target}
-use Rattle.wy_judge.specs.declared.targets.Target.TheVariants.{Failed, Without, Found}
+use Rattle.wy_judge.specs.Inference.{Inference}
+use Rattle.wy_judge.specs.Inference as inferred
+use Rattle.wy_judge.specs.Fits.{Fits}
+use Rattle.wy_judge.specs.Fits as fits
+use Rattle.wy_judge.specs.declared.targets.Target.TheVariants.{Without, Found}
 use Rattle.wy_judge.specs.Outcomes.{call_outcome, uncalled_outcome, NoneFails}
 use Rattle.wy_judge.specs.Judged.{Inferred, AllFitted, AllProbed}
 use Rattle.wy_judge.specs.Tables.{Table, IsScopeOf, ExprReady, ValuesReady}
@@ -30,16 +29,6 @@ use Rattle.wy_judge.proofs.Calling.{call_failed, call_inferred, no_object, no_me
 use Rattle.wy_judge.proofs.Contexts.{lawful, method_in_range, reflexive}
 use Rattle.wy_judge.proofs.Expecting.{count_values, arguments_expected, arguments_unexpected}
 use Rattle.wy_judge.proofs.Moving.{agrees_before, moves_both, moves_first, ready_left, ready_right}
-
--- what a receiver offers is one thing
-failed_same : (a b : Fault) → ◌≡◌ {A = Target} (Failed a) (Failed b) → a ≡ b
-failed_same a b e = cc
-
-without_not_failed : (n : ℕ) (fault : Fault) → ◌≡◌ {A = Target} (Without n) (Failed fault) → ⊥
-without_not_failed n fault e = cc
-
-found_not_failed : (e : List ℕ) (m : Method) (fault : Fault) → ◌≡◌ {A = Target} (Found e m) (Failed fault) → ⊥
-found_not_failed e m fault z = cc
 
 module _ (p : Program) (k : ℕ) (s : Scope) (c : IsScopeOf p k s) (owner : Option ℕ) where
   ------------------------------------------------------------
@@ -55,19 +44,12 @@ module _ (p : Program) (k : ℕ) (s : Scope) (c : IsScopeOf p k s) (owner : Opti
   ------------------------------------------------------------
   -- The receiver fails
 
-  call_fails_to : (old new : Table) (q : Place) (x : Expr) (name : List ℕ) (xs : List v.Value) (fault : Fault) → InfersTo p k s owner old new x (inferred.Fails fault) →
-      InfersTo p k s owner old new (Call q x name (values_of xs)) (inferred.Fails fault)
-  call_fails_to old new q x name xs fault h = record {
-    moves = moves_first p k s old new (expr_vals x) (values_vals (values_of xs)) (InferenceStands (inferred.Fails fault)) (InferenceStands (inferred.Fails fault)) h.moves (λ z. z);
+  pub call_fails : (old new : Table) (q : Place) (x : Expr) (name : List ℕ) (xs : Values) (fault : Fault) → InfersTo p k s owner old new x (inferred.Fails fault) → InfersTo p k s owner old new (Call q x name xs) (inferred.Fails fault)
+  call_fails old new q x name xs fault h = record {
+    moves = moves_first p k s old new (expr_vals x) (values_vals xs) (InferenceStands (inferred.Fails fault)) (InferenceStands (inferred.Fails fault)) h.moves (λ z. z);
     range = tt;
-    judged = λ locals a. call_failed p k s (lawful p k s) locals owner q x name (values_of xs) fault (h.judged locals a);
+    judged = λ locals a. call_failed p k s (lawful p k s) locals owner q x name xs fault (h.judged locals a);
   }
-
-  pub failed_to : (old new : Table) (q : Place) (x : Expr) (name : List ℕ) (xs : List v.Value) (receiver : Inference) (fault : Fault) → InfersTo p k s owner old new x receiver →
-      IsTargetOf p k receiver name (length xs) (Failed fault) → InfersTo p k s owner old new (Call q x name (values_of xs)) (inferred.Fails fault)
-  failed_to old new q x name xs (inferred.Least t e) fault h target = absurd target
-  failed_to old new q x name xs (inferred.Fails g) fault h target =
-      call_fails_to old new q x name xs fault (subst (λ f. InfersTo p k s owner old new x (inferred.Fails f)) (sym (failed_same fault g target)) h)
 
   ------------------------------------------------------------
   -- There is no method for so many arguments
@@ -134,18 +116,18 @@ module _ (p : Program) (k : ℕ) (s : Scope) (c : IsScopeOf p k s) (owner : Opti
   pub without_to : (old mid new : Table) (q : Place) (x : Expr) (name : List ℕ) (xs : List v.Value) (receiver : Inference) (n : ℕ) (o : Option Fault) → InfersTo p k s owner old mid x receiver →
       IsTargetOf p k receiver name (length xs) (Without n) → AllProbeTo p k s owner mid new xs o → InfersTo p k s owner old new (Call q x name (values_of xs)) (uncalled_outcome q n o)
   without_to old mid new q x name xs (inferred.Least t e) n o h target i = uncalled_least old mid new q x name xs t e n o h target i
-  without_to old mid new q x name xs (inferred.Fails fault) n o h target i = absurd (without_not_failed n fault target)
+  without_to old mid new q x name xs (inferred.Fails fault) n o h target i = absurd target
 
   ------------------------------------------------------------
   -- The method is found
 
   pub found_types : (receiver : Inference) (name : List ℕ) (arity : ℕ) (e : List ℕ) (m : Method) → IsInRangeOf p k receiver → IsTargetOf p k receiver name arity (Found e m) → TypesInRange p k s owner m.params
   found_types (inferred.Least t f) name arity e m r target = (method_in_range p k s c t name (signature m) r target.2).params
-  found_types (inferred.Fails fault) name arity e m r target = absurd (found_not_failed e m fault target)
+  found_types (inferred.Fails fault) name arity e m r target = absurd target
 
   pub found_count : (receiver : Inference) (name : List ℕ) (arity : ℕ) (e : List ℕ) (m : Method) → IsTargetOf p k receiver name arity (Found e m) → arity ≡ length m.params
   found_count (inferred.Least t f) name arity e m target = sym target.3
-  found_count (inferred.Fails fault) name arity e m target = absurd (found_not_failed e m fault target)
+  found_count (inferred.Fails fault) name arity e m target = absurd target
 
   pub call_stands : (q : Place) (result : TypeRef) (effect e : List ℕ) (u : Fits) → InferenceStands (call_outcome q result effect e u) → NoneFails u
   call_stands q result effect e (fits.Have f) h = tt
@@ -178,4 +160,4 @@ module _ (p : Program) (k : ℕ) (s : Scope) (c : IsScopeOf p k s) (owner : Opti
   found_to old mid new q x name xs (inferred.Least t f) e m u h target i =
       subst (λ z. InfersTo p k s owner old new (Call q x name (values_of xs)) (call_outcome q m.result m.effect z u)) (sym target.0)
       (call_least_to old mid new q x name xs t f m u h target.1 target.2 target.3 i)
-  found_to old mid new q x name xs (inferred.Fails fault) e m u h target i = absurd (found_not_failed e m fault target)
+  found_to old mid new q x name xs (inferred.Fails fault) e m u h target i = absurd target

@@ -8,7 +8,7 @@ use Rattle.wy_types.specs.Code.{Number, Quoted, Truth as TruthOf, Nothing as Not
 use Rattle.wy_types.specs.Core.{HasThis}
 use Rattle.wy_types.specs.Program.{Program, Scope}
 use Rattle.wy_types.specs.Fitting.{IsTypeOf}
-use Rattle.wy_judge.specs.declared.outcomes.Inference.TheVariants as inferred
+use Rattle.wy_judge.specs.Inference as inferred
 use Rattle.wy_judge.specs.Tables.{Table, IsScopeOf, HasOwner, ExprReady}
 use Rattle.wy_judge.specs.Targets.{type_of_binding}
 use Rattle.wy_judge.specs.Judging.{InferenceStands, InfersTo}

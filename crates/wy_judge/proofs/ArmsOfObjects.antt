@@ -17,10 +17,10 @@ use Rattle.wy_types.specs.Program.{Program, Scope}
 use Rattle.wy_types.specs.Fitting.{IsTypeOf}
 use Rattle.wy_rules.specs.Typing.{fields_of, field_types, field_at, if_mutable, var_field}
 use Rattle.wy_rules.specs.Nodes.{written, written_spots, field_spot}
-use Rattle.wy_judge.specs.declared.outcomes.Fit.{Fit}
-use Rattle.wy_judge.specs.declared.outcomes.Fit.TheVariants as fit
-use Rattle.wy_judge.specs.declared.outcomes.Fits.{Fits}
-use Rattle.wy_judge.specs.declared.outcomes.Fits.TheVariants as fits
+use Rattle.wy_judge.specs.Fit.{Fit}
+use Rattle.wy_judge.specs.Fit as fit
+use Rattle.wy_judge.specs.Fits.{Fits}
+use Rattle.wy_judge.specs.Fits as fits
 use Rattle.wy_judge.specs.Outcomes.{new_outcome, ascribed_outcome, assigned_outcome, unassigned_outcome, NoneFails}
 use Rattle.wy_judge.specs.Tables.{Table, IsScopeOf, ExprReady, ValueReady, ValuesReady}
 use Rattle.wy_judge.specs.Targets.{IsInRangeOf}

@@ -1,6 +1,7 @@
 -- Operations on one or two operands as they are judged by themselves.
 use Rattle.std.proofs.Common.{◌≡◌, ℕ, List, refl, sym, subst, Option, Some, None, Bool as Truth, true, false}
 use Rattle.wy_text.specs.declared.fault.Place.{Place}
+use Rattle.wy_text.specs.declared.fault.Fault.{Fault}
 use Rattle.wy_effects.specs.EffSet.{union}
 use Rattle.wy_types.specs.declared.types.TypeRef.{TypeRef}
 use Rattle.wy_types.specs.declared.code.UnaryOperator.{UnaryOperator}
@@ -10,14 +11,16 @@ use Rattle.wy_types.specs.Program.{Program, Scope}
 use Rattle.wy_types.specs.Core.{expr_vals}
 use Rattle.wy_rules.specs.Operators.{unary_rows, binary_rows}
 use Rattle.wy_rules.specs.Acceptance.{scope_reading}
-use Rattle.wy_judge.specs.declared.outcomes.Inference.{Inference}
-use Rattle.wy_judge.specs.declared.outcomes.Inference.TheVariants as inferred
+use Rattle.wy_rules.specs.Nodes.{expr_nodes}
+use Rattle.wy_judge.specs.Inference.{Inference}
+use Rattle.wy_judge.specs.Inference as inferred
 use Rattle.wy_judge.specs.Outcomes.{unary_result, binary_result, operation_outcome, unary_outcome, second_outcome, both_outcome, IsBoth}
 use Rattle.wy_judge.specs.Tables.{Table, IsScopeOf, ExprReady}
 use Rattle.wy_judge.specs.Targets.{IsInRangeOf}
 use Rattle.wy_judge.specs.Judging.{InferenceStands, InfersTo}
 use Rattle.wy_judge.proofs.Contexts.{lawful, base_in_range}
-use Rattle.wy_judge.proofs.Moving.{agrees_before, moves_under, moves_both, ready_left, ready_right}
+use Rattle.wy_judge.proofs.Lists.{fail_left}
+use Rattle.wy_judge.proofs.Moving.{agrees_before, moves_under, moves_both, moves_first, ready_left, ready_right}
 use Rattle.wy_judge.proofs.Operating.{unary_inferred, binary_inferred}
 use Rattle.wy_judge.proofs.Tables.{no_others, same_other, base_of, unary_table, binary_table}
 
@@ -48,6 +51,11 @@ module _ (p : Program) (k : ℕ) (s : Scope) (c : IsScopeOf p k s) (owner : Opti
     judged = λ locals a. unary_inferred p k s (lawful p k s) locals owner q op x u (h.judged locals a);
   }
 
+  -- by the type that the operator gives, where its operand passes
+  pub unary_by : (old new : Table) (q : Place) (op : UnaryOperator) (x : Expr) (t : TypeRef) (e : List ℕ) (o : Option TypeRef) → InfersTo p k s owner old new x (inferred.Least t e) → unary_result op t ≡ o →
+      InfersTo p k s owner old new (Unary q op x) (operation_outcome q o e)
+  unary_by old new q op x t e o h g = subst (λ z. InfersTo p k s owner old new (Unary q op x) (operation_outcome q z e)) g (unary_to old new q op x (inferred.Least t e) h)
+
   ------------------------------------------------------------
   -- Two operands
 
@@ -57,6 +65,14 @@ module _ (p : Program) (k : ℕ) (s : Scope) (c : IsScopeOf p k s) (owner : Opti
   pub binary_second : (old mid : Table) (q : Place) (op : BinaryOperator) (x z : Expr) (u : Inference) → ExprReady p k s owner old (Binary q op x z) → InfersTo p k s owner old mid x u →
       ExprReady p k s owner mid z
   binary_second old mid q op x z u h i = (h.0, h.1.1, ready_right p k s old mid h.0 (expr_vals x) (expr_vals z) (InferenceStands u) h.2 i.moves)
+
+  -- the first operand fails
+  pub binary_fails : (old new : Table) (q : Place) (op : BinaryOperator) (x z : Expr) (fault : Fault) → InfersTo p k s owner old new x (inferred.Fails fault) → InfersTo p k s owner old new (Binary q op x z) (inferred.Fails fault)
+  binary_fails old new q op x z fault h = record {
+    moves = moves_first p k s old new (expr_vals x) (expr_vals z) (InferenceStands (inferred.Fails fault)) (InferenceStands (inferred.Fails fault)) h.moves (λ i. i);
+    range = tt;
+    judged = λ locals a. fail_left p k s locals (expr_nodes s owner x) _ fault (h.judged locals a);
+  }
 
   -- the operation passes where both operands do
   first_stands : (q : Place) (op : BinaryOperator) (same : Truth) (u v : Inference) → InferenceStands (both_outcome q op same u v) → InferenceStands u

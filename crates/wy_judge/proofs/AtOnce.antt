@@ -22,11 +22,11 @@ use Rattle.wy_rules.specs.Typing.{fields_of, field_types}
 use Rattle.wy_rules.specs.Acceptance.{scope_reading}
 use Rattle.wy_rules.specs.Nodes.{Spot, nothing, argument, row_types, written_spots, argument_spots}
 use Rattle.wy_rules.specs.Failing.{IsLeast, IsExpected}
-use Rattle.wy_judge.specs.declared.outcomes.Inference.TheVariants as inferred
-use Rattle.wy_judge.specs.declared.outcomes.Fit.{Fit}
-use Rattle.wy_judge.specs.declared.outcomes.Fit.TheVariants as fit
-use Rattle.wy_judge.specs.declared.outcomes.Fits.{Fits}
-use Rattle.wy_judge.specs.declared.outcomes.Fits.TheVariants as fits
+use Rattle.wy_judge.specs.Inference as inferred
+use Rattle.wy_judge.specs.Fit.{Fit}
+use Rattle.wy_judge.specs.Fit as fit
+use Rattle.wy_judge.specs.Fits.{Fits}
+use Rattle.wy_judge.specs.Fits as fits
 use Rattle.wy_judge.specs.declared.targets.Target.TheVariants.{Without}
 use Rattle.wy_judge.specs.Outcomes.{text_operands, text_outcome, new_outcome, call_outcome, uncalled_outcome, more_fits, fault_or, NoneFails}
 use Rattle.wy_judge.specs.Judged.{Fitted, Probed, AllFitted, AllProbed}
@@ -36,13 +36,13 @@ use Rattle.wy_judge.specs.Judging.{InferenceStands, FitStands, NoFault, AreExpec
 use Rattle.wy_judge.proofs.ArmsOfCalls.{no_call, uncalled_by, uncalled_in_range, uncalled_stands_not, call_stands, call_in_range}
 use Rattle.wy_judge.proofs.ArmsOfObjects.{new_stands, new_in_range}
 use Rattle.wy_judge.proofs.ArmsOfTexts.{as_many_types, text_expected, text_stands, text_in_range}
-use Rattle.wy_judge.proofs.Calling.{call_failed, call_inferred, argument_unexpected}
+use Rattle.wy_judge.proofs.Calling.{call_inferred, argument_unexpected}
 use Rattle.wy_judge.proofs.Contexts.{lawful, own_in_range, method_in_range, reflexive}
 use Rattle.wy_judge.proofs.Dropping.{argument_spot_at}
 use Rattle.wy_judge.proofs.Expecting.{spot_same, many_arguments, written_expected, arguments_expected}
 use Rattle.wy_judge.proofs.FirstAndOthers.{none_fitted, none_probed, more_fitted, more_probed}
 use Rattle.wy_judge.proofs.Making.{new_inferred}
-use Rattle.wy_judge.proofs.Moving.{agrees_before, moves_none, moves_under, moves_both, moves_first}
+use Rattle.wy_judge.proofs.Moving.{agrees_before, moves_none, moves_under, moves_both}
 use Rattle.wy_judge.proofs.Texts.{text_inferred}
 
 module _ (p : Program) (k : ℕ) (s : Scope) (owner : Option ℕ) where
@@ -157,13 +157,6 @@ module _ (p : Program) (k : ℕ) (s : Scope) (c : IsScopeOf p k s) (owner : Opti
 
   ------------------------------------------------------------
   -- Calls
-
-  pub call_fails_at : (old new : Table) (q : Place) (x : Expr) (name : List ℕ) (xs : Values) (fault : Fault) → InfersTo p k s owner old new x (inferred.Fails fault) → InfersTo p k s owner old new (Call q x name xs) (inferred.Fails fault)
-  call_fails_at old new q x name xs fault h = record {
-    moves = moves_first p k s old new (expr_vals x) (values_vals xs) (InferenceStands (inferred.Fails fault)) (InferenceStands (inferred.Fails fault)) h.moves (λ z. z);
-    range = tt;
-    judged = λ locals a. call_failed p k s (lawful p k s) locals owner q x name xs fault (h.judged locals a);
-  }
 
   none_for : (locals : List (scope_reading p k s).Kind) (x : Expr) (name : List ℕ) (arity : ℕ) (t : TypeRef) (e : List ℕ) → IsLeast (scope_reading p k s) s locals owner (Plain x) ((scope_reading p k s).read t) e →
       ((m : Signature TypeRef) → IsObject t → find_method name (methods_of p k t) ≡ Some m → length m.params ≡ arity → ⊥) → NoneExpected p k s owner locals (argument_spots x name arity)

@@ -13,9 +13,9 @@ use Rattle.wy_types.specs.Program.{Program, Scope}
 use Rattle.wy_types.specs.View.{stmt_block, stmts_block}
 use Rattle.wy_types.specs.Core.{value_vals, block_vals}
 use Rattle.wy_rules.specs.Acceptance.{scope_reading}
-use Rattle.wy_judge.specs.declared.outcomes.Fit.{Fit}
-use Rattle.wy_judge.specs.declared.outcomes.Fit.TheVariants as fit
-use Rattle.wy_judge.specs.declared.outcomes.Step.TheVariants as step
+use Rattle.wy_judge.specs.Fit.{Fit}
+use Rattle.wy_judge.specs.Fit as fit
+use Rattle.wy_judge.specs.Step as step
 use Rattle.wy_judge.specs.Outcomes.{followed_fit}
 use Rattle.wy_judge.specs.Judged.{Follows}
 use Rattle.wy_judge.specs.Tables.{Table, IsScopeOf, Moves, ValueReady, BlockReady}

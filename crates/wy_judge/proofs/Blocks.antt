@@ -16,9 +16,9 @@ use Rattle.wy_rules.specs.Nodes.{Spot, nothing, written, statement, val, Node, n
 use Rattle.wy_rules.specs.Failing.{IsLeastAt, ValStands, ValFails, Passes, FailsBy, FirstFailing, AllPass}
 use Rattle.wy_rules.proofs.Forms.{Lawful, block_bare}
 use Rattle.wy_rules.proofs.Least.{raise_block, last_least, last_has, then_least, val_least, at_type}
-use Rattle.wy_judge.specs.declared.outcomes.Inference.TheVariants as inferred
-use Rattle.wy_judge.specs.declared.outcomes.Fit.{Fit}
-use Rattle.wy_judge.specs.declared.outcomes.Fit.TheVariants as fit
+use Rattle.wy_judge.specs.Inference as inferred
+use Rattle.wy_judge.specs.Fit.{Fit}
+use Rattle.wy_judge.specs.Fit as fit
 use Rattle.wy_judge.specs.Outcomes.{fault_at, followed_fit, stated_fit, untyped_fault}
 use Rattle.wy_judge.specs.Judged.{Inferred, Fitted, BlockFitted, Probed, BlockProbed, Stated}
 use Rattle.wy_judge.proofs.Fitting.{least_at}

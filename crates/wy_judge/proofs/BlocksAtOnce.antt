@@ -13,10 +13,10 @@ use Rattle.wy_types.specs.Fitting.{IsTypeOf}
 use Rattle.wy_rules.specs.Derivations.{mark}
 use Rattle.wy_rules.specs.Acceptance.{scope_reading}
 use Rattle.wy_rules.specs.Nodes.{written}
-use Rattle.wy_judge.specs.declared.outcomes.Fit.{Fit}
-use Rattle.wy_judge.specs.declared.outcomes.Fit.TheVariants as fit
-use Rattle.wy_judge.specs.declared.outcomes.Step.{Step}
-use Rattle.wy_judge.specs.declared.outcomes.Step.TheVariants as step
+use Rattle.wy_judge.specs.Fit.{Fit}
+use Rattle.wy_judge.specs.Fit as fit
+use Rattle.wy_judge.specs.Step.{Step}
+use Rattle.wy_judge.specs.Step as step
 use Rattle.wy_judge.specs.Outcomes.{followed_fit, stated_step}
 use Rattle.wy_judge.specs.Judged.{Stated}
 use Rattle.wy_judge.specs.Tables.{Table, IsKnown, Agrees, IsPut, Moves}

@@ -13,10 +13,10 @@ use Rattle.wy_rules.specs.Typing.{field_types, AllHaveAt}
 use Rattle.wy_rules.specs.Acceptance.{scope_reading}
 use Rattle.wy_rules.specs.Nodes.{nothing, written, body, init, Node, node, written_spots, values_nodes, block_nodes, start_nodes, body_nodes, bodies_nodes}
 use Rattle.wy_rules.proofs.Forms.{Lawful}
-use Rattle.wy_judge.specs.declared.outcomes.Fit.{Fit}
-use Rattle.wy_judge.specs.declared.outcomes.Fit.TheVariants as fit
-use Rattle.wy_judge.specs.declared.outcomes.Fits.{Fits}
-use Rattle.wy_judge.specs.declared.outcomes.Fits.TheVariants as fits
+use Rattle.wy_judge.specs.Fit.{Fit}
+use Rattle.wy_judge.specs.Fit as fit
+use Rattle.wy_judge.specs.Fits.{Fits}
+use Rattle.wy_judge.specs.Fits as fits
 use Rattle.wy_judge.specs.Outcomes.{fault_at, lacking, fault_or, body_fault, init_fault}
 use Rattle.wy_judge.specs.Judged.{BlockFitted, AllFitted, NodesJudged, FitLacks, FitsLack, BodiesPassed}
 use Rattle.wy_judge.proofs.Dropping.{drop_there, drop_past}

@@ -22,9 +22,9 @@ use Rattle.wy_rules.specs.Failing.{IsLeast, IsTarget, IsExpected, CallFails, Has
 use Rattle.wy_rules.proofs.Forms.{Lawful}
 use Rattle.wy_rules.proofs.Least.{call_least}
 use Rattle.wy_rules.proofs.Needs.{call_needs}
-use Rattle.wy_judge.specs.declared.outcomes.Inference.TheVariants as inferred
-use Rattle.wy_judge.specs.declared.outcomes.Fits.{Fits}
-use Rattle.wy_judge.specs.declared.outcomes.Fits.TheVariants as fits
+use Rattle.wy_judge.specs.Inference as inferred
+use Rattle.wy_judge.specs.Fits.{Fits}
+use Rattle.wy_judge.specs.Fits as fits
 use Rattle.wy_judge.specs.Outcomes.{fault_at, call_outcome, uncalled_outcome}
 use Rattle.wy_judge.specs.Judged.{Inferred, AllFitted, AllProbed}
 use Rattle.wy_judge.proofs.ReadTypes.{read_signature, object_read, read_object, find_read}

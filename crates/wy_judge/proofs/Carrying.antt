@@ -11,10 +11,10 @@ use Rattle.wy_types.specs.View.{value_of, values_of}
 use Rattle.wy_rules.specs.Acceptance.{scope_reading}
 use Rattle.wy_rules.specs.Nodes.{Spot}
 use Rattle.wy_rules.proofs.Forms.{Lawful}
-use Rattle.wy_judge.specs.declared.outcomes.Fit.{Fit}
-use Rattle.wy_judge.specs.declared.outcomes.Fit.TheVariants as fit
-use Rattle.wy_judge.specs.declared.outcomes.Fits.{Fits}
-use Rattle.wy_judge.specs.declared.outcomes.Fits.TheVariants as fits
+use Rattle.wy_judge.specs.Fit.{Fit}
+use Rattle.wy_judge.specs.Fit as fit
+use Rattle.wy_judge.specs.Fits.{Fits}
+use Rattle.wy_judge.specs.Fits as fits
 use Rattle.wy_judge.specs.Outcomes.{more_fits, then_fits, push_fit, NoneFails}
 use Rattle.wy_judge.specs.Judged.{Fitted, Probed, AllFitted, AllProbed, Carries, CarriesProbed}
 use Rattle.wy_judge.proofs.Dropping.{drop_there, drop_past}

@@ -14,10 +14,10 @@ use Rattle.wy_rules.specs.Nodes.{Spot, nothing, part, Node, node, expr_nodes, bl
 use Rattle.wy_rules.specs.Failing.{IsExpected, IfFails, Passes, FirstFailing, AllPass}
 use Rattle.wy_rules.proofs.Forms.{Lawful}
 use Rattle.wy_rules.proofs.Least.{choice_parts, choice_least}
-use Rattle.wy_judge.specs.declared.outcomes.Inference.{Inference}
-use Rattle.wy_judge.specs.declared.outcomes.Inference.TheVariants as inferred
-use Rattle.wy_judge.specs.declared.outcomes.Fit.{Fit}
-use Rattle.wy_judge.specs.declared.outcomes.Fit.TheVariants as fit
+use Rattle.wy_judge.specs.Inference.{Inference}
+use Rattle.wy_judge.specs.Inference as inferred
+use Rattle.wy_judge.specs.Fit.{Fit}
+use Rattle.wy_judge.specs.Fit as fit
 use Rattle.wy_judge.specs.Outcomes.{fault_at, chosen_fit, chosen_fault, fault_or}
 use Rattle.wy_judge.specs.Judged.{Inferred, Fitted, BlockFitted, Probed, BlockProbed}
 use Rattle.wy_judge.proofs.Fitting.{least_of, least_at}

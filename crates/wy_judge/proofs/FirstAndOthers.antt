@@ -12,10 +12,10 @@ use Rattle.wy_rules.specs.Nodes.{Spot, value_nodes, values_nodes}
 use Rattle.wy_rules.specs.Failing.{AllPass, FirstFailing, first_values}
 use Rattle.wy_rules.proofs.Forms.{Lawful}
 use Rattle.wy_rules.proofs.Least.{no_values, more_values, split, joined}
-use Rattle.wy_judge.specs.declared.outcomes.Fit.{Fit}
-use Rattle.wy_judge.specs.declared.outcomes.Fit.TheVariants as fit
-use Rattle.wy_judge.specs.declared.outcomes.Fits.{Fits}
-use Rattle.wy_judge.specs.declared.outcomes.Fits.TheVariants as fits
+use Rattle.wy_judge.specs.Fit.{Fit}
+use Rattle.wy_judge.specs.Fit as fit
+use Rattle.wy_judge.specs.Fits.{Fits}
+use Rattle.wy_judge.specs.Fits as fits
 use Rattle.wy_judge.specs.Outcomes.{more_fits, fault_or}
 use Rattle.wy_judge.specs.Judged.{Fitted, Probed, HaveFirst, AllFitted, AllProbed}
 use Rattle.wy_judge.proofs.Fitting.{least_at}

@@ -9,9 +9,9 @@ use Rattle.wy_rules.specs.Acceptance.{scope_reading}
 use Rattle.wy_rules.specs.Nodes.{Spot}
 use Rattle.wy_rules.proofs.Forms.{Lawful}
 use Rattle.wy_rules.proofs.Least.{LeastAt, at_type, not_at}
-use Rattle.wy_judge.specs.declared.outcomes.Inference.{Inference}
-use Rattle.wy_judge.specs.declared.outcomes.Inference.TheVariants as inferred
-use Rattle.wy_judge.specs.declared.outcomes.Fit.TheVariants as fit
+use Rattle.wy_judge.specs.Inference.{Inference}
+use Rattle.wy_judge.specs.Inference as inferred
+use Rattle.wy_judge.specs.Fit as fit
 use Rattle.wy_judge.specs.Outcomes.{fitted_outcome, probed_outcome}
 use Rattle.wy_judge.specs.Judged.{IsLeastOf, Inferred, Fitted, Probed}
 

@@ -49,7 +49,7 @@ pub mod Simple
 pub mod Statements
 pub mod Starting
 pub mod Stepping
-pub mod Stops
+pub mod Results
 pub mod SubtypesDecided
 pub mod Tabled
 pub mod Tables
@@ -57,7 +57,6 @@ pub mod Telling
 pub mod Texts
 pub mod Turns
 pub mod Unions
-pub mod ValStates
 pub mod ValueParts
 pub mod ValueWalks
 pub mod Walks

@@ -18,10 +18,10 @@ use Rattle.wy_rules.specs.Failing.{AllPass, FirstFailing}
 use Rattle.wy_rules.proofs.Forms.{Lawful}
 use Rattle.wy_rules.proofs.Least.{LeastAt, new_least, ascription_least, assignment_least}
 use Rattle.wy_rules.proofs.Needs.{new_needs, ascription_needs, assignment_needs}
-use Rattle.wy_judge.specs.declared.outcomes.Fit.{Fit}
-use Rattle.wy_judge.specs.declared.outcomes.Fit.TheVariants as fit
-use Rattle.wy_judge.specs.declared.outcomes.Fits.{Fits}
-use Rattle.wy_judge.specs.declared.outcomes.Fits.TheVariants as fits
+use Rattle.wy_judge.specs.Fit.{Fit}
+use Rattle.wy_judge.specs.Fit as fit
+use Rattle.wy_judge.specs.Fits.{Fits}
+use Rattle.wy_judge.specs.Fits as fits
 use Rattle.wy_judge.specs.Outcomes.{new_outcome, ascribed_outcome, assigned_outcome, unassigned_outcome}
 use Rattle.wy_judge.specs.Judged.{IsLeastOf, Inferred, Fitted, Probed, AllFitted}
 use Rattle.wy_judge.proofs.Bases.{base_below}

@@ -21,8 +21,8 @@ use Rattle.wy_rules.specs.Failing.{IsLeast}
 use Rattle.wy_rules.proofs.Forms.{Lawful}
 use Rattle.wy_rules.proofs.Least.{at_type, no_values, more_values, has_at, OneRow, unary_least, binary_least}
 use Rattle.wy_rules.proofs.Needs.{not_below, first_has, others_have, all_at, none_at, unary_needs, binary_needs}
-use Rattle.wy_judge.specs.declared.outcomes.Inference.{Inference}
-use Rattle.wy_judge.specs.declared.outcomes.Inference.TheVariants as inferred
+use Rattle.wy_judge.specs.Inference.{Inference}
+use Rattle.wy_judge.specs.Inference as inferred
 use Rattle.wy_judge.specs.Outcomes.{IsSame, fault_at, unary_result, binary_result, operation_outcome, unary_outcome, second_outcome, both_outcome}
 use Rattle.wy_judge.specs.Judged.{Inferred}
 use Rattle.wy_judge.proofs.ReadTypes.{read_object, read_loses_nothing}

@@ -26,25 +26,25 @@ use Rattle.wy_types.proofs.Deciding.{decide_type}
 use Rattle.wy_rules.specs.Derivations.{mark}
 use Rattle.wy_rules.specs.Typing.{field_types, var_field}
 use Rattle.wy_rules.specs.Nodes.{nothing, written}
-use Rattle.wy_judge.specs.declared.outcomes.Inference.{Inference}
-use Rattle.wy_judge.specs.declared.outcomes.Inference.TheVariants as inferred
-use Rattle.wy_judge.specs.declared.outcomes.Fit.{Fit}
-use Rattle.wy_judge.specs.declared.outcomes.Fit.TheVariants as fit
-use Rattle.wy_judge.specs.declared.outcomes.Fits.{Fits}
-use Rattle.wy_judge.specs.declared.outcomes.Fits.TheVariants as fits
-use Rattle.wy_judge.specs.declared.outcomes.Step.{Step}
-use Rattle.wy_judge.specs.declared.outcomes.Step.TheVariants as step
+use Rattle.wy_judge.specs.Inference.{Inference}
+use Rattle.wy_judge.specs.Inference as inferred
+use Rattle.wy_judge.specs.Fit.{Fit}
+use Rattle.wy_judge.specs.Fit as fit
+use Rattle.wy_judge.specs.Fits.{Fits}
+use Rattle.wy_judge.specs.Fits as fits
+use Rattle.wy_judge.specs.Step.{Step}
+use Rattle.wy_judge.specs.Step as step
 use Rattle.wy_judge.specs.declared.targets.Target.TheVariants.{Without}
 use Rattle.wy_judge.specs.Outcomes.{fault_at, IsSame, unary_outcome, both_outcome, text_operands, text_outcome, new_outcome, call_outcome, uncalled_outcome, ascribed_outcome, assigned_outcome, unassigned_outcome, fitted_outcome, probed_outcome, chosen_fit, chosen_fault, more_fits, fault_or, followed_fit, stated_step, untyped_fault}
 use Rattle.wy_judge.specs.Tables.{Table, IsKnown, IsScopeOf, HasOwner, IsKept, IsPut, Moves, ExprReady, ValueReady, ValuesReady, BlockReady}
 use Rattle.wy_judge.specs.Targets.{mode_of, IsTargetOf, IsInRangeOf, IsFittedIn}
 use Rattle.wy_judge.specs.Judging.{NoFault, FitStands, StepStands, TypesInRange, InfersTo, FitsTo, ProbesTo, BlockFitsTo, BlockProbesTo}
-use Rattle.wy_judge.proofs.ArmsOfCalls.{call_receiver, call_arguments}
+use Rattle.wy_judge.proofs.ArmsOfCalls.{call_receiver, call_arguments, call_fails}
 use Rattle.wy_judge.proofs.ArmsOfNames.{number_to, quoted_to, truth_to, nothing_to, this_owned, this_to, name_to}
 use Rattle.wy_judge.proofs.ArmsOfObjects.{new_values, new_types, ascribed_value, ascribed_type, ascribed_to, assigned_value, var_type, assigned_to, unassigned_to}
 use Rattle.wy_judge.proofs.ArmsOfOperators.{unary_to, binary_first, binary_second, binary_to}
 use Rattle.wy_judge.proofs.ArmsOfTexts.{text_values, text_types}
-use Rattle.wy_judge.proofs.AtOnce.{ValuesFit, ValuesProbe, values_none, values_probe_none, values_more, values_probe_more, text_as_many, text_at, new_as_many, new_at, call_fails_at, uncalled_at, found_at}
+use Rattle.wy_judge.proofs.AtOnce.{ValuesFit, ValuesProbe, values_none, values_probe_none, values_more, values_probe_more, text_as_many, text_at, new_as_many, new_at, uncalled_at, found_at}
 use Rattle.wy_judge.proofs.Blocks.{typed_stated, typed_misfit, typed_fails, untyped_stated, untyped_fails, untyped_choice}
 use Rattle.wy_judge.proofs.BlocksAtOnce.{StatementTo, last_fits, last_probes, goes_on_fits, goes_on_probes, stops_fits, stops_probes, do_at, val_at, val_fails_at}
 use Rattle.wy_judge.proofs.Contexts.{lawful, in_range, written_in_range, method_in_range}
@@ -221,7 +221,7 @@ module _ (p : Program) (k : ℕ) (s : Scope) (c : IsScopeOf p k s) (owner : Opti
     ]
 
     called_at : (old mid : Table) (u : Inference) → InfersTo p k s owner old mid x u → ValuesReady p k s owner mid xs → Infers p k s owner old (Call q x name xs)
-    called_at old mid (inferred.Fails fault) h r = (mid, inferred.Fails fault, call_fails_at p k s c owner old mid q x name xs fault h)
+    called_at old mid (inferred.Fails fault) h r = (mid, inferred.Fails fault, call_fails p k s c owner old mid q x name xs fault h)
     called_at old mid (inferred.Least t e) h r = elim (object_or_not t) [
       | inr base ↦ uncalled_by_probe old mid t e 1 h (inl (refl, base)) r
       | inl object ↦ called_by old mid t e h object r (find_method name (methods_of p k t)) refl

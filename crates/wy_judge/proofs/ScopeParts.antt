@@ -21,15 +21,16 @@ use Rattle.wy_types.specs.Types.{is_plain}
 use Rattle.wy_rules.specs.Typing.{fields_of, field_types}
 use Rattle.wy_subtype.specs.declared.verdict.Mode.{Mode}
 use Rattle.wy_subtype.specs.Verdict.{IsSubtypeIn}
-use Rattle.wy_judge.specs.declared.outcomes.Fit.{Fit}
-use Rattle.wy_judge.specs.declared.outcomes.Fit.TheVariants as fit
-use Rattle.wy_judge.specs.declared.outcomes.Fits.{Fits}
-use Rattle.wy_judge.specs.declared.outcomes.Fits.TheVariants as fits
+use Rattle.wy_judge.specs.Fit.{Fit}
+use Rattle.wy_judge.specs.Fit as fit
+use Rattle.wy_judge.specs.Fits.{Fits}
+use Rattle.wy_judge.specs.Fits as fits
 use Rattle.wy_judge.specs.declared.scopes.Judged.TheVariants.{Passes, Fails}
-use Rattle.wy_judge.specs.Outcomes.{as_fit, pure_fault, seal_fault, ascribed_fault}
+use Rattle.wy_judge.specs.Outcomes.{pure_fault, seal_fault, ascribed_fault}
 use Rattle.wy_judge.specs.Judged.{IsLack, FitLacks, FitsLack, IsSealed}
 use Rattle.wy_judge.specs.Judging.{AllFitTo, BlockFitsTo}
 use Rattle.wy_judge.specs.Lacks.{LacksIn, FitLacksIn, FitsLackIn, IsBodyFault, IsInitFault}
+use Rattle.wy_judge.specs.Results.{as_fit}
 use Rattle.wy_judge.specs.Tables.{Table, IsScopeOf}
 use Rattle.wy_judge.specs.Targets.{mode_of}
 use Rattle.wy_judge.specs.Walking.{StartsTo, BodyTo, BodiesTo, IsSealFault, SealAfter, settled_types, judged_of, IsJudged}
@@ -85,6 +86,16 @@ module _ (p : Program) (k : ℕ) (s : Scope) where
       let lack = subst (λ z. FitLacksIn z u x.signature.effect r.0) m r.1 in
       subst (BodyTo p k s old new x) (sym r.2) (body_to p k s x old new u r.0 h (fit_lacks u x.signature.effect r.0 lack))
 
+  -- .. in which a node fails
+  pub starts_fail_in_fields : (xs : List v.Value) (old new : Table) (fault : Fault) → s.start ≡ Init (values_of xs) → old ≡ [] → AllFitTo p k s None old new xs (field_types s 0) (fits.Fails fault) → StartsTo p k s [] new (Some fault)
+  starts_fail_in_fields xs old new fault e empty h = starts_by_fields xs old new (fits.Fails fault) (mode_of (is_plain s.kind)) (Some fault) e empty refl h (None, tt, refl)
+
+  pub starts_fail_in_block : (x : Block) (old new : Table) (fault : Fault) → s.start ≡ Run x → old ≡ [] → BlockFitsTo p k s None old new x Nothing (fit.Fails fault) → StartsTo p k s [] new (Some fault)
+  starts_fail_in_block x old new fault e empty h = starts_by_block x old new (fit.Fails fault) (mode_of (is_plain s.kind)) (Some fault) e empty refl h (None, tt, refl)
+
+  pub body_fails : (x : Body) (old new : Table) (fault : Fault) → BlockFitsTo p k s (Some x.owner) old new x.block x.signature.result (fit.Fails fault) → BodyTo p k s old new x (Some fault)
+  body_fails x old new fault h = body_by_block x old new (fit.Fails fault) (mode_of (is_plain s.kind)) (Some fault) refl h (None, tt, refl)
+
   pub owner_there : IsScopeOf p k s → (x : Body) → In x s.bodies → x.owner < length s.literals
   owner_there c x i = (let at = In-at x s.bodies i in ((scope_fits p k s c).bodies at.0 x at.2).0)
 
@@ -100,6 +111,13 @@ module _ (p : Program) (k : ℕ) (s : Scope) where
 
   pub not_sealed : s.ascribed ≡ None → IsSealFault p k s None
   not_sealed e = (true, subst (λ z. IsSealed p k s z true) (sym e) tt, ap (λ z. ascribed_fault s.place z true) (sym e))
+
+  pub never_sealed : ((d : ℕ) → s.ascribed ≡ Some d → ⊥) → IsSealFault p k s None
+  never_sealed never = not_sealed (none_left s.ascribed never)
+    where
+      none_left : (o : Option ℕ) → ((d : ℕ) → o ≡ Some d → ⊥) → o ≡ None
+      none_left None h = refl
+      none_left (Some d) h = absurd (h d refl)
 
   pub sealed_as : (c : IsScopeOf p k s) (d : ℕ) (members : List (List ℕ)) (below : Truth) (o : Option Fault) → s.ascribed ≡ Some d → members ≡ s.definitions →
       (below ≡ true) ↔ IsSubtypeIn p k (mode_of (is_plain s.kind)) (Own 0) (Named d members) → o ≡ seal_fault s.place below → IsSealFault p k s o

@@ -12,7 +12,7 @@ use Rattle.wy_rules.specs.Typing.{binding_type}
 use Rattle.wy_rules.specs.Acceptance.{scope_reading}
 use Rattle.wy_rules.proofs.Forms.{Lawful}
 use Rattle.wy_rules.proofs.Least.{number_least, text_least, truth_least, nothing_least, name_least, this_least}
-use Rattle.wy_judge.specs.declared.outcomes.Inference.TheVariants as inferred
+use Rattle.wy_judge.specs.Inference as inferred
 use Rattle.wy_judge.specs.Judged.{Inferred}
 use Rattle.wy_judge.proofs.Bases.{base_below}
 

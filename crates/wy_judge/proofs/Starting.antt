@@ -16,10 +16,10 @@ use Rattle.wy_types.specs.Core.{StartFits, value_count, start_vals, bodies_vals,
 use Rattle.wy_rules.specs.Readings.{Reading}
 use Rattle.wy_rules.specs.Typing.{fields_of, field_types}
 use Rattle.wy_rules.specs.Nodes.{written, written_spots, start_nodes}
-use Rattle.wy_judge.specs.declared.outcomes.Fit.{Fit}
-use Rattle.wy_judge.specs.declared.outcomes.Fit.TheVariants as fit
-use Rattle.wy_judge.specs.declared.outcomes.Fits.{Fits}
-use Rattle.wy_judge.specs.declared.outcomes.Fits.TheVariants as fits
+use Rattle.wy_judge.specs.Fit.{Fit}
+use Rattle.wy_judge.specs.Fit as fit
+use Rattle.wy_judge.specs.Fits.{Fits}
+use Rattle.wy_judge.specs.Fits as fits
 use Rattle.wy_judge.specs.Outcomes.{NoneFails, body_fault, init_fault}
 use Rattle.wy_judge.specs.Judged.{FitLacks, FitsLack, NodesJudged}
 use Rattle.wy_judge.specs.Judging.{NoFault, FitStands, AllFitTo, BlockFitsTo}

@@ -19,14 +19,14 @@ use Rattle.wy_types.specs.Core.{value_vals, block_vals}
 use Rattle.wy_rules.specs.Derivations.{mark}
 use Rattle.wy_rules.specs.Acceptance.{scope_reading}
 use Rattle.wy_rules.specs.Nodes.{nothing, written}
-use Rattle.wy_judge.specs.declared.outcomes.Inference.TheVariants as inferred
-use Rattle.wy_judge.specs.declared.outcomes.Fit.{Fit}
-use Rattle.wy_judge.specs.declared.outcomes.Fit.TheVariants as fit
-use Rattle.wy_judge.specs.declared.outcomes.Step.TheVariants as step
+use Rattle.wy_judge.specs.Inference as inferred
+use Rattle.wy_judge.specs.Fit.{Fit}
+use Rattle.wy_judge.specs.Fit as fit
+use Rattle.wy_judge.specs.Step as step
 use Rattle.wy_judge.specs.Outcomes.{fault_at, stated_fit, stated_step, untyped_fault}
 use Rattle.wy_judge.specs.Judged.{Stated}
 use Rattle.wy_judge.specs.Tables.{Table, IsKnown, IsScopeOf, Agrees, IsPut, Moves, ValueReady, BlockReady}
-use Rattle.wy_judge.specs.Judging.{FitStands, NoFault, StepStands, IsAfter, step_fit, InfersTo, FitsTo, ProbesTo, StatesTo}
+use Rattle.wy_judge.specs.Judging.{FitStands, NoFault, StepStands, step_fit, InfersTo, FitsTo, ProbesTo, StatesTo}
 use Rattle.wy_judge.proofs.Blocks.{then_stated, typed_stated, typed_misfit, typed_fails, untyped_stated, untyped_fails, untyped_choice}
 use Rattle.wy_judge.proofs.Contexts.{written_in_range}
 use Rattle.wy_judge.proofs.Moving.{moves_under, ready_left, ready_other, ready_right}
@@ -115,10 +115,14 @@ module _ (p : Program) (k : ℕ) (s : Scope) (c : IsScopeOf p k s) (owner : Opti
   -- With a type
 
   module _ (q : Place) (n : ℕ) (t : TypeRef) (x : v.Value) where
+    -- the type is in range
+    pub typed_in_range : (table : Table) (rest : Block) → BlockReady p k s owner table (stmt_block (st.Val q n (Some t) x) rest) → IsTypeOf p k t
+    typed_in_range table rest r = written_in_range p k s c t (r.1.0 t refl)
+
     pub typed_done : (old mid new : Table) (e : List ℕ) (rest : Block) → BlockReady p k s owner old (stmt_block (st.Val q n (Some t) x) rest) → FitsTo p k s owner old mid (value_of x) t (fit.Has e) → IsPut mid new n t →
         StatesTo p k s owner old new (st.Val q n (Some t) x) (step.Done e)
     typed_done old mid new e rest r h put =
-        val_done q n (Some t) x old mid new t e rest r (written_in_range p k s c t (r.1.0 t refl)) h.moves put
+        val_done q n (Some t) x old mid new t e rest r (typed_in_range old rest r) h.moves put
         (λ locals a i. typed_stated p k s (lawful p k s c owner) locals owner q n t (value_of x) (fit.Has e) i (h.judged locals a (written t) refl))
 
     pub typed_misfits : (old new : Table) → FitsTo p k s owner old new (value_of x) t fit.Misfit → StatesTo p k s owner old new (st.Val q n (Some t) x) (step.Fails (fault_at q TVal 1))
@@ -128,13 +132,6 @@ module _ (p : Program) (k : ℕ) (s : Scope) (c : IsScopeOf p k s) (owner : Opti
     pub typed_failing : (old new : Table) (fault : Fault) → FitsTo p k s owner old new (value_of x) t (fit.Fails fault) → StatesTo p k s owner old new (st.Val q n (Some t) x) (step.Fails fault)
     typed_failing old new fault h =
         val_fails q n (Some t) x old new fault ⊥ h.moves (λ locals a. typed_fails p k s (lawful p k s c owner) locals owner q n t (value_of x) fault (h.judged locals a (written t) refl))
-
-    -- whatever its initialiser comes to
-    pub typed_states : (old mid new : Table) (u : Fit) (rest : Block) → BlockReady p k s owner old (stmt_block (st.Val q n (Some t) x) rest) → FitsTo p k s owner old mid (value_of x) t u → IsAfter mid new n t (stated_step q TVal u) →
-        StatesTo p k s owner old new (st.Val q n (Some t) x) (stated_step q TVal u)
-    typed_states old mid new (fit.Has e) rest r h after = typed_done old mid new e rest r h after
-    typed_states old mid new fit.Misfit rest r h after = subst (λ z. StatesTo p k s owner old z (st.Val q n (Some t) x) (step.Fails (fault_at q TVal 1))) (sym after) (typed_misfits old mid h)
-    typed_states old mid new (fit.Fails fault) rest r h after = subst (λ z. StatesTo p k s owner old z (st.Val q n (Some t) x) (step.Fails fault)) (sym after) (typed_failing old mid fault h)
 
   ------------------------------------------------------------
   -- Without a type

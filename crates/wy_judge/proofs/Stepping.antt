@@ -12,8 +12,8 @@ use Rattle.wy_rules.specs.Acceptance.{scope_reading}
 use Rattle.wy_rules.specs.Nodes.{Spot, block_nodes}
 use Rattle.wy_rules.specs.Failing.{FirstFailing}
 use Rattle.wy_rules.proofs.Forms.{Lawful}
-use Rattle.wy_judge.specs.declared.outcomes.Fit.{Fit}
-use Rattle.wy_judge.specs.declared.outcomes.Fit.TheVariants as fit
+use Rattle.wy_judge.specs.Fit.{Fit}
+use Rattle.wy_judge.specs.Fit as fit
 use Rattle.wy_judge.specs.Outcomes.{followed_fit}
 use Rattle.wy_judge.specs.Judged.{Fitted, BlockFitted, Probed, BlockProbed, Follows, Stated, Steps}
 use Rattle.wy_judge.proofs.Blocks.{last_fitted, last_probed}

@@ -1,20 +1,14 @@
--- What judging a part does, told of the same part and outcome in another form.
-use Rattle.std.proofs.Common.{◌≡◌, ℕ, sym, subst, Option}
-use Rattle.wy_text.specs.declared.fault.Fault.{Fault}
+-- What judging an expression does, told of the same expression and outcome in another form.
+use Rattle.std.proofs.Common.{◌≡◌, ℕ, [], sym, subst, Option}
 use Rattle.wy_types.specs.declared.types.TypeRef.{TypeRef}
-use Rattle.wy_types.specs.Code.{Expr, Value}
+use Rattle.wy_types.specs.Code.{Expr}
 use Rattle.wy_types.specs.Program.{Program, Scope}
-use Rattle.wy_judge.specs.declared.outcomes.Inference.{Inference}
-use Rattle.wy_judge.specs.declared.outcomes.Fit.{Fit}
+use Rattle.wy_judge.specs.declared.outcomes.Least.{Least}
+use Rattle.wy_judge.specs.Inference as inferred
 use Rattle.wy_judge.specs.Tables.{Table}
-use Rattle.wy_judge.specs.Judging.{InfersTo, FitsTo, ProbesTo}
+use Rattle.wy_judge.specs.Judging.{InfersTo}
 
 module _ (p : Program) (k : ℕ) (s : Scope) (owner : Option ℕ) (old new : Table) where
-  pub infers_as : (x y : Expr) (u v : Inference) → x ≡ y → v ≡ u → InfersTo p k s owner old new x u → InfersTo p k s owner old new y v
-  infers_as x y u v e f h = subst (λ z. InfersTo p k s owner old new z v) e (subst (λ z. InfersTo p k s owner old new x z) (sym f) h)
-
-  pub fits_as : (x y : Value) (t : TypeRef) (u v : Fit) → x ≡ y → v ≡ u → FitsTo p k s owner old new x t u → FitsTo p k s owner old new y t v
-  fits_as x y t u v e f h = subst (λ z. FitsTo p k s owner old new z t v) e (subst (λ z. FitsTo p k s owner old new x t z) (sym f) h)
-
-  pub probes_as : (x y : Value) (u v : Option Fault) → x ≡ y → v ≡ u → ProbesTo p k s owner old new x u → ProbesTo p k s owner old new y v
-  probes_as x y u v e f h = subst (λ z. ProbesTo p k s owner old new z v) e (subst (λ z. ProbesTo p k s owner old new x z) (sym f) h)
+  -- a least type without an effect
+  pub least_as : (x y : Expr) (l : Least) (t : TypeRef) → y ≡ x → l ≡ record { typ = t; effect = [] } → InfersTo p k s owner old new x (inferred.Least t []) → InfersTo p k s owner old new y (inferred.Least l.typ l.effect)
+  least_as x y l t e f h = subst (λ (z : Least). InfersTo p k s owner old new y (inferred.Least z.typ z.effect)) (sym f) (subst (λ z. InfersTo p k s owner old new z (inferred.Least t [])) (sym e) h)

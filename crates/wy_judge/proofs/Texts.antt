@@ -15,8 +15,8 @@ use Rattle.wy_rules.specs.Failing.{OperandsHave}
 use Rattle.wy_rules.proofs.Forms.{Lawful}
 use Rattle.wy_rules.proofs.Least.{text_call_least}
 use Rattle.wy_rules.proofs.Needs.{text_needs}
-use Rattle.wy_judge.specs.declared.outcomes.Fits.{Fits}
-use Rattle.wy_judge.specs.declared.outcomes.Fits.TheVariants as fits
+use Rattle.wy_judge.specs.Fits.{Fits}
+use Rattle.wy_judge.specs.Fits as fits
 use Rattle.wy_judge.specs.Outcomes.{text_operands, text_result, text_outcome}
 use Rattle.wy_judge.specs.Judged.{Inferred, HaveFirst, AllFitted}
 use Rattle.wy_judge.proofs.Bases.{base_below}

@@ -13,19 +13,22 @@ use Rattle.wy_rules.specs.Acceptance.{scope_reading}
 use Rattle.wy_rules.specs.Nodes.{Spot, nothing}
 use Rattle.wy_rules.proofs.Forms.{Lawful}
 use Rattle.wy_rules.proofs.Standing.{reading_lawful}
-use Rattle.wy_judge.specs.declared.outcomes.Inference.{Inference}
-use Rattle.wy_judge.specs.declared.outcomes.Inference.TheVariants as inferred
-use Rattle.wy_judge.specs.declared.outcomes.Fit.{Fit}
-use Rattle.wy_judge.specs.declared.outcomes.Fit.TheVariants as fit
+use Rattle.wy_judge.specs.declared.outcomes.Fit as one
+use Rattle.wy_judge.specs.declared.outcomes.Fit.TheVariants as at
+use Rattle.wy_judge.specs.Inference.{Inference}
+use Rattle.wy_judge.specs.Inference as inferred
+use Rattle.wy_judge.specs.Fit.{Fit}
+use Rattle.wy_judge.specs.Fit as fit
 use Rattle.wy_judge.specs.Outcomes.{fitted_outcome, probed_outcome, chosen_fit, chosen_fault, fault_or}
+use Rattle.wy_judge.specs.Results.{fit_of}
 use Rattle.wy_judge.specs.Judged.{Inferred, Fitted}
 use Rattle.wy_judge.specs.Tables.{Table, IsScopeOf, Moves, ExprReady, ValueReady, BlockReady}
 use Rattle.wy_judge.specs.Targets.{mode_of, IsFittedIn}
 use Rattle.wy_judge.specs.Judging.{InferenceStands, FitStands, NoFault, InfersTo, FitsTo, BlockFitsTo, ProbesTo, BlockProbesTo}
-use Rattle.wy_judge.proofs.Choosing.{if_fitted, if_probed}
+use Rattle.wy_judge.proofs.Choosing.{test_fails, first_fails, if_fitted, if_probed}
 use Rattle.wy_judge.proofs.Contexts.{below_in_mode}
 use Rattle.wy_judge.proofs.Fitting.{plain_fitted, plain_failed, plain_probed}
-use Rattle.wy_judge.proofs.Moving.{agrees_before, moves_under, moves_both, ready_left, ready_right}
+use Rattle.wy_judge.proofs.Moving.{agrees_before, moves_under, moves_both, moves_first, ready_left, ready_right}
 
 ------------------------------------------------------------
 -- Where no node of the whole fails, none of a part does
@@ -54,6 +57,13 @@ chosen_stands q (fit.Has e) fit.Misfit (fit.Fails fault) h = absurd h
 chosen_stands q (fit.Has e) (fit.Has f) (fit.Has g) h = (tt, tt, tt)
 chosen_stands q (fit.Has e) (fit.Has f) fit.Misfit h = absurd h
 chosen_stands q (fit.Has e) (fit.Has f) (fit.Fails fault) h = absurd h
+
+-- a node fails in the second branch, and none before it
+pub second_fails_last : (q : Place) (e m : one.Fit) (fault : Fault) → chosen_fit q (fit_of e) (fit_of m) (fit.Fails fault) ≡ fit.Fails fault
+second_fails_last q (at.Has e) (at.Has f) fault = refl
+second_fails_last q (at.Has e) at.Misfit fault = refl
+second_fails_last q at.Misfit (at.Has f) fault = refl
+second_fails_last q at.Misfit at.Misfit fault = refl
 
 branches_stand : (m n : Option Fault) → NoFault (fault_or m n) → NoFault m × NoFault n
 branches_stand (Some fault) n h = absurd h
@@ -137,6 +147,43 @@ module _ (p : Program) (k : ℕ) (s : Scope) (c : IsScopeOf p k s) (owner : Opti
     chosen_moves old a b new P Q R W m n o f =
         moves_both p k s old a new (expr_vals test) (block_vals first ++ block_vals second) P W W m
         (moves_both p k s a b new (block_vals first) (block_vals second) Q R W n o (λ z. (f z).1) (λ z. (f z).2)) (λ z. (f z).0) (λ z. z)
+
+    -- a node fails in the condition, or in the first branch
+    pub if_fails_at_test : (old new : Table) (t : TypeRef) (fault : Fault) → InfersTo p k s owner old new test (inferred.Fails fault) → FitsTo p k s owner old new (If q test first second) t (fit.Fails fault)
+    if_fails_at_test old new t fault h = record {
+      moves = moves_first p k s old new (expr_vals test) (block_vals first ++ block_vals second) ⊥ ⊥ h.moves (λ z. z);
+      judged = λ locals g spot i. test_fails p k s lawful locals owner q test first second spot t fault (h.judged locals g);
+    }
+
+    pub if_probe_fails_at_test : (old new : Table) (fault : Fault) → InfersTo p k s owner old new test (inferred.Fails fault) → ProbesTo p k s owner old new (If q test first second) (Some fault)
+    if_probe_fails_at_test old new fault h = record {
+      moves = moves_first p k s old new (expr_vals test) (block_vals first ++ block_vals second) ⊥ ⊥ h.moves (λ z. z);
+      judged = λ locals g spot i. test_fails p k s lawful locals owner q test first second spot Bool fault (h.judged locals g);
+    }
+
+    first_moves : (old a b : Table) (P Q : Type 0) → Moves p k s old a (expr_vals test) P → Moves p k s a b (block_vals first) Q → Moves p k s old b (value_vals (If q test first second)) ⊥
+    first_moves old a b P Q m n =
+        moves_both p k s old a b (expr_vals test) (block_vals first ++ block_vals second) P ⊥ ⊥ m (moves_first p k s a b (block_vals first) (block_vals second) Q ⊥ n (λ z. z)) (λ z. absurd z) (λ z. z)
+
+    pub if_fails_at_first : (old a b : Table) (t u : TypeRef) (e : List ℕ) (fault : Fault) → InfersTo p k s owner old a test (inferred.Least u e) → BlockFitsTo p k s owner a b first t (fit.Fails fault) →
+        FitsTo p k s owner old b (If q test first second) t (fit.Fails fault)
+    if_fails_at_first old a b t u e fault h x = record {
+      moves = first_moves old a b (Unit {0}) ⊥ h.moves x.moves;
+      judged = λ locals g spot i. (
+          let at_a = agrees_before p k s (scope_reading p k s) locals a b (block_vals first) ⊥ x.moves g in
+          first_fails p k s lawful locals owner q test first second spot t fault (h.judged locals at_a).1 (x.judged locals g spot i)
+          );
+    }
+
+    pub if_probe_fails_at_first : (old a b : Table) (u : TypeRef) (e : List ℕ) (fault : Fault) → InfersTo p k s owner old a test (inferred.Least u e) → BlockProbesTo p k s owner a b first (Some fault) →
+        ProbesTo p k s owner old b (If q test first second) (Some fault)
+    if_probe_fails_at_first old a b u e fault h x = record {
+      moves = first_moves old a b (Unit {0}) ⊥ h.moves x.moves;
+      judged = λ locals g spot i. (
+          let at_a = agrees_before p k s (scope_reading p k s) locals a b (block_vals first) ⊥ x.moves g in
+          first_fails p k s lawful locals owner q test first second spot Bool fault (h.judged locals at_a).1 (x.judged locals g spot i)
+          );
+    }
 
     pub if_fits : (old a b new : Table) (v : Inference) (t : TypeRef) (e m n : Fit) → InfersTo p k s owner old a test v → IsFittedIn p k (mode_of (is_plain s.kind)) v Bool e →
         BlockFitsTo p k s owner a b first t m → BlockFitsTo p k s owner b new second t n → FitsTo p k s owner old new (If q test first second) t (chosen_fit q e m n)

@@ -15,10 +15,10 @@ use Rattle.wy_types.specs.Fitting.{IsTypeOf}
 use Rattle.wy_types.specs.View.{value_of, values_of}
 use Rattle.wy_types.specs.Core.{value_vals, values_vals}
 use Rattle.wy_rules.specs.Acceptance.{scope_reading}
-use Rattle.wy_judge.specs.declared.outcomes.Fit.{Fit}
-use Rattle.wy_judge.specs.declared.outcomes.Fit.TheVariants as fit
-use Rattle.wy_judge.specs.declared.outcomes.Fits.{Fits}
-use Rattle.wy_judge.specs.declared.outcomes.Fits.TheVariants as fits
+use Rattle.wy_judge.specs.Fit.{Fit}
+use Rattle.wy_judge.specs.Fit as fit
+use Rattle.wy_judge.specs.Fits.{Fits}
+use Rattle.wy_judge.specs.Fits as fits
 use Rattle.wy_judge.specs.Outcomes.{push_fit, NoneFails}
 use Rattle.wy_judge.specs.Tables.{Table, IsScopeOf, Moves, ValueReady, ValuesReady}
 use Rattle.wy_judge.specs.Judging.{FitStands, NoFault, TypesInRange, FitsTo, AllFitTo, ProbesTo, AllProbeTo, Fitting, Probing}

@@ -15,12 +15,12 @@ use Rattle.wy_rules.specs.Typing.{Has, HasAt, BlockHasAt, AllHaveAt}
 use Rattle.wy_rules.specs.Acceptance.{scope_reading}
 use Rattle.wy_rules.specs.Nodes.{Spot, Node, expr_nodes, value_nodes, values_nodes, block_nodes, bodies_nodes}
 use Rattle.wy_rules.specs.Failing.{IsLeast, IsLeastMissing, IsLeastAt, AreLeastAt, first_values, AllPass, FirstFailing}
-use Rattle.wy_judge.specs.declared.outcomes.Inference.{Inference}
-use Rattle.wy_judge.specs.declared.outcomes.Inference.TheVariants as inferred
-use Rattle.wy_judge.specs.declared.outcomes.Fit.{Fit}
-use Rattle.wy_judge.specs.declared.outcomes.Fit.TheVariants as fit
-use Rattle.wy_judge.specs.declared.outcomes.Fits.{Fits}
-use Rattle.wy_judge.specs.declared.outcomes.Fits.TheVariants as fits
+use Rattle.wy_judge.specs.Inference.{Inference}
+use Rattle.wy_judge.specs.Inference as inferred
+use Rattle.wy_judge.specs.Fit.{Fit}
+use Rattle.wy_judge.specs.Fit as fit
+use Rattle.wy_judge.specs.Fits.{Fits}
+use Rattle.wy_judge.specs.Fits as fits
 use Rattle.wy_judge.specs.Outcomes.{then_fits, followed_fit}
 
 -- the least effect of a value at a type

@@ -16,19 +16,19 @@ use Rattle.wy_effects.specs.EffSet.{IsSet}
 use Rattle.wy_rules.specs.Acceptance.{scope_reading}
 use Rattle.wy_rules.specs.Nodes.{Spot, block_nodes}
 use Rattle.wy_rules.specs.Failing.{IsExpected, FirstFailing}
-use Rattle.wy_judge.specs.declared.outcomes.Inference.{Inference}
-use Rattle.wy_judge.specs.declared.outcomes.Inference.TheVariants as inferred
-use Rattle.wy_judge.specs.declared.outcomes.Fit.{Fit}
-use Rattle.wy_judge.specs.declared.outcomes.Fit.TheVariants as fit
-use Rattle.wy_judge.specs.declared.outcomes.Fits.{Fits}
-use Rattle.wy_judge.specs.declared.outcomes.Fits.TheVariants as fits
+use Rattle.wy_judge.specs.Inference.{Inference}
+use Rattle.wy_judge.specs.Inference as inferred
+use Rattle.wy_judge.specs.Fit.{Fit}
+use Rattle.wy_judge.specs.Fit as fit
+use Rattle.wy_judge.specs.Fits.{Fits}
+use Rattle.wy_judge.specs.Fits as fits
 use Rattle.wy_judge.specs.declared.targets.Target.{Target}
-use Rattle.wy_judge.specs.declared.targets.Target.TheVariants.{Failed, Without, Found}
-use Rattle.wy_judge.specs.declared.outcomes.Step.{Step}
-use Rattle.wy_judge.specs.declared.outcomes.Step.TheVariants as step
+use Rattle.wy_judge.specs.declared.targets.Target.TheVariants.{Without, Found}
+use Rattle.wy_judge.specs.Step.{Step}
+use Rattle.wy_judge.specs.Step as step
 use Rattle.wy_judge.specs.Judged.{Inferred, Fitted, BlockFitted, Probed, BlockProbed, AllFitted, AllProbed, Carries, CarriesProbed, Stated, Steps}
 use Rattle.wy_judge.specs.Outcomes.{NoneFails, uncalled_outcome, call_outcome}
-use Rattle.wy_judge.specs.Tables.{Table, Agrees, IsPut, Moves, BlockReady, ValueReady, ValuesReady}
+use Rattle.wy_judge.specs.Tables.{Table, Agrees, Moves, BlockReady, ValueReady, ValuesReady}
 use Rattle.wy_judge.specs.Targets.{IsInRangeOf}
 
 -- no node fails
@@ -40,6 +40,12 @@ abbrev pub FitStands : Fit → Type 0
 FitStands (fit.Has e) = Unit {0}
 FitStands fit.Misfit = Unit {0}
 FitStands (fit.Fails fault) = ⊥
+
+-- the effect of a value is a set
+abbrev pub HasSet : Fit → Type 0
+HasSet (fit.Has e) = IsSet 512 e
+HasSet fit.Misfit = Unit {0}
+HasSet (fit.Fails fault) = Unit {0}
 
 abbrev pub NoFault : Option Fault → Type 0
 NoFault None = Unit {0}
@@ -53,11 +59,6 @@ StepStands (step.Fails fault) = ⊥
 abbrev pub step_fit : Step → Fit
 step_fit (step.Done e) = fit.Has e
 step_fit (step.Fails fault) = fit.Fails fault
-
--- the table after a `val`: its type is put in where it stands
-abbrev pub IsAfter : Table → Table → ℕ → TypeRef → Step → Type 0
-IsAfter old new n t (step.Done e) = IsPut old new n t
-IsAfter old new n t (step.Fails fault) = new ≡ old
 
 -- the `val`s of a statement, and of several
 abbrev pub stmt_vals : st.Stmt → List ℕ
@@ -79,7 +80,6 @@ module _ (p : Program) (k : ℕ) (s : Scope) (owner : Option ℕ) where
 
   -- the method of a call has as many parameters as there are arguments, of types in range
   abbrev pub IsCallable : List v.Value → Target → Type 0
-  IsCallable xs (Failed fault) = Unit {0}
   IsCallable xs (Without premise) = Unit {0}
   IsCallable xs (Found effect m) = TypesInRange m.params × (length xs ≡ length m.params)
 
@@ -131,7 +131,6 @@ module _ (p : Program) (k : ℕ) (s : Scope) (owner : Option ℕ) where
 
     -- the arguments of a call, by what its receiver offers, and what the call comes to by them
     abbrev pub ArgumentsTo : Place → Target → List v.Value → Inference → Type 0
-    ArgumentsTo place (Failed fault) xs u = (new ≡ old) × (u ≡ inferred.Fails fault)
     ArgumentsTo place (Without premise) xs u = (o : Option Fault) × AllProbeTo xs o × (u ≡ uncalled_outcome place premise o)
     ArgumentsTo place (Found effect m) xs u = (w : Fits) × AllFitTo xs m.params w × (u ≡ call_outcome place m.result m.effect effect w)
 

@@ -21,14 +21,14 @@ use Rattle.wy_types.specs.declared.resolved.Origin.{Origin}
 use Rattle.wy_types.specs.declared.resolved.Origin.TheVariants.{Parameter, Grant, Use, Instance, Import}
 use Rattle.wy_types.specs.declared.resolved.ScopeKind.{ScopeKind}
 use Rattle.wy_types.specs.declared.resolved.ScopeKind.TheVariants.{Pure, Resource, Plain, Program as Main}
-use Rattle.wy_judge.specs.declared.outcomes.Inference.{Inference}
-use Rattle.wy_judge.specs.declared.outcomes.Inference.TheVariants as inferred
-use Rattle.wy_judge.specs.declared.outcomes.Fit.{Fit}
-use Rattle.wy_judge.specs.declared.outcomes.Fit.TheVariants as fit
-use Rattle.wy_judge.specs.declared.outcomes.Fits.{Fits}
-use Rattle.wy_judge.specs.declared.outcomes.Fits.TheVariants as fits
-use Rattle.wy_judge.specs.declared.outcomes.Step.{Step}
-use Rattle.wy_judge.specs.declared.outcomes.Step.TheVariants as step
+use Rattle.wy_judge.specs.Inference.{Inference}
+use Rattle.wy_judge.specs.Inference as inferred
+use Rattle.wy_judge.specs.Fit.{Fit}
+use Rattle.wy_judge.specs.Fit as fit
+use Rattle.wy_judge.specs.Fits.{Fits}
+use Rattle.wy_judge.specs.Fits as fits
+use Rattle.wy_judge.specs.Step.{Step}
+use Rattle.wy_judge.specs.Step as step
 
 -- a premise of a rule is false at a place; no atom is missing
 abbrev pub fault_at : Place → RuleName → ℕ → Fault
@@ -140,9 +140,6 @@ IsSame (inferred.Fails fault) z same = Unit {0}
 abbrev pub IsBoth : Place → BinaryOperator → Inference → Inference → Inference → Type 0
 IsBoth place op x z u = (same : Truth) × IsSame x z same × (u ≡ both_outcome place op same x z)
 
-abbrev pub IsSecond : Place → BinaryOperator → TypeRef → List ℕ → Inference → Inference → Type 0
-IsSecond place op t e z u = IsBoth place op (inferred.Least t e) z u
-
 -- the numbers of premises are small
 abbrev pub FewOperands : Fits → Type 0
 FewOperands (fits.Have e) = Unit {0}
@@ -226,7 +223,7 @@ chosen_fit place (fit.Has e) first second = chosen_first place e first second
 chosen_fit place fit.Misfit first second = misfit_condition place first second
 chosen_fit place (fit.Fails fault) first second = fit.Fails fault
 
--- an `if` where no type is expected fails by the nodes of its parts alone
+-- an `if` where no type is expected fails by its parts alone, and its condition by its own nodes
 abbrev pub fault_or : Option Fault → Option Fault → Option Fault
 fault_or (Some fault) other = Some fault
 fault_or None other = other
@@ -252,12 +249,6 @@ abbrev pub more_fits : Fit → Fits → Fits
 more_fits (fit.Has e) others = others_fit e others
 more_fits fit.Misfit others = unless_fail others (fits.Misfit 0)
 more_fits (fit.Fails fault) others = fits.Fails fault
-
--- several values as one
-abbrev pub as_fit : Fits → Fit
-as_fit (fits.Have e) = fit.Has e
-as_fit (fits.Misfit n) = fit.Misfit
-as_fit (fits.Fails fault) = fit.Fails fault
 
 ------------------------------------------------------------
 -- Several values, as they are judged one after the other

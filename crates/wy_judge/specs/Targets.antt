@@ -18,12 +18,12 @@ use Rattle.wy_subtype.specs.declared.verdict.Mode.TheVariants.{Annotated, Plain}
 use Rattle.wy_subtype.specs.Verdict.{IsSubtypeIn}
 use Rattle.wy_subtype.specs.Decided.{About}
 use Rattle.wy_rules.specs.Typing.{field_at, parameter_type}
-use Rattle.wy_judge.specs.declared.outcomes.Inference.{Inference}
-use Rattle.wy_judge.specs.declared.outcomes.Inference.TheVariants as inferred
+use Rattle.wy_judge.specs.Inference.{Inference}
+use Rattle.wy_judge.specs.Inference as inferred
 use Rattle.wy_judge.specs.declared.targets.Target.{Target}
-use Rattle.wy_judge.specs.declared.targets.Target.TheVariants.{Failed, Without, Found}
+use Rattle.wy_judge.specs.declared.targets.Target.TheVariants.{Without, Found}
 use Rattle.wy_judge.specs.Outcomes.{fitted_outcome}
-use Rattle.wy_judge.specs.declared.outcomes.Fit.{Fit}
+use Rattle.wy_judge.specs.Fit.{Fit}
 use Rattle.wy_judge.specs.Tables.{Table}
 
 -- the mode of a kind of scope: plain modules are judged without effects
@@ -58,10 +58,9 @@ type_of_binding s table owner (to.Own k) = option_map (λ (n : OwnName). n.typ) 
 ------------------------------------------------------------
 -- Calls
 
--- what a receiver that came to this offers by a name, for so many arguments: its own fault, a premise that is false, or the method
+-- what a receiver that came to this offers by a name, for so many arguments: a premise that is false, or the method
 abbrev pub IsTargetOf : Program → ℕ → Inference → List ℕ → ℕ → Target → Type 0
-IsTargetOf p k (inferred.Fails fault) name arity target = target ≡ Failed fault
-IsTargetOf p k (inferred.Least t e) name arity (Failed fault) = ⊥
+IsTargetOf p k (inferred.Fails fault) name arity target = ⊥
 IsTargetOf p k (inferred.Least t e) name arity (Without n) =
     ((n ≡ 1) × (IsObject t → ⊥)) ⊎
     (((n ≡ 2) × IsObject t × (find_method name (methods_of p k t) ≡ None)) ⊎

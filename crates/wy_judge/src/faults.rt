@@ -6,11 +6,11 @@ ghost use Rattle.wy_effects.specs.Members.{Within};
 ghost use Rattle.wy_types.specs.Program.{scope_of};
 ghost use Rattle.wy_rules.specs.Typing.{fields_of};
 ghost use Rattle.wy_subtype.specs.Verdict.{IsLeastMissing};
-ghost use Rattle.wy_judge.specs.Outcomes.{lack_fault, var_fault, is_line, line_fault, pure_fault};
+ghost use Rattle.wy_judge.specs.Outcomes.{fault_or, lack_fault, var_fault, is_line, line_fault, pure_fault};
 ghost use Rattle.wy_judge.specs.Lacks.{LacksIn, IsBodyFault};
+ghost use Rattle.wy_judge.specs.Results.{fit_of};
 
-use crate::combining::{fault_at, fault_or};
-use crate::outcomes::Fit;
+use crate::outcomes::{Fit, fault_at};
 use crate::targets::fields_of;
 use wy_effects::atom::{Atom, AtomTable};
 use wy_effects::set::EffSet;
@@ -82,12 +82,11 @@ pub fn body_fault(
     declared: &EffSet,
     block: Fit,
 ) -> Result<Option<Fault>, Memory>
-    ensures { IfOk result (λ o. IsBodyFault mode place atoms.now declared.now block o) }
+    ensures { IfOk result (λ o. IsBodyFault mode place atoms.now declared.now (fit_of block) o) }
 {
     match block {
         Fit::Has(effect) => lack_fault(place, atoms, lack(mode, &effect, declared)?),
         Fit::Misfit => Ok(Some(fault_at(place, RuleName::TBody, 1))),
-        Fit::Fails(fault) => Ok(Some(fault)),
     }
 }
 
@@ -123,6 +122,16 @@ fn line_fault(names: &[OwnName]) -> Option<Fault>
         }
     }
     None
+}
+
+/// The first fault, else the second.
+fn fault_or(first: Option<Fault>, second: Option<Fault>) -> Option<Fault>
+    ensures { result ≡ fault_or first second }
+{
+    match first {
+        Some(fault) => Some(fault),
+        None => second,
+    }
 }
 
 /// What a pure module may not have: a `var` field, or an instance or import line.

@@ -3,16 +3,16 @@
 #![tactic(auto)]
 
 mod checking;
-mod combining;
 mod faults;
 mod judging;
 pub mod laws;
+mod operators;
 mod outcomes;
 mod scopes;
-mod settling;
 mod targets;
+mod walk;
 
 pub use checking::{CheckRefusal, Checked, check_modules, check_scope, keep_limit};
-pub use combining::fault_at;
 pub use faults::{atom_name, least_missing};
+pub use outcomes::fault_at;
 pub use scopes::{Judged, judge_scope};

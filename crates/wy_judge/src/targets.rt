@@ -8,13 +8,15 @@ ghost use Rattle.wy_types.specs.Fitting.{IsTypeOf};
 ghost use Rattle.wy_rules.specs.Typing.{field_types, field_at, var_field, parameter_type, fields_of};
 ghost use Rattle.wy_rules.specs.Derivations.{mark, expr_mark};
 ghost use Rattle.wy_types.specs.View.{value_of, expr_of};
-ghost use Rattle.wy_judge.specs.Targets.{mode_of, known, type_of_binding, IsTargetOf, IsInRangeOf, IsFittedIn};
+ghost use Rattle.wy_judge.specs.Inference as Inference;
+ghost use Rattle.wy_judge.specs.Results.{fit_of};
+ghost use Rattle.wy_judge.specs.Targets.{mode_of, known, type_of_binding, IsTargetOf, IsFittedIn};
 
-use crate::outcomes::{Fit, Inference};
+use crate::outcomes::{Fit, Least};
 use std::alloc::Global;
 use wy_effects::set::EffSet;
 use wy_subtype::{Mode, PairTable};
-use wy_text::fault::{Fault, Place};
+use wy_text::fault::Place;
 use wy_text::list::Items;
 use wy_text::text::{Memory, Text};
 use wy_types::code::{Binding, Expr, Value, Variable};
@@ -25,8 +27,6 @@ use wy_types::types::{Method, TypeList, TypeRef};
 /// What a receiver offers by a name.
 #[derive(Drop)]
 pub enum Target {
-    /// The first failing node in the receiver.
-    Failed(Fault),
     /// The premise of the call that is false: no object type, no such method, another number of parameters.
     Without(u8),
     /// The receiver's effect, and the method.
@@ -143,46 +143,28 @@ pub fn type_of_binding<'a>(
 // ----------------------------------------------------------------------------
 // Calls
 
-/// The method of a type that has the name, for so many arguments.
-fn method_for(
+/// What a receiver offers by a name, for so many arguments.
+pub fn target_of(
     alloc: Global,
     core: &Core,
     number: u16,
-    typ: &TypeRef,
-    effect: EffSet,
+    receiver: Least,
     name: &Text,
     arity: usize,
 ) -> Result<Target, Memory>
-    ensures { IfOk result (λ t. IsTargetOf (program_of core.now) number (Inference.Least typ.now effect) name.now arity t) }
+    ensures { IfOk result (λ t. IsTargetOf (program_of core.now) number (Inference.Least receiver.typ receiver.effect) name.now arity t) }
 {
-    if !typ.is_object() {
+    if !receiver.typ.is_object() {
         return Ok(Target::Without(1));
     }
-    match find_method(alloc, core, number, typ, name)? {
+    match find_method(alloc, core, number, &receiver.typ, name)? {
         None => Ok(Target::Without(2)),
         Some(method) => {
             if method.params.len() != arity {
                 return Ok(Target::Without(3));
             }
-            Ok(Target::Found(effect, method))
+            Ok(Target::Found(receiver.effect, method))
         }
-    }
-}
-
-/// What a receiver that came to this offers by a name, for so many arguments.
-pub fn target_of(
-    alloc: Global,
-    core: &Core,
-    number: u16,
-    receiver: Inference,
-    name: &Text,
-    arity: usize,
-) -> Result<Target, Memory>
-    ensures { IfOk result (λ t. IsTargetOf (program_of core.now) number receiver name.now arity t) }
-{
-    match receiver {
-        Inference::Least(typ, effect) => method_for(alloc, core, number, &typ, effect, name, arity),
-        Inference::Fails(fault) => Ok(Target::Failed(fault)),
     }
 }
 
@@ -190,21 +172,16 @@ pub fn target_of(
 // Types at a place
 
 /// An expression at a type: whether its least type is a subtype, in the scope and the mode of a table of pairs.
-pub fn fitted(pairs: &mut PairTable<'_>, expr: Inference, typ: &TypeRef) -> Result<Fit, Memory>
-    requires least { IsInRangeOf pairs.old.about.program pairs.old.about.scope expr }
+pub fn fitted(pairs: &mut PairTable<'_>, expr: Least, typ: &TypeRef) -> Result<Fit, Memory>
+    requires least { IsTypeOf pairs.old.about.program pairs.old.about.scope expr.typ }
     requires expected { IsTypeOf pairs.old.about.program pairs.old.about.scope typ.now }
-    ensures outcome { IfOk result (λ u. IsFittedIn pairs.old.about.program pairs.old.about.scope pairs.old.about.mode expr typ.now u) }
+    ensures outcome { IfOk result (λ u. IsFittedIn pairs.old.about.program pairs.old.about.scope pairs.old.about.mode (Inference.Least expr.typ expr.effect) typ.now (fit_of u)) }
     ensures same { pairs.new.about ≡ pairs.old.about }
 {
-    match expr {
-        Inference::Least(least, effect) => {
-            if pairs.holds(&least, typ)? {
-                return Ok(Fit::Has(effect));
-            }
-            Ok(Fit::Misfit)
-        }
-        Inference::Fails(fault) => Ok(Fit::Fails(fault)),
+    if pairs.holds(&expr.typ, typ)? {
+        return Ok(Fit::Has(expr.effect));
     }
+    Ok(Fit::Misfit)
 }
 
 /// The mark of an expression.

@@ -4,11 +4,12 @@ use Rattle.std.proofs.lemmas.Result.{IfOk-weaker}
 use Rattle.wy_text.specs.declared.fault.Fault.{Fault}
 use Rattle.wy_judge.specs.Outcomes.{lack_fault}
 use Rattle.wy_judge.specs.Lacks.{IsBodyFault}
+use Rattle.wy_judge.specs.Results.{fit_of}
 use Rattle.wy_judge.proofs.faults.body_fault.Goals as goal
 
 pub returns-in_ok-lack-in-Has : goal.returns-in_ok-lack-in-Has
 returns-in_ok-lack-in-Has c =
     let missing = option_map (λ a. a.0) c.in_ok-lack-in-Has.field-0 in
-    IfOk-weaker c.lack_fault.result (λ o. o ≡ lack_fault c.args.place c.args.atoms.now missing) (λ o. IsBodyFault c.args.mode c.args.place c.args.atoms.now c.args.declared.now c.args.block o)
-    (λ (o : Option Fault) e. subst (λ b. IsBodyFault c.args.mode c.args.place c.args.atoms.now c.args.declared.now b o) (sym c.in-Has.is) (missing, c.in_ok-lack-in-Has.ensures, e))
+    IfOk-weaker c.lack_fault.result (λ o. o ≡ lack_fault c.args.place c.args.atoms.now missing) (λ o. IsBodyFault c.args.mode c.args.place c.args.atoms.now c.args.declared.now (fit_of c.args.block) o)
+    (λ (o : Option Fault) e. subst (λ b. IsBodyFault c.args.mode c.args.place c.args.atoms.now c.args.declared.now (fit_of b) o) (sym c.in-Has.is) (missing, c.in_ok-lack-in-Has.ensures, e))
     c.lack_fault.ensures

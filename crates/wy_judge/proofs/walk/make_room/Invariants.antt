@@ -1,6 +1,6 @@
 use Rattle.std.proofs.Common.{◌+◌, ◌-◌, ◌≤◌, max, length}
 use Rattle.wy_judge.specs.Tables.{IsKept}
-use Rattle.wy_judge.proofs.settling.make_room.Given as goal
+use Rattle.wy_judge.proofs.walk.make_room.Given as goal
 
 abbrev pub invariant-loop-table : goal.invariant-loop-table
 invariant-loop-table l =

@@ -2,7 +2,7 @@ use Rattle.std.proofs.Common.{None, length, sym, ap, subst, arith}
 use Rattle.std.proofs.lemmas.List.{length_push}
 use Rattle.wy_judge.specs.Tables.{Table, IsKept}
 use Rattle.wy_judge.proofs.Tabled.{kept_more}
-use Rattle.wy_judge.proofs.settling.make_room.Goals as goal
+use Rattle.wy_judge.proofs.walk.make_room.Goals as goal
 
 pub loop-table-preserved : goal.loop-table-preserved
 loop-table-preserved c =

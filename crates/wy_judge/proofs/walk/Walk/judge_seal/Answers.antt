@@ -1,0 +1,45 @@
+use Rattle.std.proofs.Common.{◌≡◌, ◌↔◌, sym, subst, ◌∙◌, true}
+use Rattle.wy_types.specs.declared.types.TypeRef.TheVariants.{Named, Own}
+use Rattle.wy_types.specs.Fitting.{IsTypeOf}
+use Rattle.wy_types.specs.Program.{program_of, scope_of}
+use Rattle.wy_subtype.specs.Decided.{About}
+use Rattle.wy_subtype.specs.Verdict.{IsSubtypeIn}
+use Rattle.wy_judge.specs.Targets.{about_of}
+use Rattle.wy_judge.specs.Walking.{IsSealFault}
+use Rattle.wy_judge.proofs.Asked.{asked_type}
+use Rattle.wy_judge.proofs.Contexts.{own_in_range, sealed_in_range, scope_fits}
+use Rattle.wy_judge.proofs.Results.{passed_weaker}
+use Rattle.wy_judge.proofs.ScopeParts.{never_sealed, sealed_as}
+use Rattle.wy_judge.proofs.walk.Walk.judge_seal.Goals as goal
+
+pub holds-requires-clause-left : goal.holds-requires-clause-left
+holds-requires-clause-left c =
+    let p = program_of c.args.self.now.core.now in
+    let k = c.args.self.now.number in
+    let s = scope_of c.args.self.now.scope.now in
+    asked_type p k _ c.args.pairs.now.about c.requires.asks (Own 0) (own_in_range p k s c.requires.walk.context 0 (scope_fits p k s c.requires.walk.context).own_literal)
+
+pub holds-requires-clause-right : goal.holds-requires-clause-right
+holds-requires-clause-right c =
+    let p = program_of c.args.self.now.core.now in
+    let k = c.args.self.now.number in
+    let s = scope_of c.args.self.now.scope.now in
+    let sets = c.in_ok-copy_sets.ensures ∙ c.as_slice.ensures in
+    subst (λ m. IsTypeOf c.args.pairs.now.about.program c.args.pairs.now.about.scope (Named c.in-Some.decl m)) (sym sets)
+    (asked_type p k _ c.args.pairs.now.about c.requires.asks (Named c.in-Some.decl s.definitions) (sealed_in_range p k s c.requires.walk.context c.in-Some.decl c.in-Some.is))
+
+pub returns-in_default : goal.returns-in_default
+returns-in_default c = never_sealed (program_of c.args.self.now.core.now) c.args.self.now.number (scope_of c.args.self.now.scope.now) c.in_default.not-Some
+
+pub returns : goal.returns
+returns c =
+    let p = program_of c.args.self.now.core.now in
+    let k = c.args.self.now.number in
+    let s = scope_of c.args.self.now.scope.now in
+    let members = c.in_ok-copy_sets.field-0 in
+    let below = c.in_ok-below.below in
+    let same : (below ≡ true) ↔ IsSubtypeIn p k (about_of p k s).mode (Own 0) (Named c.in-Some.decl members) =
+    subst (λ (a : About). (below ≡ true) ↔ IsSubtypeIn a.program a.scope a.mode (Own 0) (Named c.in-Some.decl members)) c.requires.asks c.in_ok-below.ensures.exact in
+    passed_weaker c.stop_at.result (λ o. o ≡ c.unless_below.result) (λ o. IsSealFault p k s o)
+    (λ o e. sealed_as p k s c.requires.walk.context c.in-Some.decl members below o c.in-Some.is (c.in_ok-copy_sets.ensures ∙ c.as_slice.ensures) same (e ∙ c.unless_below.ensures))
+    c.stop_at.ensures
