@@ -1,6 +1,7 @@
-"""The gate, .ci/run: it ends as rt ci does, then as the checks behind it do, and its last line is that of rt ci."""
+"""The gate, .ci/run: it ends as rt ci does, then as the checks behind it do, each line says when it came, and the last is that of rt ci alone."""
 
 import os
+import re
 import shutil
 import subprocess
 
@@ -15,13 +16,13 @@ class Gate(ToolTest):
         shutil.copy(os.path.join(TOP, ".ci", "run"), os.path.join(self.room, ".ci", "run"))
         env = {**os.environ, "PATH": f"{self.room}/bin:{os.environ['PATH']}"}
         ran = subprocess.run([os.path.join(self.room, ".ci", "run")], capture_output=True, text=True, env=env)
-        return ran.returncode, ran.stdout.splitlines()
+        return ran.returncode, [re.sub(r"^ *\d+:\d\d ", "at ", line) for line in ran.stdout.splitlines()]
 
     def test_both_pass(self):
-        self.assertEqual(self.gate(0, 0), (0, ["3 passed, 0 failed", "checks --after-gate", "3 passed, 0 failed"]))
+        self.assertEqual(self.gate(0, 0), (0, ["at 3 passed, 0 failed", "at checks --after-gate", "3 passed, 0 failed"]))
 
     def test_where_rt_ci_fails_nothing_is_checked(self):
-        self.assertEqual(self.gate(2, 0), (2, ["3 passed, 0 failed"]))
+        self.assertEqual(self.gate(2, 0), (2, ["at 3 passed, 0 failed"]))
 
     def test_where_the_checks_fail_the_gate_fails(self):
-        self.assertEqual(self.gate(0, 1), (1, ["3 passed, 0 failed", "checks --after-gate"]))
+        self.assertEqual(self.gate(0, 1), (1, ["at 3 passed, 0 failed", "at checks --after-gate"]))
