@@ -10,6 +10,7 @@ pub mod Lines
 pub mod Loads
 pub mod Lookups
 pub mod ObjectSteps
+pub mod ObservedRuns
 pub mod Operating
 pub mod OperatorSteps
 pub mod Quiet
@@ -18,6 +19,6 @@ pub mod Refusals
 pub mod Rooms
 pub mod Showings
 pub mod StartSteps
+pub mod Telling
 pub mod TextBuilders
 pub mod TracedRuns
-pub mod TracedSteps
