@@ -1,12 +1,12 @@
 -- Runs before an observer.
-use Rattle.std.proofs.Common.{◌≡◌, ◌≤◌, ◌<◌, ℕ, false, ◌+◌, List, [], ◌∷◌, ◌++◌, Result, Ok, Err, refl, sym, ap, ap₂, ◌∙◌, subst, arith, append_assoc, append-nil, ◌⊎◌, inl, inr}
+use Rattle.std.proofs.Common.{◌≡◌, ◌≤◌, ◌<◌, ℕ, false, ◌+◌, List, [], ◌∷◌, ◌++◌, Result, Ok, Err, refl, sym, ap, ap₂, ◌∙◌, subst, arith, append_assoc, inl, inr}
 use Rattle.wy_device.specs.declared.deed.Event.{Event}
 use Rattle.wy_device.specs.Devices.{DevicesState}
 use Rattle.wy_device.specs.RunEnds as ends
 use Rattle.wy_code.specs.declared.code.Code.{Code}
 use Rattle.wy_machine.specs.declared.run_end.RunEnd.{RunEnd}
 use Rattle.wy_machine.specs.declared.run_end.RunEnd.TheVariants.{Ended, Trap, TooDeep, Spent, DeviceFailed, SinkFailed, Memory}
-use Rattle.wy_machine.specs.Observing.{Told, event_told, events_told, HeardAll, HeardSome, IsHeardStep, IsCutStep, IsObserved, RunsTold}
+use Rattle.wy_machine.specs.Observing.{Told, event_told, events_told, HeardAll, HeardSome, IsObserved, RunsTold}
 use Rattle.wy_machine.specs.Runs.{RunsTo, EndsIn}
 use Rattle.wy_machine.specs.Stacks.{StackState}
 use Rattle.wy_machine.specs.Steps.{stepping, starting, IsStep}

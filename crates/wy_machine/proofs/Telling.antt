@@ -1,5 +1,5 @@
 -- Steps before an observer, which is told of their events.
-use Rattle.std.proofs.Common.{◌≡◌, Bool, true, List, [], ◌∷◌, ◌++◌, Some, Result, Ok, Err, refl, sym, ap, ◌∙◌, subst, ◌⊎◌, inl, inr, ℕ, ◌+◌}
+use Rattle.std.proofs.Common.{◌≡◌, Bool, true, List, [], ◌∷◌, ◌++◌, Some, Result, Ok, Err, refl, sym, ap, ◌∙◌, subst, inl, inr, ℕ, ◌+◌}
 use Rattle.std.specs.Prelude.{IfErr, IsErrAnd, slice_get}
 use Rattle.wy_text.specs.declared.fault.Place.{Place}
 use Rattle.wy_device.specs.declared.deed.Deed.{Deed as DeedRecord}
@@ -18,7 +18,7 @@ use Rattle.wy_machine.specs.declared.run_end.RunEnd.TheVariants.{Ended, Trap, Me
 use Rattle.wy_machine.specs.declared.run_end.TrapKind.{TrapKind}
 use Rattle.wy_machine.specs.Runs.{AreSameDevices}
 use Rattle.wy_machine.specs.TrapKinds.{trap_meant}
-use Rattle.wy_machine.specs.Observing.{Told, Left, Did, event_told, events_told, entering, ArePlaced, HeardAll, HeardSome, IsHeardStep, IsCutStep, IsObserved}
+use Rattle.wy_machine.specs.Observing.{Told, Left, Did, event_told, events_told, entering, ArePlaced, HeardAll, HeardSome, IsHeardStep, IsObserved}
 use Rattle.wy_machine.specs.Stacks.{StackState, at_address}
 use Rattle.wy_machine.specs.States.{body_at}
 use Rattle.wy_machine.specs.Steps.{acting, stepping, AreQuiet, IsStep}

@@ -1,6 +1,6 @@
 -- Runs whose observer writes lines, and runs whose observer does nothing.
-use Rattle.std.proofs.Common.{◌≡◌, ◌≤◌, ℕ, List, [], ◌∷◌, ◌++◌, Result, Ok, Err, refl, sym, ap, ◌∙◌, subst, arith, ◌⊎◌, inl, inr}
-use Rattle.wy_text.specs.Outside.{SinkState, Rose}
+use Rattle.std.proofs.Common.{◌≡◌, ◌≤◌, ℕ, List, [], ◌∷◌, Result, Ok, Err, sym, ap, ◌∙◌, subst, arith, ◌⊎◌, inl, inr}
+use Rattle.wy_text.specs.Outside.{SinkState}
 use Rattle.wy_text.proofs.Gains.{rose_later}
 use Rattle.wy_device.specs.declared.deed.Event.{Event}
 use Rattle.wy_device.specs.Devices.{DevicesState}

@@ -1,4 +1,4 @@
-use Rattle.std.proofs.Common.{sym, ap, ◌∙◌, subst}
+use Rattle.std.proofs.Common.{sym, subst}
 use Rattle.wy_machine.specs.Stacks.{StackState}
 use Rattle.wy_machine.specs.Steps.{acting, stepping, IsNotStuck}
 use Rattle.wy_machine.proofs.Fetching.{next_there, fetched}
