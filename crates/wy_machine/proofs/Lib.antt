@@ -5,10 +5,12 @@ pub mod Cuts
 pub mod DeedSteps
 pub mod Fetching
 pub mod FirstSteps
+pub mod Following
 pub mod Leading
 pub mod Lines
 pub mod Loads
 pub mod Lookups
+pub mod Nesting
 pub mod ObjectSteps
 pub mod ObservedRuns
 pub mod Operating
@@ -22,3 +24,4 @@ pub mod StartSteps
 pub mod Telling
 pub mod TextBuilders
 pub mod TracedRuns
+pub mod UsedRuns

@@ -1,18 +1,23 @@
 -- Runs before an observer.
-use Rattle.std.proofs.Common.{◌≡◌, ◌≤◌, ◌<◌, ℕ, false, ◌+◌, List, [], ◌∷◌, ◌++◌, Result, Ok, Err, refl, sym, ap, ap₂, ◌∙◌, subst, arith, append_assoc, inl, inr}
+use Rattle.std.proofs.Common.{Option, ◌≡◌, ◌≤◌, ◌<◌, ℕ, false, ◌+◌, List, [], ◌∷◌, ◌++◌, Result, Ok, Err, refl, sym, ap, ap₂, ◌∙◌, subst, arith, append_assoc, inl, inr}
 use Rattle.wy_device.specs.declared.deed.Event.{Event}
 use Rattle.wy_device.specs.Devices.{DevicesState}
 use Rattle.wy_device.specs.RunEnds as ends
+use Rattle.wy_meaning.specs.Bounds.{Call}
+use Rattle.wy_meaning.specs.OpenCalls.{open_after}
 use Rattle.wy_code.specs.declared.code.Code.{Code}
 use Rattle.wy_machine.specs.declared.run_end.RunEnd.{RunEnd}
 use Rattle.wy_machine.specs.declared.run_end.RunEnd.TheVariants.{Ended, Trap, TooDeep, Spent, DeviceFailed, SinkFailed, Memory}
-use Rattle.wy_machine.specs.Observing.{Told, event_told, events_told, HeardAll, HeardSome, IsObserved, RunsTold}
+use Rattle.wy_machine.specs.Observing.{AreFollowed, Told, event_told, events_told, HeardAll, HeardSome, IsObserved, RunsTold}
 use Rattle.wy_machine.specs.Runs.{RunsTo, EndsIn}
 use Rattle.wy_machine.specs.Stacks.{StackState}
 use Rattle.wy_machine.specs.Steps.{stepping, starting, IsStep}
 use Rattle.wy_machine.specs.StoreStates.{StoreState}
 use Rattle.wy_machine.specs.Traces.{HappenedIn}
 use Rattle.wy_machine.specs.Wanting.{next_takes, WantsOnly}
+use Rattle.wy_machine.proofs.Following.{open_in, IsOpen, followed_on, followed_last, followed_after, first_nested, next_nested, first_open, next_open}
+use Rattle.wy_machine.proofs.Nesting.{opens_after, IsFew}
+use Rattle.wy_machine.proofs.Showings.{Enter, shows_first, events_are}
 use Rattle.wy_machine.proofs.FirstSteps.{leads_first, halts_first}
 use Rattle.wy_machine.proofs.Leading.{Leads, leads_more, halts_to, spent_to, spent_now, ends_to, did_after, same_after, fault_after}
 
@@ -22,6 +27,9 @@ use Rattle.wy_machine.proofs.Leading.{Leads, leads_more, halts_to, spent_to, spe
 pub told-append : (ts us : List Told) → events_told (ts ++ us) ≡ events_told ts ++ events_told us
 told-append [] us = refl
 told-append (t ∷ ts) us = ap (λ es. event_told t ∷ es) (told-append ts us)
+
+no_event : (e : Event) (es : List Event) → e ∷ es ≡ [] → ⊥
+no_event e es p = cc
 
 module _ {X : Type 0} (hears : Told → X → X → Result (Unit {0}) RunEnd → Type 0) where
   pub heard_after : (ts us : List Told) (a b c : X) → HeardAll hears ts a b → HeardAll hears us b c → HeardAll hears (ts ++ us) a c
@@ -53,6 +61,8 @@ module _ {X : Type 0} (hears : Told → X → X → Result (Unit {0}) RunEnd →
     pub leads : Leads code depth q s w old new
     pub told : List Told
     pub are : events_told told ≡ leads.events
+    pub followed : AreFollowed code depth [] told
+    pub opened : IsOpen code s leads.events
     pub heard : HeardAll hears told a b
 
   module _ (code : Code) (depth : ℕ) where
@@ -65,7 +75,16 @@ module _ {X : Type 0} (hears : Told → X → X → Result (Unit {0}) RunEnd →
 
     module _ (x : ℕ) (s : StackState) (w : StoreState) (d : DevicesState) (a b : X) where
       pub leads_heard_first : IsObserved hears code x s w (starting code) false d d a b (Ok tt) → LeadsHeard code depth 0 s w d d a b
-      leads_heard_first h = record { leads = leads_first code depth s w d d h.step; told = h.told; are = h.are; heard = h.heard }
+      leads_heard_first h =
+          let nested = first_nested code depth s w d d h.step in
+          record {
+            leads = leads_first code depth s w d d h.step;
+            told = h.told;
+            are = h.are;
+            followed = followed_on code depth x s h.told [] [] refl tt (subst (λ es. open_in code s ≡ opens_after [] es) (sym h.are) nested.0) (subst (λ es. IsFew {A = Option Call} depth [] es) (sym h.are) nested.1) h.placed;
+            opened = first_open code s h.step.events nested.0;
+            heard = h.heard;
+          }
 
       module _ (k : ℕ) where
         happened_first : (own : Result (Unit {0}) RunEnd) (end : RunEnd) (h : IsStep code s w (starting code) d d own) → HeardSome hears h.events a b end → HappenedIn code depth k h.events
@@ -87,26 +106,40 @@ module _ {X : Type 0} (hears : Told → X → X → Result (Unit {0}) RunEnd →
         ends_first SinkFailed h wants = absurd h.comes
         ends_first Memory h wants = cc
 
+        -- nothing is told where nothing starts
+        first_followed : (end : RunEnd) (h : IsStep code s w (starting code) d d (Err end)) (ts : List Told) → events_told ts ≡ h.events → WantsOnly false (Err end) → AreFollowed code depth [] ts
+        first_followed end h [] e wants = tt
+        first_followed end h (t ∷ ts) e wants = absurd (no_event (event_told t) (events_told ts) (e ∙ events_are code s w (starting code) d d Enter (shows_first code) (Err end) h))
+
         pub start_heard_stops : (end : RunEnd) → IsObserved hears code x s w (starting code) false d d a b (Err end) → RunsTold hears code depth k d d a b end
         start_heard_stops end (inl h) =
-            record { events = h.step.events; did = h.step.did; same = h.step.same; comes = inl (record { ends = ends_first end h.step h.wants; failed = h.step.failed; told = h.told; are = h.are; heard = h.heard }) }
+            record { events = h.step.events; did = h.step.did; same = h.step.same; comes = inl (record { ends = ends_first end h.step h.wants; failed = h.step.failed; told = h.told; are = h.are; followed = first_followed end h.step h.told h.are h.wants; heard = h.heard }) }
         start_heard_stops end (inr h) =
             record { events = h.step.events; did = h.step.did; same = h.step.same; comes = inr (record { happened = happened_first h.own end h.step h.heard; heard = h.heard }) }
 
     ------------------------------------------------------------
     -- One step more
 
-    module _ (old mid new : DevicesState) (q x : ℕ) (s s' : StackState) (w w' : StoreState) (a b c : X) (l : LeadsHeard code depth q s w old mid a b) where
+    module _ (old mid new : DevicesState) (q : ℕ) (s s' : StackState) (w w' : StoreState) (a b c : X) (l : LeadsHeard code depth q s w old mid a b) where
       same_events : (ts : List Told) (es : List Event) → events_told ts ≡ es → events_told (l.told ++ ts) ≡ l.leads.events ++ es
       same_events ts es e = told-append l.told ts ∙ ap₂ (λ xs ys. xs ++ ys) l.are e
 
-      pub leads_heard_more : IsObserved hears code x s' w' (stepping code depth s w) (next_takes code s) mid new b c (Ok tt) → LeadsHeard code depth (q + 1) s' w' old new a c
-      leads_heard_more h = record {
-        leads = leads_more code depth old q s s' w w' mid new l.leads h.step;
-        told = l.told ++ h.told;
-        are = same_events h.told h.step.events h.are;
-        heard = heard_after l.told h.told a b c l.heard h.heard;
-      }
+      then_followed : (ts : List Told) → AreFollowed code depth (open_after [] l.leads.events) ts → AreFollowed code depth [] (l.told ++ ts)
+      then_followed ts h = followed_after code depth l.told ts [] l.followed (subst (λ es. AreFollowed code depth (open_after [] es) ts) (sym l.are) h)
+
+      pub leads_heard_more : IsObserved hears code s.running.instance s' w' (stepping code depth s w) (next_takes code s) mid new b c (Ok tt) → LeadsHeard code depth (q + 1) s' w' old new a c
+      leads_heard_more h =
+          let nested = next_nested code depth s' w' mid new s w h.step in
+          record {
+            leads = leads_more code depth old q s s' w w' mid new l.leads h.step;
+            told = l.told ++ h.told;
+            are = same_events h.told h.step.events h.are;
+            followed = then_followed h.told
+                (followed_on code depth s.running.instance s' h.told (open_in code s) (open_after [] l.leads.events) l.opened (_, refl)
+                (subst (λ es. open_in code s' ≡ opens_after (open_in code s) es) (sym h.are) nested.0) (subst (IsFew depth (open_in code s)) (sym h.are) nested.1) h.placed);
+            opened = next_open code s s' l.leads.events h.step.events l.opened nested.0;
+            heard = heard_after l.told h.told a b c l.heard h.heard;
+          }
 
       module _ (k : ℕ) (lt : q < k) where
         happened_more : (own : Result (Unit {0}) RunEnd) (h : IsStep code s' w' (stepping code depth s w) mid new own) → HappenedIn code depth k (l.leads.events ++ h.events)
@@ -121,7 +154,7 @@ module _ {X : Type 0} (hears : Told → X → X → Result (Unit {0}) RunEnd →
         happened_more (Err SinkFailed) h = absurd h.comes
         happened_more (Err Memory) h = let few : q ≤ k = omega (arith, lt) in record { steps = q; few = few; end = ends.Spent; runs = spent_to code depth old q s w mid l.leads h.events h.comes }
 
-        pub heard_stops : (end : RunEnd) → IsObserved hears code x s' w' (stepping code depth s w) (next_takes code s) mid new b c (Err end) → RunsTold hears code depth k old new a c end
+        pub heard_stops : (end : RunEnd) → IsObserved hears code s.running.instance s' w' (stepping code depth s w) (next_takes code s) mid new b c (Err end) → RunsTold hears code depth k old new a c end
         heard_stops end (inl h) = record {
           events = l.leads.events ++ h.step.events;
           did = did_after old mid new l.leads.events h.step.events l.leads.did h.step.did;
@@ -131,6 +164,7 @@ module _ {X : Type 0} (hears : Told → X → X → Result (Unit {0}) RunEnd →
             failed = fault_after old mid new l.leads.same h.step.same end h.step.failed;
             told = l.told ++ h.told;
             are = same_events h.told h.step.events h.are;
+            followed = then_followed h.told (followed_last code depth s.running.instance s'.running.instance end h.told _ _ (open_after [] l.leads.events) l.opened (_, refl) h.placed);
             heard = heard_after l.told h.told a b c l.heard h.heard;
           });
         }
@@ -149,5 +183,5 @@ module _ {X : Type 0} (hears : Told → X → X → Result (Unit {0}) RunEnd →
       events = l.leads.events;
       did = l.leads.did;
       same = l.leads.same;
-      comes = inl (record { ends = spent_now code depth old k s w new l.leads; failed = tt; told = l.told; are = l.are; heard = l.heard });
+      comes = inl (record { ends = spent_now code depth old k s w new l.leads; failed = tt; told = l.told; are = l.are; followed = l.followed; heard = l.heard });
     }

@@ -30,7 +30,7 @@ use Rattle.wy_machine.proofs.Showings.{Nothing, Enter, Leave, LeaveAndStart, Sho
 
 module _ {X : Type 0} (hears : Told → X → X → Result (Unit {0}) RunEnd → Type 0) (code : Code) (x : ℕ) (s : StackState) (w : StoreState) (next : Tapes → Next) (taken : Bool) (old new : DevicesState) where
   -- a step whose events were all told
-  pub told_all : (ts : List Told) (a b : X) (r : Result (Unit {0}) RunEnd) (h : IsStep code s w next old new r) → events_told ts ≡ h.events → ArePlaced code x ts → HeardAll hears ts a b → WantsOnly taken r →
+  pub told_all : (ts : List Told) (a b : X) (r : Result (Unit {0}) RunEnd) (h : IsStep code s w next old new r) → events_told ts ≡ h.events → ArePlaced x s.running.instance r ts → HeardAll hears ts a b → WantsOnly taken r →
       IsObserved hears code x s w next taken old new a b r
   told_all ts a b (Ok u) h are placed heard wants = record { step = h; told = ts; are = are; placed = placed; heard = heard; wants = wants }
   told_all ts a b (Err end) h are placed heard wants = inl (record { step = h; told = ts; are = are; placed = placed; heard = heard; wants = wants })
@@ -49,7 +49,7 @@ module _ {X : Type 0} (hears : Told → X → X → Result (Unit {0}) RunEnd →
   })
 
   -- the last event of a step that went on
-  pub told_last : (ts : List Told) (t : Told) (a m b : X) (h : IsStep code s w next old new (Ok tt)) → h.events ≡ events_told ts ++ (event_told t ∷ []) → ArePlaced code x (ts ++ t ∷ []) → HeardAll hears ts a m →
+  pub told_last : (ts : List Told) (t : Told) (a m b : X) (h : IsStep code s w next old new (Ok tt)) → h.events ≡ events_told ts ++ (event_told t ∷ []) → ArePlaced x s.running.instance (Ok tt) (ts ++ t ∷ []) → HeardAll hears ts a m →
       (r : Result (Unit {0}) RunEnd) → hears t m b r → IsObserved hears code x s w next taken old new a b r
   told_last ts t a m b h split placed heard (Ok u) last = told_all (ts ++ t ∷ []) a b (Ok u) h (told-append ts (t ∷ []) ∙ sym split) placed (heard-append ts a m heard last) tt
     where
@@ -85,7 +85,7 @@ module _ {X : Type 0} (hears : Told → X → X → Result (Unit {0}) RunEnd →
   pub told_entry : Shows code Enter next → (h : IsStep code s w next old new (Ok tt)) (instance body : ℕ) → instance ≡ s.running.instance → body ≡ s.running.body → (a b : X) (r : Result (Unit {0}) RunEnd) → hears (entering code instance body) a b r →
       IsObserved hears code x s w next taken old new a b r
   told_entry shows h instance body e f a b r heard =
-      told_last [] (entering code s.running.instance s.running.body) a a b h (events_are code s w next old new Enter shows (Ok tt) h) (refl, tt) refl r
+      told_last [] (entering code s.running.instance s.running.body) a a b h (events_are code s w next old new Enter shows (Ok tt) h) refl refl r
       (subst (λ i. hears (entering code i s.running.body) a b r) e (subst (λ j. hears (entering code instance j) a b r) f heard))
 
   -- none is, as the run ends
@@ -96,7 +96,7 @@ module _ {X : Type 0} (hears : Told → X → X → Result (Unit {0}) RunEnd →
 
   -- a body is left
   pub told_leave : Shows code Leave next → (h : IsStep code s w next old new (Ok tt)) (instance : ℕ) → instance ≡ x → (a b : X) (r : Result (Unit {0}) RunEnd) → hears (Left instance) a b r → IsObserved hears code x s w next taken old new a b r
-  told_leave shows h instance e a b r heard = told_last [] (Left instance) a a b h (events_are code s w next old new Leave shows (Ok tt) h) (e, tt) refl r heard
+  told_leave shows h instance e a b r heard = told_last [] (Left instance) a a b h (events_are code s w next old new Leave shows (Ok tt) h) e refl r heard
 
   module _ (shows : Shows code LeaveAndStart next) (instance : ℕ) (here : instance ≡ x) where
     enter_quiet : (name body : List ℕ) → AreQuiet (event.Enter name body ∷ [])
@@ -106,7 +106,7 @@ module _ {X : Type 0} (hears : Told → X → X → Result (Unit {0}) RunEnd →
     pub told_both : (h : IsStep code s w next old new (Ok tt)) (later body : ℕ) → later ≡ s.running.instance → body ≡ s.running.body → (a m b : X) → hears (Left instance) a m (Ok tt) → (r : Result (Unit {0}) RunEnd) → hears (entering code later body) m b r →
         IsObserved hears code x s w next taken old new a b r
     told_both h later body e f a m b first r second =
-        told_last (Left instance ∷ []) (entering code s.running.instance s.running.body) a m b h (events_are code s w next old new LeaveAndStart shows (Ok tt) h) (here, (refl, tt)) (m, first, refl) r
+        told_last (Left instance ∷ []) (entering code s.running.instance s.running.body) a m b h (events_are code s w next old new LeaveAndStart shows (Ok tt) h) (here, refl) (m, first, refl) r
         (subst (λ i. hears (entering code i s.running.body) m b r) e (subst (λ j. hears (entering code later j) m b r) f second))
 
     -- .. or the run ends
@@ -116,7 +116,7 @@ module _ {X : Type 0} (hears : Told → X → X → Result (Unit {0}) RunEnd →
         let e : own ≡ end = cc in
         let h' = subst (λ e. IsStep code s w next old new (Err e)) only h in
         subst (λ end. IsObserved hears code x s w next taken old new a b (Err end)) (sym only ∙ e)
-        (told_all (Left instance ∷ []) a b (Err Ended) h' (sym (events_are code s w next old new LeaveAndStart shows (Err Ended) h')) (here, tt) (b, first, refl) tt)
+        (told_all (Left instance ∷ []) a b (Err Ended) h' (sym (events_are code s w next old new LeaveAndStart shows (Err Ended) h')) here (b, first, refl) tt)
 
     -- .. or the observer ends it
     pub told_cut : (own : Result (Unit {0}) RunEnd) → (h : IsStep code s w next old new own) → IfErr own (λ e. e ≡ Ended) → (a b : X) (end : RunEnd) → hears (Left instance) a b (Err end) → IsObserved hears code x s w next taken old new a b (Err end)

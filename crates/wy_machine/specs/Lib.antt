@@ -5,6 +5,7 @@ pub mod Requesting
 pub mod Devices
 pub mod Loading
 pub mod Runs
+pub mod Observed
 pub mod Observing
 pub mod Stacks
 pub mod States

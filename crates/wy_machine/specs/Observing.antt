@@ -1,5 +1,7 @@
 -- What an observer of a run is told, and how steps and runs come out before one. (docs/LANGUAGE.md, "Events")
-use Rattle.std.specs.Prelude.{◌≡◌, ℕ, Bool, List, [], ◌∷◌, ◌++◌, ◌⊎◌, Result, Ok, Err, ⊤, slice_get}
+use Rattle.std.specs.Prelude.{◌≡◌, ◌≤◌, ℕ, Bool, List, [], ◌∷◌, ◌++◌, length, map, ◌⊎◌, Some, Result, Ok, Err, ⊤, slice_get}
+use Rattle.wy_meaning.specs.Bounds.{Call}
+use Rattle.wy_code.specs.declared.code.Instance.{Instance}
 use Rattle.wy_device.specs.declared.deed.Deed.{Deed as DeedRecord}
 use Rattle.wy_device.specs.declared.deed.Event.{Event}
 use Rattle.wy_device.specs.declared.deed.Event.TheVariants.{Enter, Leave, Deed}
@@ -38,12 +40,29 @@ events_told (t ∷ ts) = event_told t ∷ events_told ts
 abbrev pub entering : Code → ℕ → ℕ → Told
 entering code instance body = Entered instance (name_in (slice_get (all_instances code) instance)) (body_at code body).name
 
--- each instance that is entered has its name, and those that are left are all this one
-abbrev pub ArePlaced : Code → ℕ → List Told → Type 0
-ArePlaced code x [] = ⊤
-ArePlaced code x (Entered instance name body ∷ ts) = (name ≡ name_in (slice_get (all_instances code) instance)) × ArePlaced code x ts
-ArePlaced code x (Left instance ∷ ts) = (instance ≡ x) × ArePlaced code x ts
-ArePlaced code x (Did deed ∷ ts) = ArePlaced code x ts
+-- what a step tells that goes from a body of an instance to one of another, or ends the run: nothing, a deed, that a body
+-- is left, that one is entered, or both
+abbrev pub ArePlaced : ℕ → ℕ → Result (Unit {0}) RunEnd → List Told → Type 0
+ArePlaced x y own [] = ⊤
+ArePlaced x y own (Did deed ∷ []) = ⊤
+ArePlaced x y own (Left instance ∷ []) = instance ≡ x
+ArePlaced x y (Ok u) (Entered instance name body ∷ []) = instance ≡ y
+ArePlaced x y (Ok u) (Left instance ∷ Entered next name body ∷ []) = (instance ≡ x) × (next ≡ y)
+ArePlaced x y own ts = ⊥
+
+-- the names of the instances in start order, and then of the program
+abbrev pub instance_names : Code → List (List ℕ)
+instance_names code = map (λ (i : Instance). i.name) (all_instances code)
+
+-- with these calls open before, each instance that is entered or left has the name of its call, and at most n calls are
+-- open where another one is entered
+abbrev pub AreFollowed : Code → ℕ → List Call → List Told → Type 0
+AreFollowed code n calls [] = ⊤
+AreFollowed code n calls (Entered instance name body ∷ ts) =
+    (slice_get (instance_names code) instance ≡ Some name) × (length calls ≤ n) × AreFollowed code n (record { instance = name; body = body } ∷ calls) ts
+AreFollowed code n [] (Left instance ∷ ts) = ⊥
+AreFollowed code n (call ∷ calls) (Left instance ∷ ts) = (slice_get (instance_names code) instance ≡ Some call.instance) × AreFollowed code n calls ts
+AreFollowed code n calls (Did deed ∷ ts) = AreFollowed code n calls ts
 
 -- an observer that hears so was told of these, one after the other, and lets the run go on
 abbrev pub HeardAll : {X : Type 0} → (Told → X → X → Result (Unit {0}) RunEnd → Type 0) → List Told → X → X → Type 0
@@ -70,7 +89,7 @@ pub record IsHeardStep {X : Type 0} (hears : Told → X → X → Result (Unit {
   pub step : IsStep code s w next old new own
   pub told : List Told
   pub are : events_told told ≡ step.events
-  pub placed : ArePlaced code x told
+  pub placed : ArePlaced x s.running.instance own told
   pub heard : HeardAll hears told a b
   pub wants : WantsOnly taken own
 
@@ -94,6 +113,7 @@ pub record IsHeardRun {X : Type 0} (hears : Told → X → X → Result (Unit {0
   pub failed : FailsByFault old new end
   pub told : List Told
   pub are : events_told told ≡ events
+  pub followed : AreFollowed code depth [] told
   pub heard : HeardAll hears told a b
 
 -- a run at one of whose events the observer ended it

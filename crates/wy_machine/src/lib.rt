@@ -26,4 +26,5 @@ mod step;
 mod store;
 mod texts;
 mod tracing;
+mod using;
 mod word;

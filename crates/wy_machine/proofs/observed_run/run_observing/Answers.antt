@@ -38,7 +38,7 @@ returns-then-not-step-clause-runs g c =
     let mid = states g.D.Device.state c.loop-done.devices in
     let new = states g.D.Device.state c.step.new.devices in
     let stopped = ap (λ went. outcome went c.step.new.end) (sym c.if-not-step.true) in
-    heard_stops g.W.Observer.hears c.args.code.now c.args.depth old mid new c.loop-done.done _ _ _ _ _ _ _ _ c.loop-done.invariant.leads c.args.steps c.loop-done-test.true c.step.new.end
+    heard_stops g.W.Observer.hears c.args.code.now c.args.depth old mid new c.loop-done.done _ _ _ _ _ _ _ c.loop-done.invariant.leads c.args.steps c.loop-done-test.true c.step.new.end
     (observed_so g.W.Observer.hears c.args.code.now _ _ _ _ _ mid new _ _ _ _ stopped c.step.ensures.step)
 
 pub loop-done-preserved : goal.loop-done-preserved
@@ -48,7 +48,7 @@ loop-done-preserved g c =
     let new = states g.D.Device.state c.step.new.devices in
     let went = ap (λ went. outcome went c.step.new.end) (sym c.if-not-step.false) in
     record {
-      leads = leads_heard_more g.W.Observer.hears c.args.code.now c.args.depth old mid new c.loop-done.done _ _ _ _ _ _ _ _ c.loop-done.invariant.leads
+      leads = leads_heard_more g.W.Observer.hears c.args.code.now c.args.depth old mid new c.loop-done.done _ _ _ _ _ _ _ c.loop-done.invariant.leads
           (observed_so g.W.Observer.hears c.args.code.now _ _ _ _ _ mid new _ _ _ _ went c.step.ensures.step);
       limits = c.step.ensures.limits ∙ c.loop-done.invariant.limits;
       first = c.step.ensures.first ∙ c.loop-done.invariant.first;
