@@ -3,3 +3,4 @@ pub mod Judging
 pub mod Laws
 pub mod Policy
 pub mod Reading
+pub mod Used
