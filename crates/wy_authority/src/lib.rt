@@ -7,5 +7,5 @@ mod report_text;
 mod rows;
 
 pub use body_rows::{authority, bound};
-pub use report_text::{report, write_report};
+pub use report_text::{push_set, report, whole_set, write_report};
 pub use rows::{Authority, BodyRow, InstanceRow};

@@ -16,8 +16,9 @@ use wy_text::sink::{Sink, WriteError};
 use wy_text::text::{Memory, Text, from_vec};
 use wy_text::writing::write_all;
 
-/// The authority of all these bodies.
-fn whole_set(alloc: Global, bodies: &[BodyRow]) -> Result<EffSet, Memory>
+/// All that an instance of these bodies may do: the union of what each of them may (docs/LANGUAGE.md, "Authority and report"). `Err`
+/// comes only where memory is wanting.
+pub fn whole_set(alloc: Global, bodies: &[BodyRow]) -> Result<EffSet, Memory>
     ensures { IfOk result (λ s. s ≡ whole_set bodies.now) }
 {
     let mut whole = EffSet::empty(alloc);
@@ -52,7 +53,9 @@ fn push_others(text: &mut Vec<u8>, atoms: &[AtomName], others: &[Atom]) -> Resul
     Ok(())
 }
 
-fn push_set(text: &mut Vec<u8>, atoms: &[AtomName], set: &EffSet) -> Result<(), Memory>
+/// Adds a set as the report prints it: a dash where it is empty, else the names of its atoms, by their numbers, with commas between
+/// (docs/LANGUAGE.md, "Authority and report"). `Err` comes only where memory is wanting.
+pub fn push_set(text: &mut Vec<u8>, atoms: &[AtomName], set: &EffSet) -> Result<(), Memory>
     ensures { OnOk result (text.new.items ≡ text.old.items ++ set_text (named_atoms atoms.now set.now)) }
 {
     let numbers = set.atoms()?;

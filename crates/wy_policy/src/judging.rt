@@ -1,15 +1,13 @@
 ghost use Rattle.std.specs.Prelude.{◌≡◌, ◌∷◌, [], ℕ, List, map, Some, IfOk, slice_index_or};
 ghost use Rattle.std.specs.Option.{option_copied, option_map};
 ghost use Rattle.wy_text.specs.declared.fault.AtomName.{AtomName as NameOfAtom};
-ghost use Rattle.wy_authority.specs.Authority.{whole_set};
 ghost use Rattle.wy_policy.specs.Allowed.{Judges, allows, entry_allows, has_name, row_for};
 ghost use Rattle.wy_policy.specs.Judging as judging;
 
 use crate::policy::{Entry, Judgement, Member, Pattern, Policy, PolicyRow};
 use std::alloc::Global;
-use wy_authority::{Authority, BodyRow, InstanceRow};
+use wy_authority::{Authority, InstanceRow, whole_set};
 use wy_effects::atom::Atom;
-use wy_effects::set::EffSet;
 use wy_text::fault::AtomName;
 use wy_text::list::Items;
 use wy_text::text::{Memory, Text, from_vec};
@@ -149,17 +147,6 @@ fn first_denied(ruling: &Ruling, atoms: &[Atom]) -> Option<Atom>
     first_denied(ruling, rest)
 }
 
-/// All that an instance may do.
-fn authority_of(alloc: Global, bodies: &[BodyRow]) -> Result<EffSet, Memory>
-    ensures { IfOk result (λ s. s ≡ whole_set bodies.now) }
-{
-    let mut whole = EffSet::empty(alloc);
-    for i in (0..bodies.len()).rev() {
-        bodies[i].set.union_into(&mut whole)?;
-    }
-    Ok(whole)
-}
-
 /// The name of an atom.
 fn name_of(alloc: Global, atoms: &[AtomName], atom: Atom) -> Result<AtomName, Memory>
     ensures { IfOk result (λ name. name ≡ slice_index_or atoms.now atom.0 judging.nameless) }
@@ -182,7 +169,7 @@ fn judge_instance(
 ) -> Result<Judgement, Memory>
     ensures { IfOk result (λ j. j ≡ judging.instance_judged atoms.now ruling.now instance.now) }
 {
-    let whole = authority_of(alloc, instance.bodies.as_slice())?;
+    let whole = whole_set(alloc, instance.bodies.as_slice())?;
     let numbers = whole.atoms()?;
     match first_denied(ruling, numbers.as_slice()) {
         None => Ok(Judgement::Allowed),
