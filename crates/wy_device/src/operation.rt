@@ -1,7 +1,7 @@
 //! The kinds of devices, their operations, and the answers.
 
 ghost use Rattle.std.specs.Prelude.{◌≡◌, IfOk};
-ghost use Rattle.wy_device.specs.Operation.{method_text, name_of};
+ghost use Rattle.wy_device.specs.Operation.{member_named, method_text, name_of};
 
 use wy_text::text::{Memory, Text};
 
@@ -102,6 +102,24 @@ impl OpName {
             OpName::FolderNames => "names",
             OpName::ClockNow => "now",
             OpName::RandomWord => "word",
+        }
+    }
+
+    /// The member of the grant's type that is the operation's effect, as `Out`. It takes no memory
+    /// (docs/LANGUAGE.md, "Primitive types").
+    pub fn member(self) -> &'static str
+        ensures { result.now ≡ member_named self }
+    {
+        match self {
+            OpName::ConsoleRead => "In",
+            OpName::ConsoleWrite => "Out",
+            OpName::FolderRead => "Read",
+            OpName::FolderHas => "Read",
+            OpName::FolderWrite => "Write",
+            OpName::FolderAppend => "Append",
+            OpName::FolderNames => "List",
+            OpName::ClockNow => "Tick",
+            OpName::RandomWord => "Draw",
         }
     }
 }

@@ -1,5 +1,5 @@
 -- The bounds of events, tried on examples.
-use Rattle.std.proofs.Common.{codes, ◌≡◌, ◌<◌, ℕ, List, [], ◌∷◌, Option, None, Contains, refl, arith}
+use Rattle.std.proofs.Common.{codes, ◌<◌, ℕ, List, [], ◌∷◌, Option, None, Contains, refl, arith}
 use Rattle.std.proofs.lemmas.List.Elements.{All-cons, All-head, All-nil}
 use Rattle.wy_text.specs.declared.fault.AtomName.{AtomName}
 use Rattle.wy_device.specs.declared.operation.Answer.{Answer}

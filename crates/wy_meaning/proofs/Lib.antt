@@ -8,6 +8,8 @@ mod Examples
 mod ExamplesForms
 mod ExamplesLines
 mod ExamplesRows
+mod ExamplesUsed
 pub mod Programs
 pub mod Rows
 pub mod Taking
+pub mod UsedLemmas

@@ -10,4 +10,5 @@ pub mod Performing
 pub mod Results
 pub mod Start
 pub mod Starts
+pub mod Used
 pub mod Values

@@ -9,6 +9,7 @@ ghost use Rattle.wy_meaning.specs.Laws.{IsCheap, ExtendsOnly, TakesInOrder, Fail
 ghost use Rattle.wy_meaning.specs.Start.{meaning};
 ghost use Rattle.wy_meaning.specs.Starts.{Starts};
 ghost use Rattle.wy_meaning.specs.OpenCalls.{IsSaidOfEachDeed, BoundsBeginnings};
+ghost use Rattle.wy_meaning.specs.Used.{IsSaidOfEachUse};
 
 /// Events are bounded by an authority exactly where each deed among them is in the authority of every
 /// call that is open at it.
@@ -19,6 +20,11 @@ pub fn bounded_is_said_of_each_deed()
 /// What a run does up to some point is bounded where all that it does is.
 pub fn beginnings_are_bounded()
     ensures { (authority : Call → List AtomName) → BoundsBeginnings authority }
+{}
+
+/// An atom was used of an instance exactly where a deed has it at which a call of the instance is open.
+pub fn used_is_said_of_each_deed()
+    ensures { (instance : List ℕ) (events : List Event) (atom : AtomName) → IsSaidOfEachUse instance events atom }
 {}
 
 /// What a program means takes at most four instructions for each node that is evaluated.

@@ -23,7 +23,8 @@ use Rattle.wy_sound.proofs.Lists.{pick_true}
 same_bytes : (xs : List ℕ) → bytes_eq xs xs ≡ true
 same_bytes xs = (bytes_eq-Decides xs xs).1 refl
 
-contains_in : {X : Type 0} (x : X) (xs : List X) → In x xs → Contains xs x
+-- an element is in its list
+pub contains_in : {X : Type 0} (x : X) (xs : List X) → In x xs → Contains xs x
 contains_in x [] i = absurd i
 contains_in x (y ∷ xs) (inl e) = (0, omega arith, e)
 contains_in x (y ∷ xs) (inr i) = let r = contains_in x xs i in (suc r.0, omega (arith, r.1), r.2)

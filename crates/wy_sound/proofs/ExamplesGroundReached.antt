@@ -1,7 +1,6 @@
 -- The types that a run reaches, in a program with a logger: of its console, of its instance and of its program; and lists in which no type stands
 -- twice. No heap that lacks an instance's object is one in which the instance starts.
-use Rattle.std.proofs.Common.{codes, Some, None, ◌≡◌, ℕ, List, [], ◌∷◌, refl, false, true}
-use Rattle.std.specs.Prelude.{slice_get}
+use Rattle.std.proofs.Common.{codes, ◌≡◌, ℕ, [], ◌∷◌, refl, false, true}
 use Rattle.wy_types.specs.declared.types.TypeRef.{TypeRef}
 use Rattle.wy_types.specs.declared.types.TypeRef.TheVariants as of
 use Rattle.wy_types.specs.declared.resolved.Origin.TheVariants.{Parameter, Grant}

@@ -44,3 +44,4 @@ pub mod Running
 pub mod Silence
 pub mod Starting
 mod TellingExamples
+mod UsedAllowed

@@ -225,7 +225,8 @@ module _ (atoms : List AtomName) where
       ap (λ t. if t then body_atoms atoms call.body r.bodies ++ call_atoms atoms call rs else call_atoms atoms call rs)
       (not_equal r.name call.instance (λ e. h (inl e))) ∙ no_row call rs (λ i. h (inr i))
 
-  one_row : (rs : List InstanceRow) → Apart (row_names rs) → (r : InstanceRow) → In r rs → (name : List ℕ) →
+  -- what a call may do is what the bodies of its name in the row of its instance's name may
+  pub one_row : (rs : List InstanceRow) → Apart (row_names rs) → (r : InstanceRow) → In r rs → (name : List ℕ) →
       call_atoms atoms (record { instance = r.name; body = name }) rs ≡ body_atoms atoms name r.bodies
   one_row [] h r i name = absurd i
   one_row (x ∷ rs) h r (inl e) name =

@@ -8,3 +8,4 @@ pub mod Programs
 pub mod StartingObjects
 pub mod Telling
 pub mod TypedHeaps
+pub mod Used
