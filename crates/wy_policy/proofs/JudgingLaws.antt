@@ -1,34 +1,15 @@
 -- What is judged is what the policy says.
 use Rattle.std.proofs.Common.{◌≡◌, ℕ, zero, suc, Bool, true, false, cond, List, [], ◌∷◌, ◌++◌, map, drop, refl, sym, ap, subst, ◌∙◌, Option, Some, None, slice_get, slice_index_or}
 use Rattle.std.specs.List.{AllByRecursion}
-use Rattle.std.specs.Option.{option_map}
 use Rattle.wy_text.specs.declared.fault.AtomName.{AtomName}
 use Rattle.wy_authority.specs.Authority.{whole_set}
 use Rattle.wy_authority.specs.declared.rows.Authority.{Authority}
 use Rattle.wy_authority.specs.declared.rows.InstanceRow.{InstanceRow}
 use Rattle.wy_policy.specs.Allowed.{AllowsInstance, DeniesInstance, Judges, allows, has_name, line_of, row_for}
-use Rattle.wy_policy.specs.Judging.{before, first_denied, is_allowed, judged, judgement_of, nameless, ruling_for, ruling_of}
+use Rattle.wy_policy.specs.Judging.{before, first_denied, is_allowed, judged, judgement_of, nameless}
 use Rattle.wy_policy.specs.declared.policy.Judgement.{Judgement}
 use Rattle.wy_policy.specs.declared.policy.Judgement.TheVariants as judgement
 use Rattle.wy_policy.specs.declared.policy.PolicyRow.{PolicyRow}
-
--- ---- a ruling is its row's
-
-get_map : {A B : Type 0} (f : A → B) (xs : List A) (n : ℕ) (d : A) → slice_index_or (map f xs) n (f d) ≡ f (slice_index_or xs n d)
-get_map f [] n d = refl
-get_map f (x ∷ xs) zero d = refl
-get_map f (x ∷ xs) (suc n) d = get_map f xs n d
-
-none_there : (n : ℕ) → slice_index_or [] n false ≡ false
-none_there n = refl
-
-pub ruled : (atoms : List AtomName) (row : Option PolicyRow) (n : ℕ) → is_allowed (ruling_for atoms row) n ≡ allows row (slice_index_or atoms n nameless)
-ruled atoms None n = none_there n
-ruled atoms (Some r) n = get_map (allows (Some r)) atoms n nameless
-
-line_ruled : (atoms : List AtomName) (row : Option PolicyRow) → (ruling_for atoms row).line ≡ line_of row
-line_ruled atoms None = refl
-line_ruled atoms (Some r) = refl
 
 -- ---- one instance
 
@@ -38,14 +19,14 @@ data Denial (atoms : List AtomName) (row : Option PolicyRow) (ns : List ℕ) : O
   some : (n : ℕ) (earlier later : List AtomName) → map (λ n. slice_index_or atoms n nameless) ns ≡ earlier ++ slice_index_or atoms n nameless ∷ later → AllByRecursion (λ atom. allows row atom ≡ true) earlier →
       allows row (slice_index_or atoms n nameless) ≡ false → Denial atoms row ns (Some n)
 
-denial : (atoms : List AtomName) (row : Option PolicyRow) (ns : List ℕ) → Denial atoms row ns (first_denied (ruling_for atoms row) ns)
+denial : (atoms : List AtomName) (row : Option PolicyRow) (ns : List ℕ) → Denial atoms row ns (first_denied atoms row ns)
 denial atoms row [] = none tt
-denial atoms row (n ∷ ns) = go (is_allowed (ruling_for atoms row) n) refl (first_denied (ruling_for atoms row) ns) (denial atoms row ns)
+denial atoms row (n ∷ ns) = go (is_allowed atoms row n) refl (first_denied atoms row ns) (denial atoms row ns)
   where
-    go : (t : Bool) → is_allowed (ruling_for atoms row) n ≡ t → (first : Option ℕ) → Denial atoms row ns first → Denial atoms row (n ∷ ns) (cond t first (Some n))
-    go true e None (none h) = none (sym (ruled atoms row n) ∙ e, h)
-    go true e (Some m) (some _ earlier later s h d) = some m (slice_index_or atoms n nameless ∷ earlier) later (ap (λ (l : List AtomName). slice_index_or atoms n nameless ∷ l) s) (sym (ruled atoms row n) ∙ e, h) d
-    go false e first h = some n [] (map (λ n. slice_index_or atoms n nameless) ns) refl tt (sym (ruled atoms row n) ∙ e)
+    go : (t : Bool) → is_allowed atoms row n ≡ t → (first : Option ℕ) → Denial atoms row ns first → Denial atoms row (n ∷ ns) (cond t first (Some n))
+    go true e None (none h) = none (e, h)
+    go true e (Some m) (some _ earlier later s h d) = some m (slice_index_or atoms n nameless ∷ earlier) later (ap (λ (l : List AtomName). slice_index_or atoms n nameless ∷ l) s) (e, h) d
+    go false e first h = some n [] (map (λ n. slice_index_or atoms n nameless) ns) refl tt e
 
 -- ---- all instances
 
@@ -56,15 +37,15 @@ data Judging (rows : List PolicyRow) (a : Authority) (instances : List InstanceR
 
 judging : (rows : List PolicyRow) (a : Authority) (instances : List InstanceRow) → Judging rows a instances (judged rows a.atoms instances)
 judging rows a [] = allowed tt
-judging rows a (i ∷ is) = go (first_denied (ruling_for a.atoms (row_for rows i.name)) (whole_set i.bodies)) (denial a.atoms (row_for rows i.name) (whole_set i.bodies)) (judged rows a.atoms is) (judging rows a is)
+judging rows a (i ∷ is) = go (first_denied a.atoms (row_for rows i.name) (whole_set i.bodies)) (denial a.atoms (row_for rows i.name) (whole_set i.bodies)) (judged rows a.atoms is) (judging rows a is)
   where
     go : (first : Option ℕ) → Denial a.atoms (row_for rows i.name) (whole_set i.bodies) first → (later : Judgement) → Judging rows a is later →
-        Judging rows a (i ∷ is) (before (judgement_of a.atoms (ruling_for a.atoms (row_for rows i.name)) i.name first) later)
+        Judging rows a (i ∷ is) (before (judgement_of a.atoms (row_for rows i.name) i.name first) later)
     go None (none h) judgement.Allowed (allowed k) = allowed (h, k)
     go None (none h) (judgement.Denied line name atom) (denied _ _ front back instance s k d) = denied line atom (i ∷ front) back instance (ap (λ (l : List InstanceRow). i ∷ l) s) (h, k) d
     go (Some n) (some _ earlier later s h d) others k =
-        denied (ruling_for a.atoms (row_for rows i.name)).line (slice_index_or a.atoms n nameless) [] is i refl tt
-        (record { earlier = earlier; later = later; atoms = s; allowed = h; denied = d; number = line_ruled a.atoms (row_for rows i.name) })
+        denied (line_of (row_for rows i.name)) (slice_index_or a.atoms n nameless) [] is i refl tt
+        (record { earlier = earlier; later = later; atoms = s; allowed = h; denied = d; number = refl })
 
 pub judges : (rows : List PolicyRow) (a : Authority) → Judges rows a (judged rows a.atoms a.rows)
 judges rows a = go (judged rows a.atoms a.rows) (judging rows a a.rows)
@@ -91,16 +72,6 @@ row_later (x ∷ rows) zero name r e h = let k : has_name x.pattern name ≡ fal
     one x r e = cc
 row_later (x ∷ rows) (suc at) name r e h = row_later rows at name r e h
 
-pub get_ruling : (atoms : List AtomName) (rows : List PolicyRow) (at : ℕ) → slice_get (map (ruling_of atoms) rows) at ≡ option_map (ruling_of atoms) (slice_get rows at)
-get_ruling atoms [] at = refl
-get_ruling atoms (r ∷ rows) zero = refl
-get_ruling atoms (r ∷ rows) (suc at) = get_ruling atoms rows at
-
-pub get_outside : (flags : List Bool) (n : ℕ) (d : Bool) → slice_get flags n ≡ None → d ≡ slice_index_or flags n d
-get_outside [] n d e = refl
-get_outside (x ∷ flags) zero d e = absurd cc
-get_outside (x ∷ flags) (suc n) d e = get_outside flags n d e
-
 pub judges_as : (rows rows' : List PolicyRow) (a : Authority) (atoms : List AtomName) (instances : List InstanceRow) (j : Judgement) → rows' ≡ rows → atoms ≡ a.atoms → instances ≡ a.rows → j ≡ judged rows' atoms instances → Judges rows a j
 judges_as rows rows' a atoms instances j r s t e =
     let same : j ≡ judged rows a.atoms a.rows = e ∙ ap (λ (x : List PolicyRow). judged x atoms instances) r ∙ ap (λ (x : List AtomName). judged rows x instances) s ∙ ap (judged rows a.atoms) t in
@@ -108,13 +79,13 @@ judges_as rows rows' a atoms instances j r s t e =
 
 -- ---- one judgement
 
-none_denied : (atoms : List AtomName) (row : Option PolicyRow) (ns : List ℕ) → AllByRecursion (λ atom. allows row atom ≡ true) (map (λ n. slice_index_or atoms n nameless) ns) → first_denied (ruling_for atoms row) ns ≡ None
+none_denied : (atoms : List AtomName) (row : Option PolicyRow) (ns : List ℕ) → AllByRecursion (λ atom. allows row atom ≡ true) (map (λ n. slice_index_or atoms n nameless) ns) → first_denied atoms row ns ≡ None
 none_denied atoms row [] h = refl
-none_denied atoms row (n ∷ ns) h = let e : is_allowed (ruling_for atoms row) n ≡ true = ruled atoms row n ∙ h.0 in rw e (none_denied atoms row ns h.1)
+none_denied atoms row (n ∷ ns) h = let e : is_allowed atoms row n ≡ true = h.0 in rw e (none_denied atoms row ns h.1)
 
 record Met (atoms : List AtomName) (row : Option PolicyRow) (ns : List ℕ) (atom : AtomName) : Type 0 where
   number : ℕ
-  first : first_denied (ruling_for atoms row) ns ≡ Some number
+  first : first_denied atoms row ns ≡ Some number
   named : slice_index_or atoms number nameless ≡ atom
 
 head : {a b : AtomName} {u v : List AtomName} → a ∷ u ≡ b ∷ v → a ≡ b
@@ -129,16 +100,16 @@ some_denied atoms row [] [] later atom s h d = absurd cc
 some_denied atoms row [] (a ∷ earlier) later atom s h d = absurd cc
 some_denied atoms row (n ∷ ns) [] later atom s h d =
     let named : slice_index_or atoms n nameless ≡ atom = head s in
-    let e : is_allowed (ruling_for atoms row) n ≡ false = ruled atoms row n ∙ ap (allows row) named ∙ d in
+    let e : is_allowed atoms row n ≡ false = ap (allows row) named ∙ d in
     record { number = n; first = rw e refl; named = named }
 some_denied atoms row (n ∷ ns) (a ∷ earlier) later atom s h d =
     let named : slice_index_or atoms n nameless ≡ a = head s in
     let ih = some_denied atoms row ns earlier later atom (tail s) h.1 d in
-    let e : is_allowed (ruling_for atoms row) n ≡ true = ruled atoms row n ∙ ap (allows row) named ∙ h.0 in
+    let e : is_allowed atoms row n ≡ true = ap (allows row) named ∙ h.0 in
     record { number = ih.number; first = rw e ih.first; named = ih.named }
 
 passed : (rows : List PolicyRow) (a : Authority) (i : InstanceRow) (is : List InstanceRow) → AllowsInstance rows a i → judged rows a.atoms (i ∷ is) ≡ judged rows a.atoms is
-passed rows a i is h = ap (λ (o : Option ℕ). before (judgement_of a.atoms (ruling_for a.atoms (row_for rows i.name)) i.name o) (judged rows a.atoms is)) (none_denied a.atoms (row_for rows i.name) (whole_set i.bodies) h)
+passed rows a i is h = ap (λ (o : Option ℕ). before (judgement_of a.atoms (row_for rows i.name) i.name o) (judged rows a.atoms is)) (none_denied a.atoms (row_for rows i.name) (whole_set i.bodies) h)
 
 all_passed : (rows : List PolicyRow) (a : Authority) (is : List InstanceRow) → AllByRecursion (AllowsInstance rows a) is → judged rows a.atoms is ≡ judgement.Allowed
 all_passed rows a [] h = refl
@@ -148,8 +119,8 @@ stopped : (rows : List PolicyRow) (a : Authority) (front back : List InstanceRow
     judged rows a.atoms (front ++ i ∷ back) ≡ judgement.Denied line i.name atom
 stopped rows a [] back i line atom h d =
     let met = some_denied a.atoms (row_for rows i.name) (whole_set i.bodies) d.earlier d.later atom d.atoms d.allowed d.denied in
-    ap (λ (o : Option ℕ). before (judgement_of a.atoms (ruling_for a.atoms (row_for rows i.name)) i.name o) (judged rows a.atoms back)) met.first
-    ∙ ap (λ (n : ℕ). judgement.Denied n i.name (slice_index_or a.atoms met.number nameless)) (line_ruled a.atoms (row_for rows i.name) ∙ sym d.number)
+    ap (λ (o : Option ℕ). before (judgement_of a.atoms (row_for rows i.name) i.name o) (judged rows a.atoms back)) met.first
+    ∙ ap (λ (n : ℕ). judgement.Denied n i.name (slice_index_or a.atoms met.number nameless)) (sym d.number)
     ∙ ap (judgement.Denied line i.name) met.named
 stopped rows a (other ∷ front) back i line atom h d = passed rows a other (front ++ i ∷ back) h.0 ∙ stopped rows a front back i line atom h.1 d
 

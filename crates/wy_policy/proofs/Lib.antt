@@ -1,6 +1,7 @@
 pub mod Cuts
 pub mod Entries
 mod Examples
+pub mod Grants
 pub mod JudgingLaws
 pub mod LineTurns
 pub mod NameBytes

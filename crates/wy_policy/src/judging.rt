@@ -1,58 +1,16 @@
-ghost use Rattle.std.specs.Prelude.{◌≡◌, ◌∷◌, [], ℕ, List, map, Some, IfOk, slice_index_or};
+ghost use Rattle.std.specs.Prelude.{◌≡◌, map, IfOk, slice_index_or};
 ghost use Rattle.std.specs.Option.{option_copied, option_map};
-ghost use Rattle.wy_text.specs.declared.fault.AtomName.{AtomName as NameOfAtom};
-ghost use Rattle.wy_policy.specs.Allowed.{Judges, allows, entry_allows, has_name, row_for};
+ghost use Rattle.wy_policy.specs.Allowed.{Judges, allows, line_of, row_for};
 ghost use Rattle.wy_policy.specs.Judging as judging;
 
-use crate::policy::{Entry, Judgement, Member, Pattern, Policy, PolicyRow};
+use crate::policy::{Judgement, Policy, PolicyRow};
+use crate::ruling::Ruling;
 use std::alloc::Global;
 use wy_authority::{Authority, InstanceRow, whole_set};
 use wy_effects::atom::Atom;
 use wy_text::fault::AtomName;
 use wy_text::list::Items;
 use wy_text::text::{Memory, Text, from_vec};
-
-/// What a row allows: whether it allows each of a program's atoms, and an atom that is not among them. So no atom is
-/// looked for in a row twice.
-#[derive(Drop)]
-struct Ruling {
-    line: u32,
-    flags: Items<bool>,
-    outside: bool,
-}
-
-/// Whether a pattern has a name.
-fn has_name(pattern: &Pattern, name: &Text) -> bool
-    ensures { result ≡ has_name pattern.now name.now }
-{
-    match pattern {
-        Pattern::Whole(whole) => whole.as_bytes() == name.as_bytes(),
-        Pattern::Front(front) => name.as_bytes().starts_with(front.as_bytes()),
-    }
-}
-
-/// Whether an entry allows an atom.
-fn entry_allows(atom: &AtomName, entry: &Entry) -> bool
-    ensures { result ≡ entry_allows atom.now entry.now }
-{
-    if entry.grant.as_bytes() != atom.owner.as_bytes() {
-        return false;
-    }
-    match &entry.member {
-        Member::Every => true,
-        Member::Named(name) => name.as_bytes() == atom.member.as_bytes(),
-    }
-}
-
-/// Whether a row allows an atom.
-fn row_allows(row: &PolicyRow, atom: &AtomName) -> bool
-    ensures { result ≡ allows (Some row.now) atom.now }
-{
-    row.allowed
-        .as_slice()
-        .iter()
-        .any(|entry| entry_allows(atom, entry))
-}
 
 /// An atom that is not among a program's.
 fn nameless(alloc: Global) -> AtomName
@@ -64,87 +22,56 @@ fn nameless(alloc: Global) -> AtomName
     }
 }
 
-/// Which of these atoms a row allows.
-fn flags_of(alloc: Global, row: &PolicyRow, atoms: &[AtomName]) -> Result<Items<bool>, Memory>
-    ensures { IfOk result (λ flags. flags ≡ map (allows (Some row.now)) atoms.now) }
-{
-    let mut flags = Items::new(alloc);
-    for atom in atoms {
-        flags.push(row_allows(row, atom))?;
-    }
-    Ok(flags)
-}
-
-/// What a row allows of these atoms.
-fn ruling_of(alloc: Global, row: &PolicyRow, atoms: &[AtomName]) -> Result<Ruling, Memory>
-    ensures { IfOk result (λ ruling. ruling ≡ judging.ruling_of atoms.now row.now) }
-{
-    Ok(Ruling {
-        line: row.line,
-        flags: flags_of(alloc, row, atoms)?,
-        outside: row_allows(row, &nameless(alloc)),
-    })
-}
-
 /// What each row allows.
-fn rulings_of(
-    alloc: Global,
-    rows: &[PolicyRow],
-    atoms: &[AtomName],
-) -> Result<Items<Ruling>, Memory>
-    ensures { IfOk result (λ rulings. rulings ≡ map (judging.ruling_of atoms.now) rows.now) }
+fn rulings_of<'a>(alloc: Global, rows: &'a [PolicyRow]) -> Result<Items<Ruling<'a>>, Memory>
+    ensures { IfOk result (λ rulings. rulings ≡ rows.now) }
 {
     let mut rulings = Items::new(alloc);
     for row in rows {
-        rulings.push(ruling_of(alloc, row, atoms)?)?;
+        rulings.push(Ruling::new(alloc, row)?)?;
     }
     Ok(rulings)
 }
 
-/// What there is where no row is an instance's.
-fn no_ruling(alloc: Global) -> Ruling
-    ensures { result ≡ judging.no_ruling }
+/// The ruling that an instance of this name goes by.
+fn ruling_for<'a, 'b>(rulings: &'b [Ruling<'a>], name: &Text) -> Option<&'b Ruling<'a>>
+    ensures { option_copied result ≡ row_for rulings.now name.now }
 {
-    Ruling {
-        line: 0,
-        flags: Items::new(alloc),
-        outside: false,
-    }
-}
-
-/// What the row allows that an instance of this name goes by.
-fn ruling_for<'a>(rows: &[PolicyRow], rulings: &'a [Ruling], name: &Text) -> Option<&'a Ruling>
-    ensures { (atoms : List NameOfAtom) → rulings.entry.now ≡ map (judging.ruling_of atoms) rows.now → option_copied result ≡ option_map (judging.ruling_of atoms) (row_for rows.now name.now) }
-{
-    let mut at = 0;
-    while at < rows.len() {
-        if has_name(&rows[at].pattern, name) {
-            return rulings.get(at);
+    for ruling in rulings {
+        if ruling.has_name(name) {
+            return Some(ruling);
         }
-        at += 1;
     }
     None
 }
 
-/// Whether an atom is allowed.
-fn is_allowed(ruling: &Ruling, atom: Atom) -> bool
-    ensures { result ≡ judging.is_allowed ruling.now atom.0 }
+/// Whether an atom is allowed; where there is no ruling, none is.
+fn is_allowed(ruling: Option<&Ruling<'_>>, atom: &AtomName) -> bool
+    ensures { result ≡ allows (option_copied ruling.entry) atom.now }
 {
-    match ruling.flags.get(atom.0 as usize) {
-        Some(flag) => *flag,
-        None => ruling.outside,
+    match ruling {
+        Some(ruling) => ruling.allows(atom),
+        None => false,
     }
 }
 
 /// The first of some atoms that is not allowed.
-fn first_denied(ruling: &Ruling, atoms: &[Atom]) -> Option<Atom>
-    ensures { option_map (λ atom. atom.0) result ≡ judging.first_denied ruling.now (map (λ atom. atom.0) atoms.now) }
+fn first_denied(
+    alloc: Global,
+    atoms: &[AtomName],
+    ruling: Option<&Ruling<'_>>,
+    numbers: &[Atom],
+) -> Option<Atom>
+    ensures { option_map (λ atom. atom.0) result ≡ judging.first_denied atoms.now (option_copied ruling.entry) (map (λ atom. atom.0) numbers.now) }
 {
-    let (first, rest) = atoms.split_first()?;
-    if !is_allowed(ruling, *first) {
-        return Some(*first);
+    let none = nameless(alloc);
+    for number in numbers {
+        let atom = atoms.get(number.0 as usize).unwrap_or(&none);
+        if !is_allowed(ruling, atom) {
+            return Some(*number);
+        }
     }
-    first_denied(ruling, rest)
+    None
 }
 
 /// The name of an atom.
@@ -160,21 +87,31 @@ fn name_of(alloc: Global, atoms: &[AtomName], atom: Atom) -> Result<AtomName, Me
     }
 }
 
+/// The line of a ruling's row, 0 where there is none.
+fn line_of(ruling: Option<&Ruling<'_>>) -> u32
+    ensures { result ≡ line_of (option_copied ruling.entry) }
+{
+    match ruling {
+        Some(ruling) => ruling.line(),
+        None => 0,
+    }
+}
+
 /// Judges one instance.
 fn judge_instance(
     alloc: Global,
     atoms: &[AtomName],
-    ruling: &Ruling,
+    ruling: Option<&Ruling<'_>>,
     instance: &InstanceRow,
 ) -> Result<Judgement, Memory>
-    ensures { IfOk result (λ j. j ≡ judging.instance_judged atoms.now ruling.now instance.now) }
+    ensures { IfOk result (λ j. j ≡ judging.instance_judged atoms.now (option_copied ruling.entry) instance.now) }
 {
     let whole = whole_set(alloc, instance.bodies.as_slice())?;
     let numbers = whole.atoms()?;
-    match first_denied(ruling, numbers.as_slice()) {
+    match first_denied(alloc, atoms, ruling, numbers.as_slice()) {
         None => Ok(Judgement::Allowed),
         Some(atom) => Ok(Judgement::Denied {
-            line: ruling.line,
+            line: line_of(ruling),
             instance: instance.name.copy()?,
             atom: name_of(alloc, atoms, atom)?,
         }),
@@ -184,38 +121,33 @@ fn judge_instance(
 /// Judges instances, up to the first that may do more than its row allows.
 fn judge_all(
     alloc: Global,
-    rows: &[PolicyRow],
-    rulings: &[Ruling],
+    rulings: &[Ruling<'_>],
     atoms: &[AtomName],
     instances: &[InstanceRow],
 ) -> Result<Judgement, Memory>
-    requires { rulings.now ≡ map (judging.ruling_of atoms.now) rows.now }
-    ensures { IfOk result (λ j. j ≡ judging.judged rows.now atoms.now instances.now) }
+    ensures { IfOk result (λ j. j ≡ judging.judged rulings.now atoms.now instances.now) }
 {
     let Some((instance, rest)) = instances.split_first() else {
         return Ok(Judgement::Allowed);
     };
-    let none = no_ruling(alloc);
-    let ruling = ruling_for(rows, rulings, &instance.name).unwrap_or(&none);
+    let ruling = ruling_for(rulings, &instance.name);
     match judge_instance(alloc, atoms, ruling, instance)? {
-        Judgement::Allowed => judge_all(alloc, rows, rulings, atoms, rest),
+        Judgement::Allowed => judge_all(alloc, rulings, atoms, rest),
         denied => Ok(denied),
     }
 }
 
 /// What a policy says of an authority (docs/LANGUAGE.md, "Policies"): `Denied` exactly where an instance, or `main`, may do
-/// more than the row that it goes by allows, with the first such instance. `Err` comes only where memory is wanting.
+/// more than the row that it goes by allows, with the first such instance. Each entry of the policy is read once; an atom is looked
+/// for by its name. `Err` comes only where memory is wanting.
 pub fn judge(alloc: Global, policy: &Policy, authority: &Authority) -> Result<Judgement, Memory>
     ensures { IfOk result (Judges policy.now.rows authority.now) }
 {
-    let rows = policy.rows.as_slice();
-    let atoms = authority.atoms.as_slice();
-    let rulings = rulings_of(alloc, rows, atoms)?;
+    let rulings = rulings_of(alloc, policy.rows.as_slice())?;
     judge_all(
         alloc,
-        rows,
         rulings.as_slice(),
-        atoms,
+        authority.atoms.as_slice(),
         authority.rows.as_slice(),
     )
 }

@@ -8,6 +8,7 @@ pub mod laws;
 mod policy;
 mod reading;
 mod rows;
+mod ruling;
 
 pub use judging::judge;
 pub use policy::{Entry, Judgement, Member, Pattern, Policy, PolicyRefusal, PolicyRow};
