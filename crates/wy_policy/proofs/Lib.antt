@@ -1,6 +1,7 @@
 pub mod Cuts
 pub mod Entries
 mod Examples
+mod ExamplesUsed
 pub mod Grants
 pub mod JudgingLaws
 pub mod LineTurns
@@ -8,3 +9,4 @@ pub mod NameBytes
 pub mod PolicyLaws
 pub mod RowLaws
 pub mod SetLaws
+pub mod UsedLines

@@ -1,5 +1,5 @@
 //! Policies: text that says what the instances of some names may do, and whether a program's instances keep to it
-//! (docs/LANGUAGE.md, "Policies").
+//! (docs/LANGUAGE.md, "Policies"); and the text of what a run used of each instance ("Observation").
 #![tactic(auto)]
 
 mod cutting;
@@ -9,7 +9,9 @@ mod policy;
 mod reading;
 mod rows;
 mod ruling;
+mod used;
 
 pub use judging::judge;
 pub use policy::{Entry, Judgement, Member, Pattern, Policy, PolicyRefusal, PolicyRow};
 pub use reading::read_policy;
+pub use used::used_text;
