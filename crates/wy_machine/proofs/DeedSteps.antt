@@ -27,7 +27,7 @@ use Rattle.wy_code.specs.declared.code.Grant.{Grant as CodeGrant}
 use Rattle.wy_code.specs.Operations.{deed_event, word_answered, answered, requested, requested_of, texts_named, performed}
 use Rattle.wy_code.specs.Stores.{Word, Text, Grant, Store, Reply, Replies, ended}
 use Rattle.wy_code.specs.Machine.{State, Next, Go, Halt, stuck, with_operands, has_room, push_reply}
-use Rattle.wy_machine.specs.declared.run_end.RunEnd.TheVariants.{Trap, DeviceFailed}
+use Rattle.wy_machine.specs.declared.run_end.RunEnd.TheVariants.{DeviceFailed}
 use Rattle.wy_machine.specs.declared.run_end.TrapKind.{TrapKind}
 use Rattle.wy_machine.specs.Requesting.{is_answered_by_text, asked_for, operation_with, first_text, refused, word_answer, HasPlace, word_received, store_received}
 use Rattle.wy_machine.specs.Runs.{tapes_of, AreSameDevices}
@@ -39,7 +39,6 @@ use Rattle.wy_machine.specs.TrapKinds.{trap_meant}
 use Rattle.wy_machine.proofs.Acts.{no_tapes, either}
 use Rattle.wy_machine.proofs.CallSteps.{calling, called_from, calls}
 use Rattle.wy_machine.proofs.OperatorSteps.{below, with_built, text_added}
-use Rattle.wy_machine.proofs.Quiet.{traps}
 use Rattle.wy_machine.proofs.Refusals.{asked_with, by_refusal, requested_by}
 
 ------------------------------------------------------------
@@ -191,8 +190,8 @@ module _ (code : Code) (depth : ℕ) (place : Place) (s : StackState) (w : Store
                 ∙ ap (λ r. push_reply r (state_of code from w t)) (requested_by place grant.name (store_of code w t) o args op f)
                 ∙ ap (λ b. push_reply (by_refusal place (answered grant.name op (store_of code w t) (asked op t)) b) (state_of code from w t)) e)
 
-        pub refused_step : IsNotStuck next → (kind : TrapKind) → ((t : Tapes) → trap_before t ≡ Some kind) → (s' : StackState) (w' : StoreState) (d : DevicesState) → IsStep code s' w' next d d (Err (Trap kind place))
-        refused_step h kind e s' w' d = traps code s' w' next d kind place (λ t. elim (refusing t kind (e t)) [ inl wrong ↦ absurd (h.holds t wrong) | inr at ↦ at ])
+        pub refused_at : IsNotStuck next → (kind : TrapKind) → ((t : Tapes) → trap_before t ≡ Some kind) → (t : Tapes) → next t ≡ Halt (ends.Trap (trap_meant kind) place) []
+        refused_at h kind e t = elim (refusing t kind (e t)) [ inl wrong ↦ absurd (h.holds t wrong) | inr at ↦ at ]
 
         -- else it does not trap
         pub no_trap : ((t : Tapes) → trap_before t ≡ None) → IsNotStuck next → (t : Tapes) (kind : device.TrapKind) (at : Place) → next t ≢ Halt (ends.Trap kind at) []
@@ -243,39 +242,31 @@ module _ (code : Code) (depth : ℕ) (place : Place) (s : StackState) (w : Store
                 ∙ ap (λ b. push_reply (tested t b (answers_text op && not (nat_lt (length w.texts) most_texts))) (state_of code from w t)) good
                 ∙ ap (λ b. push_reply (tested t true b) (state_of code from w t)) room
 
-            pub failed_step : DidExactly old new (deed_event grant.name op None) → Rose (device_of old (kind_of op)).faults (device_of new (kind_of op)).faults →
-                (s' : StackState) (w' : StoreState) → IsStep code s' w' next old new (Err (DeviceFailed grant.name (name_of op)))
-            failed_step did rose s' w' = record {
-              events = deed_event grant.name op None;
-              did = did;
-              comes = record {
-                halts = λ more.
-                    let t = spliced (tapes_of (deed_event grant.name op None)) more in
-                    asks t ∙ ap (λ told. push_reply (answered grant.name op (store_of code w t) told) (state_of code from w t)) (asked_fails op grant.name more);
-              };
-              same = same;
-              failed = rose;
-            }
+            pub failed_at : (more : Tapes) → next (spliced (tapes_of (deed_event grant.name op None)) more) ≡ Halt (ends.DeviceFailed grant.name (name_of op)) (deed_event grant.name op None)
+            failed_at more =
+                let t = spliced (tapes_of (deed_event grant.name op None)) more in
+                asks t ∙ ap (λ told. push_reply (answered grant.name op (store_of code w t) told) (state_of code from w t)) (asked_fails op grant.name more)
 
-            pub reply_step : IsNotStuck next → (a : Answer) → IsAnswerOf op a → DidExactly old new (deed_event grant.name op (Some a)) → (v : Word) (w' : StoreState) →
+            abbrev pub failed_step : DidExactly old new (deed_event grant.name op None) → Rose (device_of old (kind_of op)).faults (device_of new (kind_of op)).faults →
+                (s' : StackState) (w' : StoreState) → IsStep code s' w' next old new (Err (DeviceFailed grant.name (name_of op)))
+            failed_step did rose s' w' = record { events = deed_event grant.name op None; did = did; comes = record { halts = failed_at }; same = same; failed = rose }
+
+            pub replied_at : IsNotStuck next → (a : Answer) → IsAnswerOf op a → (v : Word) (w' : StoreState) →
+                ((more : Tapes) → word_answered a (store_of code w more) (deed_event grant.name op (Some a)) ≡ Replies v (store_of code w' more) (deed_event grant.name op (Some a))) →
+                (more : Tapes) → next (spliced (tapes_of (deed_event grant.name op (Some a))) more) ≡ Go (deed_event grant.name op (Some a)) (state_of code (pushed v from) w' more)
+            replied_at h a fits v w' words more =
+                let es = deed_event grant.name op (Some a) in
+                let t = spliced (tapes_of es) more in
+                let at = asks t
+                ∙ ap (λ told. push_reply (answered grant.name op (store_of code w t) told) (state_of code from w t)) (asked_is op grant.name a fits more)
+                ∙ ap (λ r. push_reply r (state_of code from w t)) (words more)
+                in
+                at ∙ either (has_room (frame_of code from.running)) (Go es (state_of code (pushed v from) w' more)) (λ wrong. h.holds t (at ∙ wrong))
+
+            abbrev pub reply_step : IsNotStuck next → (a : Answer) → IsAnswerOf op a → DidExactly old new (deed_event grant.name op (Some a)) → (v : Word) (w' : StoreState) →
                 ((more : Tapes) → word_answered a (store_of code w more) (deed_event grant.name op (Some a)) ≡ Replies v (store_of code w' more) (deed_event grant.name op (Some a))) →
                 IsStep code (pushed v from) w' next old new (Ok tt)
-            reply_step h a fits did v w' words = record {
-              events = deed_event grant.name op (Some a);
-              did = did;
-              comes = record {
-                goes = λ more.
-                    let es = deed_event grant.name op (Some a) in
-                    let t = spliced (tapes_of es) more in
-                    let at = asks t
-                    ∙ ap (λ told. push_reply (answered grant.name op (store_of code w t) told) (state_of code from w t)) (asked_is op grant.name a fits more)
-                    ∙ ap (λ r. push_reply r (state_of code from w t)) (words more)
-                    in
-                    at ∙ either (has_room (frame_of code from.running)) (Go es (state_of code (pushed v from) w' more)) (λ wrong. h.holds t (at ∙ wrong));
-              };
-              same = same;
-              failed = tt;
-            }
+            reply_step h a fits did v w' words = record { events = deed_event grant.name op (Some a); did = did; comes = record { goes = replied_at h a fits v w' words }; same = same; failed = tt }
 
 ------------------------------------------------------------
 -- The word of an answer
@@ -296,10 +287,6 @@ room_filled w w1 w2 bytes e f =
     let filled = λ (u : StoreState). let v : StoreState = record u { texts = take (length u.texts - 1) u.texts ++ bytes ∷ [] } in v in
     let size : length w.texts ≡ length (w.texts ++ [] ∷ []) - 1 = omega (arith, length_push w.texts []) in
     f ∙ ap filled e ∙ ap (λ texts. let v : StoreState = record w { texts = texts ++ bytes ∷ [] } in v) (take_at w.texts ([] ∷ []) (length (w.texts ++ [] ∷ []) - 1) size)
-
--- a failure under the names of the grant and the operation
-pub named_failure : (code : Code) (s : StackState) (w : StoreState) (next : Tapes → Next) (old new : DevicesState) (n n' : List ℕ) (o o' : OpName) → n ≡ n' → o ≡ o' → IsStep code s w next old new (Err (DeviceFailed n' o')) → IsStep code s w next old new (Err (DeviceFailed n o))
-named_failure code s w next old new n n' o o' e f h = subst (λ n. IsStep code s w next old new (Err (DeviceFailed n o))) (sym e) (subst (λ o. IsStep code s w next old new (Err (DeviceFailed n' o))) (sym f) h)
 
 ------------------------------------------------------------
 -- Answers as they are received

@@ -20,7 +20,7 @@ use Rattle.wy_code.specs.declared.code.Code.{Code}
 use Rattle.wy_code.specs.Running.{Ran, and_then, steps, machine, NeverStuck}
 use Rattle.wy_machine.specs.declared.run_end.RunEnd.{RunEnd}
 use Rattle.wy_machine.specs.declared.run_end.RunEnd.TheVariants.{Ended, Trap, TooDeep, Spent, DeviceFailed, SinkFailed, Memory}
-use Rattle.wy_machine.specs.Runs.{tapes_of, RunsTo, EndsIn, IsSameDevice, AreSameDevices, FailsByFault, Runs}
+use Rattle.wy_machine.specs.Runs.{tapes_of, RunsTo, EndsIn, IsSameDevice, AreSameDevices, FailsByFault}
 use Rattle.wy_machine.specs.Stacks.{StackState}
 use Rattle.wy_machine.specs.States.{state_of}
 use Rattle.wy_machine.specs.Steps.{stepping, IsNotStuck, Halts, StopsIn, IsStep}
@@ -196,21 +196,9 @@ module _ (code : Code) (depth : ℕ) (a : DevicesState) where
   ends_to q k s w b l fs SinkFailed lt p m = p
   ends_to q k s w b l fs Memory lt p m = let le : q ≤ k = omega arith in (q, le, spent_to q s w b l fs p, taking q s w b l fs p m)
 
-  pub run_stops : (q k : ℕ) (s s' : StackState) (w w' : StoreState) (b c : DevicesState) (end : RunEnd) → q < k → Leads code depth q s w a b → IsStep code s' w' (stepping code depth s w) b c (Err end) → WantsOnly (next_takes code s) (Err end) → Runs code depth k a c end
-  run_stops q k s s' w w' b c end lt l h m = record {
-    events = l.events ++ h.events;
-    did = did_after a b c l.events h.events l.did h.did;
-    ends = ends_to q k s w b l h.events end lt h.comes m;
-    same = same_after a b c l.same h.same;
-    failed = fault_after a b c l.same h.same end h.failed;
-  }
-
   -- so many steps and no more
   pub spent_now : (q : ℕ) (s : StackState) (w : StoreState) (b : DevicesState) (l : Leads code depth q s w a b) → RunsTo code depth q l.events ends.Spent
   spent_now q s w b l = subst (λ es. RunsTo code depth q es ends.Spent) (append-nil l.events) (spent_to q s w b l [] refl)
-
-  pub run_spent : (k : ℕ) (s : StackState) (w : StoreState) (b : DevicesState) → Leads code depth k s w a b → Runs code depth k a b Spent
-  run_spent k s w b l = record { events = l.events; did = l.did; ends = spent_now k s w b l; same = l.same; failed = tt }
 
   pub sound_after : (q : ℕ) (s : StackState) (w : StoreState) (b : DevicesState) → NeverStuck code → Leads code depth q s w a b → IsNotStuck (stepping code depth s w)
   unfolding steps

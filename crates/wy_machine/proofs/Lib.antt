@@ -5,11 +5,14 @@ pub mod Cuts
 pub mod DeedSteps
 pub mod Fetching
 pub mod FirstSteps
+pub mod Following
 pub mod Leading
 pub mod Lines
 pub mod Loads
 pub mod Lookups
+pub mod Nesting
 pub mod ObjectSteps
+pub mod ObservedRuns
 pub mod Operating
 pub mod OperatorSteps
 pub mod Quiet
@@ -18,6 +21,7 @@ pub mod Refusals
 pub mod Rooms
 pub mod Showings
 pub mod StartSteps
+pub mod Telling
 pub mod TextBuilders
 pub mod TracedRuns
-pub mod TracedSteps
+pub mod UsedRuns

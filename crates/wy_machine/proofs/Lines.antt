@@ -1,17 +1,17 @@
 -- The lines of events, and what of them was written.
-use Rattle.std.proofs.Common.{◌≡◌, ◌≤◌, ◌<◌, ℕ, ◌+◌, List, [], ◌∷◌, ◌++◌, length, Result, Ok, Err, refl, sym, ap, ◌∙◌, subst, arith, append_assoc, append-nil, codes, ◌⊎◌, inl, inr}
+use Rattle.std.proofs.Common.{◌≡◌, ◌<◌, ℕ, ◌+◌, List, [], ◌∷◌, ◌++◌, length, Result, Ok, Err, refl, sym, ap, ◌∙◌, subst, arith, append_assoc, append-nil, codes}
 use Rattle.std.specs.Prelude.{IsErrAnd}
 use Rattle.std.proofs.lemmas.List.{length-append}
 use Rattle.wy_text.specs.Outside.{SinkState, gained}
 use Rattle.wy_text.specs.Writing.{WritesUpTo, StopsShort}
-use Rattle.wy_text.proofs.Gains.{gained-nil, gained-gained, rose_later}
+use Rattle.wy_text.proofs.Gains.{gained-nil, gained-gained}
 use Rattle.wy_device.specs.declared.deed.Event.{Event}
 use Rattle.wy_device.specs.Events.{deeds_of}
 use Rattle.wy_meaning.specs.EventLines.{event_line, event_lines, event_text}
 use Rattle.wy_machine.specs.declared.run_end.RunEnd.{RunEnd}
-use Rattle.wy_machine.specs.declared.run_end.RunEnd.TheVariants.{Ended, Trap, TooDeep, Spent, DeviceFailed, SinkFailed, Memory}
+use Rattle.wy_machine.specs.declared.run_end.RunEnd.TheVariants.{Memory}
 use Rattle.wy_machine.specs.Steps.{AreQuiet}
-use Rattle.wy_machine.specs.Traces.{WroteAll, WroteSome, Wrote, IsQuietAfterFirst}
+use Rattle.wy_machine.specs.Traces.{WroteAll, WroteSome, Wrote}
 use Rattle.wy_machine.proofs.Leading.{deeds_of-append}
 use Rattle.wy_machine.proofs.Quiet.{no_events}
 
@@ -102,41 +102,6 @@ none_of e es a b q none = record {
   short = line_some e;
   taken = none;
 }
-
-pub none_written : (es : List Event) (a : SinkState) → IsQuietAfterFirst es → WroteAll es a a ⊎ WroteSome es a a
-none_written [] a q = inl (wrote_none a)
-none_written (e ∷ es) a q = inr (none_of e es a a q (wrote_none a))
-
--- there is an event whose line was cut
-pub some_cut : (es : List Event) (a b : SinkState) → es ≡ [] → WroteSome es a b → ⊥
-some_cut es a b e h = no_event h.whole (sym e ∙ h.split)
-  where
-    no_event : (whole : List Event) → [] ≡ whole ++ (h.event ∷ h.later) → ⊥
-    no_event [] p = cc
-    no_event (x ∷ xs) p = cc
-
-------------------------------------------------------------
--- One event after another
-
--- the first line was cut
-pub first_cut : (x y : Event) (a b : SinkState) (end : RunEnd) → AreQuiet (y ∷ []) → Wrote (x ∷ []) a b (Err end) → Wrote (x ∷ y ∷ []) a b (Err end)
-first_cut x y a b SinkFailed q h = (some_before (x ∷ []) (y ∷ []) a b q h.0, h.1)
-first_cut x y a b Memory q h = some_before (x ∷ []) (y ∷ []) a b q h
-first_cut x y a b Ended q h = absurd h
-first_cut x y a b (Trap kind place) q h = absurd h
-first_cut x y a b TooDeep q h = absurd h
-first_cut x y a b Spent q h = absurd h
-first_cut x y a b (DeviceFailed grant op) q h = absurd h
-
-pub second_after : (x y : Event) (a b c : SinkState) (r : Result (Unit {0}) RunEnd) → WroteAll (x ∷ []) a b → a.faults ≤ b.faults → Wrote (y ∷ []) b c r → b.faults ≤ c.faults → Wrote (x ∷ y ∷ []) a c r
-second_after x y a b c (Ok u) p l h m = wrote_after (x ∷ []) (y ∷ []) a b c p h
-second_after x y a b c (Err SinkFailed) p l h m = (some_after (x ∷ []) (y ∷ []) a b c p h.0, rose_later a.faults b.faults c.faults l h.1 m)
-second_after x y a b c (Err Memory) p l h m = some_after (x ∷ []) (y ∷ []) a b c p h
-second_after x y a b c (Err Ended) p l h m = absurd h
-second_after x y a b c (Err (Trap kind place)) p l h m = absurd h
-second_after x y a b c (Err TooDeep) p l h m = absurd h
-second_after x y a b c (Err Spent) p l h m = absurd h
-second_after x y a b c (Err (DeviceFailed grant op)) p l h m = absurd h
 
 -- memory was wanting before anything was written
 pub starved : (e : Event) (a : SinkState) (r : Result (Unit {0}) RunEnd) → IsErrAnd r (λ e. e ≡ Memory) → Wrote (e ∷ []) a a r

@@ -86,6 +86,11 @@ same_step code s w f g d d' r e h = record {
     same_coming es (Err SinkFailed) e c = c
     same_coming es (Err Memory) e c = c
 
+-- .. with the same events
+pub same_events : (code : Code) (s : StackState) (w : StoreState) (f g : Tapes → Next) (d d' : DevicesState) (r : Result (Unit {0}) RunEnd) (e : (t : Tapes) → g t ≡ f t) (h : IsStep code s w f d d' r) → (same_step code s w f g d d' r e h).events ≡ h.events
+unfolding same_step
+same_events code s w f g d d' r e h = refl
+
 -- a step that goes on, traps, ends the run, is too deep, or wants memory
 module _ (code : Code) (s : StackState) (w : StoreState) (next : Tapes → Next) (d : DevicesState) where
   pub goes_quietly : (es : List Event) → AreQuiet es → ((t : Tapes) → next t ≡ Go es (state_of code s w t)) → IsStep code s w next d d (Ok tt)

@@ -1,5 +1,5 @@
--- Runs with the lines of their events.
-use Rattle.std.proofs.Common.{◌≤◌, ◌<◌, ℕ, ◌+◌, List, [], ◌∷◌, ◌++◌, Result, Ok, Err, subst, arith, ◌⊎◌, inl, inr}
+-- Runs whose observer writes lines, and runs whose observer does nothing.
+use Rattle.std.proofs.Common.{◌≡◌, ◌≤◌, ℕ, List, [], ◌∷◌, Result, Ok, Err, sym, ap, ◌∙◌, subst, arith, ◌⊎◌, inl, inr}
 use Rattle.wy_text.specs.Outside.{SinkState}
 use Rattle.wy_text.proofs.Gains.{rose_later}
 use Rattle.wy_device.specs.declared.deed.Event.{Event}
@@ -8,163 +8,99 @@ use Rattle.wy_device.specs.RunEnds as ends
 use Rattle.wy_code.specs.declared.code.Code.{Code}
 use Rattle.wy_machine.specs.declared.run_end.RunEnd.{RunEnd}
 use Rattle.wy_machine.specs.declared.run_end.RunEnd.TheVariants.{Ended, Trap, TooDeep, Spent, DeviceFailed, SinkFailed, Memory}
-use Rattle.wy_machine.specs.Stacks.{StackState}
-use Rattle.wy_machine.specs.Steps.{stepping, starting, IsNotStuck, IsStep}
-use Rattle.wy_machine.specs.StoreStates.{StoreState}
-use Rattle.wy_machine.specs.Runs.{RunsTo, FailsByFault}
-use Rattle.wy_machine.specs.Traces.{WroteAll, WroteSome, HappenedIn, EndsTraced, IsToldStep, IsCutStep, IsTraced, RunsTraced}
-use Rattle.wy_machine.proofs.FirstSteps.{leads_first, enters_first, none_taken, halts_first}
-use Rattle.wy_machine.proofs.Leading.{Leads, leads_more, halts_to, spent_to, spent_now, ends_to, did_after, same_after, fault_after}
-use Rattle.wy_machine.proofs.Lines.{wrote_after, some_after, none_of, some_cut}
-use Rattle.wy_machine.proofs.Quiet.{no_events, did_quietly, same_devices}
+use Rattle.wy_machine.specs.Observing.{Told, event_told, events_told, HeardAll, HeardSome, IsHeardRun, IsCutRun, RunsTold}
+use Rattle.wy_machine.specs.Runs.{FailsByFault, Runs}
+use Rattle.wy_machine.specs.Traces.{WroteAll, WroteSome, Wrote, EndsTraced, RunsTraced}
+use Rattle.wy_machine.proofs.Lines.{wrote_none, wrote_after, some_after, some_before}
 
 counted_on : (a b c : ℕ) → a ≤ b → b ≤ c → a ≤ c
 counted_on a b c p q = omega (arith, p, q)
 
--- a run that came to a state, and wrote the lines of all events
-pub record LeadsTraced (code : Code) (depth q : ℕ) (s : StackState) (w : StoreState) (old new : DevicesState) (out out' : SinkState) : Type 0 where
-  pub leads : Leads code depth q s w old new
-  pub wrote : WroteAll leads.events out out'
-  pub counted : out.faults ≤ out'.faults
+module _ {X : Type 0} (hears : Told → X → X → Result (Unit {0}) RunEnd → Type 0) where
+  -- an observer that never ends a run
+  pub silent_runs : ((t : Told) (a b : X) (end : RunEnd) → hears t a b (Err end) → ⊥) → (code : Code) (depth k : ℕ) (old new : DevicesState) (a b : X) (end : RunEnd) → RunsTold hears code depth k old new a b end → Runs code depth k old new end
+  silent_runs never code depth k old new a b end h = of h.comes
+    where
+      of : IsHeardRun hears code depth k h.events old new a b end ⊎ IsCutRun hears code depth k h.events a b end → Runs code depth k old new end
+      of (inl c) = record { events = h.events; did = h.did; ends = c.ends; same = h.same; failed = c.failed }
+      of (inr c) = absurd (never c.heard.last c.heard.before b end c.heard.cut)
 
-module _ (code : Code) (depth : ℕ) where
-  -- all of the steps have these events
-  in_all : (k : ℕ) (es : List Event) (end : ends.RunEnd) → RunsTo code depth k es end → HappenedIn code depth k es
-  in_all k es end h = let few : k ≤ k = omega arith in record { steps = k; few = few; end = end; runs = h }
+  -- what no event changes
+  module _ {N : Type 0} (name : X → N) (keeps : (t : Told) (a b : X) (r : Result (Unit {0}) RunEnd) → hears t a b r → name b ≡ name a) where
+    all_kept : (ts : List Told) (a b : X) → HeardAll hears ts a b → name b ≡ name a
+    all_kept [] a b h = ap name h
+    all_kept (t ∷ ts) a b h = all_kept ts h.0 b h.2 ∙ keeps t a h.0 (Ok tt) h.1
 
-  ------------------------------------------------------------
-  -- The start
+    pub kept : (code : Code) (depth k : ℕ) (old new : DevicesState) (a b : X) (end : RunEnd) → RunsTold hears code depth k old new a b end → name b ≡ name a
+    kept code depth k old new a b end h = of h.comes
+      where
+        of : IsHeardRun hears code depth k h.events old new a b end ⊎ IsCutRun hears code depth k h.events a b end → name b ≡ name a
+        of (inl c) = all_kept c.told a b c.heard
+        of (inr c) = keeps c.heard.last c.heard.before b (Err end) c.heard.cut ∙ all_kept c.heard.whole a c.heard.before c.heard.heard
 
-  module _ (s : StackState) (w : StoreState) (d : DevicesState) (out out' : SinkState) where
-    pub leads_traced_first : IsTraced code s w (starting code) d d out out' (Ok tt) → out.faults ≤ out'.faults → LeadsTraced code depth 0 s w d d out out'
-    leads_traced_first h m = record { leads = leads_first code depth s w d d h.step; wrote = h.wrote; counted = m }
+  -- an observer that writes the line of each event
+  module _ (state : X → SinkState) (writes : (t : Told) (a b : X) (r : Result (Unit {0}) RunEnd) → hears t a b r → Wrote (event_told t ∷ []) (state a) (state b) r)
+      (counts : (t : Told) (a b : X) (r : Result (Unit {0}) RunEnd) → hears t a b r → (state a).faults ≤ (state b).faults) where
+    all_counted : (ts : List Told) (a b : X) → HeardAll hears ts a b → (state a).faults ≤ (state b).faults
+    all_counted [] a b h = let e = ap (λ x. (state x).faults) h in omega (arith, e)
+    all_counted (t ∷ ts) a b h = counted_on _ _ _ (counts t a h.0 (Ok tt) h.1) (all_counted ts h.0 b h.2)
 
-    module _ (k : ℕ) where
-      -- memory was not what the start wanted
-      abbrev IsNotStarved : Result (Unit {0}) RunEnd → Type 0
-      IsNotStarved (Err Memory) = ⊥
-      IsNotStarved _ = Unit {0}
+    all_written : (ts : List Told) (a b : X) → HeardAll hears ts a b → WroteAll (events_told ts) (state a) (state b)
+    all_written [] a b h = subst (λ x. WroteAll [] (state a) (state x)) (sym h) (wrote_none (state a))
+    all_written (t ∷ ts) a b h = wrote_after (event_told t ∷ []) (events_told ts) (state a) (state h.0) (state b) (writes t a h.0 (Ok tt) h.1) (all_written ts h.0 b h.2)
 
-      happened_first : (own : Result (Unit {0}) RunEnd) (h : IsStep code s w (starting code) d d own) → IsNotStarved own → HappenedIn code depth k h.events
-      happened_first (Ok u) h n = let few : 0 ≤ k = omega arith in record { steps = 0; few = few; end = ends.Spent; runs = spent_now code depth d 0 s w d (leads_first code depth s w d d h) }
-      happened_first (Err Ended) h n = in_all k h.events _ (halts_first code depth k h.events _ h.comes)
-      happened_first (Err (Trap kind place)) h n = in_all k h.events _ (halts_first code depth k h.events _ h.comes)
-      happened_first (Err TooDeep) h n = in_all k h.events _ (halts_first code depth k h.events _ h.comes)
-      happened_first (Err Spent) h n = absurd h.comes
-      happened_first (Err (DeviceFailed grant op)) h n = in_all k h.events _ (halts_first code depth k h.events _ h.comes)
-      happened_first (Err SinkFailed) h n = absurd h.comes
-      happened_first (Err Memory) h n = absurd n
+    -- the line of the last event is not whole, and those behind it lack
+    some_written : (es : List Event) (a b : X) (end : RunEnd) (h : HeardSome hears es a b end) → WroteSome (event_told h.last ∷ []) (state h.before) (state b) → WroteSome es (state a) (state b)
+    some_written es a b end h some =
+        subst (λ es. WroteSome es (state a) (state b)) (sym h.split)
+        (some_after (events_told h.whole) (event_told h.last ∷ h.later) (state a) (state h.before) (state b) (all_written h.whole a h.before h.heard)
+        (some_before (event_told h.last ∷ []) h.later (state h.before) (state b) h.quiet some))
 
-      -- where it wanted memory no line could be cut
-      not_starved : (own : Result (Unit {0}) RunEnd) → IsCutStep code s w (starting code) d d out out' own → IsNotStarved own
-      not_starved (Ok u) h = tt
-      not_starved (Err Ended) h = tt
-      not_starved (Err (Trap kind place)) h = tt
-      not_starved (Err TooDeep) h = tt
-      not_starved (Err Spent) h = tt
-      not_starved (Err (DeviceFailed grant op)) h = tt
-      not_starved (Err SinkFailed) h = tt
-      not_starved (Err Memory) h = absurd (some_cut h.step.events out out' h.step.comes h.wrote)
+    module _ (code : Code) (depth k : ℕ) (old new : DevicesState) (a b : X) where
+      counted : (end : RunEnd) → RunsTold hears code depth k old new a b end → (state a).faults ≤ (state b).faults
+      counted end h = of h.comes
+        where
+          of : IsHeardRun hears code depth k h.events old new a b end ⊎ IsCutRun hears code depth k h.events a b end → (state a).faults ≤ (state b).faults
+          of (inl c) = all_counted c.told a b c.heard
+          of (inr c) = counted_on _ _ _ (all_counted c.heard.whole a c.heard.before c.heard.heard) (counts c.heard.last c.heard.before b (Err end) c.heard.cut)
 
-      cut_first : (own : Result (Unit {0}) RunEnd) (h : IsCutStep code s w (starting code) d d out out' own) → HappenedIn code depth k h.step.events
-      cut_first own h = happened_first own h.step (not_starved own h)
+      written : (events : List Event) (end : RunEnd) → (c : IsHeardRun hears code depth k events old new a b end) → WroteAll events (state a) (state b)
+      written events end c = subst (λ es. WroteAll es (state a) (state b)) c.are (all_written c.told a b c.heard)
 
-      module _ (m : out.faults ≤ out'.faults) (sound : IsNotStuck (starting code)) where
-        told_first : (own : Result (Unit {0}) RunEnd) → IsNotStarved own → IsToldStep code s w (starting code) d d out out' own → RunsTraced code depth k d d out out' Memory
-        told_first own n h = record { events = h.step.events; did = h.step.did; ends = (happened_first own h.step n, inl h.wrote); same = h.step.same; failed = tt; counted = m }
+      heard_ends : (events : List Event) (end : RunEnd) → IsHeardRun hears code depth k events old new a b end → EndsTraced code depth k events (state a) (state b) end
+      heard_ends events Ended c = (c.ends, written events Ended c)
+      heard_ends events (Trap kind place) c = (c.ends, written events (Trap kind place) c)
+      heard_ends events TooDeep c = (c.ends, written events TooDeep c)
+      heard_ends events Spent c = (c.ends, written events Spent c)
+      heard_ends events (DeviceFailed grant op) c = (c.ends, written events (DeviceFailed grant op) c)
+      heard_ends events SinkFailed c = absurd c.ends
+      heard_ends events Memory c = (record { steps = c.ends.0; few = c.ends.1; end = ends.Spent; runs = c.ends.2 }, inl (written events Memory c))
 
-        -- the first body is entered, even where memory was wanting
-        starved_told : (own : Result (Unit {0}) RunEnd) → IsToldStep code s w (starting code) d d out out' own → RunsTraced code depth k d d out out' Memory
-        starved_told (Ok u) h = told_first (Ok u) tt h
-        starved_told (Err Ended) h = told_first (Err Ended) tt h
-        starved_told (Err (Trap kind place)) h = told_first (Err (Trap kind place)) tt h
-        starved_told (Err TooDeep) h = told_first (Err TooDeep) tt h
-        starved_told (Err Spent) h = told_first (Err Spent) tt h
-        starved_told (Err (DeviceFailed grant op)) h = told_first (Err (DeviceFailed grant op)) tt h
-        starved_told (Err SinkFailed) h = told_first (Err SinkFailed) tt h
-        starved_told (Err Memory) h =
-            let e = enters_first code depth sound in
-            let few : 0 ≤ k = omega arith in
-            record {
-              events = e.event ∷ [];
-              did = did_quietly d (e.event ∷ []) e.quiet;
-              ends = (record { steps = 0; few = few; end = ends.Spent; runs = none_taken code depth e }, inr (none_of e.event [] out out' no_events (subst (λ es. WroteAll es out out') h.step.comes h.wrote)));
-              same = same_devices d;
-              failed = tt;
-              counted = m;
-            }
+      cut_ends : (events : List Event) (end : RunEnd) → IsCutRun hears code depth k events a b end → EndsTraced code depth k events (state a) (state b) end
+      cut_ends events SinkFailed c =
+          let last = writes c.heard.last c.heard.before b (Err SinkFailed) c.heard.cut in
+          let first = all_counted c.heard.whole a c.heard.before c.heard.heard in
+          let after = counts c.heard.last c.heard.before b (Err SinkFailed) c.heard.cut in
+          (c.happened, some_written events a b SinkFailed c.heard last.0, rose_later _ _ _ first last.1 after)
+      cut_ends events Memory c = (c.happened, inr (some_written events a b Memory c.heard (writes c.heard.last c.heard.before b (Err Memory) c.heard.cut)))
+      cut_ends events Ended c = absurd (writes c.heard.last c.heard.before b (Err Ended) c.heard.cut)
+      cut_ends events (Trap kind place) c = absurd (writes c.heard.last c.heard.before b (Err (Trap kind place)) c.heard.cut)
+      cut_ends events TooDeep c = absurd (writes c.heard.last c.heard.before b (Err TooDeep) c.heard.cut)
+      cut_ends events Spent c = absurd (writes c.heard.last c.heard.before b (Err Spent) c.heard.cut)
+      cut_ends events (DeviceFailed grant op) c = absurd (writes c.heard.last c.heard.before b (Err (DeviceFailed grant op)) c.heard.cut)
 
-        starved_first : (own : Result (Unit {0}) RunEnd) → IsToldStep code s w (starting code) d d out out' own ⊎ IsCutStep code s w (starting code) d d out out' own → RunsTraced code depth k d d out out' Memory
-        starved_first own (inl h) = starved_told own h
-        starved_first own (inr h) = record { events = h.step.events; did = h.step.did; ends = (cut_first own h, inr h.wrote); same = h.step.same; failed = tt; counted = m }
+      cut_fails : (events : List Event) (end : RunEnd) → IsCutRun hears code depth k events a b end → FailsByFault old new end
+      cut_fails events SinkFailed c = tt
+      cut_fails events Memory c = tt
+      cut_fails events Ended c = tt
+      cut_fails events (Trap kind place) c = tt
+      cut_fails events TooDeep c = tt
+      cut_fails events Spent c = tt
+      cut_fails events (DeviceFailed grant op) c = absurd (writes c.heard.last c.heard.before b (Err (DeviceFailed grant op)) c.heard.cut)
 
-      pub start_traced_stops : (end : RunEnd) → IsNotStuck (starting code) → IsTraced code s w (starting code) d d out out' (Err end) → out.faults ≤ out'.faults → RunsTraced code depth k d d out out' end
-      start_traced_stops Ended sound h m = record { events = h.step.events; did = h.step.did; ends = (halts_first code depth k h.step.events _ h.step.comes, h.wrote); same = h.step.same; failed = h.step.failed; counted = m }
-      start_traced_stops (Trap kind place) sound h m = record { events = h.step.events; did = h.step.did; ends = (halts_first code depth k h.step.events _ h.step.comes, h.wrote); same = h.step.same; failed = h.step.failed; counted = m }
-      start_traced_stops TooDeep sound h m = record { events = h.step.events; did = h.step.did; ends = (halts_first code depth k h.step.events _ h.step.comes, h.wrote); same = h.step.same; failed = h.step.failed; counted = m }
-      start_traced_stops Spent sound h m = absurd h.step.comes
-      start_traced_stops (DeviceFailed grant op) sound h m = record { events = h.step.events; did = h.step.did; ends = (halts_first code depth k h.step.events _ h.step.comes, h.wrote); same = h.step.same; failed = h.step.failed; counted = m }
-      start_traced_stops SinkFailed sound h m = record { events = h.1.step.events; did = h.1.step.did; ends = (cut_first h.0 h.1, h.1.wrote, h.2); same = h.1.step.same; failed = tt; counted = m }
-      start_traced_stops Memory sound h m = starved_first m sound h.0 h.1
-
-  ------------------------------------------------------------
-  -- One step more
-
-  module _ (a b c : DevicesState) (q : ℕ) (s s' : StackState) (w w' : StoreState) (out mid out' : SinkState) (l : LeadsTraced code depth q s w a b out mid) (m : mid.faults ≤ out'.faults) where
-    counted : out.faults ≤ out'.faults
-    counted = counted_on out.faults mid.faults out'.faults l.counted m
-
-    pub leads_traced_more : IsTraced code s' w' (stepping code depth s w) b c mid out' (Ok tt) → LeadsTraced code depth (q + 1) s' w' a c out out'
-    leads_traced_more h = record {
-      leads = leads_more code depth a q s s' w w' b c l.leads h.step;
-      wrote = wrote_after l.leads.events h.step.events out mid out' l.wrote h.wrote;
-      counted = counted;
-    }
-
-    module _ (k : ℕ) (lt : q < k) where
-      happened_more : (own : Result (Unit {0}) RunEnd) (h : IsStep code s' w' (stepping code depth s w) b c own) → HappenedIn code depth k (l.leads.events ++ h.events)
-      happened_more (Ok u) h =
-          let few : q + 1 ≤ k = omega (arith, lt) in
-          record { steps = q + 1; few = few; end = ends.Spent; runs = spent_now code depth a (q + 1) s' w' c (leads_more code depth a q s s' w w' b c l.leads h) }
-      happened_more (Err Ended) h = in_all k (l.leads.events ++ h.events) _ (halts_to code depth a q k s w b l.leads h.events _ lt h.comes)
-      happened_more (Err (Trap kind place)) h = in_all k (l.leads.events ++ h.events) _ (halts_to code depth a q k s w b l.leads h.events _ lt h.comes)
-      happened_more (Err TooDeep) h = in_all k (l.leads.events ++ h.events) _ (halts_to code depth a q k s w b l.leads h.events _ lt h.comes)
-      happened_more (Err Spent) h = absurd h.comes
-      happened_more (Err (DeviceFailed grant op)) h = in_all k (l.leads.events ++ h.events) _ (halts_to code depth a q k s w b l.leads h.events _ lt h.comes)
-      happened_more (Err SinkFailed) h = absurd h.comes
-      happened_more (Err Memory) h = let few : q ≤ k = omega (arith, lt) in record { steps = q; few = few; end = ends.Spent; runs = spent_to code depth a q s w b l.leads h.events h.comes }
-
-      ran : (end : RunEnd) (own : Result (Unit {0}) RunEnd) (h : IsStep code s' w' (stepping code depth s w) b c own) → FailsByFault a c end → EndsTraced code depth k (l.leads.events ++ h.events) out out' end → RunsTraced code depth k a c out out' end
-      ran end own h failed e = record {
-        events = l.leads.events ++ h.events;
-        did = did_after a b c l.leads.events h.events l.leads.did h.did;
-        ends = e;
-        same = same_after a b c l.leads.same h.same;
-        failed = failed;
-        counted = counted;
-      }
-
-      abbrev wrote : (own : Result (Unit {0}) RunEnd) (h : IsToldStep code s' w' (stepping code depth s w) b c mid out' own) → WroteAll (l.leads.events ++ h.step.events) out out'
-      wrote own h = wrote_after l.leads.events h.step.events out mid out' l.wrote h.wrote
-
-      abbrev wrote_some : (own : Result (Unit {0}) RunEnd) (h : IsCutStep code s' w' (stepping code depth s w) b c mid out' own) → WroteSome (l.leads.events ++ h.step.events) out out'
-      wrote_some own h = some_after l.leads.events h.step.events out mid out' l.wrote h.wrote
-
-      told_stops : (end : RunEnd) (h : IsToldStep code s' w' (stepping code depth s w) b c mid out' (Err end)) → EndsTraced code depth k (l.leads.events ++ h.step.events) out out' end → RunsTraced code depth k a c out out' end
-      told_stops end h e = ran end (Err end) h.step (fault_after a b c l.leads.same h.step.same end h.step.failed) e
-
-      starved_more : (own : Result (Unit {0}) RunEnd) → IsToldStep code s' w' (stepping code depth s w) b c mid out' own ⊎ IsCutStep code s' w' (stepping code depth s w) b c mid out' own → RunsTraced code depth k a c out out' Memory
-      starved_more own (inl h) = ran Memory own h.step tt (happened_more own h.step, inl (wrote own h))
-      starved_more own (inr h) = ran Memory own h.step tt (happened_more own h.step, inr (wrote_some own h))
-
-      pub traced_stops : (end : RunEnd) → IsTraced code s' w' (stepping code depth s w) b c mid out' (Err end) → RunsTraced code depth k a c out out' end
-      traced_stops Ended h = told_stops Ended h (ends_to code depth a q k s w b l.leads h.step.events Ended lt h.step.comes tt, wrote (Err Ended) h)
-      traced_stops (Trap kind place) h = told_stops (Trap kind place) h (ends_to code depth a q k s w b l.leads h.step.events (Trap kind place) lt h.step.comes tt, wrote (Err (Trap kind place)) h)
-      traced_stops TooDeep h = told_stops TooDeep h (ends_to code depth a q k s w b l.leads h.step.events TooDeep lt h.step.comes tt, wrote (Err TooDeep) h)
-      traced_stops Spent h = absurd h.step.comes
-      traced_stops (DeviceFailed grant op) h = told_stops (DeviceFailed grant op) h (ends_to code depth a q k s w b l.leads h.step.events (DeviceFailed grant op) lt h.step.comes tt, wrote (Err (DeviceFailed grant op)) h)
-      traced_stops SinkFailed h = ran SinkFailed h.0 h.1.step tt (happened_more h.0 h.1.step, wrote_some h.0 h.1, rose_later out.faults mid.faults out'.faults l.counted h.2 m)
-      traced_stops Memory h = starved_more h.0 h.1
-
-  pub traced_spent : (a b : DevicesState) (k : ℕ) (s : StackState) (w : StoreState) (out out' : SinkState) → LeadsTraced code depth k s w a b out out' → RunsTraced code depth k a b out out' Spent
-  traced_spent a b k s w out out' l = record { events = l.leads.events; did = l.leads.did; ends = (spent_now code depth a k s w b l.leads, l.wrote); same = l.leads.same; failed = tt; counted = l.counted }
+      pub traced_runs : (end : RunEnd) → RunsTold hears code depth k old new a b end → RunsTraced code depth k old new (state a) (state b) end
+      traced_runs end h = of h.comes
+        where
+          of : IsHeardRun hears code depth k h.events old new a b end ⊎ IsCutRun hears code depth k h.events a b end → RunsTraced code depth k old new (state a) (state b) end
+          of (inl c) = record { events = h.events; did = h.did; ends = heard_ends h.events end c; same = h.same; failed = c.failed; counted = counted end h }
+          of (inr c) = record { events = h.events; did = h.did; ends = cut_ends h.events end c; same = h.same; failed = cut_fails h.events end c; counted = counted end h }

@@ -5,7 +5,8 @@ pub mod Requesting
 pub mod Devices
 pub mod Loading
 pub mod Runs
-pub mod Showing
+pub mod Observed
+pub mod Observing
 pub mod Stacks
 pub mod States
 pub mod Steps

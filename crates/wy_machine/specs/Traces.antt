@@ -1,20 +1,16 @@
 -- What a traced run writes besides what it does. (docs/LANGUAGE.md, "Events")
-use Rattle.std.specs.Prelude.{◌≡◌, ℕ, ◌≤◌, ◌<◌, List, [], ◌∷◌, ◌++◌, ◌⊎◌, length, Result, Ok, Err, ⊤}
+use Rattle.std.specs.Prelude.{◌≡◌, ℕ, ◌≤◌, ◌<◌, List, ◌∷◌, ◌++◌, ◌⊎◌, length, Result, Ok, Err}
 use Rattle.wy_text.specs.Outside.{SinkState, gained, Rose}
 use Rattle.wy_device.specs.declared.deed.Event.{Event}
 use Rattle.wy_device.specs.Devices.{DevicesState}
 use Rattle.wy_device.specs.Events.{DidExactly}
 use Rattle.wy_device.specs.RunEnds as ends
-use Rattle.wy_device.specs.Tapes.{Tapes}
 use Rattle.wy_meaning.specs.EventLines.{event_line, event_lines}
 use Rattle.wy_code.specs.declared.code.Code.{Code}
-use Rattle.wy_code.specs.Machine.{Next}
 use Rattle.wy_machine.specs.declared.run_end.RunEnd.{RunEnd}
 use Rattle.wy_machine.specs.declared.run_end.RunEnd.TheVariants.{Ended, Trap, TooDeep, Spent, DeviceFailed, SinkFailed, Memory}
 use Rattle.wy_machine.specs.Runs.{RunsTo, EndsIn, AreSameDevices, FailsByFault}
-use Rattle.wy_machine.specs.Stacks.{StackState}
-use Rattle.wy_machine.specs.Steps.{AreQuiet, IsStep}
-use Rattle.wy_machine.specs.StoreStates.{StoreState}
+use Rattle.wy_machine.specs.Steps.{AreQuiet}
 
 -- the lines of the events were written, each whole
 abbrev pub WroteAll : List Event → SinkState → SinkState → Type 0
@@ -63,12 +59,7 @@ pub record RunsTraced (code : Code) (depth k : ℕ) (old new : DevicesState) (ou
   pub counted : out.faults ≤ out'.faults
 
 ------------------------------------------------------------
--- Steps
-
--- at most the first event is a deed
-abbrev pub IsQuietAfterFirst : List Event → Type 0
-IsQuietAfterFirst [] = ⊤
-IsQuietAfterFirst (event ∷ events) = AreQuiet events
+-- Writes
 
 -- what a write of the events' lines came to
 abbrev pub Wrote : List Event → SinkState → SinkState → Result (Unit {0}) RunEnd → Type 0
@@ -80,24 +71,3 @@ Wrote events out out' (Err (Trap kind place)) = ⊥
 Wrote events out out' (Err TooDeep) = ⊥
 Wrote events out out' (Err Spent) = ⊥
 Wrote events out out' (Err (DeviceFailed grant op)) = ⊥
-
--- a step whose events' lines were written
-pub record IsToldStep (code : Code) (s : StackState) (w : StoreState) (next : Tapes → Next) (old new : DevicesState) (out out' : SinkState) (own : Result (Unit {0}) RunEnd) : Type 0 where
-  pub step : IsStep code s w next old new own
-  pub wrote : WroteAll step.events out out'
-
--- a step whose events' lines were not all written
-pub record IsCutStep (code : Code) (s : StackState) (w : StoreState) (next : Tapes → Next) (old new : DevicesState) (out out' : SinkState) (own : Result (Unit {0}) RunEnd) : Type 0 where
-  pub step : IsStep code s w next old new own
-  pub wrote : WroteSome step.events out out'
-
--- a step with its lines came out so; it came out some way itself where the sink failed or memory was wanting
-abbrev pub IsTraced : Code → StackState → StoreState → (Tapes → Next) → DevicesState → DevicesState → SinkState → SinkState → Result (Unit {0}) RunEnd → Type 0
-IsTraced code s w next old new out out' (Ok u) = IsToldStep code s w next old new out out' (Ok u)
-IsTraced code s w next old new out out' (Err SinkFailed) = (own : Result (Unit {0}) RunEnd) × IsCutStep code s w next old new out out' own × Rose out.faults out'.faults
-IsTraced code s w next old new out out' (Err Memory) = (own : Result (Unit {0}) RunEnd) × (IsToldStep code s w next old new out out' own ⊎ IsCutStep code s w next old new out out' own)
-IsTraced code s w next old new out out' (Err Ended) = IsToldStep code s w next old new out out' (Err Ended)
-IsTraced code s w next old new out out' (Err (Trap kind place)) = IsToldStep code s w next old new out out' (Err (Trap kind place))
-IsTraced code s w next old new out out' (Err TooDeep) = IsToldStep code s w next old new out out' (Err TooDeep)
-IsTraced code s w next old new out out' (Err Spent) = IsToldStep code s w next old new out out' (Err Spent)
-IsTraced code s w next old new out out' (Err (DeviceFailed grant op)) = IsToldStep code s w next old new out out' (Err (DeviceFailed grant op))

@@ -7,13 +7,16 @@ ghost use Rattle.wy_device.specs.Devices.{IsInOrder};
 ghost use Rattle.wy_machine.specs.Devices.{states};
 ghost use Rattle.wy_device.specs.Requests as requests;
 ghost use Rattle.wy_machine.specs.Requesting.{is_answered_by_text, HasPlace, word_received, store_received, IsAsking, IsRequest};
-ghost use Rattle.wy_machine.specs.Steps.{acting, IsNotStuck, IsStep};
+ghost use Rattle.wy_machine.specs.Observing.{IsObserved};
+ghost use Rattle.wy_machine.specs.Steps.{acting, IsNotStuck};
 ghost use Rattle.wy_machine.specs.Wanting.{TrapsFirst};
 
 use crate::building::next_text;
 use crate::deeds::{requested, text_in, word_in};
 use crate::devices::Devices;
 use crate::machine::Machine;
+use crate::observing::Observer;
+use crate::outcome::came;
 use crate::requests::{answers_text, operation_called, refusal};
 use crate::run_end::RunEnd;
 use crate::store::Store;
@@ -57,8 +60,9 @@ fn received(store: &mut Store, place: Option<u32>, answer: Answer) -> Option<Wor
 }
 
 /// Asks the device for an operation whose name is good, where a text may be built if it answers one. The text's place
-/// and the grant's name are there before the device is asked, so that its answer is kept, and its failure told.
-fn ask<D: Device>(
+/// and the grant's name are there before the device is asked, so that its answer is kept, and its failure told. The
+/// observer is told what was asked and answered.
+fn ask<D: Device, W: Observer>(
     code: &Code,
     depth: u32,
     machine: &mut Machine,
@@ -68,37 +72,49 @@ fn ask<D: Device>(
     count: u32,
     grant: &Grant,
     op: &Op,
+    observer: &mut W,
 ) -> Result<(), RunEnd>
     requires order { IsInOrder (states D.state devices.old) }
     requires request { IsRequest code.now machine.old.stack machine.old.store method count grant.now op.now }
     requires good { requests.has_good_name op.now ≡ true }
     requires room { requests.answers_text op.now ≡ true → length machine.old.store.texts < 4194304 }
     requires sound { IsNotStuck (acting code.now depth place machine.old.stack machine.old.store (Call method count)) }
-    ensures step { IsStep code.now machine.new.stack machine.new.store
-        (acting code.now depth place machine.old.stack machine.old.store (Call method count)) (states D.state devices.old) (states D.state devices.new) result }
+    ensures step { IsObserved W.hears code.now machine.old.stack.running.instance machine.new.stack machine.new.store
+        (acting code.now depth place machine.old.stack machine.old.store (Call method count)) true (states D.state devices.old) (states D.state devices.new) observer.old observer.new result }
     ensures limits { machine.new.stack.limits ≡ machine.old.stack.limits }
     ensures first { machine.new.store.first ≡ machine.old.store.first }
 {
     let text = make_place(code, &mut machine.store, op.name())?;
     let name = grant.name.copy()?;
     match devices.ask(&grant.name, op) {
-        Ok(answer) => match received(&mut machine.store, text, answer) {
-            Some(word) => {
-                machine.stack.give(count as usize + 1, word);
-                Ok(())
+        Ok(answer) => {
+            let mut end = RunEnd::Spent;
+            let told = observer.performed(&grant.name, op, Some(&answer), &mut end);
+            match received(&mut machine.store, text, answer) {
+                Some(word) => {
+                    machine.stack.give(count as usize + 1, word);
+                    came(told, end)
+                }
+                None => unreachable!(),
             }
-            None => unreachable!(),
-        },
-        Err(DeviceError::Failed) => Err(RunEnd::DeviceFailed {
-            grant: name,
-            op: op.name(),
-        }),
+        }
+        Err(DeviceError::Failed) => {
+            let mut end = RunEnd::Spent;
+            if observer.performed(&grant.name, op, None, &mut end) {
+                Err(RunEnd::DeviceFailed {
+                    grant: name,
+                    op: op.name(),
+                })
+            } else {
+                Err(end)
+            }
+        }
         Err(DeviceError::Memory) => Err(RunEnd::Memory),
     }
 }
 
 /// Does an operation that was asked for: where it is refused it traps; else memory is taken, and the device is asked.
-fn request<D: Device>(
+fn request<D: Device, W: Observer>(
     code: &Code,
     depth: u32,
     machine: &mut Machine,
@@ -108,12 +124,13 @@ fn request<D: Device>(
     count: u32,
     grant: &Grant,
     operation: OpName,
+    observer: &mut W,
 ) -> Result<(), RunEnd>
     requires order { IsInOrder (states D.state devices.old) }
     requires asking { IsAsking code.now machine.old.stack method count grant.now operation }
     requires sound { IsNotStuck (acting code.now depth place machine.old.stack machine.old.store (Call method count)) }
-    ensures step { IsStep code.now machine.new.stack machine.new.store
-        (acting code.now depth place machine.old.stack machine.old.store (Call method count)) (states D.state devices.old) (states D.state devices.new) result }
+    ensures step { IsObserved W.hears code.now machine.old.stack.running.instance machine.new.stack machine.new.store
+        (acting code.now depth place machine.old.stack machine.old.store (Call method count)) true (states D.state devices.old) (states D.state devices.new) observer.old observer.new result }
     ensures traps { TrapsFirst (acting code.now depth place machine.old.stack machine.old.store (Call method count)) result }
     ensures limits { machine.new.stack.limits ≡ machine.old.stack.limits }
     ensures first { machine.new.store.first ≡ machine.old.store.first }
@@ -127,7 +144,7 @@ fn request<D: Device>(
         Some(kind) => Err(RunEnd::Trap { kind, place }),
         None => match requested(code, machine, operation, count as usize)? {
             Some(op) => ask(
-                code, depth, machine, devices, place, method, count, grant, &op,
+                code, depth, machine, devices, place, method, count, grant, &op, observer,
             ),
             None => unreachable!(),
         },
@@ -135,7 +152,7 @@ fn request<D: Device>(
 }
 
 /// Does a call on the grant of a number.
-pub fn perform<D: Device>(
+pub fn perform<D: Device, W: Observer>(
     code: &Code,
     depth: u32,
     machine: &mut Machine,
@@ -144,12 +161,13 @@ pub fn perform<D: Device>(
     method: u32,
     count: u32,
     number: u16,
+    observer: &mut W,
 ) -> Result<(), RunEnd>
     requires order { IsInOrder (states D.state devices.old) }
     requires receiver { slice_get machine.old.stack.running.operands count ≡ Some (GrantWord number) }
     requires sound { IsNotStuck (acting code.now depth place machine.old.stack machine.old.store (Call method count)) }
-    ensures step { IsStep code.now machine.new.stack machine.new.store
-        (acting code.now depth place machine.old.stack machine.old.store (Call method count)) (states D.state devices.old) (states D.state devices.new) result }
+    ensures step { IsObserved W.hears code.now machine.old.stack.running.instance machine.new.stack machine.new.store
+        (acting code.now depth place machine.old.stack machine.old.store (Call method count)) true (states D.state devices.old) (states D.state devices.new) observer.old observer.new result }
     ensures traps { TrapsFirst (acting code.now depth place machine.old.stack machine.old.store (Call method count)) result }
     ensures limits { machine.new.stack.limits ≡ machine.old.stack.limits }
     ensures first { machine.new.store.first ≡ machine.old.store.first }
@@ -158,7 +176,7 @@ pub fn perform<D: Device>(
         Some(grant) => match code.methods.get(method as usize) {
             Some(name) => match operation_called(grant.primitive, name.as_bytes()) {
                 Some(operation) => request(
-                    code, depth, machine, devices, place, method, count, grant, operation,
+                    code, depth, machine, devices, place, method, count, grant, operation, observer,
                 ),
                 None => unreachable!(),
             },

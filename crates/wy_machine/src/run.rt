@@ -1,29 +1,31 @@
 //! Loading, and whole runs.
 
-ghost use Rattle.std.specs.Prelude.{◌≡◌, ◌≤◌, false, IfOk};
+ghost use Rattle.std.specs.Prelude.{◌≡◌, ◌≤◌, length, IfOk};
 ghost use Rattle.wy_code.specs.Running.{NeverStuck};
-ghost use Rattle.wy_device.specs.Devices.{DevicesState, IsInOrder};
+ghost use Rattle.wy_device.specs.Devices.{IsInOrder};
 ghost use Rattle.wy_machine.specs.Devices.{states};
 ghost use Rattle.wy_machine.specs.Loading as loading;
 ghost use Rattle.wy_machine.specs.Loading.{IsLoaded};
+ghost use Rattle.wy_machine.specs.Observed.{RunsObserved};
+ghost use Rattle.wy_machine.specs.Observing.{instance_names};
 ghost use Rattle.wy_machine.specs.Runs.{Runs};
-ghost use Rattle.wy_machine.specs.Steps.{starting, IsNotStuck, IsStep};
 ghost use Rattle.wy_machine.specs.Traces.{RunsTraced};
-ghost use Rattle.wy_machine.specs.Wanting.{WantsOnly};
+ghost use Rattle.wy_meaning.specs.Used.{unused};
 
 use crate::devices::Devices;
 use crate::instances::first_objects;
 use crate::machine::Machine;
+use crate::observed_run::run_observing;
+use crate::observing::Silent;
 use crate::run_end::RunEnd;
 use crate::stack::{Limits, Stack};
-use crate::starting::begin;
-use crate::step::step;
 use crate::store::Store;
-use crate::traced_run::run_code_traced;
+use crate::tracing::Tracing;
 use std::alloc::Global;
 use std::marker::Model;
 use wy_code::code::{Body, Code};
 use wy_device::device::Device;
+use wy_meaning::Used;
 use wy_text::sink::Sink;
 use wy_text::text::Memory;
 
@@ -85,19 +87,7 @@ pub fn load<'a>(alloc: Global, code: &'a Code, depth: u32) -> Result<Image<'a>, 
     })
 }
 
-/// Begins a run; nothing of an earlier one is left. It takes no memory.
-pub(crate) fn start(code: &Code, machine: &mut Machine) -> Result<(), RunEnd>
-    requires loaded { IsLoaded code.now machine.old.stack.limits machine.old.store.first }
-    requires sound { IsNotStuck (starting code.now) }
-    ensures step { (d : DevicesState) → IsStep code.now machine.new.stack machine.new.store (starting code.now) d d result }
-    ensures ready { WantsOnly false result }
-    ensures limits { machine.new.stack.limits ≡ machine.old.stack.limits }
-    ensures first { machine.new.store.first ≡ machine.old.store.first }
-{
-    machine.store.restart();
-    begin(code, machine)
-}
-
+/// Runs code from its start, at most so many steps, before nobody.
 fn run_code<D: Device>(
     code: &Code,
     depth: u32,
@@ -113,17 +103,71 @@ fn run_code<D: Device>(
     ensures limits { machine.new.stack.limits ≡ machine.old.stack.limits }
     ensures first { machine.new.store.first ≡ machine.old.store.first }
 {
-    match start(code, machine) {
-        Ok(()) => {}
-        Err(end) => return end,
-    }
-    let mut end = RunEnd::Spent;
-    for done in 0..steps {
-        if !step(code, depth, machine, devices, &mut end) {
-            return end;
-        }
-    }
-    RunEnd::Spent
+    run_observing(code, depth, machine, devices, steps, &mut Silent)
+}
+
+/// Runs code from its start, at most so many steps, before who writes the line of each event.
+fn run_tracing<D: Device, O: Sink>(
+    code: &Code,
+    depth: u32,
+    machine: &mut Machine,
+    devices: &mut Devices<D>,
+    steps: u64,
+    tracing: &mut Tracing<'_, O>,
+) -> RunEnd
+    requires order { IsInOrder (states D.state devices.old) }
+    requires loaded { IsLoaded code.now machine.old.stack.limits machine.old.store.first }
+    requires deep { depth ≤ machine.old.stack.limits.depth }
+    requires sound { NeverStuck code.now }
+    ensures runs { RunsTraced code.now depth steps (states D.state devices.old) (states D.state devices.new) (O.state tracing.old.out.now) (O.state tracing.new.out.now) result }
+    ensures same_reference { tracing.new.out.ghost_name ≡ tracing.old.out.ghost_name }
+    ensures limits { machine.new.stack.limits ≡ machine.old.stack.limits }
+    ensures first { machine.new.store.first ≡ machine.old.store.first }
+{
+    run_observing(code, depth, machine, devices, steps, tracing)
+}
+
+/// Runs code from its start, at most so many steps, and writes the line of each event.
+fn run_code_traced<D: Device, O: Sink>(
+    alloc: Global,
+    code: &Code,
+    depth: u32,
+    machine: &mut Machine,
+    devices: &mut Devices<D>,
+    steps: u64,
+    out: &mut O,
+) -> RunEnd
+    requires order { IsInOrder (states D.state devices.old) }
+    requires loaded { IsLoaded code.now machine.old.stack.limits machine.old.store.first }
+    requires deep { depth ≤ machine.old.stack.limits.depth }
+    requires sound { NeverStuck code.now }
+    ensures runs { RunsTraced code.now depth steps (states D.state devices.old) (states D.state devices.new) (O.state out.old) (O.state out.new) result }
+    ensures limits { machine.new.stack.limits ≡ machine.old.stack.limits }
+    ensures first { machine.new.store.first ≡ machine.old.store.first }
+{
+    let mut tracing = Tracing { alloc, out };
+    run_tracing(code, depth, machine, devices, steps, &mut tracing)
+}
+
+/// Runs code from its start, at most so many steps, and keeps up what is used of each instance.
+fn run_code_observed<D: Device>(
+    code: &Code,
+    depth: u32,
+    machine: &mut Machine,
+    devices: &mut Devices<D>,
+    steps: u64,
+    used: &mut Used<'_>,
+) -> RunEnd
+    requires order { IsInOrder (states D.state devices.old) }
+    requires loaded { IsLoaded code.now machine.old.stack.limits machine.old.store.first }
+    requires deep { depth ≤ machine.old.stack.limits.depth }
+    requires sound { NeverStuck code.now }
+    requires unused { used.old ≡ unused used.old.atoms (length (instance_names code.now)) }
+    ensures runs { RunsObserved code.now depth steps (states D.state devices.old) (states D.state devices.new) used.old used.new result }
+    ensures limits { machine.new.stack.limits ≡ machine.old.stack.limits }
+    ensures first { machine.new.store.first ≡ machine.old.store.first }
+{
+    run_observing(code, depth, machine, devices, steps, used)
 }
 
 /// Runs the code from its start, at most so many steps.
@@ -160,5 +204,30 @@ pub fn run_traced<D: Device, O: Sink>(
         devices,
         steps,
         out,
+    )
+}
+
+/// Runs the code as `run` does, with the same answer, and keeps up what is used of each instance (docs/LANGUAGE.md,
+/// "Observation"). It begins with nothing used of as many instances as the code has, and its program; where the names of
+/// the instances are apart, what is kept then follows the events of this run. It takes no more memory than `run`.
+pub fn run_observed<D: Device>(
+    image: &mut Image<'_>,
+    devices: &mut Devices<D>,
+    steps: u64,
+    used: &mut Used<'_>,
+) -> RunEnd
+    requires order { IsInOrder (states D.state devices.old) }
+    requires sound { NeverStuck image.old.code }
+    requires unused { used.old ≡ unused used.old.atoms (length (instance_names image.old.code)) }
+    ensures runs { RunsObserved image.old.code image.old.depth steps (states D.state devices.old) (states D.state devices.new) used.old used.new result }
+    ensures same { image.new ≡ image.old }
+{
+    run_code_observed(
+        image.code,
+        image.depth,
+        &mut image.machine,
+        devices,
+        steps,
+        used,
     )
 }

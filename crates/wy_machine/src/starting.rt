@@ -1,13 +1,13 @@
 //! The instances one after the other, and then the program.
 
-ghost use Rattle.std.specs.Prelude.{◌≡◌, List, [], false};
+ghost use Rattle.std.specs.Prelude.{◌≡◌, List, [], IfErr};
 ghost use Rattle.wy_code.specs.Machine as machine;
 ghost use Rattle.wy_code.specs.declared.instruction.Instruction.TheVariants.{Finish};
 ghost use Rattle.wy_device.specs.Devices.{DevicesState};
 ghost use Rattle.wy_device.specs.declared.deed.Event.{Event};
+ghost use Rattle.wy_machine.specs.declared.run_end.RunEnd.TheVariants.{Ended};
 ghost use Rattle.wy_machine.specs.Loading.{IsLoaded};
 ghost use Rattle.wy_machine.specs.Steps.{acting, beginning, AreQuiet, IsNotStuck, IsStep};
-ghost use Rattle.wy_machine.specs.Wanting.{WantsOnly};
 
 use crate::lookup::{instance_at, start_of};
 use crate::machine::Machine;
@@ -33,7 +33,7 @@ pub fn begin(code: &Code, machine: &mut Machine) -> Result<(), RunEnd>
     requires sound { IsNotStuck (beginning code.now [] machine.old.store) }
     ensures step { (events : List Event) → AreQuiet events → (d : DevicesState) → IsStep code.now machine.new.stack machine.new.store
         (beginning code.now events machine.old.store) d d result }
-    ensures ready { WantsOnly false result }
+    ensures ends { IfErr result (λ end. end ≡ Ended) }
     ensures limits { machine.new.stack.limits ≡ machine.old.stack.limits }
     ensures first { machine.new.store.first ≡ machine.old.store.first }
 {
@@ -62,7 +62,7 @@ pub fn finish(code: &Code, machine: &mut Machine, place: Place) -> Result<(), Ru
     requires sound { IsNotStuck (acting code.now 0 place machine.old.stack machine.old.store Finish) }
     ensures step { (d : DevicesState) → IsStep code.now machine.new.stack machine.new.store
         (acting code.now 0 place machine.old.stack machine.old.store Finish) d d result }
-    ensures ready { WantsOnly false result }
+    ensures ends { IfErr result (λ end. end ≡ Ended) }
     ensures limits { machine.new.stack.limits ≡ machine.old.stack.limits }
     ensures first { machine.new.store.first ≡ machine.old.store.first }
 {

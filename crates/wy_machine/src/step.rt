@@ -1,6 +1,6 @@
 //! One step: the instruction that comes next.
 
-ghost use Rattle.std.specs.Prelude.{◌≡◌, ◌+◌, ◌<◌, ◌≤◌, length, slice_get, Some, false};
+ghost use Rattle.std.specs.Prelude.{◌≡◌, ◌+◌, ◌<◌, ◌≤◌, length, slice_get, Some, false, true};
 ghost use Rattle.wy_code.specs.Machine as machine;
 ghost use Rattle.wy_code.specs.declared.instruction.Instruction.TheVariants.{Op, New, Call, Finish};
 ghost use Rattle.wy_code.specs.Stores.{Grant as GrantWord};
@@ -10,6 +10,7 @@ ghost use Rattle.wy_machine.specs.Devices.{states};
 ghost use Rattle.wy_machine.specs.Loading.{IsLoaded};
 ghost use Rattle.wy_machine.specs.Stacks.{at_address};
 ghost use Rattle.wy_machine.specs.States.{body_at};
+ghost use Rattle.wy_machine.specs.Observing.{IsObserved};
 ghost use Rattle.wy_machine.specs.Steps.{acting, stepping, outcome, IsNotStuck, IsStep};
 ghost use Rattle.wy_machine.specs.Wanting.{builds_text, is_grant, takes_memory, next_takes, WantsOnly};
 
@@ -18,7 +19,9 @@ use crate::calls::enter;
 use crate::devices::Devices;
 use crate::machine::Machine;
 use crate::making::make;
+use crate::observing::Observer;
 use crate::operators::computed_plainly;
+use crate::outcome::went_on;
 use crate::performing::perform;
 use crate::run_end::RunEnd;
 use crate::stack::Stack;
@@ -59,20 +62,6 @@ fn constant_word(constant: Constant) -> Word
         Constant::Text(text) => Word::new(WordKind::Text(text)),
         Constant::Grant(grant) => Word::new(WordKind::Grant(grant)),
         Constant::Instance(instance) => Word::new(WordKind::Object(u32::from(instance))),
-    }
-}
-
-/// Whether a step went on; else how it ended the run is put aside. What may end a run stands in functions that are not
-/// inlined: in a step itself, the end of a run would be room that each instruction clears.
-fn went_on(own: Result<(), RunEnd>, end: &mut RunEnd) -> bool
-    ensures { outcome result end.new ≡ own }
-{
-    match own {
-        Ok(()) => true,
-        Err(stop) => {
-            *end = stop;
-            false
-        }
     }
 }
 
@@ -139,23 +128,39 @@ fn make_or_end(
     went_on(make(code, machine, *place, literal), end)
 }
 
-/// Ends the body that an instance starts with; gives whether the run goes on, else how it ends is put aside.
+/// Ends the body that an instance starts with, and tells so; gives whether the run goes on, else how it ends is put aside.
 #[inline(never)]
-fn finish_or_end(code: &Code, machine: &mut Machine, place: &Place, end: &mut RunEnd) -> bool
+fn finish_or_end<W: Observer>(
+    code: &Code,
+    machine: &mut Machine,
+    place: &Place,
+    observer: &mut W,
+    end: &mut RunEnd,
+) -> bool
     requires loaded { IsLoaded code.now machine.old.stack.limits machine.old.store.first }
     requires sound { IsNotStuck (acting code.now 0 place.now machine.old.stack machine.old.store Finish) }
-    ensures step { (d : DevicesState) → IsStep code.now machine.new.stack machine.new.store
-        (acting code.now 0 place.now machine.old.stack machine.old.store Finish) d d (outcome result end.new) }
-    ensures ready { WantsOnly false (outcome result end.new) }
+    ensures step { (d : DevicesState) → IsObserved W.hears code.now machine.old.stack.running.instance machine.new.stack machine.new.store
+        (acting code.now 0 place.now machine.old.stack machine.old.store Finish) false d d observer.old observer.new (outcome result end.new) }
     ensures limits { machine.new.stack.limits ≡ machine.old.stack.limits }
     ensures first { machine.new.store.first ≡ machine.old.store.first }
 {
-    went_on(finish(code, machine, *place), end)
+    let instance = machine.stack.instance();
+    let own = finish(code, machine, *place);
+    if !observer.left(instance, end) {
+        return false;
+    }
+    match own {
+        Ok(()) => observer.entered(code, machine.stack.instance(), machine.stack.body(), end),
+        Err(stop) => {
+            *end = stop;
+            false
+        }
+    }
 }
 
 /// Does a call on the grant of a number; gives whether the run goes on, else how it ends is put aside.
 #[inline(never)]
-fn perform_or_end<D: Device>(
+fn perform_or_end<D: Device, W: Observer>(
     code: &Code,
     depth: u32,
     machine: &mut Machine,
@@ -164,18 +169,21 @@ fn perform_or_end<D: Device>(
     method: u32,
     count: u32,
     grant: u16,
+    observer: &mut W,
     end: &mut RunEnd,
 ) -> bool
     requires order { IsInOrder (states D.state devices.old) }
     requires receiver { slice_get machine.old.stack.running.operands count ≡ Some (GrantWord grant) }
     requires sound { IsNotStuck (acting code.now depth place.now machine.old.stack machine.old.store (Call method count)) }
-    ensures step { IsStep code.now machine.new.stack machine.new.store
-        (acting code.now depth place.now machine.old.stack machine.old.store (Call method count)) (states D.state devices.old) (states D.state devices.new) (outcome result end.new) }
+    ensures step { IsObserved W.hears code.now machine.old.stack.running.instance machine.new.stack machine.new.store
+        (acting code.now depth place.now machine.old.stack machine.old.store (Call method count)) true (states D.state devices.old) (states D.state devices.new) observer.old observer.new (outcome result end.new) }
     ensures limits { machine.new.stack.limits ≡ machine.old.stack.limits }
     ensures first { machine.new.store.first ≡ machine.old.store.first }
 {
     went_on(
-        perform(code, depth, machine, devices, *place, method, count, grant),
+        perform(
+            code, depth, machine, devices, *place, method, count, grant, observer,
+        ),
         end,
     )
 }
@@ -192,7 +200,7 @@ fn end_too_deep(end: &mut RunEnd) -> bool
 
 /// Calls a method of the word below the arguments, an object or a grant. Gives whether the run goes on; else how
 /// it ends is put aside.
-fn call<D: Device>(
+fn call<D: Device, W: Observer>(
     code: &Code,
     depth: u32,
     machine: &mut Machine,
@@ -200,15 +208,15 @@ fn call<D: Device>(
     place: &Place,
     method: u32,
     count: u32,
+    observer: &mut W,
     end: &mut RunEnd,
 ) -> bool
     requires order { IsInOrder (states D.state devices.old) }
     requires loaded { IsLoaded code.now machine.old.stack.limits machine.old.store.first }
     requires deep { depth ≤ machine.old.stack.limits.depth }
     requires sound { IsNotStuck (acting code.now depth place.now machine.old.stack machine.old.store (Call method count)) }
-    ensures step { IsStep code.now machine.new.stack machine.new.store
-        (acting code.now depth place.now machine.old.stack machine.old.store (Call method count)) (states D.state devices.old) (states D.state devices.new) (outcome result end.new) }
-    ensures wants { WantsOnly (is_grant (slice_get machine.old.stack.running.operands count)) (outcome result end.new) }
+    ensures step { IsObserved W.hears code.now machine.old.stack.running.instance machine.new.stack machine.new.store
+        (acting code.now depth place.now machine.old.stack machine.old.store (Call method count)) (is_grant (slice_get machine.old.stack.running.operands count)) (states D.state devices.old) (states D.state devices.new) observer.old observer.new (outcome result end.new) }
     ensures limits { machine.new.stack.limits ≡ machine.old.stack.limits }
     ensures first { machine.new.store.first ≡ machine.old.store.first }
 {
@@ -216,13 +224,13 @@ fn call<D: Device>(
         WordKind::Object(object) => {
             if machine.stack.waiting() < depth as usize {
                 enter(code, depth, machine, *place, object, method, count);
-                true
+                observer.entered(code, machine.stack.instance(), machine.stack.body(), end)
             } else {
                 end_too_deep(end)
             }
         }
         WordKind::Grant(grant) => perform_or_end(
-            code, depth, machine, devices, place, method, count, grant, end,
+            code, depth, machine, devices, place, method, count, grant, observer, end,
         ),
         WordKind::Int(_) => unreachable!(),
         WordKind::Truth(_) => unreachable!(),
@@ -233,21 +241,21 @@ fn call<D: Device>(
 
 /// Does an instruction, as `call` does a call.
 #[inline(always)]
-fn act<D: Device>(
+fn act<D: Device, W: Observer>(
     code: &Code,
     depth: u32,
     machine: &mut Machine,
     devices: &mut Devices<D>,
     placed: &Placed,
+    observer: &mut W,
     end: &mut RunEnd,
 ) -> bool
     requires order { IsInOrder (states D.state devices.old) }
     requires loaded { IsLoaded code.now machine.old.stack.limits machine.old.store.first }
     requires deep { depth ≤ machine.old.stack.limits.depth }
     requires sound { IsNotStuck (acting code.now depth placed.now.place machine.old.stack machine.old.store placed.now.instruction) }
-    ensures step { IsStep code.now machine.new.stack machine.new.store
-        (acting code.now depth placed.now.place machine.old.stack machine.old.store placed.now.instruction) (states D.state devices.old) (states D.state devices.new) (outcome result end.new) }
-    ensures wants { WantsOnly (takes_memory placed.now.instruction machine.old.stack.running.operands) (outcome result end.new) }
+    ensures step { IsObserved W.hears code.now machine.old.stack.running.instance machine.new.stack machine.new.store
+        (acting code.now depth placed.now.place machine.old.stack machine.old.store placed.now.instruction) (takes_memory placed.now.instruction machine.old.stack.running.operands) (states D.state devices.old) (states D.state devices.new) observer.old observer.new (outcome result end.new) }
     ensures limits { machine.new.stack.limits ≡ machine.old.stack.limits }
     ensures first { machine.new.store.first ≡ machine.old.store.first }
 {
@@ -294,36 +302,38 @@ fn act<D: Device>(
             &placed.place,
             method,
             count,
+            observer,
             end,
         ),
         Instruction::Return => {
+            let instance = machine.stack.instance();
             let word = machine.stack.pop();
             machine.stack.leave(word);
-            true
+            observer.left(instance, end)
         }
-        Instruction::Finish => finish_or_end(code, machine, &placed.place, end),
+        Instruction::Finish => finish_or_end(code, machine, &placed.place, observer, end),
     }
 }
 
 /// One step of a run: gives whether the run goes on; else how it ends is put aside.
 #[inline(always)]
-pub fn step<D: Device>(
+pub fn step<D: Device, W: Observer>(
     code: &Code,
     depth: u32,
     machine: &mut Machine,
     devices: &mut Devices<D>,
+    observer: &mut W,
     end: &mut RunEnd,
 ) -> bool
     requires order { IsInOrder (states D.state devices.old) }
     requires loaded { IsLoaded code.now machine.old.stack.limits machine.old.store.first }
     requires deep { depth ≤ machine.old.stack.limits.depth }
     requires sound { IsNotStuck (stepping code.now depth machine.old.stack machine.old.store) }
-    ensures step { IsStep code.now machine.new.stack machine.new.store
-        (stepping code.now depth machine.old.stack machine.old.store) (states D.state devices.old) (states D.state devices.new) (outcome result end.new) }
-    ensures wants { WantsOnly (next_takes code.now machine.old.stack) (outcome result end.new) }
+    ensures step { IsObserved W.hears code.now machine.old.stack.running.instance machine.new.stack machine.new.store
+        (stepping code.now depth machine.old.stack machine.old.store) (next_takes code.now machine.old.stack) (states D.state devices.old) (states D.state devices.new) observer.old observer.new (outcome result end.new) }
     ensures limits { machine.new.stack.limits ≡ machine.old.stack.limits }
     ensures first { machine.new.store.first ≡ machine.old.store.first }
 {
     let placed = fetch(code, &mut machine.stack);
-    act(code, depth, machine, devices, placed, end)
+    act(code, depth, machine, devices, placed, observer, end)
 }

@@ -1,28 +1,82 @@
-//! One step, and the lines of its events.
+//! The observer that writes the line of each event.
 
-ghost use Rattle.std.specs.Prelude.{◌≡◌, ◌∷◌, [], ◌≤◌};
-ghost use Rattle.wy_device.specs.Devices.{DevicesState, IsInOrder};
-ghost use Rattle.wy_machine.specs.Devices.{states};
-ghost use Rattle.wy_device.specs.Tapes.{Tapes};
-ghost use Rattle.wy_code.specs.Machine.{Next};
-ghost use Rattle.wy_machine.specs.Loading.{IsLoaded};
-ghost use Rattle.wy_machine.specs.Showing.{Shows, events_seen};
-ghost use Rattle.wy_machine.specs.Steps.{stepping, outcome, IsNotStuck, IsStep};
-ghost use Rattle.wy_machine.specs.Traces.{IsQuietAfterFirst, Wrote, IsTraced};
+ghost use Rattle.std.specs.Prelude.{◌≡◌, ◌∷◌, [], ◌≤◌, IfOk, slice_get};
+ghost use Rattle.std.specs.Option.{option_copied};
+ghost use Rattle.wy_code.specs.Machine.{all_instances, name_in};
+ghost use Rattle.wy_device.specs.declared.deed.Event.TheVariants as event;
+ghost use Rattle.wy_machine.specs.Observing.{entering, event_told};
+ghost use Rattle.wy_machine.specs.States.{body_at};
+ghost use Rattle.wy_machine.specs.Steps.{outcome};
+ghost use Rattle.wy_machine.specs.Traces.{Wrote};
 
-use crate::coming::{Coming, coming_next};
-use crate::devices::Devices;
-use crate::machine::Machine;
+use crate::lookup::instance_at;
+use crate::observing::Observer;
+use crate::outcome::went_on;
 use crate::run_end::RunEnd;
-use crate::seen::{Seen, seen_after};
-use crate::step::step;
 use std::alloc::Global;
 use wy_code::code::Code;
-use wy_device::deed::Event;
-use wy_device::device::Device;
+use wy_device::deed::{Deed, Event};
+use wy_device::operation::{Answer, Op};
 use wy_meaning::event_line;
 use wy_text::sink::{Sink, WriteError};
+use wy_text::text::{Memory, Text, from_bytes};
 use wy_text::writing::write_all;
+
+/// Writes the line of each event to a sink, and ends the run where one cannot be written whole.
+#[derive(Drop)]
+pub struct Tracing<'o, O: Sink> {
+    pub alloc: Global,
+    pub out: &'o mut O,
+}
+
+/// The name of an instance, or of the program; none where there is none.
+fn instance_name(alloc: Global, code: &Code, instance: u32) -> Result<Text, Memory>
+    ensures { IfOk result (λ name. name ≡ name_in (slice_get (all_instances code.now) instance)) }
+{
+    match instance_at(code, instance as usize) {
+        Some(instance) => instance.name.copy(),
+        None => from_bytes(alloc, b""),
+    }
+}
+
+/// The name of a body; none where there is none.
+fn body_name(alloc: Global, code: &Code, body: u32) -> Result<Text, Memory>
+    ensures { IfOk result (λ name. name ≡ (body_at code.now body).name) }
+{
+    match code.bodies.get(body as usize) {
+        Some(body) => body.name.copy(),
+        None => from_bytes(alloc, b""),
+    }
+}
+
+/// That a body is entered.
+fn entry(alloc: Global, code: &Code, instance: u32, body: u32) -> Result<Event, Memory>
+    ensures { IfOk result (λ told. told ≡ event_told (entering code.now instance body)) }
+{
+    let instance = instance_name(alloc, code, instance)?;
+    let body = body_name(alloc, code, body)?;
+    Ok(Event::Enter { instance, body })
+}
+
+/// The answer of a deed, if it has one.
+fn answer_of(answer: Option<&Answer>) -> Result<Option<Answer>, Memory>
+    ensures { IfOk result (λ own. own ≡ option_copied answer.entry) }
+{
+    match answer {
+        Some(answer) => Ok(Some(answer.copy()?)),
+        None => Ok(None),
+    }
+}
+
+/// That an operation was done, or failed.
+fn deed(grant: &Text, op: &Op, answer: Option<&Answer>) -> Result<Event, Memory>
+    ensures { IfOk result (λ told. told ≡ event.Deed (record { grant = grant.now; op = op.now; answer = option_copied answer.entry })) }
+{
+    let grant = grant.copy()?;
+    let op = op.copy()?;
+    let answer = answer_of(answer)?;
+    Ok(Event::Deed(Deed { grant, op, answer }))
+}
 
 /// Writes the line of an event, as one piece.
 fn write_event<O: Sink>(alloc: Global, event: &Event, out: &mut O) -> Result<(), RunEnd>
@@ -37,73 +91,58 @@ fn write_event<O: Sink>(alloc: Global, event: &Event, out: &mut O) -> Result<(),
     }
 }
 
-/// Writes the lines of events, in their order.
-fn write_events<O: Sink>(alloc: Global, seen: &Seen, out: &mut O) -> Result<(), RunEnd>
-    requires { IsQuietAfterFirst (events_seen seen.now) }
-    ensures wrote { Wrote (events_seen seen.now) (O.state out.old) (O.state out.new) result }
-    ensures counted { (O.state out.old).faults ≤ (O.state out.new).faults }
-{
-    match seen {
-        Seen::Nothing => Ok(()),
-        Seen::One(event) => write_event(alloc, event, out),
-        Seen::Two(first, second) => match write_event(alloc, first, out) {
-            Ok(()) => write_event(alloc, second, out),
-            Err(end) => Err(end),
-        },
-    }
-}
-
-/// Writes the lines of a step's events when they have happened, and gives how the step itself came out;
-/// or that the sink failed or memory was wanting, however the step itself came out.
-pub fn trace<O: Sink>(
+/// Writes that a body is entered.
+fn write_entry<O: Sink>(
     alloc: Global,
     code: &Code,
-    machine: &Machine,
-    coming: Coming,
-    own: Result<(), RunEnd>,
+    instance: u32,
+    body: u32,
     out: &mut O,
 ) -> Result<(), RunEnd>
-    ensures traced { (next : Tapes → Next) (old new : DevicesState) → Shows code.now coming next →
-        IsStep code.now machine.now.stack machine.now.store next old new own →
-        IsTraced code.now machine.now.stack machine.now.store next old new (O.state out.old) (O.state out.new) result }
+    ensures wrote { Wrote (event_told (entering code.now instance body) ∷ []) (O.state out.old) (O.state out.new) result }
     ensures counted { (O.state out.old).faults ≤ (O.state out.new).faults }
 {
-    let seen = seen_after(code, machine, coming, &own)?;
-    match write_events(alloc, &seen, out) {
-        Ok(()) => own,
-        Err(cut) => Err(cut),
-    }
+    let event = entry(alloc, code, instance, body)?;
+    write_event(alloc, &event, out)
 }
 
-/// How a step came out.
-fn came(went: bool, end: RunEnd) -> Result<(), RunEnd>
-    ensures { result ≡ outcome went end }
-{
-    if went { Ok(()) } else { Err(end) }
-}
-
-/// One step of a run that writes the lines of its events.
-pub fn step_traced<D: Device, O: Sink>(
+/// Writes that an operation was done, or failed.
+fn write_deed<O: Sink>(
     alloc: Global,
-    code: &Code,
-    depth: u32,
-    machine: &mut Machine,
-    devices: &mut Devices<D>,
+    grant: &Text,
+    op: &Op,
+    answer: Option<&Answer>,
     out: &mut O,
 ) -> Result<(), RunEnd>
-    requires order { IsInOrder (states D.state devices.old) }
-    requires loaded { IsLoaded code.now machine.old.stack.limits machine.old.store.first }
-    requires deep { depth ≤ machine.old.stack.limits.depth }
-    requires sound { IsNotStuck (stepping code.now depth machine.old.stack machine.old.store) }
-    ensures traced { IsTraced code.now machine.new.stack machine.new.store (stepping code.now depth machine.old.stack machine.old.store)
-        (states D.state devices.old) (states D.state devices.new) (O.state out.old) (O.state out.new) result }
+    ensures wrote { Wrote (event.Deed (record { grant = grant.now; op = op.now; answer = option_copied answer.entry }) ∷ []) (O.state out.old) (O.state out.new) result }
     ensures counted { (O.state out.old).faults ≤ (O.state out.new).faults }
-    ensures limits { machine.new.stack.limits ≡ machine.old.stack.limits }
-    ensures first { machine.new.store.first ≡ machine.old.store.first }
 {
-    let coming = coming_next(code, machine)?;
-    let mut end = RunEnd::Spent;
-    let went = step(code, depth, machine, devices, &mut end);
-    let own = came(went, end);
-    trace(alloc, code, machine, coming, own, out)
+    let event = deed(grant, op, answer)?;
+    write_event(alloc, &event, out)
+}
+
+impl<'o, O: Sink> Observer for Tracing<'o, O> {
+    ghost use Rattle.std.specs.Prelude.{◌≡◌, ◌≤◌, ◌∷◌, []};
+    ghost use Rattle.wy_machine.specs.Observing.{event_told};
+    ghost use Rattle.wy_machine.specs.Traces.{Wrote};
+
+    ghost hears = { λ told a b r. (b.out.ghost_name ≡ a.out.ghost_name) × Wrote (event_told told ∷ []) (O.state a.out.now) (O.state b.out.now) r × ((O.state a.out.now).faults ≤ (O.state b.out.now).faults) };
+
+    fn entered(&mut self, code: &Code, instance: u32, body: u32, end: &mut RunEnd) -> bool {
+        went_on(write_entry(self.alloc, code, instance, body, self.out), end)
+    }
+
+    fn left(&mut self, _instance: u32, end: &mut RunEnd) -> bool {
+        went_on(write_event(self.alloc, &Event::Leave, self.out), end)
+    }
+
+    fn performed(
+        &mut self,
+        grant: &Text,
+        op: &Op,
+        answer: Option<&Answer>,
+        end: &mut RunEnd,
+    ) -> bool {
+        went_on(write_deed(self.alloc, grant, op, answer, self.out), end)
+    }
 }

@@ -125,7 +125,7 @@ follows_first instances atoms = record { accounts = all instances }
     all (i ∷ instances) = ap (λ (xs : List Account). no_account ∷ xs) (all instances)
 
 -- the account of an instance that has a number
-account_at : (instances : List (List ℕ)) (events : List Event) (used : UsedState) → Follows instances events used →
+pub account_at : (instances : List (List ℕ)) (events : List Event) (used : UsedState) → Follows instances events used →
     (k : ℕ) (name : List ℕ) → slice_get instances k ≡ Some name → slice_get used.accounts k ≡ Some (account_of used.atoms events name)
 account_at instances events used h k name at =
     ap (λ (xs : List Account). slice_get xs k) h.accounts ∙ (slice_get-map (account_of used.atoms events) instances k ∙ ap (λ (o : Option (List ℕ)). Rattle.std.specs.Option.option_map (account_of used.atoms events) o) at)

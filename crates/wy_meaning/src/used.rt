@@ -98,13 +98,13 @@ impl<'a> Used<'a> {
         Ok(Used { atoms, accounts })
     }
 
-    /// A call of an instance is open from here. It takes no memory.
+    /// A call of an instance is open from here. It takes no memory. More than 2^64 - 1 open calls of an instance are not counted.
     pub fn enter(&mut self, instance: usize)
-        requires few { (account : Account) → slice_get self.old.accounts instance ≡ Some account → account.calls < 2 ^ 64 - 1 }
-        ensures { self.new ≡ used.entered instance self.old }
+        ensures counted { ((account : Account) → slice_get self.old.accounts instance ≡ Some account → account.calls < 2 ^ 64 - 1) → self.new ≡ used.entered instance self.old }
+        ensures atoms { self.new.atoms ≡ self.old.atoms }
     {
         if let Some(account) = self.accounts.get_mut(instance) {
-            account.calls += 1;
+            account.calls = account.calls.saturating_add(1);
         }
     }
 

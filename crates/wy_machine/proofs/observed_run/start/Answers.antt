@@ -3,7 +3,7 @@ use Rattle.wy_machine.specs.Steps.{beginning, starting, IsNotStuck}
 use Rattle.wy_machine.specs.StoreStates.{StoreState, store_with}
 use Rattle.wy_machine.proofs.FirstSteps.{starts}
 use Rattle.wy_machine.proofs.Quiet.{no_events, same_step, unstuck}
-use Rattle.wy_machine.proofs.run.start.Goals as goal
+use Rattle.wy_machine.proofs.observed_run.start.Goals as goal
 
 pub begin-requires-clause-sound : goal.begin-requires-clause-sound
 begin-requires-clause-sound c =
