@@ -11,6 +11,9 @@ use Rattle.wy_device.specs.declared.deed.Deed.{Deed}
 use Rattle.wy_device.specs.declared.deed.Event.{Event}
 use Rattle.wy_device.specs.declared.operation.Kind.{Kind}
 use Rattle.wy_device.specs.declared.operation.OpName.{OpName}
+use Rattle.wy_effects.specs.Members.{In}
+use Rattle.wy_authority.specs.Authority.{authority_of}
+use Rattle.wy_authority.specs.declared.rows.InstanceRow.{InstanceRow}
 use Rattle.wy_code.specs.Running.{Ran, machine}
 use Rattle.wy_lower.specs.Correct.{IsPrefix}
 use Rattle.wy_lower.specs.Lowering.{lowered}
@@ -23,6 +26,7 @@ use Rattle.wy_syntax.specs.Trees.{ItemTree}
 use Rattle.wy_types.specs.Program.{Program}
 use Rattle.wy_sound.specs.Laws.{course}
 use Rattle.wy_sound.specs.Programs.{allowed, program_starts}
+use Rattle.wy_sound.specs.Used.{IsUsedWithin}
 use Rattle.wy_engine.specs.Judgement.{Asks, Did, IsReported, RunsPrograms, Stops, accepted_text, allowed_text, authority_text, checked, formatted, nothing, observed_text, permitted, ran, reported, summary_text}
 use Rattle.wy_engine.specs.LastLine.{LineWords, last_line, line_words}
 use Rattle.wy_settings.specs.Settings.{Settings, sample_number, settings_of}
@@ -165,7 +169,8 @@ pub record AreOfRun (call : TopCall) (settings : Settings) (program : Program) (
 -- The lines of what was used of each instance came to `out`, behind a run of these events: whole, unless memory was wanting or the status
 -- is Unwritten, and else a part of them, or nothing. The devices did the deeds of these events. Where the devices tell their deeds, the
 -- events are the first of the program's meaning over the answers that were given; and they are those of the whole run where all lines
--- stand there, where some of them do, and where the status is Unwritten and no part of the report is missing.
+-- stand there, where some of them do, and where the status is Unwritten and no part of the report is missing. What was used of an
+-- instance is within what the report's line of the instance says.
 pub record WritesUsed (call : TopCall) (settings : Settings) (program : Program) : Type 0 where
   pub events : List Event
   pub front : List ℕ
@@ -173,6 +178,7 @@ pub record WritesUsed (call : TopCall) (settings : Settings) (program : Program)
   pub split : observed_text program events ≡ front ++ rest
   pub taken : call.out_after.taken ≡ gained call.out.taken front
   pub did : DidExactly call.devices call.devices_after events
+  pub within : (r : InstanceRow) → In r (authority_of program).rows → IsUsedWithin program events r
   pub first : TellsDeeds call.devices → IsPrefix events (course_in call settings program).events
   pub whole : IsUncut call.status → rest ≡ []
   pub all : IsUncut call.status → TellsDeeds call.devices → AreOfRun call settings program events
