@@ -54,8 +54,8 @@ pub record SumsCode (text : List ℕ) (code : Code) (depth steps : ℕ) (out out
 
 -- the status of a run that ended so, behind which a write to `out` came to this status
 abbrev pub behind : Status → RunEnd → Status
-behind status.Ended ended = status_of ended
-behind wrote ended = wrote
+behind status.Ended run = status_of run
+behind wrote run = wrote
 
 -- what came to `out` behind a run that is observed and ended so: a text, unless memory was wanting for the run or the text
 pub data ThenObserved (text : List ℕ) (out out' : SinkState) (ended : RunEnd) (says : Status) : Type 0 where
