@@ -5,7 +5,7 @@ use Rattle.wy_device.specs.Devices.{DevicesState}
 use Rattle.wy_syntax.specs.Canonical.{canonical_form}
 use Rattle.wy_syntax.specs.Trees.{ItemTree}
 use Rattle.wy_types.specs.Program.{Program}
-use Rattle.wy_names.specs.Declarations.{all_items}
+use Rattle.wy_symbols.specs.Declarations.{all_items}
 use Rattle.wy_names.specs.Names.{Resolves}
 use Rattle.wy_rules.specs.Ends as ends
 use Rattle.wy_judge.specs.Checking.{IsAccepted, IsRefusalOf}

@@ -4,14 +4,14 @@ use Rattle.wy_text.specs.declared.fault.Place.{Place}
 use Rattle.wy_text.specs.declared.fault.RuleName.TheVariants as rule
 use Rattle.wy_text.specs.declared.limit.LimitName.TheVariants as limit
 use Rattle.wy_syntax.specs.Trees.{unit, value, run, no_stmts, more_stmts, long, ItemTree, program_item}
-use Rattle.wy_names.specs.Cycles.{IsCycle}
-use Rattle.wy_names.specs.Declarations.{ProgramTree, all_items}
-use Rattle.wy_names.specs.Least.{comes_before, refusal_at}
+use Rattle.wy_heads.specs.Cycles.{IsCycle}
+use Rattle.wy_symbols.specs.Declarations.{ProgramTree, all_items}
+use Rattle.wy_symbols.specs.Least.{comes_before, refusal_at}
 use Rattle.wy_names.specs.Names.{Refused}
 use Rattle.wy_names.specs.Scopes.{resolved}
-use Rattle.wy_names.specs.declared.refusal.Cause.TheVariants as cause
+use Rattle.wy_symbols.specs.declared.refusal.Cause.TheVariants as cause
 use Rattle.wy_names.specs.declared.refusal.NameRefusal.TheVariants as refusal
-use Rattle.wy_names.specs.declared.refusal.Refusal.{Refusal}
+use Rattle.wy_symbols.specs.declared.refusal.Refusal.{Refusal}
 use Rattle.wy_engine.specs.NameFaults.{NamesResolve, names_status}
 use Rattle.wy_engine.specs.declared.status.Status.TheVariants as status
 

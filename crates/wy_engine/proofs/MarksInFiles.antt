@@ -13,7 +13,7 @@ use Rattle.wy_canonical.specs.Printed.{HasTree}
 use Rattle.wy_parser.specs.Laws.{MarksOfTokens}
 use Rattle.wy_effects.specs.Members.{In}
 use Rattle.wy_types.specs.Program.{Program}
-use Rattle.wy_names.specs.Declarations.{all_items}
+use Rattle.wy_symbols.specs.Declarations.{all_items}
 use Rattle.wy_names.specs.Laws.{MarksOfItems}
 use Rattle.wy_code.specs.declared.code.Body.{Body}
 use Rattle.wy_code.specs.declared.instruction.Placed.{Placed}

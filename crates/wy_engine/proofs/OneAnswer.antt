@@ -4,7 +4,7 @@ use Rattle.wy_text.specs.declared.limit.LimitName.{LimitName}
 use Rattle.wy_syntax.specs.Trees.{ItemTree}
 use Rattle.wy_types.specs.Core.{IsCore}
 use Rattle.wy_types.specs.Program.{Program}
-use Rattle.wy_names.specs.Declarations.{all_items}
+use Rattle.wy_symbols.specs.Declarations.{all_items}
 use Rattle.wy_names.specs.Names.{Resolves}
 use Rattle.wy_names.proofs.OneAnswer as names
 use Rattle.wy_well_formed.specs.WellFormed.{ResolvedIsCore}

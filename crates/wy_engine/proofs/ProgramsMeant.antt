@@ -3,7 +3,7 @@ use Rattle.std.proofs.Common.{ℕ, suc, List, [], ◌∷◌, ◌++◌}
 use Rattle.wy_syntax.specs.Trees.{ItemTree}
 use Rattle.wy_types.specs.Program.{Program}
 use Rattle.wy_canonical.specs.OwnWords as files
-use Rattle.wy_names.specs.Declarations.{all_items}
+use Rattle.wy_symbols.specs.Declarations.{all_items}
 use Rattle.wy_syntax.specs.OwnWords.{HaveWords}
 use Rattle.wy_well_formed.specs.WellFormed.{ResolvedKeepsAll}
 use Rattle.wy_rules.specs.Resolved.{IsResolved}

@@ -22,7 +22,7 @@ use Rattle.wy_syntax.specs.Grammar.{SpellsItem}
 use Rattle.wy_syntax.specs.Nodes.{is_before}
 use Rattle.wy_effects.specs.Members.{In}
 use Rattle.wy_canonical.specs.Printed.{HasTree}
-use Rattle.wy_names.specs.Declarations.{all_items}
+use Rattle.wy_symbols.specs.Declarations.{all_items}
 use Rattle.wy_well_formed.specs.ValPlaces.{if_name, name_places, Ascend, AreInText, ResolvedValsAreInOrder}
 use Rattle.wy_engine.specs.FileTrees.{HaveTrees}
 use Rattle.wy_engine.specs.ValsInOrder.{ValsStandInOrder}

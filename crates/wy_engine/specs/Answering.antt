@@ -5,7 +5,7 @@ use Rattle.wy_text.specs.declared.limit.LimitName.{LimitName}
 use Rattle.wy_device.specs.Devices.{DevicesState}
 use Rattle.wy_syntax.specs.Canonical.{canonical_form}
 use Rattle.wy_syntax.specs.Trees.{ItemTree}
-use Rattle.wy_names.specs.Declarations.{all_items}
+use Rattle.wy_symbols.specs.Declarations.{all_items}
 use Rattle.wy_names.specs.Names.{Refused, Resolves}
 use Rattle.wy_names.specs.declared.refusal.NameRefusal.{NameRefusal}
 use Rattle.wy_types.specs.Program.{Program}

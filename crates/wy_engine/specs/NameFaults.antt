@@ -7,7 +7,7 @@ use Rattle.wy_text.specs.declared.fault.RuleName.{RuleName}
 use Rattle.wy_text.specs.declared.fault.RuleName.TheVariants as rule
 use Rattle.wy_syntax.specs.Trees.{ItemTree}
 use Rattle.wy_types.specs.Program as core
-use Rattle.wy_names.specs.Declarations.{all_items}
+use Rattle.wy_symbols.specs.Declarations.{all_items}
 use Rattle.wy_names.specs.Names.{Refused, Resolves}
 use Rattle.wy_names.specs.declared.refusal.NameRefusal.{NameRefusal}
 use Rattle.wy_names.specs.declared.refusal.NameRefusal.TheVariants as refusal

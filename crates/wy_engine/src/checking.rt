@@ -3,7 +3,7 @@ ghost use Rattle.std.specs.Option.{IfSome};
 ghost use Rattle.wy_authority.specs.Authority.{authority_of};
 ghost use Rattle.wy_syntax.specs.Views.{file_tree};
 ghost use Rattle.wy_types.specs.Program.{program_of};
-ghost use Rattle.wy_names.specs.Declarations.{all_items};
+ghost use Rattle.wy_symbols.specs.Declarations.{all_items};
 ghost use Rattle.wy_names.specs.Names.{Resolves};
 ghost use Rattle.wy_link.specs.Checking.{IsCheckedProgram};
 ghost use Rattle.wy_engine.specs.Answering.{ChecksTrees, FailsCheck, check_status};

@@ -17,7 +17,7 @@
 --   15  plain module plug(l: Log): Log
 --   16    def put(t: String): Unit = l.put(t)
 use Rattle.std.proofs.Common.{◌≡◌, ℕ, List, [], ◌∷◌, refl, true, false, Some, None}
-use Rattle.std.specs.Prelude.{codes}
+use Rattle.std.specs.Prelude.{codes, ◌++◌}
 use Rattle.wy_syntax.specs.declared.types.TypeUse.TheVariants as use_of
 use Rattle.wy_syntax.specs.declared.items.Member.TheVariants as member
 use Rattle.wy_syntax.specs.declared.items.Line.TheVariants as line
@@ -35,12 +35,11 @@ use Rattle.wy_types.specs.declared.resolved.ScopeKind.TheVariants as kind
 use Rattle.wy_types.specs.Primitive.{primitive_types}
 use Rattle.wy_types.specs.Code as code
 use Rattle.wy_types.specs.Program.{Scope, Init, Run}
-use Rattle.std.specs.Prelude.{◌++◌}
-use Rattle.wy_names.specs.Declarations.{ProgramTree, programs_of}
-use Rattle.wy_names.specs.Atoms.{atom_of}
-use Rattle.wy_names.specs.Counts.{limit_of}
+use Rattle.wy_symbols.specs.Declarations.{ProgramTree, programs_of}
+use Rattle.wy_symbols.specs.Atoms.{atom_of}
+use Rattle.wy_heads.specs.Counts.{limit_of}
 use Rattle.wy_names.specs.Scopes.{resolved, refusals_of}
-use Rattle.wy_names.proofs.Sources.{at, word, member_atom, owner_atom, param, def, define, grant, type_decl, resource_of, only}
+use Rattle.wy_symbols.proofs.Sources.{at, word, member_atom, owner_atom, param, def, define, grant, type_decl, resource_of, only}
 
 put_call : t.RhsTree
 put_call = t.value (t.call (t.name (word (codes "disk") 8 36)) (word (codes "append") 8 41) (t.more (t.name (word (codes "n") 8 48)) (t.more (t.name (word (codes "t") 8 51)) t.none)))

@@ -7,11 +7,11 @@ use Rattle.wy_syntax.specs.declared.items.Member.TheVariants as member
 use Rattle.wy_syntax.specs.declared.items.Line.TheVariants as line
 use Rattle.wy_syntax.specs.declared.statements.FieldKind.TheVariants.{Val, Var}
 use Rattle.wy_syntax.specs.Trees as t
-use Rattle.wy_names.specs.declared.refusal.Cause.TheVariants.{Unknown, Twice, TwoPrograms, MemberUndefined, MemberUnknown}
-use Rattle.wy_names.specs.Least.{refusal_at, noted}
-use Rattle.wy_names.specs.Counts.{limit_of}
+use Rattle.wy_symbols.specs.declared.refusal.Cause.TheVariants.{Unknown, Twice, TwoPrograms, MemberUndefined, MemberUnknown}
+use Rattle.wy_symbols.specs.Least.{refusal_at, noted}
+use Rattle.wy_heads.specs.Counts.{limit_of}
 use Rattle.wy_names.specs.Scopes.{refusals_of}
-use Rattle.wy_names.proofs.Sources.{at, word, member_atom, owner_atom, member_set, param, def, define, grant, type_decl, resource, resource_of, program, only, nothing_at, named}
+use Rattle.wy_symbols.proofs.Sources.{at, word, member_atom, owner_atom, member_set, param, def, define, grant, type_decl, resource, resource_of, program, only, nothing_at, named}
 
 -- types that the examples use: `type E` on line 1 with the abstract member `A`, and `type N` on line 3 without members
 type_e : t.ItemTree

@@ -8,23 +8,23 @@ use Rattle.std.proofs.lemmas.List.{map-append}
 use Rattle.wy_types.specs.declared.resolved.Scope as code
 use Rattle.wy_types.specs.Program.{Program, Scope, scope_of}
 use Rattle.wy_syntax.specs.Trees.{ItemTree}
-use Rattle.wy_names.specs.declared.refusal.Cause.{Cause}
-use Rattle.wy_names.specs.declared.refusal.Cause.TheVariants as cause
-use Rattle.wy_names.specs.declared.refusal.Refusal.{Refusal}
+use Rattle.wy_symbols.specs.declared.refusal.Cause.{Cause}
+use Rattle.wy_symbols.specs.declared.refusal.Cause.TheVariants as cause
+use Rattle.wy_symbols.specs.declared.refusal.Refusal.{Refusal}
 use Rattle.wy_names.specs.declared.refusal.NameRefusal.{NameRefusal}
 use Rattle.wy_names.specs.declared.refusal.NameRefusal.TheVariants.{Unknown, Twice, Cycle, NoProgram, TwoPrograms, MemberUndefined, MemberUnknown, Limit, Memory}
-use Rattle.wy_names.specs.declared.scoping.Head.{Head}
-use Rattle.wy_names.specs.Least.{IsLeast, noted, refusal_at}
-use Rattle.wy_names.specs.Declarations.{Declared, declared, types_of, modules_of, programs_of, ModuleTree, ProgramTree, repeated, type_names, module_names}
-use Rattle.wy_names.specs.Counts.{first_passed, limits, limit_of}
-use Rattle.wy_names.specs.Atoms.{heads_of, primitive_names}
-use Rattle.wy_names.specs.TypeUses.{declarations_refusals}
-use Rattle.wy_names.specs.Cycles.{IsCycle}
-use Rattle.wy_names.specs.CycleRefusals.{NotesCycles}
+use Rattle.wy_symbols.specs.declared.scoping.Head.{Head}
+use Rattle.wy_symbols.specs.Least.{IsLeast, noted, refusal_at}
+use Rattle.wy_symbols.specs.Declarations.{Declared, declared, types_of, modules_of, programs_of, ModuleTree, ProgramTree, repeated, type_names, module_names}
+use Rattle.wy_heads.specs.Counts.{first_passed, limits, limit_of}
+use Rattle.wy_symbols.specs.Atoms.{heads_of, primitive_names}
+use Rattle.wy_symbols.specs.TypeUses.{declarations_refusals}
+use Rattle.wy_heads.specs.Cycles.{IsCycle}
+use Rattle.wy_heads.specs.CycleRefusals.{NotesCycles}
 use Rattle.wy_names.specs.Scopes.{modules_refusals, programs_refusals, second_programs}
 use Rattle.wy_names.specs.Judged.{declared_refusals, NotesScopes, NotesAll, declared_program, RefusesDeclared, IsBound, IsRefusal, refusal_named}
 use Rattle.wy_names.specs.Names.{Resolves, Refused}
-use Rattle.wy_names.proofs.Leasts.{least_is, none_is, noted_then}
+use Rattle.wy_symbols.proofs.Leasts.{least_is, none_is, noted_then}
 
 pub scopes_noted : (heads : List Head) (modules : List ModuleTree) (programs : List ProgramTree) (old a b c end : Option Refusal) →
     a ≡ noted old (modules_refusals heads modules modules) → b ≡ noted a (programs_refusals heads modules programs) → c ≡ noted b (second_programs programs) →

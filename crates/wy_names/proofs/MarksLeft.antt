@@ -7,14 +7,15 @@ use Rattle.wy_syntax.specs.Trees as t
 use Rattle.wy_types.specs.Code as code
 use Rattle.wy_types.specs.Marks as core
 use Rattle.wy_types.specs.Program.{Program, Scope, Body}
-use Rattle.wy_names.specs.declared.scoping.Head.{Head}
-use Rattle.wy_names.specs.Atoms.{heads_of}
-use Rattle.wy_names.specs.Bodies.{Within, Count, at_start, one_val, one_literal, one_body, stmt_after, stmts_after, part_after, operand, bound, expr_value, expr_values, stmt_sight, last_or, rhs_value, stmt_block, stmts_block, part_values, tail_block, rhs_bodies, stmt_bodies, stmts_bodies, part_bodies, parts_bodies, tail_bodies}
-use Rattle.wy_names.specs.Declarations.{ModuleTree, ProgramTree, types_of, modules_of, programs_of}
+use Rattle.wy_symbols.specs.declared.scoping.Head.{Head}
+use Rattle.wy_symbols.specs.Atoms.{heads_of}
+use Rattle.wy_bodies.specs.Bodies.{Within, Count, at_start, one_val, one_literal, one_body, stmt_after, stmts_after, part_after, operand, bound, expr_value, expr_values, stmt_sight, last_or, rhs_value, stmt_block, stmts_block, part_values, tail_block, rhs_bodies, stmt_bodies, stmts_bodies, part_bodies, parts_bodies, tail_bodies}
+use Rattle.wy_symbols.specs.Declarations.{ModuleTree, ProgramTree, types_of, modules_of, programs_of}
 use Rattle.wy_names.specs.Laws.{MarksOfItems}
 use Rattle.wy_names.specs.Names.{Resolves}
-use Rattle.wy_names.specs.Scopes.{module_within, program_within, start_place, scope_of_module, scope_of_program}
-use Rattle.wy_names.specs.Sight.{Sight, outermost, inside, with_params}
+use Rattle.wy_names.specs.Scopes.{module_within, program_within, scope_of_module, scope_of_program}
+use Rattle.wy_heads.specs.ScopeHeads.{start_place}
+use Rattle.wy_bodies.specs.Sight.{Sight, outermost, inside, with_params}
 
 module _ (test : Place → Bool) where
   operand_passes : (v : code.Value) → core.ValuePasses test v → core.ExprPasses test (operand v)

@@ -6,16 +6,16 @@ use Rattle.wy_text.specs.declared.fault.Place.{Place}
 use Rattle.wy_text.specs.declared.limit.LimitName.{LimitName}
 use Rattle.wy_syntax.specs.Trees.{ItemTree}
 use Rattle.wy_types.specs.Program.{Program}
-use Rattle.wy_names.specs.Counts.{limit_of}
-use Rattle.wy_names.specs.Least.{IsLeast, cause_number, refusal_at}
+use Rattle.wy_heads.specs.Counts.{limit_of}
+use Rattle.wy_symbols.specs.Least.{IsLeast, cause_number, refusal_at}
 use Rattle.wy_names.specs.Names.{HasNoProgram, IsFirst, Refused, Refuses, Resolves}
 use Rattle.wy_names.specs.Scopes.{resolved}
-use Rattle.wy_names.specs.declared.refusal.Cause.{Cause}
-use Rattle.wy_names.specs.declared.refusal.Cause.TheVariants as cause
+use Rattle.wy_symbols.specs.declared.refusal.Cause.{Cause}
+use Rattle.wy_symbols.specs.declared.refusal.Cause.TheVariants as cause
 use Rattle.wy_names.specs.declared.refusal.NameRefusal.{NameRefusal}
 use Rattle.wy_names.specs.declared.refusal.NameRefusal.TheVariants as refusal
-use Rattle.wy_names.specs.declared.refusal.Refusal.{Refusal}
-use Rattle.wy_names.proofs.Leasts.{precedes}
+use Rattle.wy_symbols.specs.declared.refusal.Refusal.{Refusal}
+use Rattle.wy_symbols.proofs.Leasts.{precedes}
 
 -- ---- of two refusals one comes first
 

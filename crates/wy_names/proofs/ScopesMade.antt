@@ -5,21 +5,22 @@ use Rattle.wy_text.specs.declared.fault.AtomName.{AtomName}
 use Rattle.wy_syntax.specs.declared.items.Init.{Init}
 use Rattle.wy_types.specs.Program.{Scope}
 use Rattle.wy_types.specs.Types.{is_plain}
-use Rattle.wy_names.specs.declared.refusal.Refusal.{Refusal}
-use Rattle.wy_names.specs.declared.scoping.Head.{Head}
-use Rattle.wy_names.specs.declared.scoping.Owner.{Owner}
-use Rattle.wy_names.specs.declared.scoping.Meaning.{Meaning}
-use Rattle.wy_names.specs.Declarations.{ModuleTree, ProgramTree, repeated}
-use Rattle.wy_names.specs.Least.{noted}
-use Rattle.wy_names.specs.Atoms.{AtomScope, head_names, type_number, set_refusals}
-use Rattle.wy_names.specs.TypeUses.{param_names}
-use Rattle.wy_names.specs.Lines.{owner_names, grant_refusals, param_refusals, uses_refusals, lines_refusals}
-use Rattle.wy_names.specs.Sight.{outermost, inside}
-use Rattle.wy_names.specs.Bodies.{Within, at_start}
-use Rattle.wy_names.specs.BodyRefusals.{repeated_parts, parts_refusals, tail_refusals}
-use Rattle.wy_names.specs.Fronts.{front_refusals, program_front}
-use Rattle.wy_names.specs.Scopes.{atom_scope, start_place, definitions_after, define_names, definitions_refusals, init_refusals, line_words, sealed_refusals, param_scope, early_owners, module_owners, module_atoms, module_meanings, module_scope, module_within, module_refusals, grant_names, grant_owners, program_atoms, program_scope, program_within, program_refusals}
-use Rattle.wy_names.proofs.Leasts.{noted_then}
+use Rattle.wy_symbols.specs.declared.refusal.Refusal.{Refusal}
+use Rattle.wy_symbols.specs.declared.scoping.Head.{Head}
+use Rattle.wy_symbols.specs.declared.scoping.Owner.{Owner}
+use Rattle.wy_symbols.specs.declared.scoping.Meaning.{Meaning}
+use Rattle.wy_symbols.specs.Declarations.{ModuleTree, ProgramTree, repeated}
+use Rattle.wy_symbols.specs.Least.{noted}
+use Rattle.wy_symbols.specs.Atoms.{AtomScope, head_names, type_number, set_refusals, owner_names, atom_scope}
+use Rattle.wy_symbols.specs.TypeUses.{param_names}
+use Rattle.wy_heads.specs.Lines.{grant_refusals, param_refusals, uses_refusals, lines_refusals}
+use Rattle.wy_bodies.specs.Sight.{outermost, inside}
+use Rattle.wy_bodies.specs.Bodies.{Within, at_start}
+use Rattle.wy_bodies.specs.BodyRefusals.{repeated_parts, parts_refusals, tail_refusals}
+use Rattle.wy_heads.specs.Fronts.{front_refusals, program_front}
+use Rattle.wy_heads.specs.ScopeHeads.{start_place, definitions_after, define_names, definitions_refusals, init_refusals, line_words, sealed_refusals, param_scope, early_owners, module_owners, module_atoms, module_meanings, module_scope, grant_names, grant_owners, program_atoms, program_scope}
+use Rattle.wy_names.specs.Scopes.{module_within, module_refusals, program_within, program_refusals}
+use Rattle.wy_symbols.proofs.Leasts.{noted_then}
 
 take_all : {X : Type 0} (xs : List X) (n : ℕ) → n ≡ length xs → take n xs ≡ xs
 take_all xs n e = ap (λ k. take k xs) e ∙ take-length xs

@@ -3,17 +3,17 @@ use Rattle.std.specs.Prelude.{◌≡◌, List, [], ◌∷◌, ◌++◌, ◌⊎�
 use Rattle.wy_text.specs.declared.fault.Place.{Place}
 use Rattle.wy_effects.specs.Members.{In}
 use Rattle.wy_types.specs.Program.{Program}
-use Rattle.wy_names.specs.declared.refusal.Cause.{Cause}
-use Rattle.wy_names.specs.declared.refusal.Cause.TheVariants as cause
-use Rattle.wy_names.specs.declared.refusal.Refusal.{Refusal}
+use Rattle.wy_symbols.specs.declared.refusal.Cause.{Cause}
+use Rattle.wy_symbols.specs.declared.refusal.Cause.TheVariants as cause
+use Rattle.wy_symbols.specs.declared.refusal.Refusal.{Refusal}
 use Rattle.wy_names.specs.declared.refusal.NameRefusal.{NameRefusal}
 use Rattle.wy_names.specs.declared.refusal.NameRefusal.TheVariants.{Unknown, Twice, Cycle, NoProgram, TwoPrograms, MemberUndefined, MemberUnknown, Limit, Memory}
-use Rattle.wy_names.specs.declared.scoping.Head.{Head}
-use Rattle.wy_names.specs.Least.{IsLeast, noted, refusal_at}
-use Rattle.wy_names.specs.Declarations.{Declared, ModuleTree, ProgramTree, repeated, type_names, module_names}
-use Rattle.wy_names.specs.Atoms.{heads_of, primitive_names}
-use Rattle.wy_names.specs.TypeUses.{declarations_of, declarations_refusals}
-use Rattle.wy_names.specs.Cycles.{IsCycle}
+use Rattle.wy_symbols.specs.declared.scoping.Head.{Head}
+use Rattle.wy_symbols.specs.Least.{IsLeast, noted, refusal_at}
+use Rattle.wy_symbols.specs.Declarations.{Declared, ModuleTree, ProgramTree, repeated, type_names, module_names}
+use Rattle.wy_symbols.specs.Atoms.{heads_of, primitive_names}
+use Rattle.wy_symbols.specs.TypeUses.{declarations_of, declarations_refusals}
+use Rattle.wy_heads.specs.Cycles.{IsCycle}
 use Rattle.wy_names.specs.Scopes.{modules_refusals, programs_refusals, second_programs, scope_of_module, scope_of_program}
 
 -- the refusals that stand at a place, but for cycles

@@ -4,15 +4,15 @@ use Rattle.wy_text.specs.declared.fault.Place.{Place}
 use Rattle.wy_syntax.specs.Trees.{ItemTree}
 use Rattle.wy_effects.specs.Members.{In}
 use Rattle.wy_types.specs.Program.{Program}
-use Rattle.wy_names.specs.declared.refusal.Cause.{Cause}
-use Rattle.wy_names.specs.declared.refusal.Cause.TheVariants as cause
-use Rattle.wy_names.specs.declared.refusal.Refusal.{Refusal}
+use Rattle.wy_symbols.specs.declared.refusal.Cause.{Cause}
+use Rattle.wy_symbols.specs.declared.refusal.Cause.TheVariants as cause
+use Rattle.wy_symbols.specs.declared.refusal.Refusal.{Refusal}
 use Rattle.wy_names.specs.declared.refusal.NameRefusal.{NameRefusal}
 use Rattle.wy_names.specs.declared.refusal.NameRefusal.TheVariants.{Unknown, Twice, Cycle, NoProgram, TwoPrograms, MemberUndefined, MemberUnknown, Limit, Memory}
-use Rattle.wy_names.specs.Least.{IsLeast, refusal_at}
-use Rattle.wy_names.specs.Declarations.{ProgramTree, modules_of, programs_of}
-use Rattle.wy_names.specs.Counts.{limit_of}
-use Rattle.wy_names.specs.Cycles.{IsCycle}
+use Rattle.wy_symbols.specs.Least.{IsLeast, refusal_at}
+use Rattle.wy_symbols.specs.Declarations.{ProgramTree, modules_of, programs_of}
+use Rattle.wy_heads.specs.Counts.{limit_of}
+use Rattle.wy_heads.specs.Cycles.{IsCycle}
 use Rattle.wy_names.specs.Scopes.{refusals_of, resolved}
 
 -- the refusals that stand at a place

@@ -6,12 +6,13 @@ use Rattle.wy_types.specs.declared.resolved.ScopeKind.{ScopeKind}
 use Rattle.wy_types.specs.Types.{is_plain}
 use Rattle.wy_types.specs.Program.{Scope, body_of, start_of, Init, Run}
 use Rattle.wy_names.specs.declared.scopes.Parts.{Parts}
-use Rattle.wy_names.specs.declared.scoping.Head.{Head}
-use Rattle.wy_names.specs.Declarations.{ModuleTree, ProgramTree}
-use Rattle.wy_names.specs.Atoms.{head_names, type_number, set_of}
-use Rattle.wy_names.specs.Sight.{outermost, inside}
-use Rattle.wy_names.specs.Bodies.{at_start, part_values, tail_block, literal_of, parts_literals, tail_literals, parts_bodies, tail_bodies}
-use Rattle.wy_names.specs.Scopes.{module_own, module_meanings, module_scope, module_within, definitions_at, start_effect, program_own, program_scope, program_within}
+use Rattle.wy_symbols.specs.declared.scoping.Head.{Head}
+use Rattle.wy_symbols.specs.Declarations.{ModuleTree, ProgramTree}
+use Rattle.wy_symbols.specs.Atoms.{head_names, type_number, set_of}
+use Rattle.wy_bodies.specs.Sight.{outermost, inside}
+use Rattle.wy_bodies.specs.Bodies.{at_start, part_values, tail_block, literal_of, parts_literals, tail_literals, parts_bodies, tail_bodies}
+use Rattle.wy_heads.specs.ScopeHeads.{module_own, module_meanings, module_scope, definitions_at, start_effect, program_own, program_scope}
+use Rattle.wy_names.specs.Scopes.{module_within, program_within}
 
 module _ (heads : List Head) (modules : List ModuleTree) where
   pub record ArePartsOfModule (m : ModuleTree) (p : Parts) : Type 0 where

@@ -4,28 +4,23 @@ ghost use Rattle.std.specs.Prelude.{◌≡◌, ◌≤◌, ◌++◌, [], map, len
 ghost use Rattle.wy_syntax.specs.Views.{file_tree};
 ghost use Rattle.wy_types.specs.Primitive.{primitive_types};
 ghost use Rattle.wy_types.specs.Program.{scope_of, program_of};
-ghost use Rattle.wy_names.specs.Least.{noted};
-ghost use Rattle.wy_names.specs.Declarations.{all_items, repeated, texts, type_names, module_names};
-ghost use Rattle.wy_names.specs.Atoms.{member_scope, heads_of, primitive_names};
-ghost use Rattle.wy_names.specs.TypeUses.{declaration, declarations_refusals, declaration_scope};
+ghost use Rattle.wy_symbols.specs.Least.{noted};
+ghost use Rattle.wy_symbols.specs.Declarations.{all_items, repeated, texts, type_names, module_names};
+ghost use Rattle.wy_symbols.specs.Atoms.{member_scope, heads_of, primitive_names};
+ghost use Rattle.wy_symbols.specs.TypeUses.{declaration, declarations_refusals, declaration_scope};
 ghost use Rattle.wy_names.specs.Scopes.{scope_of_module, scope_of_program, modules_refusals, programs_refusals, second_programs};
 ghost use Rattle.wy_names.specs.Judged.{NotesScopes, NotesAll, declared_program, IsBound, IsRefusal, refusal_named};
 ghost use Rattle.wy_names.specs.Names.{Resolves, Refused};
-ghost use Rattle.wy_names.specs.Lent.{lent_type, lent_program, module_tree, lent_declared};
+ghost use Rattle.wy_symbols.specs.Lent.{lent_type, lent_program, module_tree, lent_declared};
 
-use crate::atom_scope::Owners;
-use crate::declarations::read_declarations;
-use crate::gathering::{ModuleView, gather};
-use crate::heads::Heads;
-use crate::leading::note_cycles;
-use crate::limits::first_limit;
-use crate::members::heads_of;
-use crate::names_of::{module_table, primitive_names};
-use crate::noting::note_at;
-use crate::refusal::{Cause, NameRefusal, Refusal};
+use crate::refusal::NameRefusal;
 use crate::scopes::{module_scope, program_scope};
-use crate::tables::{Table, note_repeated};
 use std::alloc::Global;
+use wy_heads::{first_limit, note_cycles};
+use wy_symbols::{
+    Cause, Heads, ModuleView, Owners, Refusal, Table, gather, heads_of, module_table, note_at,
+    note_repeated, primitive_names, read_declarations,
+};
 use wy_syntax::items::{Program, Tree, TypeDecl};
 use wy_text::list::Items;
 use wy_text::text::Memory;
@@ -34,7 +29,7 @@ use wy_types::resolved;
 use wy_types::resolved::{Core, Scope};
 
 /// Notes Twice at each type or module that has the name of another.
-#[tactic(auto, using(crate::proofs::Leasts::noted_append, crate::proofs::NamesOfThings::types_named, crate::proofs::NamesOfThings::modules_named))]
+#[tactic(auto, using(wy_symbols::proofs::Leasts::noted_append, wy_symbols::proofs::NamesOfThings::types_named, wy_symbols::proofs::NamesOfThings::modules_named))]
 fn note_words(
     alloc: Global,
     types: &[&TypeDecl],

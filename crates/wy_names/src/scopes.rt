@@ -3,30 +3,29 @@
 ghost use Rattle.std.specs.Prelude.{◌≡◌, ◌≤◌, ◌++◌, [], map, length, IfOk, OnOk};
 ghost use Rattle.std.specs.Option.{option_copied};
 ghost use Rattle.wy_types.specs.Program.{scope_of};
-ghost use Rattle.wy_names.specs.Least.{noted};
-ghost use Rattle.wy_names.specs.Declarations.{texts, module_names};
-ghost use Rattle.wy_names.specs.Scopes.{atom_scope, start_place, init_refusals, module_atoms, module_owners, module_meanings, module_scope, module_within, scope_of_module, module_refusals, program_atoms, program_owners, scope_of_program, program_refusals};
+ghost use Rattle.wy_symbols.specs.Least.{noted};
+ghost use Rattle.wy_symbols.specs.Declarations.{texts, module_names};
+ghost use Rattle.wy_symbols.specs.Atoms.{atom_scope};
+ghost use Rattle.wy_heads.specs.ScopeHeads.{start_place, init_refusals, module_atoms, module_owners, module_meanings, module_scope, program_atoms, program_owners};
+ghost use Rattle.wy_names.specs.Scopes.{module_within, scope_of_module, module_refusals, scope_of_program, program_refusals};
 ghost use Rattle.wy_names.specs.ScopeParts.{ArePartsOfModule, ArePartsOfProgram, scope_with};
-ghost use Rattle.wy_names.specs.Sight.{outermost, inside};
-ghost use Rattle.wy_names.specs.Bodies.{at_start};
-ghost use Rattle.wy_names.specs.BodyRefusals.{repeated_parts, parts_refusals};
+ghost use Rattle.wy_bodies.specs.Sight.{outermost, inside};
+ghost use Rattle.wy_bodies.specs.Bodies.{at_start};
+ghost use Rattle.wy_bodies.specs.BodyRefusals.{repeated_parts, parts_refusals};
 ghost use Rattle.wy_syntax.specs.Views.{part_trees};
-ghost use Rattle.wy_names.specs.Lent.{module_tree, program_tree};
+ghost use Rattle.wy_symbols.specs.Lent.{module_tree, program_tree};
 
-use crate::atom_scope::{AtomScope, Owners};
-use crate::bodies::{Resolved, Within, module_parts, program_block};
-use crate::definitions::{note_init, start_effect};
-use crate::gathering::ModuleView;
-use crate::heads::Heads;
-use crate::meanings::Meanings;
-use crate::module_heads::{definitions_at, note_front, own_of, owners_of, read_defined};
-use crate::program_heads::{note_program, program_own, program_owners_of};
-use crate::refusal::Refusal;
-use crate::sets::{note_set, set_of};
-use crate::tables::Table;
 use std::alloc::Global;
+use wy_bodies::{Resolved, Within, module_parts, program_block};
 use wy_effects::atom::AtomTable;
 use wy_effects::set::{EffSet, SetList};
+use wy_heads::{
+    definitions_at, note_front, note_init, note_program, own_of, owners_of, program_own,
+    program_owners_of, read_defined, start_effect,
+};
+use wy_symbols::{
+    AtomScope, Heads, Meanings, ModuleView, Owners, Refusal, Table, note_set, set_of,
+};
 use wy_syntax::items::Program;
 use wy_text::fault::Place;
 use wy_text::list::Items;

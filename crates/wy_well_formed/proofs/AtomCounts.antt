@@ -7,14 +7,14 @@ use Rattle.wy_syntax.specs.declared.items.TypeDecl.{TypeDecl}
 use Rattle.wy_syntax.specs.declared.items.Member.{Member}
 use Rattle.wy_syntax.specs.declared.items.Member.TheVariants.{Abstract, Defined, Method}
 use Rattle.wy_types.specs.Primitive.{primitive_types}
-use Rattle.wy_names.specs.declared.scoping.Head.{Head}
-use Rattle.wy_names.specs.declared.scoping.Meaning.{Meaning}
-use Rattle.wy_names.specs.declared.scoping.Opening.{Opening}
-use Rattle.wy_names.specs.declared.scoping.Opening.TheVariants.{Members, Nothing, Missing}
-use Rattle.wy_names.specs.declared.scoping.Owner.{Owner}
-use Rattle.wy_names.specs.Meanings.{abstract_names}
-use Rattle.wy_names.specs.Atoms.{atom_of, has_atom, with_atom, with_members, opened_names, with_owners, atoms_of, members_of, members_after, member_scope, abstract_member, defined_member, set_of, head, heads_of, primitive_head}
-use Rattle.wy_names.specs.Counts.{abstract_count, abstract_counts, type_counts, opening_count, owners_count}
+use Rattle.wy_symbols.specs.declared.scoping.Head.{Head}
+use Rattle.wy_symbols.specs.declared.scoping.Meaning.{Meaning}
+use Rattle.wy_symbols.specs.declared.scoping.Opening.{Opening}
+use Rattle.wy_symbols.specs.declared.scoping.Opening.TheVariants.{Members, Nothing, Missing}
+use Rattle.wy_symbols.specs.declared.scoping.Owner.{Owner}
+use Rattle.wy_symbols.specs.Meanings.{abstract_names}
+use Rattle.wy_symbols.specs.Atoms.{atom_of, has_atom, with_atom, with_members, opened_names, with_owners, atoms_of, members_of, members_after, member_scope, abstract_member, defined_member, set_of, head, heads_of, primitive_head}
+use Rattle.wy_heads.specs.Counts.{abstract_count, abstract_counts, type_counts, opening_count, owners_count}
 
 length_with_atom : (atoms : List AtomName) (a : AtomName) → length (with_atom atoms a) ≤ length atoms + 1
 length_with_atom atoms a =

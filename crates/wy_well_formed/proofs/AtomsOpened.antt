@@ -6,13 +6,12 @@ use Rattle.wy_text.specs.declared.fault.AtomName.{AtomName}
 use Rattle.wy_effects.specs.Members.{In, Apart}
 use Rattle.wy_effects.proofs.Lists.{In-cases, In-unmap}
 use Rattle.wy_types.specs.Ground.{single_sets}
-use Rattle.wy_names.specs.declared.scoping.Head.{Head}
-use Rattle.wy_names.specs.declared.scoping.Owner.{Owner}
-use Rattle.wy_names.specs.Declarations.{same_name}
-use Rattle.wy_names.specs.Atoms.{same_atom, atom_of, atom_number, has_atom, with_members, opened_names, with_owners, owner_sets}
-use Rattle.wy_names.specs.Lines.{owner_names}
-use Rattle.wy_names.proofs.Firsts.{same_exact, same_itself}
-use Rattle.wy_names.proofs.AtomsPut.{grown_members}
+use Rattle.wy_symbols.specs.declared.scoping.Head.{Head}
+use Rattle.wy_symbols.specs.declared.scoping.Owner.{Owner}
+use Rattle.wy_symbols.specs.Declarations.{same_name}
+use Rattle.wy_symbols.specs.Atoms.{same_atom, atom_of, atom_number, has_atom, with_members, opened_names, with_owners, owner_sets, owner_names}
+use Rattle.wy_symbols.proofs.Firsts.{same_exact, same_itself}
+use Rattle.wy_symbols.proofs.AtomsPut.{grown_members}
 use Rattle.wy_well_formed.proofs.Sets.{OpensBelow, AllOpen}
 
 ------------------------------------------------------------

@@ -3,12 +3,12 @@ use Rattle.std.proofs.Common.{◌≡◌, ℕ, suc, ◌+◌, ◌<◌, List, [], �
 use Rattle.std.specs.Prelude.{◌&&◌, if◌then◌else◌}
 use Rattle.wy_text.specs.declared.fault.AtomName.{AtomName}
 use Rattle.wy_effects.specs.Members.{In}
-use Rattle.wy_names.specs.declared.scoping.Head.{Head}
-use Rattle.wy_names.specs.declared.scoping.Owner.{Owner}
-use Rattle.wy_names.specs.Declarations.{same_name}
-use Rattle.wy_names.specs.Atoms.{same_atom, atom_of, atom_number, has_atom, with_atom, with_members, opened_names, with_owners, atoms_of}
-use Rattle.wy_names.proofs.Firsts.{same_itself}
-use Rattle.wy_names.proofs.AtomsPut.{grown_members}
+use Rattle.wy_symbols.specs.declared.scoping.Head.{Head}
+use Rattle.wy_symbols.specs.declared.scoping.Owner.{Owner}
+use Rattle.wy_symbols.specs.Declarations.{same_name}
+use Rattle.wy_symbols.specs.Atoms.{same_atom, atom_of, atom_number, has_atom, with_atom, with_members, opened_names, with_owners, atoms_of}
+use Rattle.wy_symbols.proofs.Firsts.{same_itself}
+use Rattle.wy_symbols.proofs.AtomsPut.{grown_members}
 use Rattle.wy_well_formed.proofs.Sets.{AllOpen}
 
 -- an atom that is there has a number below theirs

@@ -17,13 +17,13 @@ use Rattle.wy_types.specs.Signature.{Signature}
 use Rattle.wy_types.specs.Types.{signature}
 use Rattle.wy_types.specs.Fitting.{FitsSignature}
 use Rattle.wy_types.specs.Core.{HasSets, DeclarationFits}
-use Rattle.wy_names.specs.declared.scoping.Head.{Head}
-use Rattle.wy_names.specs.declared.scoping.Meaning.{Meaning}
-use Rattle.wy_names.specs.Declarations.{repeated}
-use Rattle.wy_names.specs.Meanings.{abstract_names}
-use Rattle.wy_names.specs.Atoms.{AtomScope, members_after}
-use Rattle.wy_names.specs.TypeUses.{param_types, type_ref, method_of, declaration_scope, defined_members, declared_methods, member_names, method_names, declaration}
-use Rattle.wy_names.specs.Counts.{signature_count, abstract_count, member_params}
+use Rattle.wy_symbols.specs.declared.scoping.Head.{Head}
+use Rattle.wy_symbols.specs.declared.scoping.Meaning.{Meaning}
+use Rattle.wy_symbols.specs.Declarations.{repeated}
+use Rattle.wy_symbols.specs.Meanings.{abstract_names}
+use Rattle.wy_symbols.specs.Atoms.{AtomScope, members_after}
+use Rattle.wy_symbols.specs.TypeUses.{param_types, type_ref, method_of, declaration_scope, defined_members, declared_methods, member_names, method_names, declaration}
+use Rattle.wy_heads.specs.Counts.{signature_count, abstract_count, member_params}
 use Rattle.wy_well_formed.proofs.Repeats.{repeated_apart}
 use Rattle.wy_well_formed.proofs.Sets.{AreMeant, Holds}
 use Rattle.wy_well_formed.proofs.Meant.{none_meant, members_meant}

@@ -7,8 +7,8 @@ use Rattle.wy_effects.specs.Members.{In}
 use Rattle.wy_effects.proofs.Lists.{In-cases, In-unmap}
 use Rattle.wy_types.specs.Program.{Program, Scope}
 use Rattle.wy_types.specs.Ground.{program_number}
-use Rattle.wy_names.specs.Declarations.{ModuleTree, types_of, modules_of}
-use Rattle.wy_names.specs.Atoms.{heads_of}
+use Rattle.wy_symbols.specs.Declarations.{ModuleTree, types_of, modules_of}
+use Rattle.wy_symbols.specs.Atoms.{heads_of}
 use Rattle.wy_names.specs.Scopes.{scope_of_module, scope_of_program}
 use Rattle.wy_names.specs.Names.{Resolves}
 

@@ -28,8 +28,8 @@ use Rattle.wy_types.specs.Code.{Plain, New, Nothing, none, more, Block, Last, Th
 use Rattle.wy_types.specs.Program.{Program, Scope, Body, Init, Run}
 use Rattle.wy_types.specs.Ground.{single_sets}
 use Rattle.wy_types.specs.Core.{AreNumbered, ScopeFits, literal_captures, scope_vals}
-use Rattle.wy_names.specs.Sight.{outermost}
-use Rattle.wy_names.specs.Bodies.{Within, at_start, stmts_block, stmts_bodies}
+use Rattle.wy_bodies.specs.Sight.{outermost}
+use Rattle.wy_bodies.specs.Bodies.{Within, at_start, stmts_block, stmts_bodies}
 use Rattle.wy_rules.specs.OwnNames.{opened_count, HasItsType, HaveTheirTypes, IsPlainName, GrantsStandFirst, ModulesCaptureNothing}
 use Rattle.wy_rules.specs.News.{scope_news}
 use Rattle.wy_syntax.specs.OwnWords.{IsWord}

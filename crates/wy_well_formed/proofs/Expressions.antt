@@ -7,10 +7,10 @@ use Rattle.wy_types.specs.declared.code.Variable.{Variable}
 use Rattle.wy_types.specs.Code as code
 use Rattle.wy_types.specs.Program.{Program, Scope}
 use Rattle.wy_types.specs.Core.{ExprFits, ValueFits, ValuesFit}
-use Rattle.wy_names.specs.Sight.{Sight, expr_writes, exprs_write}
-use Rattle.wy_names.specs.Bodies.{Within, operand, expr_value, expr_values}
-use Rattle.wy_names.specs.BodyRefusals.{this_refusals, typed_refusals, expr_refusals, exprs_refusals}
-use Rattle.wy_names.proofs.Firsts.{same_itself}
+use Rattle.wy_bodies.specs.Sight.{Sight, expr_writes, exprs_write}
+use Rattle.wy_bodies.specs.Bodies.{Within, operand, expr_value, expr_values}
+use Rattle.wy_bodies.specs.BodyRefusals.{this_refusals, typed_refusals, expr_refusals, exprs_refusals}
+use Rattle.wy_symbols.proofs.Firsts.{same_itself}
 use Rattle.wy_well_formed.proofs.Scoping.{ReadsIn}
 use Rattle.wy_well_formed.proofs.Repeats.{append_empty}
 use Rattle.wy_well_formed.proofs.Seeing.{Sees, sees_left, sees_right, name_fits}

@@ -9,11 +9,11 @@ use Rattle.wy_types.specs.declared.code.Variable.TheVariants.{Local}
 use Rattle.wy_types.specs.Types.{is_plain, methods_of_owner}
 use Rattle.wy_types.specs.Program.{Program, Scope, Body, Start, Init, Run}
 use Rattle.wy_types.specs.Core.{StartFits, AreNumbered, CapturesBefore, start_vals, bodies_vals, block_vals, values_vals, value_count, literal_fields, literal_captures}
-use Rattle.wy_names.specs.Declarations.{ProgramTree}
-use Rattle.wy_names.specs.Counts as counts
-use Rattle.wy_names.specs.Sight.{outermost, inside, parts_write, tail_writes}
-use Rattle.wy_names.specs.Bodies.{Within, at_start, parts_after, tail_after, part_values, tail_block, literal_of, parts_literals, tail_literals, parts_bodies, tail_bodies}
-use Rattle.wy_names.specs.BodyRefusals.{repeated_parts, parts_refusals, tail_refusals}
+use Rattle.wy_symbols.specs.Declarations.{ProgramTree}
+use Rattle.wy_heads.specs.Counts as counts
+use Rattle.wy_bodies.specs.Sight.{outermost, inside, parts_write, tail_writes}
+use Rattle.wy_bodies.specs.Bodies.{Within, at_start, parts_after, tail_after, part_values, tail_block, literal_of, parts_literals, tail_literals, parts_bodies, tail_bodies}
+use Rattle.wy_bodies.specs.BodyRefusals.{repeated_parts, parts_refusals, tail_refusals}
 use Rattle.wy_well_formed.proofs.Scoping.{ReadsIn, OfParts, OfBody, FewIn, AllFew, BodiesFit}
 use Rattle.wy_well_formed.proofs.Placed.{Lies, lies_itself, Holds, holds_at}
 use Rattle.wy_well_formed.proofs.Seeing.{sees_nothing}

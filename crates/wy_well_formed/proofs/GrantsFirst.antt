@@ -10,12 +10,12 @@ use Rattle.wy_types.specs.declared.resolved.OwnName.{OwnName}
 use Rattle.wy_types.specs.declared.resolved.Origin.TheVariants.{Grant}
 use Rattle.wy_types.specs.Ground.{names_of}
 use Rattle.wy_rules.specs.OwnNames.{GrantsStandFirst}
-use Rattle.wy_names.specs.declared.scoping.Head.{Head}
-use Rattle.wy_names.specs.declared.scoping.Owner.{Owner}
-use Rattle.wy_names.specs.Declarations.{ModuleTree, types_of, modules_of}
-use Rattle.wy_names.specs.Atoms.{head_names, heads_of, line_owner}
-use Rattle.wy_names.specs.Lines.{grant_name, use_name, line_name, line_names}
-use Rattle.wy_names.specs.Scopes.{grant_owners, program_atoms, program_scope}
+use Rattle.wy_symbols.specs.declared.scoping.Head.{Head}
+use Rattle.wy_symbols.specs.declared.scoping.Owner.{Owner}
+use Rattle.wy_symbols.specs.Declarations.{ModuleTree, types_of, modules_of}
+use Rattle.wy_symbols.specs.Atoms.{head_names, heads_of, line_owner}
+use Rattle.wy_heads.specs.Lines.{grant_name, use_name, line_name, line_names}
+use Rattle.wy_heads.specs.ScopeHeads.{grant_owners, program_atoms, program_scope}
 use Rattle.wy_well_formed.specs.WellFormed.{ResolvedGrantsStandFirst}
 use Rattle.wy_well_formed.proofs.EachScope.{program_scope_is}
 

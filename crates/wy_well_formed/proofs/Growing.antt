@@ -1,8 +1,8 @@
 -- How the counts of literals and bodies grow over a tree: by as many as the tree has.
 use Rattle.std.proofs.Common.{◌≡◌, ℕ, ◌+◌, length, arith, length-append}
 use Rattle.wy_syntax.specs.Trees as t
-use Rattle.wy_names.specs.Sight.{Sight, with_params, inside}
-use Rattle.wy_names.specs.Bodies.{Within, Count, one_val, one_literal, one_body, rhs_after, stmt_after, stmts_after, part_after, parts_after, tail_after, stmt_sight, rhs_literals, stmt_literals, stmts_literals, part_literals, parts_literals, tail_literals, rhs_bodies, stmt_bodies, stmts_bodies, part_bodies, parts_bodies, tail_bodies}
+use Rattle.wy_bodies.specs.Sight.{Sight, with_params, inside}
+use Rattle.wy_bodies.specs.Bodies.{Within, Count, one_val, one_literal, one_body, rhs_after, stmt_after, stmts_after, part_after, parts_after, tail_after, stmt_sight, rhs_literals, stmt_literals, stmts_literals, part_literals, parts_literals, tail_literals, rhs_bodies, stmt_bodies, stmts_bodies, part_bodies, parts_bodies, tail_bodies}
 
 module _ (w : Within) where
   -- literals

@@ -12,8 +12,8 @@ use Rattle.wy_syntax.specs.Trees.{InsideTree, ItemTree, type_item, pure_item, re
 use Rattle.wy_syntax.specs.Languages.{Lang, Sign, Word, Then, ◌⨟◌, Each, Commas}
 use Rattle.wy_syntax.specs.TypeGrammar.{SpellsModuleParam}
 use Rattle.wy_syntax.specs.Grammar.{SpellsUse, SpellsLine, SpellsGrant, SpellsInside, SpellsItem}
-use Rattle.wy_names.specs.TypeUses.{param_names}
-use Rattle.wy_names.specs.Scopes.{grant_names, line_words}
+use Rattle.wy_symbols.specs.TypeUses.{param_names}
+use Rattle.wy_heads.specs.ScopeHeads.{grant_names, line_words}
 use Rattle.wy_syntax.specs.OwnWords.{IsWord, AreWords, HasWords}
 
 abbrev pub own_words : ItemTree → List Name

@@ -8,11 +8,11 @@ use Rattle.wy_types.specs.Fitting.{member_count}
 use Rattle.wy_types.specs.Ground.{abstract_names as declared_members}
 use Rattle.wy_types.specs.Primitive.{primitive_types}
 use Rattle.wy_types.specs.Program.{Program}
-use Rattle.wy_names.specs.declared.scoping.Head.{Head}
-use Rattle.wy_names.specs.Declarations.{texts, type_names}
-use Rattle.wy_names.specs.Meanings.{abstract_names}
-use Rattle.wy_names.specs.Atoms.{head, head_names, members_of, primitive_head, primitive_names, all_names, heads_of}
-use Rattle.wy_names.specs.TypeUses.{declaration, declarations_of}
+use Rattle.wy_symbols.specs.declared.scoping.Head.{Head}
+use Rattle.wy_symbols.specs.Declarations.{texts, type_names}
+use Rattle.wy_symbols.specs.Meanings.{abstract_names}
+use Rattle.wy_symbols.specs.Atoms.{head, head_names, members_of, primitive_head, primitive_names, all_names, heads_of}
+use Rattle.wy_symbols.specs.TypeUses.{declaration, declarations_of}
 use Rattle.wy_well_formed.proofs.WrittenTypes.{Knows}
 
 -- one by one, heads and declarations have the same abstract members

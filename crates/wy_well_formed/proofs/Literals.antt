@@ -7,13 +7,13 @@ use Rattle.wy_types.specs.declared.resolved.Field.{Field}
 use Rattle.wy_types.specs.declared.resolved.Literal.{Literal}
 use Rattle.wy_types.specs.Program.{Program, Scope}
 use Rattle.wy_types.specs.Core.{IsWritten, AllWritten}
-use Rattle.wy_names.specs.Declarations.{texts, repeated}
-use Rattle.wy_names.specs.Counts as counts
-use Rattle.wy_names.specs.Counts.{field_count}
-use Rattle.wy_names.specs.TypeUses.{signature_refusals}
-use Rattle.wy_names.specs.Sight.{Sight, inside, with_params}
-use Rattle.wy_names.specs.Bodies.{Within, Count, one_val, one_literal, one_body, rhs_after, stmt_after, stmts_after, part_after, tail_after, stmt_sight, fields_of, literal_of, rhs_literals, stmt_literals, stmts_literals, part_literals, parts_literals, tail_literals}
-use Rattle.wy_names.specs.BodyRefusals.{value_refusals, typed_refusals, typed_if_refusals, expr_refusals, field_names, def_names, repeated_parts, rhs_refusals, stmt_refusals, stmts_refusals, part_refusals, parts_refusals, tail_refusals}
+use Rattle.wy_symbols.specs.Declarations.{texts, repeated}
+use Rattle.wy_heads.specs.Counts as counts
+use Rattle.wy_heads.specs.Counts.{field_count}
+use Rattle.wy_symbols.specs.TypeUses.{signature_refusals}
+use Rattle.wy_bodies.specs.Sight.{Sight, inside, with_params}
+use Rattle.wy_bodies.specs.Bodies.{Within, Count, one_val, one_literal, one_body, rhs_after, stmt_after, stmts_after, part_after, tail_after, stmt_sight, fields_of, literal_of, rhs_literals, stmt_literals, stmts_literals, part_literals, parts_literals, tail_literals}
+use Rattle.wy_bodies.specs.BodyRefusals.{value_refusals, typed_refusals, typed_if_refusals, expr_refusals, field_names, def_names, repeated_parts, rhs_refusals, stmt_refusals, stmts_refusals, part_refusals, parts_refusals, tail_refusals}
 use Rattle.wy_well_formed.proofs.Scoping.{ReadsIn, FewIn, AllFew}
 use Rattle.wy_well_formed.proofs.Repeats.{append_empty, repeated_apart}
 use Rattle.wy_well_formed.proofs.Methods.{few_left, few_right}

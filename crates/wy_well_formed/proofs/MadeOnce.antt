@@ -5,12 +5,12 @@ use Rattle.wy_syntax.specs.Trees as t
 use Rattle.wy_effects.specs.Members.{Apart}
 use Rattle.wy_types.specs.Code as code
 use Rattle.wy_types.specs.Program.{Scope, Body}
-use Rattle.wy_names.specs.declared.scoping.Head.{Head}
-use Rattle.wy_names.specs.Declarations.{ModuleTree, ProgramTree, types_of, modules_of}
-use Rattle.wy_names.specs.Atoms.{heads_of}
+use Rattle.wy_symbols.specs.declared.scoping.Head.{Head}
+use Rattle.wy_symbols.specs.Declarations.{ModuleTree, ProgramTree, types_of, modules_of}
+use Rattle.wy_symbols.specs.Atoms.{heads_of}
 use Rattle.wy_names.specs.Scopes.{module_within, program_within, scope_of_module, scope_of_program}
-use Rattle.wy_names.specs.Sight.{Sight, outermost, inside, with_params}
-use Rattle.wy_names.specs.Bodies.{Within, Count, at_start, one_val, one_literal, one_body, rhs_after, stmt_after, stmts_after, part_after, parts_after, tail_after, stmt_sight, last_or, operand, bound, expr_value, expr_values, rhs_value, stmt_block, stmts_block, part_values, with_field, tail_block, rhs_bodies, stmt_bodies, stmts_bodies, part_bodies, parts_bodies, tail_bodies}
+use Rattle.wy_bodies.specs.Sight.{Sight, outermost, inside, with_params}
+use Rattle.wy_bodies.specs.Bodies.{Within, Count, at_start, one_val, one_literal, one_body, rhs_after, stmt_after, stmts_after, part_after, parts_after, tail_after, stmt_sight, last_or, operand, bound, expr_value, expr_values, rhs_value, stmt_block, stmts_block, part_values, with_field, tail_block, rhs_bodies, stmt_bodies, stmts_bodies, part_bodies, parts_bodies, tail_bodies}
 use Rattle.wy_rules.specs.News.{expr_news, value_news, values_news, block_news, bodies_news, scope_news}
 use Rattle.wy_well_formed.specs.WellFormed.{ResolvedMakesOnce}
 use Rattle.wy_well_formed.proofs.EachScope.{each_scope}

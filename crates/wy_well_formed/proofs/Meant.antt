@@ -6,12 +6,12 @@ use Rattle.wy_syntax.specs.declared.items.Member.{Member}
 use Rattle.wy_syntax.specs.declared.items.Member.TheVariants.{Abstract, Defined, Method}
 use Rattle.wy_effects.specs.EffSet.{IsSet}
 use Rattle.wy_effects.proofs.Lists.{In-cases}
-use Rattle.wy_names.specs.declared.scoping.Head.{Head}
-use Rattle.wy_names.specs.declared.scoping.Meaning.{Meaning}
-use Rattle.wy_names.specs.declared.scoping.Owner.{Owner}
-use Rattle.wy_names.specs.Atoms.{members_after, member_scope, abstract_member, defined_member, set_of}
-use Rattle.wy_names.specs.Counts.{abstract_count}
-use Rattle.wy_names.specs.Scopes.{atom_scope, definitions_after}
+use Rattle.wy_symbols.specs.declared.scoping.Head.{Head}
+use Rattle.wy_symbols.specs.declared.scoping.Meaning.{Meaning}
+use Rattle.wy_symbols.specs.declared.scoping.Owner.{Owner}
+use Rattle.wy_symbols.specs.Atoms.{members_after, member_scope, abstract_member, defined_member, set_of, atom_scope}
+use Rattle.wy_heads.specs.Counts.{abstract_count}
+use Rattle.wy_heads.specs.ScopeHeads.{definitions_after}
 use Rattle.wy_well_formed.proofs.Sets.{AllOpen, AreMeant, Holds, set_below}
 
 pub none_meant : (n : ℕ) → AreMeant n []

@@ -10,12 +10,12 @@ use Rattle.wy_types.specs.declared.types.TypeRef.{TypeRef}
 use Rattle.wy_types.specs.declared.resolved.DefinedMember.{DefinedMember}
 use Rattle.wy_types.specs.Signature.{Signature}
 use Rattle.wy_types.specs.Types.{signature}
-use Rattle.wy_names.specs.declared.scoping.Meaning.{Meaning}
-use Rattle.wy_names.specs.Declarations.{texts}
-use Rattle.wy_names.specs.Meanings.{meaning_names, abstract_names}
-use Rattle.wy_names.specs.Atoms.{AtomScope, members_after, member_scope, abstract_member, defined_member, set_of}
-use Rattle.wy_names.specs.TypeUses.{defined_members, declared_methods, member_names, method_names}
-use Rattle.wy_names.specs.Counts.{signature_count}
+use Rattle.wy_symbols.specs.declared.scoping.Meaning.{Meaning}
+use Rattle.wy_symbols.specs.Declarations.{texts}
+use Rattle.wy_symbols.specs.Meanings.{meaning_names, abstract_names}
+use Rattle.wy_symbols.specs.Atoms.{AtomScope, members_after, member_scope, abstract_member, defined_member, set_of}
+use Rattle.wy_symbols.specs.TypeUses.{defined_members, declared_methods, member_names, method_names}
+use Rattle.wy_heads.specs.Counts.{signature_count}
 
 -- an element put into a list without repeats
 pub Apart-insert : {X : Type 0} (xs : List X) (y : X) (ys : List X) → Apart (xs ++ ys) → (In y (xs ++ ys) → ⊥) → Apart (xs ++ y ∷ ys)

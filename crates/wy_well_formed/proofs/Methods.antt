@@ -16,13 +16,13 @@ use Rattle.wy_types.specs.declared.code.Variable.TheVariants.{Parameter}
 use Rattle.wy_types.specs.Types.{is_plain}
 use Rattle.wy_types.specs.Program.{Program, Scope, Body}
 use Rattle.wy_types.specs.Core.{IsWritten, AllWritten, BlockFits, BodyFits, literal_captures}
-use Rattle.wy_names.specs.Declarations.{repeated}
-use Rattle.wy_names.specs.Counts as counts
-use Rattle.wy_names.specs.Counts.{part_params}
-use Rattle.wy_names.specs.TypeUses.{param_names, param_types, type_ref, effect_of, params_refusals, effect_refusals, use_refusals, signature_refusals}
-use Rattle.wy_names.specs.Sight.{Sight, inside, with_params, methods_write, tail_writes}
-use Rattle.wy_names.specs.Bodies.{Within, Count, one_val, one_literal, one_body, rhs_after, stmt_after, stmts_after, tail_after, stmt_sight, tail_block, literal_of, rhs_literals, stmt_literals, stmts_literals, parts_literals, tail_literals, method_body, rhs_bodies, stmt_bodies, stmts_bodies, part_bodies, parts_bodies, tail_bodies}
-use Rattle.wy_names.specs.BodyRefusals.{value_refusals, typed_refusals, typed_if_refusals, expr_refusals, repeated_parts, rhs_refusals, stmt_refusals, stmts_refusals, parts_refusals, tail_refusals}
+use Rattle.wy_symbols.specs.Declarations.{repeated}
+use Rattle.wy_heads.specs.Counts as counts
+use Rattle.wy_heads.specs.Counts.{part_params}
+use Rattle.wy_symbols.specs.TypeUses.{param_names, param_types, type_ref, effect_of, params_refusals, effect_refusals, use_refusals, signature_refusals}
+use Rattle.wy_bodies.specs.Sight.{Sight, inside, with_params, methods_write, tail_writes}
+use Rattle.wy_bodies.specs.Bodies.{Within, Count, one_val, one_literal, one_body, rhs_after, stmt_after, stmts_after, tail_after, stmt_sight, tail_block, literal_of, rhs_literals, stmt_literals, stmts_literals, parts_literals, tail_literals, method_body, rhs_bodies, stmt_bodies, stmts_bodies, part_bodies, parts_bodies, tail_bodies}
+use Rattle.wy_bodies.specs.BodyRefusals.{value_refusals, typed_refusals, typed_if_refusals, expr_refusals, repeated_parts, rhs_refusals, stmt_refusals, stmts_refusals, parts_refusals, tail_refusals}
 use Rattle.wy_well_formed.proofs.Scoping.{ReadsIn, AllFew}
 use Rattle.wy_well_formed.proofs.Repeats.{append_empty}
 use Rattle.wy_well_formed.proofs.Placed.{Lies, lies_left, lies_right, number_below, Holds, holds_append}

@@ -7,7 +7,7 @@ use Rattle.wy_effects.proofs.Lists.{In-cases}
 use Rattle.wy_types.specs.declared.resolved.ScopeKind.{ScopeKind}
 use Rattle.wy_types.specs.declared.resolved.ScopeKind.TheVariants.{Pure, Resource, Plain, Program as Main}
 use Rattle.wy_types.specs.Types.{is_plain}
-use Rattle.wy_names.specs.Declarations.{ModuleTree, item_modules, modules_of}
+use Rattle.wy_symbols.specs.Declarations.{ModuleTree, item_modules, modules_of}
 
 pub record IsBare (m : ModuleTree) : Type 0 where
   pub uses : m.uses ≡ []

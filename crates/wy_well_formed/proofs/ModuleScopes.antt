@@ -14,18 +14,19 @@ use Rattle.wy_types.specs.Program.{Program, Scope, Body, Init}
 use Rattle.wy_types.specs.Code.{Values}
 use Rattle.wy_types.specs.Types.{is_plain}
 use Rattle.wy_types.specs.Core.{IsAscribed, StartIs, BodiesHaveNoEffect, ScopeFits}
-use Rattle.wy_names.specs.declared.scoping.Head.{Head}
-use Rattle.wy_names.specs.declared.scoping.Meaning.{Meaning}
-use Rattle.wy_names.specs.declared.scoping.Owner.{Owner}
-use Rattle.wy_names.specs.Declarations.{ModuleTree, repeated}
-use Rattle.wy_names.specs.Meanings.{meaning_of, abstract_names}
-use Rattle.wy_names.specs.Atoms.{AtomScope, head_names, type_number, members_of, meaning_set, params_owners, closed_owner, param_owner, use_owner, line_owner}
-use Rattle.wy_names.specs.TypeUses.{param_names}
-use Rattle.wy_names.specs.Lines.{param_name, param_refusals, use_name, uses_refusals, line_names, lines_refusals, owner_names}
-use Rattle.wy_names.specs.Sight.{outermost, inside}
-use Rattle.wy_names.specs.Bodies.{at_start}
-use Rattle.wy_names.specs.Scopes.{define_names, line_words, param_owners, use_owners, line_owners, early_owners, module_owners, module_atoms, module_meanings, module_scope, param_scope, module_own, module_within, definitions_at, start_effect, scope_of_module, sealed_refusals, definitions_refusals, init_refusals, module_refusals}
-use Rattle.wy_names.specs.BodyRefusals.{repeated_parts, parts_refusals}
+use Rattle.wy_symbols.specs.declared.scoping.Head.{Head}
+use Rattle.wy_symbols.specs.declared.scoping.Meaning.{Meaning}
+use Rattle.wy_symbols.specs.declared.scoping.Owner.{Owner}
+use Rattle.wy_symbols.specs.Declarations.{ModuleTree, repeated}
+use Rattle.wy_symbols.specs.Meanings.{meaning_of, abstract_names}
+use Rattle.wy_symbols.specs.Atoms.{AtomScope, head_names, type_number, members_of, meaning_set, params_owners, closed_owner, param_owner, use_owner, line_owner, owner_names}
+use Rattle.wy_symbols.specs.TypeUses.{param_names}
+use Rattle.wy_heads.specs.Lines.{param_name, param_refusals, use_name, uses_refusals, line_names, lines_refusals}
+use Rattle.wy_bodies.specs.Sight.{outermost, inside}
+use Rattle.wy_bodies.specs.Bodies.{at_start}
+use Rattle.wy_heads.specs.ScopeHeads.{define_names, line_words, param_owners, use_owners, line_owners, early_owners, module_owners, module_atoms, module_meanings, module_scope, param_scope, module_own, definitions_at, start_effect, sealed_refusals, definitions_refusals, init_refusals}
+use Rattle.wy_names.specs.Scopes.{module_within, scope_of_module, module_refusals}
+use Rattle.wy_bodies.specs.BodyRefusals.{repeated_parts, parts_refusals}
 use Rattle.wy_well_formed.proofs.Scoping.{ReadsIn, OfParts, BodiesFit}
 use Rattle.wy_well_formed.proofs.Repeats.{append_empty}
 use Rattle.wy_well_formed.proofs.Sets.{AllOpen, AreMeant, Holds, meaning_set_below, set_below}

@@ -12,12 +12,12 @@ use Rattle.wy_effects.specs.Members.{In}
 use Rattle.wy_effects.proofs.Lists.{In-left, In-right, In-cases}
 use Rattle.wy_types.specs.declared.resolved.OwnName.{OwnName}
 use Rattle.wy_types.specs.Core.{origin_modules, names_modules}
-use Rattle.wy_names.specs.declared.scoping.Head.{Head}
-use Rattle.wy_names.specs.declared.scoping.Owner.{Owner}
-use Rattle.wy_names.specs.Declarations.{ModuleTree, module_number, module_names, texts}
-use Rattle.wy_names.specs.Atoms.{AtomScope, head_names, line_owner}
-use Rattle.wy_names.specs.Lines.{number_or_zero, param_name, grant_name, use_name, line_name, line_names, line_module, unless_number, uses_refusals, line_refusals, lines_refusals}
-use Rattle.wy_names.proofs.Firsts.{number_below}
+use Rattle.wy_symbols.specs.declared.scoping.Head.{Head}
+use Rattle.wy_symbols.specs.declared.scoping.Owner.{Owner}
+use Rattle.wy_symbols.specs.Declarations.{ModuleTree, module_number, module_names, texts}
+use Rattle.wy_symbols.specs.Atoms.{AtomScope, head_names, line_owner}
+use Rattle.wy_heads.specs.Lines.{number_or_zero, param_name, grant_name, use_name, line_name, line_names, line_module, unless_number, uses_refusals, line_refusals, lines_refusals}
+use Rattle.wy_symbols.proofs.Firsts.{number_below}
 use Rattle.wy_well_formed.proofs.Repeats.{append_empty}
 
 -- what own names lead to, in lists put together

@@ -8,12 +8,12 @@ use Rattle.wy_syntax.specs.Grammar.{SpellsInside, SpellsItem}
 use Rattle.wy_effects.specs.Members.{In}
 use Rattle.wy_effects.proofs.Lists.{In-cases}
 use Rattle.wy_types.specs.Program.{Scope}
-use Rattle.wy_names.specs.declared.scoping.Head.{Head}
-use Rattle.wy_names.specs.Declarations.{ModuleTree, ProgramTree, item_modules, item_programs, types_of, modules_of, programs_of}
-use Rattle.wy_names.specs.Atoms.{heads_of}
+use Rattle.wy_symbols.specs.declared.scoping.Head.{Head}
+use Rattle.wy_symbols.specs.Declarations.{ModuleTree, ProgramTree, item_modules, item_programs, types_of, modules_of, programs_of}
+use Rattle.wy_symbols.specs.Atoms.{heads_of}
 use Rattle.wy_names.specs.Scopes.{module_within, program_within, scope_of_module, scope_of_program}
-use Rattle.wy_names.specs.Sight.{outermost, inside}
-use Rattle.wy_names.specs.Bodies.{Within, at_start, literal_of, parts_literals, parts_bodies, tail_literals, tail_bodies}
+use Rattle.wy_bodies.specs.Sight.{outermost, inside}
+use Rattle.wy_bodies.specs.Bodies.{Within, at_start, literal_of, parts_literals, parts_bodies, tail_literals, tail_bodies}
 use Rattle.wy_syntax.specs.OwnWords.{HasWords, HaveWords}
 use Rattle.wy_well_formed.specs.WellFormed.{ResolvedNamesAreOrdinary}
 use Rattle.wy_well_formed.proofs.EachScope.{each_scope}

@@ -8,13 +8,13 @@ use Rattle.wy_effects.proofs.Lists.{In-map, In-unmap, In-cases}
 use Rattle.wy_types.specs.declared.resolved.OwnName.{OwnName}
 use Rattle.wy_types.specs.Types.{is_plain}
 use Rattle.wy_types.specs.Program.{Program, Scope}
-use Rattle.wy_names.specs.declared.scoping.Head.{Head}
-use Rattle.wy_names.specs.Declarations.{ModuleTree, ProgramTree, texts, item_modules, item_programs, types_of, modules_of, programs_of}
-use Rattle.wy_names.specs.Atoms.{heads_of}
-use Rattle.wy_names.specs.TypeUses.{param_names}
-use Rattle.wy_names.specs.Lines.{param_name, grant_name}
+use Rattle.wy_symbols.specs.declared.scoping.Head.{Head}
+use Rattle.wy_symbols.specs.Declarations.{ModuleTree, ProgramTree, texts, item_modules, item_programs, types_of, modules_of, programs_of}
+use Rattle.wy_symbols.specs.Atoms.{heads_of}
+use Rattle.wy_symbols.specs.TypeUses.{param_names}
+use Rattle.wy_heads.specs.Lines.{param_name, grant_name}
 use Rattle.wy_names.specs.Names.{Resolves}
-use Rattle.wy_names.specs.Scopes.{grant_names, line_words, param_scope, module_own, module_atoms, early_owners, program_scope, program_own, program_atoms, grant_owners}
+use Rattle.wy_heads.specs.ScopeHeads.{grant_names, line_words, param_scope, module_own, module_atoms, early_owners, program_scope, program_own, program_atoms, grant_owners}
 use Rattle.wy_syntax.specs.OwnWords.{IsWord, HaveWords}
 use Rattle.wy_well_formed.specs.WellFormed.{ResolvedNamesAreWords}
 use Rattle.wy_well_formed.proofs.EachScope.{each_scope}

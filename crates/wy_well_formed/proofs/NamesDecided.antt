@@ -5,18 +5,18 @@ use Rattle.wy_text.specs.declared.limit.LimitName.{LimitName}
 use Rattle.wy_syntax.specs.Trees.{ItemTree}
 use Rattle.wy_effects.specs.Members.{In}
 use Rattle.wy_effects.proofs.Lists.{In-left, In-right, In-cases}
-use Rattle.wy_names.specs.declared.refusal.Cause.{Cause}
-use Rattle.wy_names.specs.declared.refusal.Cause.TheVariants as cause
-use Rattle.wy_names.specs.declared.refusal.Refusal.{Refusal}
+use Rattle.wy_symbols.specs.declared.refusal.Cause.{Cause}
+use Rattle.wy_symbols.specs.declared.refusal.Cause.TheVariants as cause
+use Rattle.wy_symbols.specs.declared.refusal.Refusal.{Refusal}
 use Rattle.wy_names.specs.declared.refusal.NameRefusal.TheVariants.{Unknown, Twice, Cycle, NoProgram, TwoPrograms, MemberUndefined, MemberUnknown, Limit}
-use Rattle.wy_names.specs.Least.{IsLeast, noted, refusal_at}
-use Rattle.wy_names.specs.Declarations.{ProgramTree, types_of, modules_of, programs_of, repeated, type_names, module_names}
-use Rattle.wy_names.specs.Counts.{limit_of}
-use Rattle.wy_names.specs.Atoms.{heads_of, primitive_names}
-use Rattle.wy_names.specs.TypeUses.{declarations_refusals}
+use Rattle.wy_symbols.specs.Least.{IsLeast, noted, refusal_at}
+use Rattle.wy_symbols.specs.Declarations.{ProgramTree, types_of, modules_of, programs_of, repeated, type_names, module_names}
+use Rattle.wy_heads.specs.Counts.{limit_of}
+use Rattle.wy_symbols.specs.Atoms.{heads_of, primitive_names}
+use Rattle.wy_symbols.specs.TypeUses.{declarations_refusals}
 use Rattle.wy_names.specs.Scopes.{refusals_of, resolved, modules_refusals, programs_refusals, second_programs}
 use Rattle.wy_names.specs.Names.{Refuses}
-use Rattle.wy_names.proofs.Leasts.{least_is, none_is}
+use Rattle.wy_symbols.proofs.Leasts.{least_is, none_is}
 use Rattle.wy_well_formed.specs.WellFormed.{IsDecided, RefusedFor}
 use Rattle.wy_well_formed.proofs.ReachedMarks.{CyclesAre, cycles_of}
 

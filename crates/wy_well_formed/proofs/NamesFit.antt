@@ -21,14 +21,15 @@ use Rattle.wy_types.specs.Ground.{abstract_names as declared_members}
 use Rattle.wy_types.specs.Core.{IsCore}
 use Rattle.wy_rules.specs.Acceptance.{is_parameter, parameters_until, parameters_among}
 use Rattle.wy_rules.specs.OwnNames.{opened_count, after_parameters, HasItsType, HaveTheirTypes, MayHave, OwnNamesFit, LinesAreTyped}
-use Rattle.wy_names.specs.declared.scoping.Head.{Head}
-use Rattle.wy_names.specs.declared.scoping.Opening.{Opening}
-use Rattle.wy_names.specs.declared.scoping.Opening.TheVariants.{Members, Nothing, Missing}
-use Rattle.wy_names.specs.declared.scoping.Owner.{Owner}
-use Rattle.wy_names.specs.Declarations.{ModuleTree, ProgramTree, types_of, modules_of}
-use Rattle.wy_names.specs.Atoms.{AtomScope, head_names, opened_names, params_owners, grant_owner, atoms_of, heads_of}
-use Rattle.wy_names.specs.Lines.{param_name, grant_name, use_name, uses_refusals, line_names, lines_refusals}
-use Rattle.wy_names.specs.Scopes.{atom_scope, use_owners, line_owners, param_owners, module_owners, module_atoms, param_scope, module_own, program_owners, program_atoms, program_scope, program_own, scope_of_module, scope_of_program, refusals_of, resolved}
+use Rattle.wy_symbols.specs.declared.scoping.Head.{Head}
+use Rattle.wy_symbols.specs.declared.scoping.Opening.{Opening}
+use Rattle.wy_symbols.specs.declared.scoping.Opening.TheVariants.{Members, Nothing, Missing}
+use Rattle.wy_symbols.specs.declared.scoping.Owner.{Owner}
+use Rattle.wy_symbols.specs.Declarations.{ModuleTree, ProgramTree, types_of, modules_of}
+use Rattle.wy_symbols.specs.Atoms.{AtomScope, head_names, opened_names, params_owners, grant_owner, atoms_of, heads_of, atom_scope}
+use Rattle.wy_heads.specs.Lines.{param_name, grant_name, use_name, uses_refusals, line_names, lines_refusals}
+use Rattle.wy_heads.specs.ScopeHeads.{use_owners, line_owners, param_owners, module_owners, module_atoms, param_scope, module_own, program_owners, program_atoms, program_scope, program_own}
+use Rattle.wy_names.specs.Scopes.{scope_of_module, scope_of_program, refusals_of, resolved}
 use Rattle.wy_well_formed.specs.WellFormed.{ResolvedNamesFit}
 use Rattle.wy_well_formed.proofs.FittingBodies.{parts_fit, body_fits, no_own_bodies}
 use Rattle.wy_well_formed.proofs.Sets.{AllOpen}

@@ -6,11 +6,11 @@ use Rattle.wy_effects.proofs.Lists.{In-slice_get}
 use Rattle.wy_types.specs.Program.{Program, Scope}
 use Rattle.wy_types.specs.Core as core
 use Rattle.wy_types.specs.Core.{names_modules, NoCycle}
-use Rattle.wy_names.specs.declared.refusal.Cause.TheVariants.{Cycle}
-use Rattle.wy_names.specs.declared.refusal.Refusal.{Refusal}
-use Rattle.wy_names.specs.Least.{refusal_at}
-use Rattle.wy_names.specs.Declarations.{ModuleTree}
-use Rattle.wy_names.specs.Cycles.{named_modules, LeadsTo, LeadsBy, IsCycle}
+use Rattle.wy_symbols.specs.declared.refusal.Cause.TheVariants.{Cycle}
+use Rattle.wy_symbols.specs.declared.refusal.Refusal.{Refusal}
+use Rattle.wy_symbols.specs.Least.{refusal_at}
+use Rattle.wy_symbols.specs.Declarations.{ModuleTree}
+use Rattle.wy_heads.specs.Cycles.{named_modules, LeadsTo, LeadsBy, IsCycle}
 use Rattle.wy_well_formed.proofs.NamedModules.{IsNamed, named_below}
 
 -- a scope is that of a module, or the last

@@ -9,13 +9,13 @@ use Rattle.wy_syntax.specs.declared.items.Line.TheVariants as line
 use Rattle.wy_syntax.specs.declared.items.Grant.{Grant}
 use Rattle.wy_effects.specs.Members.{Apart}
 use Rattle.wy_types.specs.declared.resolved.OwnName.{OwnName}
-use Rattle.wy_names.specs.declared.scoping.Head.{Head}
-use Rattle.wy_names.specs.declared.scoping.Owner.{Owner}
-use Rattle.wy_names.specs.Declarations.{ModuleTree, repeated, texts}
-use Rattle.wy_names.specs.Atoms.{AtomScope, head_names, line_owner}
-use Rattle.wy_names.specs.TypeUses.{param_names}
-use Rattle.wy_names.specs.Lines.{param_name, grant_name, use_name, line_names}
-use Rattle.wy_names.specs.Scopes.{grant_names, line_words}
+use Rattle.wy_symbols.specs.declared.scoping.Head.{Head}
+use Rattle.wy_symbols.specs.declared.scoping.Owner.{Owner}
+use Rattle.wy_symbols.specs.Declarations.{ModuleTree, repeated, texts}
+use Rattle.wy_symbols.specs.Atoms.{AtomScope, head_names, line_owner}
+use Rattle.wy_symbols.specs.TypeUses.{param_names}
+use Rattle.wy_heads.specs.Lines.{param_name, grant_name, use_name, line_names}
+use Rattle.wy_heads.specs.ScopeHeads.{grant_names, line_words}
 use Rattle.wy_well_formed.proofs.Repeats.{repeated_apart}
 
 abbrev pub own_texts : List OwnName → List (List ℕ)

@@ -10,12 +10,12 @@ use Rattle.wy_types.specs.declared.resolved.OwnName.{OwnName}
 use Rattle.wy_types.specs.declared.resolved.Origin.{Origin}
 use Rattle.wy_types.specs.Types.{is_plain}
 use Rattle.wy_types.specs.Core.{one_grant, one_parameter, origins_count}
-use Rattle.wy_names.specs.declared.scoping.Head.{Head}
-use Rattle.wy_names.specs.declared.scoping.Owner.{Owner}
-use Rattle.wy_names.specs.Declarations.{ModuleTree, ProgramTree}
-use Rattle.wy_names.specs.Atoms.{AtomScope, head_names, line_owner}
-use Rattle.wy_names.specs.Lines.{param_name, grant_name, use_name, line_name, line_names}
-use Rattle.wy_names.specs.Scopes.{param_scope, module_atoms, early_owners, module_own, program_scope, program_atoms, grant_owners, program_own}
+use Rattle.wy_symbols.specs.declared.scoping.Head.{Head}
+use Rattle.wy_symbols.specs.declared.scoping.Owner.{Owner}
+use Rattle.wy_symbols.specs.Declarations.{ModuleTree, ProgramTree}
+use Rattle.wy_symbols.specs.Atoms.{AtomScope, head_names, line_owner}
+use Rattle.wy_heads.specs.Lines.{param_name, grant_name, use_name, line_name, line_names}
+use Rattle.wy_heads.specs.ScopeHeads.{param_scope, module_atoms, early_owners, module_own, program_scope, program_atoms, grant_owners, program_own}
 
 module _ (one : Origin → ℕ) where
   count_append : (xs ys : List OwnName) → origins_count one (xs ++ ys) ≡ origins_count one xs + origins_count one ys

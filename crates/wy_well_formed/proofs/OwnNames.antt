@@ -15,12 +15,12 @@ use Rattle.wy_types.specs.declared.resolved.OwnName.{OwnName}
 use Rattle.wy_types.specs.Program.{Program, Scope}
 use Rattle.wy_types.specs.Types.{is_plain}
 use Rattle.wy_types.specs.Core.{OriginFits}
-use Rattle.wy_names.specs.declared.scoping.Head.{Head}
-use Rattle.wy_names.specs.declared.scoping.Owner.{Owner}
-use Rattle.wy_names.specs.Declarations.{ModuleTree, first_from, module_number, module_names, texts}
-use Rattle.wy_names.specs.Atoms.{head_names, type_number, params_owners, primitive_opening, grant_owner, use_owner, line_owner, set_of}
-use Rattle.wy_names.specs.Lines.{number_or_zero, owner_names, param_name, grant_name, grant_refusals, unless_opened, use_name, uses_refusals, unless_number, argument_numbers, argument_refusals, line_scope, line_name, line_names, line_refusals, lines_refusals}
-use Rattle.wy_names.proofs.Firsts.{number_below}
+use Rattle.wy_symbols.specs.declared.scoping.Head.{Head}
+use Rattle.wy_symbols.specs.declared.scoping.Owner.{Owner}
+use Rattle.wy_symbols.specs.Declarations.{ModuleTree, first_from, module_number, module_names, texts}
+use Rattle.wy_symbols.specs.Atoms.{head_names, type_number, params_owners, primitive_opening, grant_owner, use_owner, line_owner, set_of, owner_names}
+use Rattle.wy_heads.specs.Lines.{number_or_zero, param_name, grant_name, grant_refusals, unless_opened, use_name, uses_refusals, unless_number, argument_numbers, argument_refusals, line_scope, line_name, line_names, line_refusals, lines_refusals}
+use Rattle.wy_symbols.proofs.Firsts.{number_below}
 use Rattle.wy_well_formed.proofs.Repeats.{append_empty}
 use Rattle.wy_well_formed.proofs.Sets.{AllOpen, Holds, set_below}
 use Rattle.wy_well_formed.proofs.Meant.{none_meant}

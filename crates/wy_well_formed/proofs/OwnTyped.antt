@@ -17,14 +17,13 @@ use Rattle.wy_types.specs.declared.resolved.Origin.TheVariants as origin
 use Rattle.wy_types.specs.Program.{Program}
 use Rattle.wy_types.specs.Ground.{single_sets, members_of}
 use Rattle.wy_rules.specs.OwnNames.{opens as opened_by, opened_count, sealed_of, name_of, IsOpened, IsBounded, HasItsType, HaveTheirTypes}
-use Rattle.wy_names.specs.declared.scoping.Head.{Head}
-use Rattle.wy_names.specs.declared.scoping.Opening.{Opening}
-use Rattle.wy_names.specs.declared.scoping.Opening.TheVariants.{Members, Nothing, Missing}
-use Rattle.wy_names.specs.declared.scoping.Owner.{Owner}
-use Rattle.wy_names.specs.Declarations.{ModuleTree, module_number}
-use Rattle.wy_names.specs.Atoms.{head_names, opened_names, module_opening, owner_sets, params_owners, param_opening, grant_owner, use_owner, line_owner, set_of}
-use Rattle.wy_names.specs.Lines.{number_or_zero, owner_names, opened_type, is_bare, param_type, param_name, grant_name, grant_refusals, unless_opened, at_bound, use_name, uses_refusals, unless_number, line_scope, line_name, line_names, line_refusals, lines_refusals}
-use Rattle.wy_names.specs.Scopes.{atom_scope}
+use Rattle.wy_symbols.specs.declared.scoping.Head.{Head}
+use Rattle.wy_symbols.specs.declared.scoping.Opening.{Opening}
+use Rattle.wy_symbols.specs.declared.scoping.Opening.TheVariants.{Members, Nothing, Missing}
+use Rattle.wy_symbols.specs.declared.scoping.Owner.{Owner}
+use Rattle.wy_symbols.specs.Declarations.{ModuleTree, module_number}
+use Rattle.wy_symbols.specs.Atoms.{head_names, opened_names, module_opening, owner_sets, params_owners, param_opening, grant_owner, use_owner, line_owner, set_of, owner_names, atom_scope}
+use Rattle.wy_heads.specs.Lines.{number_or_zero, opened_type, is_bare, param_type, param_name, grant_name, grant_refusals, unless_opened, at_bound, use_name, uses_refusals, unless_number, line_scope, line_name, line_names, line_refusals, lines_refusals}
 use Rattle.wy_well_formed.proofs.Repeats.{append_empty}
 use Rattle.wy_well_formed.proofs.Sets.{OpensBelow, AllOpen, Holds, set_below}
 use Rattle.wy_well_formed.proofs.Meant.{none_meant}

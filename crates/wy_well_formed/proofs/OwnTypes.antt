@@ -11,13 +11,13 @@ use Rattle.wy_effects.specs.EffSet.{IsSet}
 use Rattle.wy_types.specs.declared.types.TypeRef.{TypeRef}
 use Rattle.wy_types.specs.Program.{Program}
 use Rattle.wy_types.specs.Core.{IsPrimitive}
-use Rattle.wy_names.specs.declared.scoping.Head.{Head}
-use Rattle.wy_names.specs.declared.scoping.Opening.{Opening}
-use Rattle.wy_names.specs.declared.scoping.Opening.TheVariants.{Members, Nothing, Missing}
-use Rattle.wy_names.specs.Declarations.{ModuleTree, module_number}
-use Rattle.wy_names.specs.Meanings.{abstract_names}
-use Rattle.wy_names.specs.Atoms.{AtomScope, head_names, type_number, members_of, atom_of, atom_number, opened_names, opened, param_opening, primitive_opening, sealed_opening, module_at, module_opening}
-use Rattle.wy_names.specs.Lines.{opened_type, at_bound, param_type, unless_opened}
+use Rattle.wy_symbols.specs.declared.scoping.Head.{Head}
+use Rattle.wy_symbols.specs.declared.scoping.Opening.{Opening}
+use Rattle.wy_symbols.specs.declared.scoping.Opening.TheVariants.{Members, Nothing, Missing}
+use Rattle.wy_symbols.specs.Declarations.{ModuleTree, module_number}
+use Rattle.wy_symbols.specs.Meanings.{abstract_names}
+use Rattle.wy_symbols.specs.Atoms.{AtomScope, head_names, type_number, members_of, atom_of, atom_number, opened_names, opened, param_opening, primitive_opening, sealed_opening, module_at, module_opening}
+use Rattle.wy_heads.specs.Lines.{opened_type, at_bound, param_type, unless_opened}
 use Rattle.wy_well_formed.proofs.Sets.{OpensBelow, Holds, owner_sets_below}
 use Rattle.wy_well_formed.proofs.WrittenTypes.{Stands, Knows, IsType, number_known, use_stands, owner_sets_count}
 

@@ -11,10 +11,10 @@ use Rattle.wy_types.specs.declared.code.Binding.TheVariants as to
 use Rattle.wy_types.specs.declared.resolved.Literal.{Literal}
 use Rattle.wy_types.specs.Program.{Scope, Body}
 use Rattle.wy_types.specs.Core.{HasParameter}
-use Rattle.wy_names.specs.declared.scoping.Entry.{Entry}
-use Rattle.wy_names.specs.TypeUses.{type_ref}
-use Rattle.wy_names.specs.Sight.{Sight, entry, variables, fields_from, params_from, with_val, with_params, inside, captures}
-use Rattle.wy_names.specs.Bodies.{Within, Count, one_val, one_literal, one_body, stmt_after, stmts_after, part_after, stmt_sight, literal_of, rhs_literals, stmt_literals, stmts_literals, part_literals, parts_literals, tail_literals, rhs_bodies, stmt_bodies, stmts_bodies, part_bodies, parts_bodies, tail_bodies}
+use Rattle.wy_bodies.specs.declared.sight.Entry.{Entry}
+use Rattle.wy_symbols.specs.TypeUses.{type_ref}
+use Rattle.wy_bodies.specs.Sight.{Sight, entry, variables, fields_from, params_from, with_val, with_params, inside, captures}
+use Rattle.wy_bodies.specs.Bodies.{Within, Count, one_val, one_literal, one_body, stmt_after, stmts_after, part_after, stmt_sight, literal_of, rhs_literals, stmt_literals, stmts_literals, part_literals, parts_literals, tail_literals, rhs_bodies, stmt_bodies, stmts_bodies, part_bodies, parts_bodies, tail_bodies}
 use Rattle.wy_well_formed.proofs.Placed.{Lies, lies_left, lies_right}
 use Rattle.wy_well_formed.proofs.Growing.{stmt_bodies_more, stmts_bodies_more, part_bodies_more}
 use Rattle.wy_well_formed.proofs.Sights.{bound_entry, variables_among, captured_is_last}

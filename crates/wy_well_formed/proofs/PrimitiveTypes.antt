@@ -15,8 +15,8 @@ use Rattle.wy_types.specs.Types.{signature}
 use Rattle.wy_types.specs.Fitting.{FitsType, FitsSignature}
 use Rattle.wy_types.specs.Core.{HasSets, DeclarationFits}
 use Rattle.wy_types.specs.Primitive.{primitive_method, primitive_type, primitive_types, console, folder, clock, random}
-use Rattle.wy_names.specs.Declarations.{has_name}
-use Rattle.wy_names.specs.Atoms.{primitive_names}
+use Rattle.wy_symbols.specs.Declarations.{has_name}
+use Rattle.wy_symbols.specs.Atoms.{primitive_names}
 use Rattle.wy_well_formed.proofs.Repeats.{has_name_there}
 
 -- whether names differ

@@ -7,15 +7,16 @@ use Rattle.wy_types.specs.declared.resolved.OwnName.{OwnName}
 use Rattle.wy_types.specs.Program.{Program, Scope}
 use Rattle.wy_types.specs.Types.{methods_of_owner}
 use Rattle.wy_types.specs.Core.{ScopeFits}
-use Rattle.wy_names.specs.declared.scoping.Head.{Head}
-use Rattle.wy_names.specs.declared.scoping.Owner.{Owner}
-use Rattle.wy_names.specs.Declarations.{ModuleTree, ProgramTree, repeated}
-use Rattle.wy_names.specs.Atoms.{head_names, set_refusals, grant_owner, use_owner, line_owner}
-use Rattle.wy_names.specs.Lines.{grant_name, grant_refusals, use_name, uses_refusals, line_names, lines_refusals, owner_names}
-use Rattle.wy_names.specs.Sight.{outermost}
-use Rattle.wy_names.specs.Bodies.{at_start}
-use Rattle.wy_names.specs.Scopes.{grant_names, line_words, use_owners, line_owners, grant_owners, program_owners, program_atoms, program_scope, program_within, program_own, scope_of_program, program_refusals}
-use Rattle.wy_names.specs.BodyRefusals.{tail_refusals}
+use Rattle.wy_symbols.specs.declared.scoping.Head.{Head}
+use Rattle.wy_symbols.specs.declared.scoping.Owner.{Owner}
+use Rattle.wy_symbols.specs.Declarations.{ModuleTree, ProgramTree, repeated}
+use Rattle.wy_symbols.specs.Atoms.{head_names, set_refusals, grant_owner, use_owner, line_owner, owner_names}
+use Rattle.wy_heads.specs.Lines.{grant_name, grant_refusals, use_name, uses_refusals, line_names, lines_refusals}
+use Rattle.wy_bodies.specs.Sight.{outermost}
+use Rattle.wy_bodies.specs.Bodies.{at_start}
+use Rattle.wy_heads.specs.ScopeHeads.{grant_names, line_words, use_owners, line_owners, grant_owners, program_owners, program_atoms, program_scope, program_own}
+use Rattle.wy_names.specs.Scopes.{program_within, scope_of_program, program_refusals}
+use Rattle.wy_bodies.specs.BodyRefusals.{tail_refusals}
 use Rattle.wy_well_formed.proofs.Scoping.{ReadsIn, OfBody, BodiesFit}
 use Rattle.wy_well_formed.proofs.Repeats.{append_empty}
 use Rattle.wy_well_formed.proofs.Sets.{AllOpen, Holds, set_below}

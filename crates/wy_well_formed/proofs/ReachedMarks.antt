@@ -7,12 +7,12 @@ use Rattle.wy_effects.specs.EffSet.{has}
 use Rattle.wy_effects.proofs.Closure.{Closes, closure}
 use Rattle.wy_effects.proofs.Lists.{length-apart}
 use Rattle.wy_effects.proofs.SetLaws.{cases_equal, has-In, In-has}
-use Rattle.wy_names.specs.declared.refusal.Refusal.{Refusal}
-use Rattle.wy_names.specs.Declarations.{ModuleTree}
-use Rattle.wy_names.specs.Cycles.{IsCycle}
-use Rattle.wy_names.specs.Leading.{edges_of, next_from, Goes, Reached, LeadsInside}
-use Rattle.wy_names.specs.CycleRefusals.{AreReached, cycle_refusals}
-use Rattle.wy_names.proofs.CyclesFound.{found_sound, found_complete, leads_inside}
+use Rattle.wy_symbols.specs.declared.refusal.Refusal.{Refusal}
+use Rattle.wy_symbols.specs.Declarations.{ModuleTree}
+use Rattle.wy_heads.specs.Cycles.{IsCycle}
+use Rattle.wy_heads.specs.Leading.{edges_of, next_from, Goes, Reached, LeadsInside}
+use Rattle.wy_heads.specs.CycleRefusals.{AreReached, cycle_refusals}
+use Rattle.wy_heads.proofs.CyclesFound.{found_sound, found_complete, leads_inside}
 
 -- the numbers below one
 abbrev below : ℕ → List ℕ

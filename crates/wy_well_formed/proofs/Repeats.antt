@@ -4,9 +4,9 @@ use Rattle.std.specs.Prelude.{◌||◌}
 use Rattle.wy_syntax.specs.declared.types.Name.{Name}
 use Rattle.wy_effects.specs.Members.{In, Apart}
 use Rattle.wy_effects.proofs.Lists.{In-left, In-push}
-use Rattle.wy_names.specs.declared.refusal.Refusal.{Refusal}
-use Rattle.wy_names.specs.Declarations.{same_name, has_name, texts, repeated}
-use Rattle.wy_names.proofs.Firsts.{same_itself}
+use Rattle.wy_symbols.specs.declared.refusal.Refusal.{Refusal}
+use Rattle.wy_symbols.specs.Declarations.{same_name, has_name, texts, repeated}
+use Rattle.wy_symbols.proofs.Firsts.{same_itself}
 
 -- a list is empty exactly where its parts are
 pub append_empty : {X : Type 0} (xs ys : List X) → xs ++ ys ≡ [] → (xs ≡ []) × (ys ≡ [])

@@ -10,18 +10,19 @@ use Rattle.wy_types.specs.Primitive.{primitive_types}
 use Rattle.wy_types.specs.Program.{Program, Scope}
 use Rattle.wy_types.specs.Types.{is_plain, methods_of_owner}
 use Rattle.wy_types.specs.Core.{IsCore, DeclarationFits, ScopeFits}
-use Rattle.wy_names.specs.declared.refusal.Refusal.{Refusal}
-use Rattle.wy_names.specs.declared.scoping.Head.{Head}
+use Rattle.wy_symbols.specs.declared.refusal.Refusal.{Refusal}
+use Rattle.wy_symbols.specs.declared.scoping.Head.{Head}
 use Rattle.wy_names.specs.Names.{Refuses}
-use Rattle.wy_names.specs.Declarations.{ModuleTree, ProgramTree, types_of, modules_of, programs_of, module_names, type_names, repeated, texts}
-use Rattle.wy_names.specs.Atoms.{head_names, all_names, primitive_names, heads_of}
-use Rattle.wy_names.specs.Lines.{param_name, grant_name, line_module}
-use Rattle.wy_names.specs.TypeUses.{declaration, declaration_refusals, declarations_refusals, member_names, method_names}
-use Rattle.wy_names.specs.Sight.{outermost, inside}
-use Rattle.wy_names.specs.Bodies.{Within, at_start}
-use Rattle.wy_names.specs.BodyRefusals.{repeated_parts, parts_refusals, tail_refusals}
-use Rattle.wy_names.specs.Counts.{parts_literals, tail_literals, type_counts, module_count, program_count, limit_of}
-use Rattle.wy_names.specs.Scopes.{module_atoms, module_owners, program_owners, program_atoms, module_within, program_within, param_scope, program_scope, early_owners, grant_owners, scope_of_module, scope_of_program, module_refusals, modules_refusals, program_refusals, programs_refusals, refusals_of, resolved}
+use Rattle.wy_symbols.specs.Declarations.{ModuleTree, ProgramTree, types_of, modules_of, programs_of, module_names, type_names, repeated, texts}
+use Rattle.wy_symbols.specs.Atoms.{head_names, all_names, primitive_names, heads_of}
+use Rattle.wy_heads.specs.Lines.{param_name, grant_name, line_module}
+use Rattle.wy_symbols.specs.TypeUses.{declaration, declaration_refusals, declarations_refusals, member_names, method_names}
+use Rattle.wy_bodies.specs.Sight.{outermost, inside}
+use Rattle.wy_bodies.specs.Bodies.{Within, at_start}
+use Rattle.wy_bodies.specs.BodyRefusals.{repeated_parts, parts_refusals, tail_refusals}
+use Rattle.wy_heads.specs.Counts.{parts_literals, tail_literals, type_counts, module_count, program_count, limit_of}
+use Rattle.wy_heads.specs.ScopeHeads.{module_atoms, module_owners, program_owners, program_atoms, param_scope, program_scope, early_owners, grant_owners}
+use Rattle.wy_names.specs.Scopes.{module_within, program_within, scope_of_module, scope_of_program, module_refusals, modules_refusals, program_refusals, programs_refusals, refusals_of, resolved}
 use Rattle.wy_well_formed.specs.WellFormed.{ResolvedIsCore}
 use Rattle.wy_well_formed.proofs.Scoping.{ReadsIn, OfParts, OfBody, AllFew, BodiesFit}
 use Rattle.wy_well_formed.proofs.Repeats.{append_empty, repeated_apart, repeated_absent}

@@ -14,11 +14,11 @@ use Rattle.wy_types.specs.Signature.{Signature}
 use Rattle.wy_types.specs.Types.{is_plain, methods_of_owner}
 use Rattle.wy_types.specs.Program.{Program, Scope, Body, Init, Run}
 use Rattle.wy_types.specs.Core.{IsWritten, AllWritten, StartFits, BodyFits, HasParameter, AreNumbered, CapturesBefore, scope_vals, start_vals}
-use Rattle.wy_names.specs.Declarations.{ProgramTree}
-use Rattle.wy_names.specs.TypeUses.{type_ref, use_refusals, effect_of, effect_refusals}
-use Rattle.wy_names.specs.Sight.{outermost, inside}
-use Rattle.wy_names.specs.Bodies.{Within, at_start, part_values, tail_block, literal_of, parts_literals, tail_literals, parts_bodies, tail_bodies}
-use Rattle.wy_names.specs.Counts.{field_count, method_count, part_params}
+use Rattle.wy_symbols.specs.Declarations.{ProgramTree}
+use Rattle.wy_symbols.specs.TypeUses.{type_ref, use_refusals, effect_of, effect_refusals}
+use Rattle.wy_bodies.specs.Sight.{outermost, inside}
+use Rattle.wy_bodies.specs.Bodies.{Within, at_start, part_values, tail_block, literal_of, parts_literals, tail_literals, parts_bodies, tail_bodies}
+use Rattle.wy_heads.specs.Counts.{field_count, method_count, part_params}
 
 -- the scope that bodies are read in: types and effects that are not refused are written, and the own names have their numbers
 pub record ReadsIn (p : Program) (s : Scope) (w : Within) : Type 0 where

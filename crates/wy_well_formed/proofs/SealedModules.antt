@@ -5,12 +5,13 @@ use Rattle.wy_effects.specs.Members.{In}
 use Rattle.wy_effects.proofs.Lists.{In-slice_get}
 use Rattle.wy_types.specs.Program.{Program, Scope}
 use Rattle.wy_rules.specs.OwnNames.{sealed_of, name_of}
-use Rattle.wy_names.specs.declared.scoping.Head.{Head}
-use Rattle.wy_names.specs.Declarations.{ModuleTree, same_name, first_from, module_number, module_names, texts}
-use Rattle.wy_names.specs.Atoms.{head_names, type_number, opened, sealed_opening, module_at}
-use Rattle.wy_names.specs.Lines.{number_or_zero}
-use Rattle.wy_names.specs.Scopes.{scope_of_module, sealed_refusals}
-use Rattle.wy_names.proofs.Firsts.{same_exact}
+use Rattle.wy_symbols.specs.declared.scoping.Head.{Head}
+use Rattle.wy_symbols.specs.Declarations.{ModuleTree, same_name, first_from, module_number, module_names, texts}
+use Rattle.wy_symbols.specs.Atoms.{head_names, type_number, opened, sealed_opening, module_at}
+use Rattle.wy_heads.specs.Lines.{number_or_zero}
+use Rattle.wy_names.specs.Scopes.{scope_of_module}
+use Rattle.wy_heads.specs.ScopeHeads.{sealed_refusals}
+use Rattle.wy_symbols.proofs.Firsts.{same_exact}
 use Rattle.wy_well_formed.proofs.ModuleScopes.{NotRefused}
 use Rattle.wy_well_formed.proofs.OwnTyped.{IsSealedAs, AreSealed}
 

@@ -14,14 +14,14 @@ use Rattle.wy_types.specs.declared.code.Binding.TheVariants as to
 use Rattle.wy_types.specs.declared.resolved.Literal.{Literal}
 use Rattle.wy_types.specs.Program.{Program, Scope}
 use Rattle.wy_types.specs.Core.{HasThis, HasField, BindingFits, literal_fields, literal_captures}
-use Rattle.wy_names.specs.declared.scoping.Entry.{Entry}
-use Rattle.wy_names.specs.Declarations.{same_name, first_from}
-use Rattle.wy_names.specs.Sight.{Sight, entry, seen as last_bound, own_binding, or_own, with_val, with_params, inside, outermost, is_variable, variables, fields_from, params_from, captures, methods_write, parts_write, part_writes, tail_writes}
-use Rattle.wy_names.specs.InSight.{or_else}
-use Rattle.wy_names.specs.Bodies as names
-use Rattle.wy_names.specs.Bodies.{fields_of, literal_of}
-use Rattle.wy_names.specs.BodyRefusals.{value_refusals, unless_bound}
-use Rattle.wy_names.proofs.Firsts.{number_below}
+use Rattle.wy_bodies.specs.declared.sight.Entry.{Entry}
+use Rattle.wy_symbols.specs.Declarations.{same_name, first_from}
+use Rattle.wy_bodies.specs.Sight.{Sight, entry, seen as last_bound, own_binding, or_own, with_val, with_params, inside, outermost, is_variable, variables, fields_from, params_from, captures, methods_write, parts_write, part_writes, tail_writes}
+use Rattle.wy_bodies.specs.InSight.{or_else}
+use Rattle.wy_bodies.specs.Bodies as names
+use Rattle.wy_bodies.specs.Bodies.{fields_of, literal_of}
+use Rattle.wy_bodies.specs.BodyRefusals.{value_refusals, unless_bound}
+use Rattle.wy_symbols.proofs.Firsts.{number_below}
 use Rattle.wy_well_formed.proofs.Sights.{some_same, last_bound_append, bound_entry, last_variable, variables_append, variables_again, variables_among, no_variables, all_variables, last_is_captured, captured_is_last}
 
 -- what an entry stands for, where it is no variable

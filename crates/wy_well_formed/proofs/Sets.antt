@@ -8,15 +8,15 @@ use Rattle.wy_effects.specs.Members.{In}
 use Rattle.wy_effects.specs.EffSet.{IsSet, AreSets}
 use Rattle.wy_effects.proofs.Replacing.{IsSet-replace}
 use Rattle.wy_effects.proofs.SetLaws.{IsSetFrom-union}
-use Rattle.wy_names.specs.declared.scoping.Head.{Head}
-use Rattle.wy_names.specs.declared.scoping.Meaning.{Meaning}
-use Rattle.wy_names.specs.declared.scoping.Opening.{Opening}
-use Rattle.wy_names.specs.declared.scoping.Opening.TheVariants.{Members, Nothing, Missing}
-use Rattle.wy_names.specs.declared.scoping.Owner.{Owner}
-use Rattle.wy_names.specs.Declarations.{same_name}
-use Rattle.wy_names.specs.Meanings.{meaning_of, abstract_names}
-use Rattle.wy_names.specs.Atoms.{AtomScope, members_of, owner_of, atom_of, atom_number, opened_names, owner_sets, member_set, opening_set, owner_set, meaning_set, atom_set, set_of}
-use Rattle.wy_names.proofs.Firsts.{same_exact}
+use Rattle.wy_symbols.specs.declared.scoping.Head.{Head}
+use Rattle.wy_symbols.specs.declared.scoping.Meaning.{Meaning}
+use Rattle.wy_symbols.specs.declared.scoping.Opening.{Opening}
+use Rattle.wy_symbols.specs.declared.scoping.Opening.TheVariants.{Members, Nothing, Missing}
+use Rattle.wy_symbols.specs.declared.scoping.Owner.{Owner}
+use Rattle.wy_symbols.specs.Declarations.{same_name}
+use Rattle.wy_symbols.specs.Meanings.{meaning_of, abstract_names}
+use Rattle.wy_symbols.specs.Atoms.{AtomScope, members_of, owner_of, atom_of, atom_number, opened_names, owner_sets, member_set, opening_set, owner_set, meaning_set, atom_set, set_of}
+use Rattle.wy_symbols.proofs.Firsts.{same_exact}
 
 -- the atoms that an owner opens have numbers below `n`
 pub record OpensBelow (n : ℕ) (heads : List Head) (atoms : List AtomName) (o : Owner) : Type 0 where

@@ -9,11 +9,11 @@ use Rattle.wy_types.specs.declared.code.Variable.{Variable}
 use Rattle.wy_types.specs.declared.code.Variable.TheVariants.{Parameter}
 use Rattle.wy_types.specs.declared.code.Binding.{Binding}
 use Rattle.wy_types.specs.declared.code.Binding.TheVariants as to
-use Rattle.wy_names.specs.declared.scoping.Entry.{Entry}
-use Rattle.wy_names.specs.Declarations.{same_name, has_name}
-use Rattle.wy_names.specs.Sight.{entry, nearest, seen as last_bound, is_variable, variables, variable_of, entry_names, written_of, methods_write, fields_from, params_from}
-use Rattle.wy_names.specs.InSight.{or_else}
-use Rattle.wy_names.proofs.Firsts.{same_exact, same_itself}
+use Rattle.wy_bodies.specs.declared.sight.Entry.{Entry}
+use Rattle.wy_symbols.specs.Declarations.{same_name, has_name}
+use Rattle.wy_bodies.specs.Sight.{entry, nearest, seen as last_bound, is_variable, variables, variable_of, entry_names, written_of, methods_write, fields_from, params_from}
+use Rattle.wy_bodies.specs.InSight.{or_else}
+use Rattle.wy_symbols.proofs.Firsts.{same_exact, same_itself}
 
 pub some_same : {X : Type 0} (a b : X) → ◌≡◌ {A = Option X} (Some a) (Some b) → a ≡ b
 some_same a b e = cc

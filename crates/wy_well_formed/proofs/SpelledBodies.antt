@@ -13,8 +13,8 @@ use Rattle.wy_effects.specs.Members.{In}
 use Rattle.wy_effects.proofs.Lists.{In-cases}
 use Rattle.wy_types.specs.declared.resolved.Literal.{Literal}
 use Rattle.wy_types.specs.Program.{Body}
-use Rattle.wy_names.specs.Sight.{Sight, inside, with_params}
-use Rattle.wy_names.specs.Bodies.{Within, Count, one_val, one_literal, one_body, stmts_after, stmt_after, part_after, stmt_sight, method_body, literal_of, rhs_literals, stmt_literals, stmts_literals, part_literals, parts_literals, tail_literals, rhs_bodies, stmt_bodies, stmts_bodies, part_bodies, parts_bodies, tail_bodies}
+use Rattle.wy_bodies.specs.Sight.{Sight, inside, with_params}
+use Rattle.wy_bodies.specs.Bodies.{Within, Count, one_val, one_literal, one_body, stmts_after, stmt_after, part_after, stmt_sight, method_body, literal_of, rhs_literals, stmt_literals, stmts_literals, part_literals, parts_literals, tail_literals, rhs_bodies, stmt_bodies, stmts_bodies, part_bodies, parts_bodies, tail_bodies}
 use Rattle.wy_syntax.specs.OwnWords.{IsWord, AreWords}
 use Rattle.wy_well_formed.proofs.ItemWords.{front_words, back_words, name_word}
 

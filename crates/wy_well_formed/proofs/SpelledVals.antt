@@ -12,7 +12,7 @@ use Rattle.wy_syntax.specs.Grammar.{SpellsInside, SpellsItem}
 use Rattle.wy_syntax.specs.Nodes.{is_before}
 use Rattle.wy_effects.specs.Members.{In, Within}
 use Rattle.wy_effects.proofs.Lists.{In-cases, In-left, In-right}
-use Rattle.wy_names.specs.Declarations.{ModuleTree, ProgramTree, item_modules, item_programs}
+use Rattle.wy_symbols.specs.Declarations.{ModuleTree, ProgramTree, item_modules, item_programs}
 use Rattle.wy_well_formed.specs.ValPlaces.{if_name, name_places, Ascend, rhs_val_places, stmt_val_places, stmts_val_places, part_val_places, parts_val_places, tail_val_places}
 
 -- places of names among tokens, in their order

@@ -9,12 +9,12 @@ use Rattle.wy_effects.proofs.Lists.{In-cases, In-left, In-right}
 use Rattle.wy_types.specs.Code as code
 use Rattle.wy_types.specs.Program.{Body}
 use Rattle.wy_types.specs.Core.{start_vals, bodies_vals}
-use Rattle.wy_names.specs.declared.scoping.Head.{Head}
-use Rattle.wy_names.specs.Declarations.{ModuleTree, ProgramTree, types_of, modules_of}
-use Rattle.wy_names.specs.Atoms.{heads_of}
+use Rattle.wy_symbols.specs.declared.scoping.Head.{Head}
+use Rattle.wy_symbols.specs.Declarations.{ModuleTree, ProgramTree, types_of, modules_of}
+use Rattle.wy_symbols.specs.Atoms.{heads_of}
 use Rattle.wy_names.specs.Scopes.{module_within, program_within, scope_of_module, scope_of_program}
-use Rattle.wy_names.specs.Sight.{Sight, outermost, inside, with_params}
-use Rattle.wy_names.specs.Bodies.{Within, Count, at_start, one_val, one_literal, one_body, rhs_after, stmt_after, stmts_after, part_after, parts_after, tail_after, stmt_sight, last_or, operand, bound, expr_value, expr_values, rhs_value, stmt_block, stmts_block, part_values, tail_block, rhs_bodies, stmt_bodies, stmts_bodies, part_bodies, parts_bodies, tail_bodies}
+use Rattle.wy_bodies.specs.Sight.{Sight, outermost, inside, with_params}
+use Rattle.wy_bodies.specs.Bodies.{Within, Count, at_start, one_val, one_literal, one_body, rhs_after, stmt_after, stmts_after, part_after, parts_after, tail_after, stmt_sight, last_or, operand, bound, expr_value, expr_values, rhs_value, stmt_block, stmts_block, part_values, tail_block, rhs_bodies, stmt_bodies, stmts_bodies, part_bodies, parts_bodies, tail_bodies}
 use Rattle.wy_well_formed.specs.ValPlaces.{ValAt, AllAt, AreNumberedBy, ResolvedValsAreAsWritten, start_vals_at, expr_vals_at, value_vals_at, values_vals_at, block_vals_at, bodies_vals_at, rhs_val_places, stmt_val_places, stmts_val_places, part_val_places, parts_val_places, tail_val_places}
 use Rattle.wy_well_formed.proofs.Placed.{Lies, lies_left, lies_right, lies_itself}
 use Rattle.wy_well_formed.proofs.EachScope.{module_scope_is, program_scope_is}

@@ -7,8 +7,8 @@ use Rattle.wy_syntax.specs.Nodes.{is_before}
 use Rattle.wy_effects.specs.Members.{In}
 use Rattle.wy_effects.proofs.Lists.{In-cases, In-slice_get}
 use Rattle.wy_types.specs.Program.{Scope}
-use Rattle.wy_names.specs.Declarations.{ModuleTree, ProgramTree, item_modules, item_programs, types_of, modules_of, programs_of}
-use Rattle.wy_names.specs.Atoms.{heads_of}
+use Rattle.wy_symbols.specs.Declarations.{ModuleTree, ProgramTree, item_modules, item_programs, types_of, modules_of, programs_of}
+use Rattle.wy_symbols.specs.Atoms.{heads_of}
 use Rattle.wy_well_formed.specs.ValPlaces.{ValAt, AllAt, Ascend, AreInText, AreInOrder, ResolvedValsAreInOrder, parts_val_places, tail_val_places, scope_vals_at}
 use Rattle.wy_well_formed.proofs.EachScope.{each_scope}
 use Rattle.wy_well_formed.proofs.SpelledVals.{module_ordered, program_ordered}

@@ -12,11 +12,11 @@ use Rattle.wy_types.specs.declared.resolved.Literal.{Literal}
 use Rattle.wy_types.specs.Code as code
 use Rattle.wy_types.specs.Program.{Program, Scope}
 use Rattle.wy_types.specs.Core.{IsWritten, ExprFits, ValueFits, ValuesFit, BlockFits, value_count, literal_fields, literal_captures}
-use Rattle.wy_names.specs.Declarations.{same_name}
-use Rattle.wy_names.specs.Sight.{Sight, inside, expr_writes, rhs_writes, stmt_writes, stmts_write, part_writes, parts_write, tail_writes}
-use Rattle.wy_names.specs.Bodies.{Within, Count, one_val, one_literal, one_body, rhs_after, stmt_after, stmts_after, part_after, tail_after, bound, typed, typed_if, stmt_sight, last_or, expr_value, rhs_value, stmt_block, stmts_block, part_values, with_field, tail_block, fields_of, literal_of, rhs_literals, stmt_literals, stmts_literals, part_literals, parts_literals, tail_literals}
-use Rattle.wy_names.specs.BodyRefusals.{value_refusals, typed_refusals, typed_if_refusals, expr_refusals, repeated_parts, rhs_refusals, stmt_refusals, stmts_refusals, part_refusals, parts_refusals, tail_refusals}
-use Rattle.wy_names.proofs.Firsts.{same_itself}
+use Rattle.wy_symbols.specs.Declarations.{same_name}
+use Rattle.wy_bodies.specs.Sight.{Sight, inside, expr_writes, rhs_writes, stmt_writes, stmts_write, part_writes, parts_write, tail_writes}
+use Rattle.wy_bodies.specs.Bodies.{Within, Count, one_val, one_literal, one_body, rhs_after, stmt_after, stmts_after, part_after, tail_after, bound, typed, typed_if, stmt_sight, last_or, expr_value, rhs_value, stmt_block, stmts_block, part_values, with_field, tail_block, fields_of, literal_of, rhs_literals, stmt_literals, stmts_literals, part_literals, parts_literals, tail_literals}
+use Rattle.wy_bodies.specs.BodyRefusals.{value_refusals, typed_refusals, typed_if_refusals, expr_refusals, repeated_parts, rhs_refusals, stmt_refusals, stmts_refusals, part_refusals, parts_refusals, tail_refusals}
+use Rattle.wy_symbols.proofs.Firsts.{same_itself}
 use Rattle.wy_well_formed.proofs.Scoping.{ReadsIn}
 use Rattle.wy_well_formed.proofs.Repeats.{append_empty}
 use Rattle.wy_well_formed.proofs.Placed.{Lies, lies_left, lies_right, number_below}

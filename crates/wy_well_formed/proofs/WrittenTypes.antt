@@ -13,12 +13,12 @@ use Rattle.wy_types.specs.declared.types.TypeRef.{TypeRef}
 use Rattle.wy_types.specs.Program.{Program}
 use Rattle.wy_types.specs.Fitting.{FitsType, member_count}
 use Rattle.wy_types.specs.Core.{HasSets}
-use Rattle.wy_names.specs.declared.scoping.Head.{Head}
-use Rattle.wy_names.specs.Declarations.{same_name}
-use Rattle.wy_names.specs.Meanings.{abstract_names}
-use Rattle.wy_names.specs.Atoms.{AtomScope, head_names, type_number, members_of, owner_sets, set_of}
-use Rattle.wy_names.specs.TypeUses.{written_set, written_sets, named_type, bound_type, type_ref, effect_of}
-use Rattle.wy_names.proofs.Firsts.{number_below}
+use Rattle.wy_symbols.specs.declared.scoping.Head.{Head}
+use Rattle.wy_symbols.specs.Declarations.{same_name}
+use Rattle.wy_symbols.specs.Meanings.{abstract_names}
+use Rattle.wy_symbols.specs.Atoms.{AtomScope, head_names, type_number, members_of, owner_sets, set_of}
+use Rattle.wy_symbols.specs.TypeUses.{written_set, written_sets, named_type, bound_type, type_ref, effect_of}
+use Rattle.wy_symbols.proofs.Firsts.{number_below}
 use Rattle.wy_well_formed.proofs.Sets.{Holds, set_below}
 
 -- a type over the sets below `n`, in a plain scope or another

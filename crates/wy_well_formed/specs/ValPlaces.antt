@@ -11,7 +11,7 @@ use Rattle.wy_types.specs.Code.{Expr, Number, Quoted, Truth, Nothing, This, Name
 use Rattle.wy_types.specs.Program.{Program, Scope, Body, Start, Init, Run}
 use Rattle.wy_types.specs.Core.{scope_vals}
 use Rattle.wy_types.specs.Ground.{program_number}
-use Rattle.wy_names.specs.Declarations.{ModuleTree, ProgramTree, modules_of, programs_of}
+use Rattle.wy_symbols.specs.Declarations.{ModuleTree, ProgramTree, modules_of, programs_of}
 use Rattle.wy_names.specs.Names.{Resolves}
 
 -- the places of the `val`s of a tree, as they are written: those of a literal stand where it stands

@@ -1,9 +1,9 @@
 use Rattle.std.proofs.Common.{◌<◌, ◌+◌, List, ap, rules, drop, length, map}
-use Rattle.wy_names.specs.declared.gathering.ModuleView.{ModuleView}
+use Rattle.wy_symbols.specs.declared.gathering.ModuleView.{ModuleView}
 use Rattle.wy_names.specs.Scopes.{scope_of_module, module_refusals, modules_refusals}
-use Rattle.wy_names.specs.Lent.{module_tree}
-use Rattle.wy_names.proofs.Turns.{next_of}
-use Rattle.wy_names.proofs.Leasts.{noted_turn}
+use Rattle.wy_symbols.specs.Lent.{module_tree}
+use Rattle.wy_symbols.proofs.Turns.{next_of}
+use Rattle.wy_symbols.proofs.Leasts.{noted_turn}
 use Rattle.wy_names.proofs.Judging.{pushed}
 use Rattle.wy_names.proofs.resolving.add_modules.Goals as goal
 

@@ -1,8 +1,8 @@
 use Rattle.std.proofs.Common.{◌≡◌, ◌++◌, drop, map}
 use Rattle.wy_types.specs.Program.{scope_of}
-use Rattle.wy_names.specs.Least.{noted}
+use Rattle.wy_symbols.specs.Least.{noted}
 use Rattle.wy_names.specs.Scopes.{scope_of_module, modules_refusals}
-use Rattle.wy_names.specs.Lent.{module_tree}
+use Rattle.wy_symbols.specs.Lent.{module_tree}
 use Rattle.wy_names.proofs.resolving.add_modules.Given as goal
 
 abbrev pub invariant-loop-view : goal.invariant-loop-view

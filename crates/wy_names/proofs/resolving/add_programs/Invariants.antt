@@ -1,8 +1,8 @@
 use Rattle.std.proofs.Common.{◌≡◌, ◌++◌, drop, map}
 use Rattle.wy_types.specs.Program.{scope_of}
-use Rattle.wy_names.specs.Least.{noted}
+use Rattle.wy_symbols.specs.Least.{noted}
 use Rattle.wy_names.specs.Scopes.{scope_of_program, programs_refusals}
-use Rattle.wy_names.specs.Lent.{module_tree, lent_program}
+use Rattle.wy_symbols.specs.Lent.{module_tree, lent_program}
 use Rattle.wy_names.proofs.resolving.add_programs.Given as goal
 
 abbrev pub invariant-loop-program : goal.invariant-loop-program

@@ -1,14 +1,14 @@
 use Rattle.std.proofs.Common.{◌≡◌, [], ◌++◌, List, map, ap, ◌∙◌, subst}
 use Rattle.wy_types.specs.declared.resolved.TypeDecl.{TypeDecl}
 use Rattle.wy_types.specs.Program.{Program, Scope, scope_of}
-use Rattle.wy_names.specs.declared.scoping.Head.{Head}
-use Rattle.wy_names.specs.Least.{noted}
-use Rattle.wy_names.specs.Declarations.{repeated, type_names, module_names}
-use Rattle.wy_names.specs.Atoms.{heads_of, primitive_names}
-use Rattle.wy_names.specs.TypeUses.{declaration, declarations_of, declarations_refusals}
+use Rattle.wy_symbols.specs.declared.scoping.Head.{Head}
+use Rattle.wy_symbols.specs.Least.{noted}
+use Rattle.wy_symbols.specs.Declarations.{repeated, type_names, module_names}
+use Rattle.wy_symbols.specs.Atoms.{heads_of, primitive_names}
+use Rattle.wy_symbols.specs.TypeUses.{declaration, declarations_of, declarations_refusals}
 use Rattle.wy_names.specs.Scopes.{scope_of_module, scope_of_program}
 use Rattle.wy_names.specs.Judged.{NotesScopes}
-use Rattle.wy_names.specs.Lent.{lent_type, lent_program, module_tree, lent_declared}
+use Rattle.wy_symbols.specs.Lent.{lent_type, lent_program, module_tree, lent_declared}
 use Rattle.wy_names.proofs.Judging.{all_noted}
 use Rattle.wy_names.proofs.resolving.bind_over.Goals as goal
 

@@ -4,9 +4,9 @@ use Rattle.std.specs.Prelude.{ℕ}
 use Rattle.wy_syntax.specs.declared.types.Name.{Name}
 use Rattle.wy_types.specs.declared.resolved.Scope as code
 use Rattle.wy_types.specs.Program.{Scope, scope_of}
-use Rattle.wy_names.specs.Declarations.{ModuleTree, module_names}
+use Rattle.wy_symbols.specs.Declarations.{ModuleTree, module_names}
 use Rattle.wy_names.specs.Scopes.{scope_of_module, scope_of_program}
-use Rattle.wy_names.specs.Lent.{lent_program, module_tree}
+use Rattle.wy_symbols.specs.Lent.{lent_program, module_tree}
 use Rattle.wy_names.proofs.Judging.{scopes_noted}
 use Rattle.wy_names.proofs.resolving.bind_scopes.Goals as goal
 

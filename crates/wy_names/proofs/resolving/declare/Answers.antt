@@ -1,9 +1,9 @@
 use Rattle.std.proofs.Common.{[], ◌++◌, map}
-use Rattle.wy_names.specs.Declarations.{repeated, type_names, module_names}
-use Rattle.wy_names.specs.Atoms.{primitive_names}
-use Rattle.wy_names.specs.TypeUses.{declarations_refusals}
-use Rattle.wy_names.specs.Lent.{lent_type, module_tree}
-use Rattle.wy_names.proofs.Leasts.{noted_then}
+use Rattle.wy_symbols.specs.Declarations.{repeated, type_names, module_names}
+use Rattle.wy_symbols.specs.Atoms.{primitive_names}
+use Rattle.wy_symbols.specs.TypeUses.{declarations_refusals}
+use Rattle.wy_symbols.specs.Lent.{lent_type, module_tree}
+use Rattle.wy_symbols.proofs.Leasts.{noted_then}
 use Rattle.wy_names.proofs.resolving.declare.Goals as goal
 
 pub returns-clause-noted : goal.returns-clause-noted

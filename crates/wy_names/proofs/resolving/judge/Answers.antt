@@ -4,7 +4,7 @@ use Rattle.wy_syntax.specs.declared.items.Program.{Program}
 use Rattle.wy_types.specs.Program.{program_of}
 use Rattle.wy_names.specs.declared.refusal.NameRefusal.{NameRefusal}
 use Rattle.wy_names.specs.Judged.{IsRefusal}
-use Rattle.wy_names.specs.Lent.{lent_declared, lent_program}
+use Rattle.wy_symbols.specs.Lent.{lent_declared, lent_program}
 use Rattle.wy_names.proofs.Judging.{least_of, refusal_is, sound_of, bound_is, map_nil, nil_of_length}
 use Rattle.wy_names.proofs.resolving.judge.Goals as goal
 

@@ -1,8 +1,8 @@
 use Rattle.std.proofs.Common.{◌≡◌, drop, map}
-use Rattle.wy_names.specs.declared.refusal.Cause.TheVariants.{TwoPrograms}
-use Rattle.wy_names.specs.Least.{noted, refusal_at}
-use Rattle.wy_names.specs.Declarations.{ProgramTree}
-use Rattle.wy_names.specs.Lent.{lent_program}
+use Rattle.wy_symbols.specs.declared.refusal.Cause.TheVariants.{TwoPrograms}
+use Rattle.wy_symbols.specs.Least.{noted, refusal_at}
+use Rattle.wy_symbols.specs.Declarations.{ProgramTree}
+use Rattle.wy_symbols.specs.Lent.{lent_program}
 use Rattle.wy_names.proofs.resolving.note_second.Given as goal
 
 abbrev pub invariant-loop-program : goal.invariant-loop-program

@@ -3,11 +3,11 @@ use Rattle.wy_syntax.specs.Views.{file_tree}
 use Rattle.wy_types.specs.declared.resolved.Core.{Core}
 use Rattle.wy_types.specs.Program.{program_of}
 use Rattle.wy_names.specs.declared.refusal.NameRefusal.{NameRefusal}
-use Rattle.wy_names.specs.Declarations.{declared, all_items}
-use Rattle.wy_names.specs.Counts.{first_passed, limits}
+use Rattle.wy_symbols.specs.Declarations.{declared, all_items}
+use Rattle.wy_heads.specs.Counts.{first_passed, limits}
 use Rattle.wy_names.specs.Judged.{IsBound, IsRefusal}
 use Rattle.wy_names.specs.Names.{Resolves, Refused}
-use Rattle.wy_names.specs.Lent.{lent_type, module_tree, lent_program, lent_declared}
+use Rattle.wy_symbols.specs.Lent.{lent_type, module_tree, lent_program, lent_declared}
 use Rattle.wy_names.proofs.Judging.{resolves, refused, declared_is, ok_map, err_map}
 use Rattle.wy_names.proofs.resolving.resolve.Goals as goal
 

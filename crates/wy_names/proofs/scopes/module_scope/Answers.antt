@@ -1,10 +1,10 @@
 use Rattle.std.proofs.Common.{[], List, map, ap, ◌∙◌, subst, refl}
-use Rattle.wy_names.specs.declared.scoping.Head.{Head}
-use Rattle.wy_names.specs.Least.{noted}
-use Rattle.wy_names.specs.Atoms.{AtomScope}
+use Rattle.wy_symbols.specs.declared.scoping.Head.{Head}
+use Rattle.wy_symbols.specs.Least.{noted}
+use Rattle.wy_symbols.specs.Atoms.{AtomScope}
 use Rattle.wy_names.specs.ScopeParts.{ArePartsOfModule, scope_with}
 use Rattle.wy_names.specs.Scopes.{scope_of_module, module_refusals}
-use Rattle.wy_names.specs.Lent.{module_tree}
+use Rattle.wy_symbols.specs.Lent.{module_tree}
 use Rattle.wy_names.proofs.ScopesMade.{scope_by_parts, place_same}
 use Rattle.wy_names.proofs.scopes.module_scope.Goals as goal
 

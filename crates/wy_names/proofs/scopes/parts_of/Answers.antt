@@ -1,11 +1,11 @@
 use Rattle.std.proofs.Common.{◌≡◌, [], ◌++◌, map, length, ap, ◌∙◌, rules}
 use Rattle.std.proofs.lemmas.List.{length-map}
 use Rattle.std.proofs.lemmas.Result.{on_ok_weaker}
-use Rattle.wy_names.specs.Least.{noted}
-use Rattle.wy_names.specs.Declarations.{repeated}
-use Rattle.wy_names.specs.Atoms.{AtomScope}
-use Rattle.wy_names.specs.Scopes.{define_names}
-use Rattle.wy_names.specs.Lent.{module_tree}
+use Rattle.wy_symbols.specs.Least.{noted}
+use Rattle.wy_symbols.specs.Declarations.{repeated}
+use Rattle.wy_symbols.specs.Atoms.{AtomScope}
+use Rattle.wy_heads.specs.ScopeHeads.{define_names}
+use Rattle.wy_symbols.specs.Lent.{module_tree}
 use Rattle.wy_names.proofs.ScopesMade.{meanings_are, defined_are, module_noted}
 use Rattle.wy_names.proofs.scopes.parts_of.Goals as goal
 

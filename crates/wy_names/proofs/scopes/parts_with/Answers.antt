@@ -2,17 +2,16 @@ use Rattle.std.proofs.Common.{◌≡◌, ℕ, List, [], ◌∷◌, ◌++◌, map
 use Rattle.std.proofs.lemmas.List.{length-map}
 use Rattle.wy_types.specs.Program.{Init}
 use Rattle.wy_types.specs.Types.{is_plain}
-use Rattle.wy_names.specs.declared.scoping.Owner.{Owner}
-use Rattle.wy_names.specs.Least.{noted}
-use Rattle.wy_names.specs.Atoms.{AtomScope, head_names, type_number}
-use Rattle.wy_names.specs.Lines.{owner_names}
-use Rattle.wy_names.specs.Sight.{outermost, inside}
-use Rattle.wy_names.specs.Bodies.{Within, at_start, part_values, literal_of, parts_literals, parts_bodies}
-use Rattle.wy_names.specs.BodyRefusals.{repeated_parts, parts_refusals}
-use Rattle.wy_names.specs.Scopes.{definitions_at, start_effect, init_refusals, module_scope, module_meanings}
-use Rattle.wy_names.specs.Lent.{module_tree}
-use Rattle.wy_names.proofs.Fronts.{init_same, start_same, definitions_same}
-use Rattle.wy_names.proofs.Leasts.{noted_then}
+use Rattle.wy_symbols.specs.declared.scoping.Owner.{Owner}
+use Rattle.wy_symbols.specs.Least.{noted}
+use Rattle.wy_symbols.specs.Atoms.{AtomScope, head_names, type_number, owner_names}
+use Rattle.wy_bodies.specs.Sight.{outermost, inside}
+use Rattle.wy_bodies.specs.Bodies.{Within, at_start, part_values, literal_of, parts_literals, parts_bodies}
+use Rattle.wy_bodies.specs.BodyRefusals.{repeated_parts, parts_refusals}
+use Rattle.wy_heads.specs.ScopeHeads.{definitions_at, start_effect, init_refusals, module_scope, module_meanings}
+use Rattle.wy_symbols.specs.Lent.{module_tree}
+use Rattle.wy_heads.proofs.Fronts.{init_same, start_same, definitions_same}
+use Rattle.wy_symbols.proofs.Leasts.{noted_then}
 use Rattle.wy_names.proofs.ScopesMade.{scope_is, within_is}
 use Rattle.wy_names.proofs.scopes.parts_with.Goals as goal
 

@@ -1,15 +1,15 @@
 use Rattle.std.proofs.Common.{◌≡◌, ℕ, List, [], ◌∷◌, length, map, take, ap, ◌∙◌, false, rules}
 use Rattle.std.proofs.lemmas.List.{length-map}
 use Rattle.wy_types.specs.Program.{Run}
-use Rattle.wy_names.specs.declared.scoping.Owner.{Owner}
-use Rattle.wy_names.specs.Least.{noted}
-use Rattle.wy_names.specs.Atoms.{AtomScope, set_of, set_refusals}
-use Rattle.wy_names.specs.Lines.{owner_names}
-use Rattle.wy_names.specs.Sight.{outermost}
-use Rattle.wy_names.specs.Bodies.{Within, at_start, tail_block, tail_literals, tail_bodies}
-use Rattle.wy_names.specs.BodyRefusals.{tail_refusals}
-use Rattle.wy_names.specs.Scopes.{atom_scope, program_atoms, program_owners, program_scope, program_within}
-use Rattle.wy_names.specs.Lent.{module_tree, program_tree}
+use Rattle.wy_symbols.specs.declared.scoping.Owner.{Owner}
+use Rattle.wy_symbols.specs.Least.{noted}
+use Rattle.wy_symbols.specs.Atoms.{AtomScope, set_of, set_refusals, owner_names, atom_scope}
+use Rattle.wy_bodies.specs.Sight.{outermost}
+use Rattle.wy_bodies.specs.Bodies.{Within, at_start, tail_block, tail_literals, tail_bodies}
+use Rattle.wy_bodies.specs.BodyRefusals.{tail_refusals}
+use Rattle.wy_heads.specs.ScopeHeads.{program_atoms, program_owners, program_scope}
+use Rattle.wy_names.specs.Scopes.{program_within}
+use Rattle.wy_symbols.specs.Lent.{module_tree, program_tree}
 use Rattle.wy_names.proofs.ScopesMade.{program_noted, whole_scope}
 use Rattle.wy_names.proofs.scopes.program_parts.Goals as goal
 

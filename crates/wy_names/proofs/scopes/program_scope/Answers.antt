@@ -1,11 +1,11 @@
 use Rattle.std.proofs.Common.{◌≡◌, List, map, ap, ◌∙◌, subst, rules, refl, None}
 use Rattle.wy_types.specs.declared.resolved.ScopeKind.TheVariants.{Program}
-use Rattle.wy_names.specs.declared.scoping.Head.{Head}
-use Rattle.wy_names.specs.Least.{noted}
-use Rattle.wy_names.specs.Atoms.{AtomScope}
+use Rattle.wy_symbols.specs.declared.scoping.Head.{Head}
+use Rattle.wy_symbols.specs.Least.{noted}
+use Rattle.wy_symbols.specs.Atoms.{AtomScope}
 use Rattle.wy_names.specs.ScopeParts.{ArePartsOfProgram, scope_with}
 use Rattle.wy_names.specs.Scopes.{scope_of_program, program_refusals}
-use Rattle.wy_names.specs.Lent.{module_tree, program_tree}
+use Rattle.wy_symbols.specs.Lent.{module_tree, program_tree}
 use Rattle.wy_names.proofs.ScopesMade.{scope_by_parts}
 use Rattle.wy_names.proofs.scopes.program_scope.Goals as goal
 

@@ -1,0 +1,11 @@
+mod Blocks
+mod ExamplesValues
+mod FieldsSeen
+mod InSights
+mod Latests
+mod Marks
+mod Notings
+mod Starts
+mod TreeLayers
+mod ValueRows
+mod Walks

@@ -1,0 +1,226 @@
+//! The names of a scope that open atoms (docs/LANGUAGE.md, "Names").
+
+ghost use Rattle.std.specs.Prelude.{◌≡◌, ◌≤◌, ◌++◌, ◌∷◌, [], ℕ, List, map, length, IfOk};
+ghost use Rattle.wy_symbols.specs.Declarations.{first_from, module_number, module_names, texts};
+ghost use Rattle.wy_symbols.specs.Atoms.{type_number, opened, primitive_opening, param_opening, params_owners, grant_owner, sealed_opening, module_at, module_opening, use_owner, line_owner};
+ghost use Rattle.wy_symbols.specs.Collected.{Adds};
+ghost use Rattle.wy_types.specs.Types.{is_plain};
+ghost use Rattle.wy_symbols.specs.Lent.{module_tree};
+
+use std::alloc::Global;
+use wy_symbols::{ModuleView, Opening, Owner, OwnerList, Table};
+use wy_syntax::items::{Grant, Line, Program};
+use wy_syntax::types::{Name, Param, TypeUse};
+use wy_text::list::Items;
+use wy_text::text::{Memory, Text};
+use wy_types::resolved::ScopeKind;
+
+/// What a type's name opens: the members of that type.
+fn opened(types: &Table, name: &Text) -> Opening
+    requires { length types.now ≤ 1028 }
+    ensures { result ≡ opened (type_number types.now name.now) }
+{
+    match types.number(name) {
+        None => Opening::Missing,
+        Some(number) => Opening::Members {
+            decl: number as u16,
+        },
+    }
+}
+
+/// What a parameter opens, in a module that is not plain.
+fn param_opening(types: &Table, use_of: &TypeUse) -> Opening
+    requires { length types.now ≤ 1028 }
+    ensures { result ≡ param_opening types.now use_of.now }
+{
+    match use_of {
+        TypeUse::Int(_)
+        | TypeUse::Bool(_)
+        | TypeUse::Text(_)
+        | TypeUse::Unit(_)
+        | TypeUse::With(_, _)
+        | TypeUse::At(_, _) => Opening::Nothing,
+        TypeUse::Bare(name) => opened(types, &name.text),
+    }
+}
+
+/// What a grant opens: the members of its primitive type.
+pub fn grant_opening(types: &Table, name: &Text) -> Opening
+    requires { length types.now ≤ 1028 }
+    ensures { result ≡ primitive_opening (type_number types.now name.now) }
+{
+    match types.number(name) {
+        None => Opening::Missing,
+        Some(number) => {
+            if number < 4 {
+                Opening::Members {
+                    decl: number as u16,
+                }
+            } else {
+                Opening::Missing
+            }
+        }
+    }
+}
+
+/// What a used module or an instance of a module opens: the members of the type that it is sealed at.
+pub fn module_opening(
+    types: &Table,
+    numbers: &Table,
+    modules: &[ModuleView],
+    name: &Text,
+) -> Opening
+    requires few { length types.now ≤ 1028 }
+    requires numbered { numbers.now ≡ texts (module_names (map module_tree modules.now)) }
+    ensures { result ≡ module_opening types.now (map module_tree modules.now) name.now }
+{
+    match numbers.number(name) {
+        None => Opening::Missing,
+        Some(number) => match modules.get(number) {
+            None => Opening::Missing,
+            Some(view) => opened(types, &view.sealed.text),
+        },
+    }
+}
+
+/// Adds a parameter of a module.
+fn add_param(owners: &mut OwnerList, types: &Table, plain: bool, param: &Param)
+    requires { length types.now ≤ 1028 }
+    ensures { Adds (params_owners types.now plain (param.now ∷ [])) owners.old owners.new }
+{
+    let opening = if plain {
+        Opening::Nothing
+    } else {
+        param_opening(types, &param.type_use)
+    };
+    owners.add(&param.name.text, opening);
+}
+
+/// Adds the parameters of a module.
+fn add_params(owners: &mut OwnerList, types: &Table, plain: bool, params: &[Param])
+    requires { length types.now ≤ 1028 }
+    ensures { Adds (params_owners types.now plain params.now) owners.old owners.new }
+{
+    for param in params {
+        add_param(owners, types, plain, param);
+    }
+}
+
+/// Adds the grants of a program block.
+fn add_grants(owners: &mut OwnerList, types: &Table, grants: &[Grant])
+    requires { length types.now ≤ 1028 }
+    ensures { Adds (map (grant_owner types.now) grants.now) owners.old owners.new }
+{
+    for grant in grants {
+        owners.add(&grant.name.text, grant_opening(types, &grant.kind.text));
+    }
+}
+
+/// Adds the used modules of a scope.
+fn add_uses(
+    owners: &mut OwnerList,
+    types: &Table,
+    numbers: &Table,
+    modules: &[ModuleView],
+    uses: &[Name],
+)
+    requires few { length types.now ≤ 1028 }
+    requires numbered { numbers.now ≡ texts (module_names (map module_tree modules.now)) }
+    ensures { Adds (map (use_owner types.now (map module_tree modules.now)) uses.now) owners.old owners.new }
+{
+    for name in uses {
+        owners.add(
+            &name.text,
+            module_opening(types, numbers, modules, &name.text),
+        );
+    }
+}
+
+/// Adds a line: what its name is, and what it opens.
+fn add_line(
+    owners: &mut OwnerList,
+    types: &Table,
+    numbers: &Table,
+    modules: &[ModuleView],
+    line: &Line,
+)
+    requires few { length types.now ≤ 1028 }
+    requires numbered { numbers.now ≡ texts (module_names (map module_tree modules.now)) }
+    ensures { Adds (line_owner types.now (map module_tree modules.now) line.now ∷ []) owners.old owners.new }
+{
+    match line {
+        Line::Instance(name, named, _arguments) => owners.add(
+            &name.text,
+            module_opening(types, numbers, modules, &named.text),
+        ),
+        Line::Import(name, _named, _arguments, _bound) => owners.add(&name.text, Opening::Nothing),
+    }
+}
+
+/// Adds the lines of a scope.
+fn add_lines(
+    owners: &mut OwnerList,
+    types: &Table,
+    numbers: &Table,
+    modules: &[ModuleView],
+    lines: &[Line],
+)
+    requires few { length types.now ≤ 1028 }
+    requires numbered { numbers.now ≡ texts (module_names (map module_tree modules.now)) }
+    ensures { Adds (map (line_owner types.now (map module_tree modules.now)) lines.now) owners.old owners.new }
+{
+    for line in lines {
+        add_line(owners, types, numbers, modules, line);
+    }
+}
+
+/// The owners of a module: its parameters, its used modules and its lines.
+pub fn module_owners(
+    alloc: Global,
+    types: &Table,
+    numbers: &Table,
+    modules: &[ModuleView],
+    view: &ModuleView,
+) -> Result<Items<Owner>, Memory>
+    requires few { length types.now ≤ 1028 }
+    requires numbered { numbers.now ≡ texts (module_names (map module_tree modules.now)) }
+    ensures { IfOk result (λ os. os ≡ (params_owners types.now (is_plain view.now.kind) view.now.params.now ++ map (use_owner types.now (map module_tree modules.now)) view.now.uses.now) ++ map (line_owner types.now (map module_tree modules.now)) view.now.lines.now) }
+{
+    let mut owners = OwnerList::new(alloc);
+    let plain = view.kind == ScopeKind::Plain;
+    add_params(&mut owners, types, plain, view.params);
+    add_uses(&mut owners, types, numbers, modules, view.uses);
+    add_lines(&mut owners, types, numbers, modules, view.lines);
+    owners.all()
+}
+
+/// The owners of a program block: its grants, its used modules and its lines.
+pub fn program_owners(
+    alloc: Global,
+    types: &Table,
+    numbers: &Table,
+    modules: &[ModuleView],
+    program: &Program,
+) -> Result<Items<Owner>, Memory>
+    requires few { length types.now ≤ 1028 }
+    requires numbered { numbers.now ≡ texts (module_names (map module_tree modules.now)) }
+    ensures { IfOk result (λ os. os ≡ (map (grant_owner types.now) program.now.grants ++ map (use_owner types.now (map module_tree modules.now)) program.now.uses) ++ map (line_owner types.now (map module_tree modules.now)) program.now.lines) }
+{
+    let mut owners = OwnerList::new(alloc);
+    add_grants(&mut owners, types, program.grants.as_slice());
+    add_uses(
+        &mut owners,
+        types,
+        numbers,
+        modules,
+        program.uses.as_slice(),
+    );
+    add_lines(
+        &mut owners,
+        types,
+        numbers,
+        modules,
+        program.lines.as_slice(),
+    );
+    owners.all()
+}

@@ -1,6 +1,0 @@
-use Rattle.std.proofs.Common.{drop}
-use Rattle.wy_names.proofs.Opening.{Opens}
-use Rattle.wy_names.proofs.atoms.open_members.Given as goal
-
-abbrev pub invariant-loop-member : goal.invariant-loop-member
-invariant-loop-member l = Opens l.initial.atoms l.owner l.members l.atoms l.sets (drop l.member-index l.members)

@@ -1,8 +1,0 @@
-use Rattle.std.proofs.Common.{◌≡◌, ℕ, take, map}
-use Rattle.std.specs.Ordering.{nat_cmp}
-use Rattle.std.specs.BTreeMap.{get}
-use Rattle.wy_names.specs.Written.{lent_text, mark}
-use Rattle.wy_names.proofs.captures.marked.Given as goal
-
-abbrev pub invariant-loop-name : goal.invariant-loop-name
-invariant-loop-name l = (k : ℕ) → get nat_cmp l.marks k ≡ mark l.variables (map lent_text (take l.name-index l.names)) k

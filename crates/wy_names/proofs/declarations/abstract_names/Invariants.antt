@@ -1,6 +1,0 @@
-use Rattle.std.proofs.Common.{◌≡◌, ◌++◌, drop}
-use Rattle.wy_names.specs.Meanings.{abstract_names}
-use Rattle.wy_names.proofs.declarations.abstract_names.Given as goal
-
-abbrev pub invariant-loop-member : goal.invariant-loop-member
-invariant-loop-member l = l.names ++ abstract_names (drop l.member-index l.members) ≡ abstract_names l.members

@@ -1,6 +1,0 @@
-use Rattle.std.proofs.Common.{◌≡◌, ◌++◌, drop}
-use Rattle.wy_names.specs.TypeUses.{defined_members}
-use Rattle.wy_names.proofs.declarations.defined_members.Given as goal
-
-abbrev pub invariant-loop-member : goal.invariant-loop-member
-invariant-loop-member l = l.defined ++ defined_members (drop l.member-index l.members) ≡ defined_members l.members

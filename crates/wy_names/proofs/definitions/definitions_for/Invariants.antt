@@ -1,8 +1,0 @@
-use Rattle.std.proofs.Common.{◌≡◌, ◌++◌, [], drop}
-use Rattle.wy_names.specs.Meanings.{abstract_names}
-use Rattle.wy_names.specs.Scopes.{definitions_for}
-use Rattle.wy_names.proofs.definitions.definitions_for.Given as goal
-
-abbrev pub invariant-loop-member : goal.invariant-loop-member
-invariant-loop-member l =
-    l.list ++ definitions_for l.heads [] l.meanings (abstract_names (drop l.member-index l.members)) ≡ definitions_for l.heads [] l.meanings (abstract_names l.members)

@@ -1,9 +1,0 @@
-use Rattle.std.proofs.Common.{◌≡◌, ◌++◌, ◌+◌, drop, map, take}
-use Rattle.wy_names.specs.Lines.{line_names}
-use Rattle.wy_names.specs.Lent.{module_tree}
-use Rattle.wy_names.proofs.lines.add_lines.Given as goal
-
-abbrev pub invariant-loop-i : goal.invariant-loop-i
-invariant-loop-i l =
-    l.list ++ line_names l.owners.heads (map module_tree l.modules) l.owners.atoms (take (l.first + l.i) l.owners.owners) (drop l.i l.lines) ≡
-    l.initial.list ++ line_names l.owners.heads (map module_tree l.modules) l.owners.atoms (take l.first l.owners.owners) l.lines

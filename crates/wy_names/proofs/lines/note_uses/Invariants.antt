@@ -1,9 +1,0 @@
-use Rattle.std.proofs.Common.{◌≡◌, [], drop, map}
-use Rattle.wy_names.specs.Least.{noted}
-use Rattle.wy_names.specs.Lines.{uses_refusals}
-use Rattle.wy_names.specs.Lent.{module_tree}
-use Rattle.wy_names.proofs.lines.note_uses.Given as goal
-
-abbrev pub invariant-loop-name : goal.invariant-loop-name
-invariant-loop-name l =
-    noted l.least (uses_refusals [] (map module_tree l.modules) [] (drop l.name-index l.uses)) ≡ noted l.initial.least (uses_refusals [] (map module_tree l.modules) [] l.uses)

@@ -1,8 +1,0 @@
-use Rattle.std.proofs.Common.{◌≡◌, drop, map}
-use Rattle.wy_names.specs.Least.{noted}
-use Rattle.wy_names.specs.TypeUses.{not_abstract}
-use Rattle.wy_names.proofs.type_uses.note_not_abstract.Given as goal
-
-abbrev pub invariant-loop-thing : goal.invariant-loop-thing
-invariant-loop-thing g l =
-    noted l.least (not_abstract l.members (map g.T.Named.name_of (drop l.thing-index l.things))) ≡ noted l.initial.least (not_abstract l.members (map g.T.Named.name_of l.things))

@@ -1,6 +1,0 @@
--- A scope as its bodies see it, lent by the code.
-use Rattle.wy_names.specs.declared.bodies.Within as bodies
-use Rattle.wy_names.specs.Bodies.{Within}
-
-abbrev pub lent_within : bodies.Within → Within
-lent_within w = record { atoms = w.atoms.now; plain = w.plain; own = w.own.now }

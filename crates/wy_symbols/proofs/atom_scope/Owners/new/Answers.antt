@@ -1,0 +1,25 @@
+use Rattle.std.proofs.Common.{[], ◌+◌, ◌<◌, List, rules, drop, length, subst, ap, ◌∙◌, sym}
+use Rattle.std.proofs.lemmas.List.{append-nil}
+use Rattle.wy_symbols.specs.declared.scoping.Owner.{Owner}
+use Rattle.wy_symbols.specs.Atoms.{owner_sets, opened_names}
+use Rattle.wy_symbols.proofs.Filling.{Fills, turn}
+use Rattle.wy_symbols.proofs.Turns.{next_of}
+use Rattle.wy_symbols.proofs.atom_scope.Owners.new.Goals as goal
+
+pub loop-owner-preserved : goal.loop-owner-preserved
+loop-owner-preserved c =
+    let lt : c.loop-owner.owner-index < length c.args.owners.now = search rules in
+    let P : List Owner → Type 0 = λ os. Fills c.args.heads.now c.args.owners.now c.loop-owner.atoms c.loop-owner.list.items c.loop-owner.names.items os in
+    let left = drop (c.loop-owner.owner-index + 1) c.args.owners.now in
+    let h = subst P (next_of c.args.owners.now c.loop-owner.owner-index c.owner-item.result lt c.owner-item.is) c.loop-owner.invariant in
+    turn c.args.heads.now c.args.owners.now c.loop-owner.atoms c.open.new.atoms c.loop-owner.list.items c.add_owner.new.list.items
+    c.loop-owner.names.items c.add_owner.new.names.items c.owner-item.result c.in_ok-sets.sets left
+    c.in_ok-sets.ensures.put c.in_ok-sets.ensures.sets c.in_ok-add_owner.ensures.list c.in_ok-add_owner.ensures.names h
+
+pub invariant_of-result : goal.invariant_of-result
+invariant_of-result c = (
+  c.in_ok-names.ensures ∙ c.loop-owner.invariant.named,
+  λ p i.
+      ap (λ x. owner_sets x p.owner.name (opened_names c.args.heads.now p.owner.opening)) (sym (append-nil c.loop-owner.atoms))
+      ∙ c.loop-owner.invariant.sets p i [],
+)

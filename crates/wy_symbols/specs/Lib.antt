@@ -1,0 +1,9 @@
+pub mod Atoms
+pub mod Collected
+pub mod Declarations
+pub mod Found
+pub mod Least
+pub mod Lent
+pub mod Meanings
+pub mod Things
+pub mod TypeUses
