@@ -46,14 +46,14 @@ pub run_image-requires-clause-names : goal.run_image-requires-clause-names
 run_image-requires-clause-names g c =
     let program : Program = program_of c.args.accepted.now.core in
     let code : c.in-Ok-load.image.code ≡ lowered program (program_starts program) = ap (λ (i : ImageState). i.code) c.in-Ok-load.ensures ∙ c.in-Ok.ensures.code
-        ∙ ap (λ (instances : List Instance). lowered program (starts_of program (map started_of instances))) c.requires.checked.linked.instances in
+    ∙ ap (λ (instances : List Instance). lowered program (starts_of program (map started_of instances))) c.requires.checked.linked.instances in
     ap (λ (l : Code). instance_names l) code ∙ names_in_code program ∙ ap (λ (a : Authority). row_names a.rows) (sym c.in-Ok-authority_of.ensures)
 
 pub returns-in-Ok-write_report : goal.returns-in-Ok-write_report
 returns-in-Ok-write_report g c =
     let program : Program = program_of c.args.accepted.now.core in
     let code : c.in-Ok-load.image.code ≡ lowered program (program_starts program) = ap (λ (i : ImageState). i.code) c.in-Ok-load.ensures ∙ c.in-Ok.ensures.code
-        ∙ ap (λ (instances : List Instance). lowered program (starts_of program (map started_of instances))) c.requires.checked.linked.instances in
+    ∙ ap (λ (instances : List Instance). lowered program (starts_of program (map started_of instances))) c.requires.checked.linked.instances in
     let within : lowering_limit program (program_starts program) ≡ None =
     subst (λ (instances : List Instance). lowering_limit program (starts_of program (map started_of instances)) ≡ None) c.requires.checked.linked.instances c.in-Ok.ensures.within in
     ran_program within (ran_on c.args.manner.way program c.args.manner.depth c.args.manner.steps (report_text c.in-Ok-authority_of.authority) _ _ _ _ _ _ _
