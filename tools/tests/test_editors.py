@@ -13,7 +13,7 @@ import unittest
 
 from support import HELLO, PROGRAM, TOP, ToolTest, needs_program
 
-COMMANDS = ["check", "authority", "run", "trace", "sample", "format", "policy"]
+COMMANDS = ["check", "authority", "run", "trace", "sample", "format", "policy", "observe"]
 VIM = """set nocompatible
 set runtimepath^={top}/editors/vim
 filetype plugin on

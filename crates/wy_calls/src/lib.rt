@@ -31,6 +31,10 @@ mod names;
 #[cfg(test)]
 mod names_table;
 #[cfg(test)]
+mod observing;
+#[cfg(test)]
+mod observing_table;
+#[cfg(test)]
 mod outside;
 #[cfg(test)]
 mod policies;

@@ -3,7 +3,7 @@ use std::alloc::Global;
 use std::test::Fail;
 
 /// Words that are no command line.
-static FAULTY: [&[&str]; 29] = [
+static FAULTY: [&[&str]; 31] = [
     &[],
     &["check"],
     &["check", "-b.wy"],
@@ -33,6 +33,8 @@ static FAULTY: [&[&str]; 29] = [
     &["policy"],
     &["policy", "b.wy"],
     &["policy", "--steps", "9", "b.wy"],
+    &["observe"],
+    &["observe", "--depth", "9"],
 ];
 
 /// Whether a call with these words, over a shelf with an empty `b.wy`, ends with the status of the number and the

@@ -144,3 +144,24 @@ spent_events program depth k events end.Spent to is = sym (run_events program de
 spent_events program depth k events (end.DeviceFailed grant op) to is = absurd (cc)
 spent_events program depth k events end.SinkFailed to is = absurd to
 spent_events program depth k events end.Memory to is = absurd (cc)
+
+-- .. and so has each run that memory was not wanting for
+pub code_events : (program : Program) (depth k : ℕ) (events : List Event) (e : RunEnd) → EndsIn (lowered program (program_starts program)) depth k events e → e ≢ end.Memory
+    → events ≡ (machine (lowered program (program_starts program)) depth k (tapes_of events)).events
+code_events program depth k events end.Ended to full = sym (run_events program depth k events ends.Ended to)
+code_events program depth k events (end.Trap kind place) to full = sym (run_events program depth k events (ends.Trap (trap_meant kind) place) to)
+code_events program depth k events end.TooDeep to full = sym (run_events program depth k events ends.TooDeep to)
+code_events program depth k events end.Spent to full = sym (run_events program depth k events ends.Spent to)
+code_events program depth k events (end.DeviceFailed grant op) to full = sym (run_events program depth k events (ends.DeviceFailed grant op) to)
+code_events program depth k events end.SinkFailed to full = absurd to
+code_events program depth k events end.Memory to full = absurd (full refl)
+
+-- a run of code writes to no sink
+pub written_code : (program : Program) (depth k : ℕ) (events : List Event) (e : RunEnd) → EndsIn (lowered program (program_starts program)) depth k events e → status_of e ≢ status.Unwritten
+written_code program depth k events end.Ended to is = cc
+written_code program depth k events (end.Trap kind place) to is = cc
+written_code program depth k events end.TooDeep to is = cc
+written_code program depth k events end.Spent to is = cc
+written_code program depth k events (end.DeviceFailed grant op) to is = cc
+written_code program depth k events end.SinkFailed to is = to
+written_code program depth k events end.Memory to is = cc

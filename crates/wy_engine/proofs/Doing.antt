@@ -97,6 +97,7 @@ did_accepted asked texts way program out out' report report' devices devices' en
 judges_run : (way : Mode) → JudgesNames (running way)
 judges_run mode.Silent = tt
 judges_run mode.Traced = tt
+judges_run mode.Observed = tt
 judges_run (mode.Summed number) = tt
 
 -- a command that is one which runs programs

@@ -4,9 +4,11 @@ mod Deeds
 mod Doing
 mod Examples
 mod ExamplesNames
+mod FewAtoms
 mod FilesRead
 mod Givens
 mod MarksInFiles
+mod NamesInCode
 mod NamesJudged
 mod OneAnswer
 mod OneItem
@@ -23,4 +25,5 @@ mod SumsMade
 mod TextsAmong
 mod TextsAnswered
 mod TracesMade
+mod UsedMade
 mod ValsInText

@@ -16,10 +16,10 @@ use Rattle.wy_machine.specs.declared.run_end.RunEnd.TheVariants as end
 use Rattle.wy_sound.specs.Laws.{course}
 use Rattle.wy_sound.specs.Programs.{program_starts}
 use Rattle.wy_types.specs.Program.{Program}
-use Rattle.wy_engine.specs.Headline.{DidFirst, EndsAs, HasEnded, HasRun, IsUncut, IsUnprinted, IsUnwritten, MissesReport, Runs, WritesRun, course_in}
-use Rattle.wy_engine.specs.Judgement.{IsNumbered, authority_text, running, summary_text}
+use Rattle.wy_engine.specs.Headline.{DidFirst, EndsAs, HasEnded, HasRun, IsUncut, IsUnprinted, IsUnwritten, MissesReport, Runs, WritesRun, WritesUsed, course_in}
+use Rattle.wy_engine.specs.Judgement.{IsNumbered, authority_text, observed_text, running, summary_text}
 use Rattle.wy_engine.specs.ProgramLaws.{RunsAsMeant}
-use Rattle.wy_engine.specs.Running.{Ran, RunsCode, SumsCode, ThenWrote, TracesCode, performed, skipped, status_of, stopped, summed}
+use Rattle.wy_engine.specs.Running.{ObservesCode, Ran, RunsCode, SumsCode, ThenWrote, TracesCode, begun, performed, skipped, status_of, stopped, summed, unbegun}
 use Rattle.wy_settings.specs.Settings.{Settings, sample_number}
 use Rattle.wy_engine.specs.Status.{IsOfRun}
 use Rattle.wy_engine.specs.TopCall.{IsSet, TopCall}
@@ -29,12 +29,13 @@ use Rattle.wy_engine.specs.declared.running.Mode.{Mode}
 use Rattle.wy_engine.specs.declared.running.Mode.TheVariants as mode
 use Rattle.wy_engine.specs.declared.status.Status.{Status}
 use Rattle.wy_engine.specs.declared.status.Status.TheVariants as status
-use Rattle.wy_engine.proofs.CodeRuns.{BeginsWith, begins_with, ends_as, same_deeds}
+use Rattle.wy_engine.proofs.CodeRuns.{BeginsWith, begins_with, ends_as, same_deeds, written_code}
 use Rattle.wy_engine.proofs.Deeds.{deeds_of-append, did_none, did_same, new_deeds_are, tapes_between-of}
 use Rattle.wy_engine.proofs.OneAnswer.{runs_programs}
-use Rattle.wy_engine.proofs.Statuses.{run_of_end, then_run}
+use Rattle.wy_engine.proofs.Statuses.{observed_run, run_of_end, then_run}
 use Rattle.wy_engine.proofs.SumsMade.{ended_by, ended_wrote, rose_wrote, sums_by, sums_none, uncut_ended, unfailed_wrote}
 use Rattle.wy_engine.proofs.TracesMade.{begins_traced, rose_traced, uncut_run, writes_events, writes_none}
+use Rattle.wy_engine.proofs.UsedMade.{Came, came_failed, came_of, came_rose, came_uncut, used_none, writes_used}
 
 -- ---- deeds that were done
 
@@ -99,16 +100,6 @@ not_failed : {A : Type 0} → (end : Status) (grant : List ℕ) (op : OpName) �
 not_failed end grant op is (inl other) = let q : status.DeviceFailed grant op ≡ status.Memory = sym is ∙ other in cc
 not_failed end grant op is (inr other) = let q : status.DeviceFailed grant op ≡ status.Unwritten = sym is ∙ other.0 in cc
 
--- a run of code writes to no sink
-written_code : (program : Program) (depth k : ℕ) (events : List Event) (e : RunEnd) → EndsIn (lowered program (program_starts program)) depth k events e → status_of e ≢ status.Unwritten
-written_code program depth k events end.Ended to is = cc
-written_code program depth k events (end.Trap kind place) to is = cc
-written_code program depth k events end.TooDeep to is = cc
-written_code program depth k events end.Spent to is = cc
-written_code program depth k events (end.DeviceFailed grant op) to is = cc
-written_code program depth k events end.SinkFailed to is = to
-written_code program depth k events end.Memory to is = cc
-
 unwritten_code : (program : Program) (depth steps : ℕ) (before after : DevicesState) (s : Status) → RunsCode (lowered program (program_starts program)) depth steps before after s → s ≢ status.Unwritten
 unwritten_code program depth steps before after s so is = written_code program depth steps so.runs.events so.ended so.runs.ends (sym so.says ∙ is)
 
@@ -168,6 +159,7 @@ unwritten_by command.Check call rest is = is
 unwritten_by command.Authority call rest is = is
 unwritten_by command.Run call rest is = is
 unwritten_by command.Trace call rest is = inl is
+unwritten_by command.Observe call rest is = inl is
 unwritten_by command.Sample call rest is = inl is
 unwritten_by command.Format call rest is = is
 unwritten_by command.Policy call rest is = is
@@ -180,12 +172,14 @@ stopped_spent : {A : Type 0} → (end : Status) → end ≡ status.Spent → (en
 stopped_spent end is (inl other) = let q : status.Spent ≡ status.Memory = sym is ∙ other in cc
 stopped_spent end is (inr other) = let q : status.Spent ≡ status.Unwritten = sym is ∙ other.0 in cc
 
-nothing_written : (way : Mode) (call : TopCall) (settings : Settings) (program : Program) → IsNumbered way settings.files → StopsBefore call (authority_text program) → WritesRun (running way) call settings program
-nothing_written mode.Silent call settings program number so = so.out
-nothing_written mode.Traced call settings program number so =
+nothing_written : (way : Mode) (call : TopCall) (settings : Settings) (program : Program) → RunsAsMeant program → IsNumbered way settings.files → StopsBefore call (authority_text program) → WritesRun (running way) call settings program
+nothing_written mode.Silent call settings program laws number so = so.out
+nothing_written mode.Traced call settings program laws number so =
     writes_none call settings program so.out so.same (λ uncut. stopped_status call.status uncut.full uncut.written so.why) (λ is. stopped_spent call.status is so.why)
-nothing_written (mode.Summed number) call settings program is so =
+nothing_written (mode.Summed number) call settings program laws is so =
     sums_none call settings program number is so.out (λ ended. stopped_ended call.status ended so.why) (misses call (authority_text program) so)
+nothing_written mode.Observed call settings program laws number so =
+    used_none call settings program laws so.out so.same (λ uncut. stopped_status call.status uncut.full uncut.written so.why) (misses call (authority_text program) so)
 
 stopped_reached : (call : TopCall) (text : List ℕ) → StopsBefore call text → IsOfRun call.status
 stopped_reached call text so = elim so.why [ inl is ↦ subst IsOfRun (sym is) tt | inr is ↦ subst IsOfRun (sym is.0) tt ]
@@ -312,18 +306,54 @@ performs_sample call settings set program laws number numbered is so =
       failed = λ grant op failed. fault_of call.devices call.devices_after so.ended grant op (then_failed (summary_text number program) call.out call.out_after so.ended call.status grant op so.wrote failed) so.runs.failed;
     }
 
+-- memory was wanting before the run began
+performs_none : (call : TopCall) (settings : Settings) (set : IsSet call settings) (program : Program) → (is : settings.command ≡ command.Observe) → call.status ≡ status.Memory → call.devices_after ≡ call.devices
+    → WritesUsed call settings program → Performs call (run_command call settings mode.Observed set is) program
+unfolding run_command
+performs_none call settings set program is memory same out = record {
+  reached = subst IsOfRun (sym memory) tt;
+  out = subst (λ (c : Command). WritesRun c call settings program) (sym is) out;
+  cut = λ unwritten. let q : status.Memory ≡ status.Unwritten = sym memory ∙ unwritten in absurd (cc);
+  did = did_nothing program settings.depth call.devices call.devices_after same;
+  ends = λ tells uncut. absurd (uncut.full memory);
+  failed = λ grant op failed. let q : status.Memory ≡ status.DeviceFailed grant op = sym memory ∙ failed in absurd (cc);
+}
+
+performs_observe : (call : TopCall) (settings : Settings) (set : IsSet call settings) (program : Program) → RunsAsMeant program → (is : settings.command ≡ command.Observe)
+    → ObservesCode (observed_text program) (lowered program (program_starts program)) settings.depth settings.steps call.out call.out_after call.devices call.devices_after call.status
+    → Performs call (run_command call settings mode.Observed set is) program
+unfolding run_command
+performs_observe call settings set program laws is (unbegun memory out same) =
+    performs_none call settings set program is memory same (writes_used call settings program laws (unbegun memory out same))
+performs_observe call settings set program laws is (begun ended runs so) =
+    let code : RunsCode (lowered program (program_starts program)) settings.depth settings.steps call.devices call.devices_after (status_of ended) = record { ended = ended; runs = runs; says = refl } in
+    let came : Came call.out call.out_after ended call.status = came_of (observed_text program runs.events) call.out call.out_after ended call.status so in
+    record {
+      reached = observed_run (observed_text program runs.events) call.out call.out_after ended call.status so;
+      out = subst (λ (c : Command). WritesRun c call settings program) (sym is) (writes_used call settings program laws (begun ended runs so));
+      cut = λ unwritten. subst (λ (c : Command). IsUnwritten c call []) (sym is)
+          (inr (refl, came_rose call.out call.out_after ended call.status (written_code program settings.depth settings.steps runs.events ended runs.ends) came unwritten));
+      did = did_code program laws settings.depth settings.steps call.devices call.devices_after (status_of ended) code;
+      ends = λ tells uncut. let same : call.status ≡ status_of ended = came_uncut call.out call.out_after ended call.status came uncut in
+          subst (λ (s : Status). EndsAs s settings.steps (course_in call settings program)) (sym same)
+          (ends_code program laws settings.depth settings.steps call.devices call.devices_after (status_of ended) code tells (subst (λ (s : Status). IsUncut s) same uncut));
+      failed = λ grant op failed. fault_of call.devices call.devices_after ended grant op (came_failed call.out call.out_after ended call.status grant op came failed) runs.failed;
+    }
+
 pub runs_by : (call : TopCall) (settings : Settings) (set : IsSet call settings) (program : Program) → RunsAsMeant program → (way : Mode) → settings.command ≡ running way → IsNumbered way settings.files
     → Ran way program settings.depth settings.steps call.out call.out_after call.report call.report_after call.devices call.devices_after call.status → Runs call program
 unfolding run_command
 runs_by call settings set program laws way is number (stopped short out same why) =
     let so : StopsBefore call (authority_text program) = record { short = short; out = out; same = same; why = why } in
-    stopped_by call program laws (run_command call settings way set is) (subst (λ (c : Command). WritesRun c call settings program) (sym is) (nothing_written way call settings program number so)) so
+    stopped_by call program laws (run_command call settings way set is) (subst (λ (c : Command). WritesRun c call settings program) (sym is) (nothing_written way call settings program laws number so)) so
 runs_by call settings set program laws mode.Silent is number (performed written so) =
     performed_by call program laws (run_command call settings mode.Silent set is) written (performs_run call settings set program laws is so.0 so.1)
 runs_by call settings set program laws mode.Traced is number (performed written so) =
     performed_by call program laws (run_command call settings mode.Traced set is) written (performs_trace call settings set program laws is so)
 runs_by call settings set program laws (mode.Summed n) is number (performed written so) =
     performed_by call program laws (run_command call settings (mode.Summed n) set is) written (performs_sample call settings set program laws n number is so)
+runs_by call settings set program laws mode.Observed is number (performed written so) =
+    performed_by call program laws (run_command call settings mode.Observed set is) written (performs_observe call settings set program laws is so)
 
 pub ran_counted : (way : Mode) (program : Program) (depth steps : ℕ) (out out' report report' : SinkState) (devices devices' : DevicesState) (end : Status)
     → Ran way program depth steps out out' report report' devices devices' end → report.faults ≤ report'.faults

@@ -3,9 +3,11 @@ use Rattle.std.proofs.Common.{◌≡◌, ◌≢◌, ◌⊎◌, inl, inr, ℕ, Li
 use Rattle.wy_text.specs.LimitName.{limit_number}
 use Rattle.wy_text.specs.Outside.{SinkState}
 use Rattle.wy_text.specs.declared.limit.LimitName.TheVariants as limit
+use Rattle.wy_code.specs.declared.code.Code.{Code}
 use Rattle.wy_device.specs.Devices.{DevicesState}
+use Rattle.wy_device.specs.declared.deed.Event.{Event}
 use Rattle.wy_lower.specs.Counts.{body_count, lowering_limit, some_slots_above}
-use Rattle.wy_lower.specs.Lowering.{scopes_bodies}
+use Rattle.wy_lower.specs.Lowering.{lowered, scopes_bodies}
 use Rattle.wy_machine.specs.declared.run_end.RunEnd.{RunEnd}
 use Rattle.wy_machine.specs.declared.run_end.RunEnd.TheVariants as end
 use Rattle.wy_meaning.specs.Starts.{Starts}
@@ -15,8 +17,8 @@ use Rattle.wy_rules.specs.Ends.{FirstEnd, IsEnd, IsLimitEnd, limited}
 use Rattle.wy_rules.specs.Refusals.{Numbered}
 use Rattle.wy_authority.specs.Authority.{authority_of}
 use Rattle.wy_authority.specs.declared.rows.Authority.{Authority}
-use Rattle.wy_engine.specs.Judgement.{Refuses, Stops, StopsLimited, StopsTexts, by_policy, by_texts}
-use Rattle.wy_engine.specs.Running.{Ran, ThenWrote, performed, skipped, status_of, stopped, summary_in, summed}
+use Rattle.wy_engine.specs.Judgement.{Refuses, Stops, StopsLimited, StopsTexts, by_policy, by_texts, observed_text}
+use Rattle.wy_engine.specs.Running.{ObservesCode, Ran, ThenObserved, ThenWrote, begun, behind, observed, performed, skipped, status_of, stopped, summary_in, summed, unbegun, unobserved}
 use Rattle.wy_engine.specs.Status.{IsOfOut, IsOfRun, IsOfTexts}
 use Rattle.wy_engine.specs.Writing.{Wrote, cut, starved, whole}
 use Rattle.wy_settings.specs.Settings.{texts_among}
@@ -80,7 +82,9 @@ crowds_none command.Authority texts stop = limited_uncrowded texts stop
 crowds_none command.Run texts (inl stop) = limited_uncrowded texts stop
 crowds_none command.Run texts (inr stop) = lowers_uncrowded stop.program (program_starts stop.program) stop.passed
 crowds_none command.Trace texts (inl stop) = limited_uncrowded texts stop
+crowds_none command.Observe texts (inl stop) = limited_uncrowded texts stop
 crowds_none command.Trace texts (inr stop) = lowers_uncrowded stop.program (program_starts stop.program) stop.passed
+crowds_none command.Observe texts (inr stop) = lowers_uncrowded stop.program (program_starts stop.program) stop.passed
 crowds_none command.Sample texts (inl stop) = limited_uncrowded texts stop
 crowds_none command.Sample texts (inr stop) = lowers_uncrowded stop.program (program_starts stop.program) stop.passed
 crowds_none command.Policy texts stop = limited_uncrowded texts stop
@@ -186,6 +190,20 @@ pub then_run : (text : List ℕ) (out out' : SinkState) (ended : RunEnd) (end : 
 then_run text out out' ended end (summed is wrote) = out_run end (out_wrote text out out' end wrote)
 then_run text out out' ended end (skipped other same says) = subst IsOfRun (sym says) (run_of_end ended)
 
+behind_run : (text : List ℕ) (out out' : SinkState) (ended : RunEnd) (wrote : Status) → Wrote text out out' wrote → IsOfRun (behind wrote ended)
+behind_run text out out' ended wrote (whole written is) = subst (λ (s : Status). IsOfRun (behind s ended)) (sym is) (run_of_end ended)
+behind_run text out out' ended wrote (cut short rose is) = subst (λ (s : Status). IsOfRun (behind s ended)) (sym is) tt
+behind_run text out out' ended wrote (starved rest written is) = subst (λ (s : Status). IsOfRun (behind s ended)) (sym is) tt
+
+pub observed_run : (text : List ℕ) (out out' : SinkState) (ended : RunEnd) (end : Status) → ThenObserved text out out' ended end → IsOfRun end
+observed_run text out out' ended end (unobserved is same) = subst IsOfRun (sym is) tt
+observed_run text out out' ended end (observed full wrote so says) = subst IsOfRun (sym says) (behind_run text out out' ended wrote so)
+
+code_observed : (text : List Event → List ℕ) (code : Code) (depth steps : ℕ) (out out' : SinkState) (devices devices' : DevicesState) (end : Status)
+    → ObservesCode text code depth steps out out' devices devices' end → IsOfRun end
+code_observed text code depth steps out out' devices devices' end (unbegun is o d) = subst IsOfRun (sym is) tt
+code_observed text code depth steps out out' devices devices' end (begun ended runs so) = observed_run (text runs.events) out out' ended end so
+
 pub run_ran : (way : Mode) (program : Program) (depth steps : ℕ) (out out' report report' : SinkState) (devices devices' : DevicesState) (end : Status)
     → Ran way program depth steps out out' report report' devices devices' end → IsOfRun end
 run_ran way program depth steps out out' report report' devices devices' s (stopped short o same (inl is)) = subst IsOfRun (sym is) tt
@@ -194,6 +212,8 @@ run_ran mode.Silent program depth steps out out' report report' devices devices'
 run_ran mode.Traced program depth steps out out' report report' devices devices' s (performed written so) = subst IsOfRun (sym so.says) (run_of_end so.ended)
 run_ran (mode.Summed number) program depth steps out out' report report' devices devices' s (performed written so) =
     then_run (summary_in (mode.Summed number) program) out out' so.ended s so.wrote
+run_ran mode.Observed program depth steps out out' report report' devices devices' s (performed written so) =
+    code_observed (observed_text program) (lowered program (program_starts program)) depth steps out out' devices devices' s so
 
 pub past_declined : (asked : Command) (texts : List (List ℕ)) (end : Status) → (end ≡ status.Memory) ⊎ Stops asked texts end → IsPastReading end
 past_declined asked texts end (inl is) = run_past end (subst IsOfRun (sym is) tt)

@@ -12,6 +12,7 @@ among_map f command.Check files = refl
 among_map f command.Authority files = refl
 among_map f command.Run files = refl
 among_map f command.Trace files = refl
+among_map f command.Observe files = refl
 among_map f command.Sample files = refl
 among_map f command.Format files = refl
 among_map f command.Policy [] = refl
@@ -22,6 +23,7 @@ among_few command.Check files = omega arith
 among_few command.Authority files = omega arith
 among_few command.Run files = omega arith
 among_few command.Trace files = omega arith
+among_few command.Observe files = omega arith
 among_few command.Sample files = omega arith
 among_few command.Format files = omega arith
 among_few command.Policy [] = omega arith
@@ -34,6 +36,7 @@ all_texts asked named files is all = subst (λ (c : Command). texts_among c file
 pub all_run : {X : Type 0} (asked : Command) (way : Mode) (files : List X) → asked ≡ running way → texts_among asked files ≡ files
 all_run asked mode.Silent files run = all_texts asked command.Run files run refl
 all_run asked mode.Traced files run = all_texts asked command.Trace files run refl
+all_run asked mode.Observed files run = all_texts asked command.Observe files run refl
 all_run asked (mode.Summed number) files run = all_texts asked command.Sample files run refl
 
 -- .. and under `policy` those behind the first

@@ -50,6 +50,7 @@ asks_report asked texts program report is = subst (λ (c : Command). Asks c text
 pub asks_run : (asked : Command) (texts : List (List ℕ)) (way : Mode) (program : Program) → asked ≡ running way → Runnable texts program → Asks asked texts (ran program)
 asks_run asked texts mode.Silent program run is = subst (λ (c : Command). Asks c texts (ran program)) (sym run) is
 asks_run asked texts mode.Traced program run is = subst (λ (c : Command). Asks c texts (ran program)) (sym run) is
+asks_run asked texts mode.Observed program run is = subst (λ (c : Command). Asks c texts (ran program)) (sym run) is
 asks_run asked texts (mode.Summed number) program run is = subst (λ (c : Command). Asks c texts (ran program)) (sym run) is
 
 pub asks_format : (asked : Command) (texts : List (List ℕ)) (tree : List ItemTree) → asked ≡ command.Format → HaveTrees 1 texts (tree ∷ []) → Asks asked texts (formatted tree)

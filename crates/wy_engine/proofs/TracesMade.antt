@@ -112,7 +112,7 @@ lines_of program depth k events out out' end.Memory to = either_lines events out
 
 -- ---- the whole call
 
-first_events : (program : Program) (depth : ℕ) (events : List Event) → BeginsWith program depth events → IsPrefix events (course program depth (tapes_of events)).events
+pub first_events : (program : Program) (depth : ℕ) (events : List Event) → BeginsWith program depth events → IsPrefix events (course program depth (tapes_of events)).events
 first_events program depth events begins =
     subst (λ (t : Tapes). IsPrefix events (course program depth t).events) (spliced-none (tapes_of events)) (begins.first no_tapes)
 

@@ -11,6 +11,9 @@ use Rattle.wy_device.specs.declared.deed.Deed.{Deed}
 use Rattle.wy_device.specs.declared.deed.Event.{Event}
 use Rattle.wy_device.specs.declared.operation.Kind.{Kind}
 use Rattle.wy_device.specs.declared.operation.OpName.{OpName}
+use Rattle.wy_effects.specs.Members.{In}
+use Rattle.wy_authority.specs.Authority.{authority_of}
+use Rattle.wy_authority.specs.declared.rows.InstanceRow.{InstanceRow}
 use Rattle.wy_code.specs.Running.{Ran, machine}
 use Rattle.wy_lower.specs.Correct.{IsPrefix}
 use Rattle.wy_lower.specs.Lowering.{lowered}
@@ -23,7 +26,8 @@ use Rattle.wy_syntax.specs.Trees.{ItemTree}
 use Rattle.wy_types.specs.Program.{Program}
 use Rattle.wy_sound.specs.Laws.{course}
 use Rattle.wy_sound.specs.Programs.{allowed, program_starts}
-use Rattle.wy_engine.specs.Judgement.{Asks, Did, IsReported, RunsPrograms, Stops, accepted_text, allowed_text, authority_text, checked, formatted, nothing, permitted, ran, reported, summary_text}
+use Rattle.wy_sound.specs.Used.{IsUsedWithin}
+use Rattle.wy_engine.specs.Judgement.{Asks, Did, IsReported, RunsPrograms, Stops, accepted_text, allowed_text, authority_text, checked, formatted, nothing, observed_text, permitted, ran, reported, summary_text}
 use Rattle.wy_engine.specs.LastLine.{LineWords, last_line, line_words}
 use Rattle.wy_settings.specs.Settings.{Settings, sample_number, settings_of}
 use Rattle.wy_engine.specs.Status.{IsOfEnd, IsOfOut, IsOfRun, IsOfTexts}
@@ -69,10 +73,11 @@ pub record MissesReport (call : TopCall) (text : List ℕ) : Type 0 where
   pub missed : IsUnprinted call rest
 
 -- Why a status is Unwritten: the report could not be written; or, in `trace`, the line of an event could not, or in
--- `sample` the line that sums it up, and then `out` counted a fault.
+-- `sample` the line that sums it up, or in `observe` the lines of what was used, and then `out` counted a fault.
 abbrev pub IsUnwritten : Command → TopCall → List ℕ → Type 0
 IsUnwritten command.Trace call rest = IsUnprinted call rest ⊎ ((rest ≡ []) × Rose call.out.faults call.out_after.faults)
 IsUnwritten command.Sample call rest = IsUnprinted call rest ⊎ ((rest ≡ []) × Rose call.out.faults call.out_after.faults)
+IsUnwritten command.Observe call rest = IsUnprinted call rest ⊎ ((rest ≡ []) × Rose call.out.faults call.out_after.faults)
 IsUnwritten command call rest = IsUnprinted call rest
 
 -- The report stands on its sink, whole, before anything is done. Where it could not be written whole, a part of it
@@ -155,11 +160,38 @@ pub record SumsUp (call : TopCall) (settings : Settings) (program : Program) : T
   pub begun : (front ≡ []) ⊎ (TellsDeeds call.devices → HasEnded call settings program)
   pub cut : call.status ≡ status.Unwritten → MissesReport call (authority_text program) ⊎ ((0 < length rest) × (TellsDeeds call.devices → HasEnded call settings program))
 
--- what came to `out`: `run` writes nothing there, `trace` the lines of the events, and `sample` the line that sums it up
+-- These are the events of a whole run, over the answers that the devices gave: all of the program's meaning, where the steps that
+-- it takes are within the bound; else as many as the code has after the steps of the bound.
+pub record AreOfRun (call : TopCall) (settings : Settings) (program : Program) (events : List Event) : Type 0 where
+  pub within : (course_in call settings program).steps ≤ settings.steps → events ≡ (course_in call settings program).events
+  pub spent : settings.steps < (course_in call settings program).steps → events ≡ (code_in call settings program).events
+
+-- The lines of what was used of each instance came to `out`, behind a run of these events: whole, unless memory was wanting or the status
+-- is Unwritten, and else a part of them, or nothing. The devices did the deeds of these events. Where the devices tell their deeds, the
+-- events are the first of the program's meaning over the answers that were given; and they are those of the whole run where all lines
+-- stand there, where some of them do, and where the status is Unwritten and no part of the report is missing. What was used of an
+-- instance is within what the report's line of the instance says.
+pub record WritesUsed (call : TopCall) (settings : Settings) (program : Program) : Type 0 where
+  pub events : List Event
+  pub front : List ℕ
+  pub rest : List ℕ
+  pub split : observed_text program events ≡ front ++ rest
+  pub taken : call.out_after.taken ≡ gained call.out.taken front
+  pub did : DidExactly call.devices call.devices_after events
+  pub within : (r : InstanceRow) → In r (authority_of program).rows → IsUsedWithin program events r
+  pub first : TellsDeeds call.devices → IsPrefix events (course_in call settings program).events
+  pub whole : IsUncut call.status → rest ≡ []
+  pub all : IsUncut call.status → TellsDeeds call.devices → AreOfRun call settings program events
+  pub begun : (front ≡ []) ⊎ (TellsDeeds call.devices → AreOfRun call settings program events)
+  pub cut : call.status ≡ status.Unwritten → MissesReport call (authority_text program) ⊎ ((0 < length rest) × (TellsDeeds call.devices → AreOfRun call settings program events))
+
+-- what came to `out`: `run` writes nothing there, `trace` the lines of the events, `sample` the line that sums it up, and
+-- `observe` those of what was used of each instance
 abbrev pub WritesRun : Command → TopCall → Settings → Program → Type 0
 WritesRun command.Run call settings program = call.out_after ≡ call.out
 WritesRun command.Trace call settings program = WritesEvents call settings program
 WritesRun command.Sample call settings program = SumsUp call settings program
+WritesRun command.Observe call settings program = WritesUsed call settings program
 WritesRun command call settings program = ⊥
 
 -- A program was accepted, and its run was begun. Where the devices tell their deeds:

@@ -2,6 +2,7 @@
 -- promises of the top call say of programs, they say by the words of this page.
 use Rattle.std.specs.Prelude.{codes, ◌≡◌, ◌⊎◌, List, [], ◌∷◌, ℕ, Some, None, ⊤, ◌+◌, length}
 use Rattle.wy_text.specs.declared.limit.LimitName.{LimitName}
+use Rattle.wy_device.specs.declared.deed.Event.{Event}
 use Rattle.wy_syntax.specs.Trees.{ItemTree}
 use Rattle.wy_types.specs.Program.{Program}
 use Rattle.wy_rules.specs.Ends.{End, IsEnd, limited, refused}
@@ -20,6 +21,7 @@ use Rattle.wy_engine.specs.NameFaults.{NamesStop, ResolveTo}
 use Rattle.wy_sample.specs.Sample.{summary_line}
 use Rattle.wy_policy.specs.Allowed.{Allowed, Denied}
 use Rattle.wy_policy.specs.Policy.{IsPolicy, IsRefused}
+use Rattle.wy_policy.specs.Used.{used_sets, used_text}
 use Rattle.wy_policy.specs.declared.policy.PolicyRefusal.TheVariants as refusal
 use Rattle.wy_policy.specs.declared.policy.PolicyRow.{PolicyRow}
 use Rattle.wy_settings.specs.Settings.{sample_number, texts_among}
@@ -74,6 +76,10 @@ body_lines (row ∷ rows) = length row.bodies + body_lines rows
 abbrev pub summary_text : ℕ → Program → List ℕ
 summary_text number program = summary_line number (body_lines (authority_of program).rows)
 
+-- the lines of what was used of each instance of a program in these events
+abbrev pub observed_text : Program → List Event → List ℕ
+observed_text program events = used_text (authority_of program) (used_sets (authority_of program) events)
+
 -- ---- what a policy says of a program
 
 -- what is written where a program keeps to its policy
@@ -119,12 +125,14 @@ RunsPrograms command.Trace = ⊤
 RunsPrograms command.Sample = ⊤
 RunsPrograms command.Format = ⊥
 RunsPrograms command.Policy = ⊥
+RunsPrograms command.Observe = ⊤
 
 -- the command that runs programs in this way
 abbrev pub running : Mode → Command
 running mode.Silent = command.Run
 running mode.Traced = command.Trace
 running (mode.Summed number) = command.Sample
+running mode.Observed = command.Observe
 
 -- the number of a sample is its file word's
 abbrev pub IsNumbered : Mode → List (List ℕ) → Type 0
@@ -147,12 +155,14 @@ StopsTexts command.Trace texts (status.Limit name) = StopsLimited texts name ⊎
 StopsTexts command.Sample texts (status.Limit name) = StopsLimited texts name ⊎ EndsLowering texts name
 StopsTexts command.Format texts (status.Limit name) = FirstNoTree 1 texts (status.Limit name)
 StopsTexts command.Policy texts (status.Limit name) = StopsLimited texts name
+StopsTexts command.Observe texts (status.Limit name) = StopsLimited texts name ⊎ EndsLowering texts name
 StopsTexts command.Check texts (status.Refused fault) = NamesStop texts (status.Refused fault) ⊎ EndsJudging texts (refused fault)
 StopsTexts command.Authority texts (status.Refused fault) = NamesStop texts (status.Refused fault) ⊎ EndsJudging texts (refused fault)
 StopsTexts command.Run texts (status.Refused fault) = NamesStop texts (status.Refused fault) ⊎ EndsJudging texts (refused fault)
 StopsTexts command.Trace texts (status.Refused fault) = NamesStop texts (status.Refused fault) ⊎ EndsJudging texts (refused fault)
 StopsTexts command.Sample texts (status.Refused fault) = NamesStop texts (status.Refused fault) ⊎ EndsJudging texts (refused fault)
 StopsTexts command.Policy texts (status.Refused fault) = NamesStop texts (status.Refused fault) ⊎ EndsJudging texts (refused fault)
+StopsTexts command.Observe texts (status.Refused fault) = NamesStop texts (status.Refused fault) ⊎ EndsJudging texts (refused fault)
 StopsTexts command texts other = ⊥
 
 -- The status with which the files of a command end a call so: the one of the texts among them; and under `policy`, where these
@@ -178,6 +188,7 @@ Asks command.Authority texts (reported program) = Passes texts program
 Asks command.Run texts (ran program) = Runnable texts program
 Asks command.Trace texts (ran program) = Runnable texts program
 Asks command.Sample texts (ran program) = Runnable texts program
+Asks command.Observe texts (ran program) = Runnable texts program
 Asks command.Format texts (formatted tree) = HaveTrees 1 texts (tree ∷ [])
 Asks command.Policy files permitted = KeepsToPolicy files
 Asks command texts other = ⊥

@@ -3,6 +3,7 @@ use Rattle.std.specs.Prelude.{◌≡◌, ◌≢◌, ◌⊎◌, ℕ, List, []}
 use Rattle.wy_text.specs.Outside.{Rose, SinkState}
 use Rattle.wy_text.specs.Writing.{StopsShort, WritesUpTo}
 use Rattle.wy_device.specs.Devices.{DevicesState}
+use Rattle.wy_device.specs.declared.deed.Event.{Event}
 use Rattle.wy_types.specs.Program.{Program}
 use Rattle.wy_code.specs.declared.code.Code.{Code}
 use Rattle.wy_lower.specs.Lowering.{lowered}
@@ -11,7 +12,7 @@ use Rattle.wy_machine.specs.Traces.{RunsTraced}
 use Rattle.wy_machine.specs.declared.run_end.RunEnd.{RunEnd}
 use Rattle.wy_machine.specs.declared.run_end.RunEnd.TheVariants as end
 use Rattle.wy_sound.specs.Programs.{program_starts}
-use Rattle.wy_engine.specs.Judgement.{authority_text, summary_text}
+use Rattle.wy_engine.specs.Judgement.{authority_text, observed_text, summary_text}
 use Rattle.wy_engine.specs.Writing.{Wrote}
 use Rattle.wy_engine.specs.declared.running.Mode.{Mode}
 use Rattle.wy_engine.specs.declared.running.Mode.TheVariants as mode
@@ -51,12 +52,29 @@ pub record SumsCode (text : List ℕ) (code : Code) (depth steps : ℕ) (out out
   pub runs : Runs code depth steps devices devices' ended
   pub wrote : ThenWrote text out out' ended end
 
+-- the status of a run that ended so, behind which a write to `out` came to this status
+abbrev pub behind : Status → RunEnd → Status
+behind status.Ended run = status_of run
+behind wrote run = wrote
+
+-- what came to `out` behind a run that is observed and ended so: a text, unless memory was wanting for the run or the text
+pub data ThenObserved (text : List ℕ) (out out' : SinkState) (ended : RunEnd) (says : Status) : Type 0 where
+  unobserved : says ≡ status.Memory → out' ≡ out → ThenObserved text out out' ended says
+  observed : ended ≢ end.Memory → (wrote : Status) → Wrote text out out' wrote → says ≡ behind wrote ended → ThenObserved text out out' ended says
+
+-- code was run, and the text of its events was written to `out`; or memory was wanting before it began
+pub data ObservesCode (text : List Event → List ℕ) (code : Code) (depth steps : ℕ) (out out' : SinkState) (devices devices' : DevicesState) (end : Status) : Type 0 where
+  unbegun : end ≡ status.Memory → out' ≡ out → devices' ≡ devices → ObservesCode text code depth steps out out' devices devices' end
+  begun : (ended : RunEnd) (runs : Runs code depth steps devices devices' ended) → ThenObserved (text runs.events) out out' ended end
+      → ObservesCode text code depth steps out out' devices devices' end
+
 -- Code was run and nothing was written to `out`; or it was traced; or a text that sums the run up was written to `out` where
--- it ended well.
-abbrev pub RunsImage : Mode → List ℕ → Code → ℕ → ℕ → SinkState → SinkState → DevicesState → DevicesState → Status → Type 0
-RunsImage mode.Silent text code depth steps out out' devices devices' end = RunsCode code depth steps devices devices' end × (out' ≡ out)
-RunsImage mode.Traced text code depth steps out out' devices devices' end = TracesCode code depth steps out out' devices devices' end
-RunsImage (mode.Summed number) text code depth steps out out' devices devices' end = SumsCode text code depth steps out out' devices devices' end
+-- it ended well; or the text of its events was, however it ended.
+abbrev pub RunsImage : Mode → List ℕ → (List Event → List ℕ) → Code → ℕ → ℕ → SinkState → SinkState → DevicesState → DevicesState → Status → Type 0
+RunsImage mode.Silent text used code depth steps out out' devices devices' end = RunsCode code depth steps devices devices' end × (out' ≡ out)
+RunsImage mode.Traced text used code depth steps out out' devices devices' end = TracesCode code depth steps out out' devices devices' end
+RunsImage (mode.Summed number) text used code depth steps out out' devices devices' end = SumsCode text code depth steps out out' devices devices' end
+RunsImage mode.Observed text used code depth steps out out' devices devices' end = ObservesCode used code depth steps out out' devices devices' end
 
 -- the text that sums a run up, which only a sample has
 abbrev pub summary_in : Mode → Program → List ℕ
@@ -65,7 +83,7 @@ summary_in way program = []
 
 -- .. which is a program's
 abbrev pub RunsAs : Mode → Program → ℕ → ℕ → SinkState → SinkState → DevicesState → DevicesState → Status → Type 0
-RunsAs way program depth steps out out' devices devices' end = RunsImage way (summary_in way program) (lowered program (program_starts program)) depth steps out out' devices devices' end
+RunsAs way program depth steps out out' devices devices' end = RunsImage way (summary_in way program) (observed_text program) (lowered program (program_starts program)) depth steps out out' devices devices' end
 
 -- a program was run: its report was not written whole and nothing was done; or it was, and then its code was run
 pub data Ran (way : Mode) (program : Program) (depth steps : ℕ) (out out' report report' : SinkState) (devices devices' : DevicesState) (end : Status) : Type 0 where

@@ -59,6 +59,7 @@ takes_files command.Trace = true
 takes_files command.Sample = false
 takes_files command.Format = true
 takes_files command.Policy = true
+takes_files command.Observe = true
 
 -- the texts of a command: those that the shelf tells for its files, a policy among them, and of `sample` the one that its number makes
 abbrev pub HasTexts : Command → ShelfState → List (List ℕ) → List (List ℕ) → Type 0

@@ -26,6 +26,7 @@ fn way_of(command: Command, files: &[String]) -> Mode
 {
     match command {
         Command::Trace => Mode::Traced,
+        Command::Observe => Mode::Observed,
         Command::Sample => match sample_number(files) {
             Some(number) => Mode::Summed(number),
             None => unreachable!(),
@@ -65,6 +66,7 @@ pub fn answer<O: Sink, E: Sink, D: Device>(
         Command::Authority => report_trees(alloc, trees.as_slice(), out),
         Command::Run => run_trees(alloc, trees.as_slice(), manner, out, report, devices),
         Command::Trace => run_trees(alloc, trees.as_slice(), manner, out, report, devices),
+        Command::Observe => run_trees(alloc, trees.as_slice(), manner, out, report, devices),
         Command::Sample => run_trees(alloc, trees.as_slice(), manner, out, report, devices),
         Command::Format => write_form(alloc, &trees[0], out),
         Command::Policy => permit_trees(alloc, trees.as_slice(), texts[0].as_bytes(), out),

@@ -14,7 +14,7 @@ use wy_meaning::laws::{answers_are_taken_in_order, nodes_cost_four};
 use wy_names::laws::marks_are_of_the_items;
 use wy_parser::laws::marks_are_of_the_tokens;
 use wy_sound::laws::events_are_bounded;
-use wy_sound::telling::allowed_is_reported;
+use wy_sound::telling::{allowed_is_reported, instances_are_told, used_is_allowed};
 use wy_well_formed::{resolved_keeps_all, resolved_vals_are_in_order};
 
 /// What `format` wrote is written again: the canonical form of a file's tree has one tree, and prints as the same text,
@@ -25,7 +25,8 @@ pub fn format_again()
 
 /// The program of accepted texts runs as it is meant: its code does what the program means and is never stuck, a run of it
 /// takes at most four steps a node and the answers in their order, and each operation is in the authority of every call
-/// that is open at it, which is what the report says of its body.
+/// that is open at it, which is what the report says of its body. What was used of an instance is within what the report
+/// says of it.
 pub fn accepted_run_as_meant()
     ensures { AcceptedRunAsMeant }
 {
@@ -35,12 +36,14 @@ pub fn accepted_run_as_meant()
     accepted_is_never_stuck();
     events_are_bounded();
     allowed_is_reported();
+    used_is_allowed();
+    instances_are_told();
     nodes_cost_four();
     answers_are_taken_in_order();
 }
 
 /// A call finds no excuse. Where no part of the outside counted a fault and no limit is passed, an accepted program that
-/// `run`, `trace` or `sample` runs, with a bound of at least four steps for each node that its meaning evaluates and four
+/// `run`, `trace`, `sample` or `observe` runs, with a bound of at least four steps for each node that its meaning evaluates and four
 /// more, ends, traps or goes too deep as its meaning does; and texts that `check`, `authority`, `format` or `policy` do not
 /// stop come to their good end. Only want of memory may come in the place of these.
 pub fn accepted_texts_end()

@@ -1,18 +1,20 @@
 //! Running a program that is accepted: its code, its report and its run.
 
-ghost use Rattle.std.specs.Prelude.{◌≡◌, IfOk, map};
+ghost use Rattle.std.specs.Prelude.{◌≡◌, ◌≤◌, IfOk, length, map};
 ghost use Rattle.wy_code.specs.Running.{NeverStuck};
 ghost use Rattle.wy_device.specs.Devices.{IsInOrder};
 ghost use Rattle.wy_machine.specs.Devices.{states};
+ghost use Rattle.wy_machine.specs.Observing.{instance_names};
 ghost use Rattle.wy_link.specs.Checking.{IsCheckedProgram};
-ghost use Rattle.wy_lower.specs.Lowering.{lowered};
-ghost use Rattle.wy_sound.specs.Programs.{program_starts};
+ghost use Rattle.wy_effects.specs.Members.{Apart};
+ghost use Rattle.wy_policy.specs.Used.{used_sets, used_text};
 ghost use Rattle.wy_syntax.specs.Views.{file_tree};
 ghost use Rattle.wy_authority.specs.Authority.{authority_of};
 ghost use Rattle.wy_types.specs.Program.{Program, program_of};
 ghost use Rattle.wy_engine.specs.Answering.{RunsAccepted, RunsTrees};
 ghost use Rattle.wy_engine.specs.FileTrees.{AreOfFiles};
-ghost use Rattle.wy_engine.specs.Running.{RunsImage, ThenWrote, status_of, summary_in};
+ghost use Rattle.wy_engine.specs.ProgramLaws.{RunsAsMeant, row_names};
+ghost use Rattle.wy_engine.specs.Running.{ObservesCode, RunsImage, ThenObserved, ThenWrote, status_of, summary_in};
 
 use crate::checking::{Accepted, authority_of, body_lines, judge_trees};
 use crate::laws::accepted_run_as_meant;
@@ -23,8 +25,10 @@ use wy_authority::{Authority, write_report};
 use wy_device::device::Device;
 use wy_lower::{LowerRefusal, lower};
 use wy_machine::devices::Devices;
-use wy_machine::run::{Image, load, run, run_traced};
+use wy_machine::run::{Image, load, run, run_observed, run_traced};
 use wy_machine::run_end::RunEnd;
+use wy_meaning::Used;
+use wy_policy::used_text;
 use wy_sample::summary;
 use wy_syntax::items::Tree;
 use wy_text::sink::{Sink, WriteError};
@@ -39,6 +43,8 @@ pub enum Mode {
     Traced,
     /// Where the run ended, a line is written to `out` that sums it up. The program is the sample of this number.
     Summed(u32),
+    /// Behind the run, a line for each instance is written to `out` with what was used of it, however the run ended.
+    Observed,
 }
 
 /// How a program is run: in which way, how many steps the run may take, and how many calls on objects may be open in it at
@@ -75,24 +81,75 @@ fn sum_up<O: Sink>(end: RunEnd, summary: &[u8], out: &mut O) -> Status
     }
 }
 
-/// Runs code that was loaded; where it is to be traced, writes the line of each event to `out`, and where it is to be summed
-/// up, this text behind it.
-fn run_image<O: Sink, D: Device>(
+/// Writes what was used of each instance to `out` behind a run that ended so, and gives the status of it all.
+fn write_used<O: Sink>(
+    alloc: Global,
+    end: RunEnd,
+    authority: &Authority,
+    used: &Used<'_>,
+    out: &mut O,
+) -> Status
+    ensures { ThenObserved (used_text authority.now (map (λ account. account.set) used.now.accounts)) (O.state out.old) (O.state out.new) end result }
+{
+    if let RunEnd::Memory = end {
+        return status_of(end);
+    }
+    let Ok(text) = used_text(alloc, authority, used) else {
+        return Status::Memory;
+    };
+    match write_out(out, text.as_bytes()) {
+        Status::Ended => status_of(end),
+        wrote => wrote,
+    }
+}
+
+/// Runs code that was loaded, and writes to `out` behind it what was used of each instance of this authority.
+fn observe_image<O: Sink, D: Device>(
     alloc: Global,
     image: &mut Image<'_>,
-    manner: Manner,
-    summary: &[u8],
+    authority: &Authority,
+    steps: u64,
     out: &mut O,
     devices: &mut Devices<D>,
 ) -> Status
     requires in_order { IsInOrder (states D.state devices.old) }
     requires never_stuck { NeverStuck image.old.code }
-    ensures { RunsImage manner.way summary.now image.old.code image.old.depth manner.steps (O.state out.old) (O.state out.new) (states D.state devices.old) (states D.state devices.new) result }
+    requires few { length authority.now.atoms ≤ 512 }
+    requires names { instance_names image.old.code ≡ row_names authority.now.rows }
+    requires apart { Apart (row_names authority.now.rows) }
+    ensures { ObservesCode (λ events. used_text authority.now (used_sets authority.now events)) image.old.code image.old.depth steps (O.state out.old) (O.state out.new) (states D.state devices.old) (states D.state devices.new) result }
+{
+    let atoms = authority.atoms.as_slice();
+    let Ok(mut used) = Used::new(alloc, atoms, authority.rows.len()) else {
+        return Status::Memory;
+    };
+    let end = run_observed(image, devices, steps, &mut used);
+    write_used(alloc, end, authority, &used, out)
+}
+
+/// Runs code that was loaded; where it is to be traced, writes the line of each event to `out`, where it is to be summed
+/// up, this text behind it, and where it is to be observed, what was used of each instance of this authority.
+fn run_image<O: Sink, D: Device>(
+    alloc: Global,
+    image: &mut Image<'_>,
+    manner: Manner,
+    summary: &[u8],
+    authority: &Authority,
+    out: &mut O,
+    devices: &mut Devices<D>,
+) -> Status
+    requires in_order { IsInOrder (states D.state devices.old) }
+    requires never_stuck { NeverStuck image.old.code }
+    requires few { length authority.now.atoms ≤ 512 }
+    requires names { instance_names image.old.code ≡ row_names authority.now.rows }
+    requires apart { Apart (row_names authority.now.rows) }
+    ensures { RunsImage manner.way summary.now (λ events. used_text authority.now (used_sets authority.now events)) image.old.code image.old.depth manner.steps (O.state out.old) (O.state out.new) (states D.state devices.old) (states D.state devices.new) result }
 {
     match manner.way {
         Mode::Silent => status_of(run(image, devices, manner.steps)),
         Mode::Traced => status_of(run_traced(alloc, image, devices, manner.steps, out)),
         Mode::Summed(_) => sum_up(run(image, devices, manner.steps), summary, out),
+        Mode::Observed => observe_image(alloc, image, authority, manner.steps, out, devices),
     }
 }
 
@@ -105,7 +162,7 @@ fn summary_of(alloc: Global, authority: &Authority, way: Mode) -> Result<Text, M
             let lines = body_lines(authority.rows.as_slice()).ok_or(Memory)?;
             summary(alloc, number, lines)
         }
-        Mode::Silent | Mode::Traced => from_bytes(alloc, b""),
+        Mode::Silent | Mode::Traced | Mode::Observed => from_bytes(alloc, b""),
     }
 }
 
@@ -120,7 +177,7 @@ fn run_accepted<O: Sink, E: Sink, D: Device>(
 ) -> Status
     requires checked { IsCheckedProgram (program_of accepted.now.core) accepted.now.links }
     requires in_order { IsInOrder (states D.state devices.old) }
-    requires never_stuck { NeverStuck (lowered (program_of accepted.now.core) (program_starts (program_of accepted.now.core))) }
+    requires meant { RunsAsMeant (program_of accepted.now.core) }
     ensures { RunsAccepted manner.way (program_of accepted.now.core) manner.depth manner.steps (O.state out.old) (O.state out.new) (E.state report.old) (E.state report.new) (states D.state devices.old) (states D.state devices.new) result }
 {
     let code = match lower(alloc, &accepted.core, &accepted.links.instances) {
@@ -138,14 +195,18 @@ fn run_accepted<O: Sink, E: Sink, D: Device>(
         return Status::Memory;
     };
     match write_report(alloc, &authority, report) {
-        Ok(()) => run_image(alloc, &mut image, manner, summary.as_bytes(), out, devices),
+        Ok(()) => {
+            let text = summary.as_bytes();
+            run_image(alloc, &mut image, manner, text, &authority, out, devices)
+        }
         Err(WriteError::Failed) => Status::Unwritten,
         Err(WriteError::Memory) => Status::Memory,
     }
 }
 
 /// Judges trees, and where their program is accepted prints its report and runs it; where it is to be traced, the line of
-/// each event comes to `out` when it has happened, and where it is to be summed up, a line behind a run that ended (docs/LANGUAGE.md, "Authority and report", "Events" and "How a run ends").
+/// each event comes to `out` when it has happened, where it is to be summed up, a line behind a run that ended, and where it is to be observed, what
+/// was used of each instance (docs/LANGUAGE.md, "Authority and report", "Events", "How a run ends" and "Observation").
 pub fn run_trees<O: Sink, E: Sink, D: Device>(
     alloc: Global,
     trees: &[Tree],

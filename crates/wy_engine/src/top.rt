@@ -40,7 +40,8 @@ fn takes_files(command: Command) -> bool
         | Command::Run
         | Command::Trace
         | Command::Format
-        | Command::Policy => true,
+        | Command::Policy
+        | Command::Observe => true,
         Command::Sample => false,
     }
 }
@@ -160,7 +161,8 @@ fn status_of(refusal: SettingsRefusal) -> Status
 /// report on `report`, and runs the code on the devices; `trace` does so too, and writes the line of each event of the
 /// run to `out`; `sample` runs the program that its number makes, reads no file, and writes a line that sums it up to `out`
 /// where the run ended; `format` writes the canonical form of its one file to `out`; `policy` judges the files behind its first as
-/// `check` does, and says on `out` that their program keeps to the policy that the first is, where it does. The report ends with a line that says how the call ended, unless all was done (docs/LANGUAGE.md, "The command line",
+/// `check` does, and says on `out` that their program keeps to the policy that the first is, where it does; `observe` does as `run` does, and writes
+/// to `out` behind it what was used of each instance. The report ends with a line that says how the call ended, unless all was done (docs/LANGUAGE.md, "The command line",
 /// "Authority and report" and "Statuses").
 ///
 /// The devices are of the four kinds in their order, which `devices` gives.

@@ -40,6 +40,18 @@ one_policy : settings_of (codes "policy" ∷ codes "p.pol" ∷ []) ≡ None
 unfolding clap_on_literals
 one_policy = refl
 
+observe_words : settings_of (codes "observe" ∷ codes "a.wy" ∷ codes "--depth" ∷ codes "9" ∷ codes "b.wy" ∷ [])
+    ≡ Some (record { command = command.Observe; steps = usual_steps; depth = 9; files = codes "a.wy" ∷ codes "b.wy" ∷ [] })
+unfolding clap_on_literals
+observe_words = refl
+
+observe_texts : texts_among command.Observe (codes "a.wy" ∷ codes "b.wy" ∷ []) ≡ codes "a.wy" ∷ codes "b.wy" ∷ []
+observe_texts = refl
+
+no_observed : settings_of (codes "observe" ∷ []) ≡ None
+unfolding clap_on_literals
+no_observed = refl
+
 no_words : settings_of [] ≡ None
 unfolding clap_on_literals
 no_words = refl

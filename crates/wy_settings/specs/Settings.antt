@@ -69,7 +69,9 @@ command_named word =
     (if bytes_eq word (codes "authority") then Some command.Authority else
     (if bytes_eq word (codes "run") then Some command.Run else
     (if bytes_eq word (codes "trace") then Some command.Trace else
-    (if bytes_eq word (codes "sample") then Some command.Sample else (if bytes_eq word (codes "format") then Some command.Format else (if bytes_eq word (codes "policy") then Some command.Policy else None))))))
+    (if bytes_eq word (codes "sample") then Some command.Sample else
+    (if bytes_eq word (codes "format") then Some command.Format else
+    (if bytes_eq word (codes "policy") then Some command.Policy else (if bytes_eq word (codes "observe") then Some command.Observe else None)))))))
 
 abbrev pub most_sample : ℕ
 most_sample = 200
@@ -94,6 +96,7 @@ takes command.Trace files = nat_le 1 (length files)
 takes command.Sample files = is_some (sample_number files)
 takes command.Format files = length files == 1
 takes command.Policy files = nat_le 2 (length files)
+takes command.Observe files = nat_le 1 (length files)
 
 -- the texts among the files of a command, or their words: all, and for `policy` those behind the first, which is the policy
 abbrev pub texts_among : {X : Type 0} → Command → List X → List X

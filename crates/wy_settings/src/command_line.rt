@@ -18,6 +18,8 @@ pub enum Command {
     Format,
     /// Judge the files behind the first, and say whether their program keeps to the policy that the first is.
     Policy,
+    /// As `Run`, and write behind it which atoms each instance used.
+    Observe,
 }
 
 /// A command, how many steps a run may take, how many calls on objects may be open in it at once, and the file words.

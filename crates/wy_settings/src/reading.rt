@@ -35,6 +35,7 @@ fn command_of(word: &str) -> Option<Command>
         "sample" => Some(Command::Sample),
         "format" => Some(Command::Format),
         "policy" => Some(Command::Policy),
+        "observe" => Some(Command::Observe),
         _ => None,
     }
 }
@@ -58,7 +59,8 @@ fn takes(command: Command, files: &[String]) -> bool
     ensures { result ≡ takes command (map string_bytes files.now) }
 {
     match command {
-        Command::Check | Command::Authority | Command::Run | Command::Trace => files.len() >= 1,
+        Command::Check | Command::Authority | Command::Run | Command::Trace | Command::Observe =>
+            files.len() >= 1,
         Command::Sample => sample_number(files).is_some(),
         Command::Format => files.len() == 1,
         Command::Policy => files.len() >= 2,

@@ -29,6 +29,11 @@ returns-in-Trace g c =
     did_run _ c.args.texts.now c.way_of.result (map file_tree c.in-Ok.trees.items) _ _ _ _ _ _ _ (c.way_of.ensures.runs (runs_as c.in-Trace.is tt)) c.way_of.ensures.numbered (rw c.texts_among.ensures at c.in-Ok.ensures.trees)
     (rw (← c.as_slice-in-Trace.ensures.value) c.run_trees-in-Trace.ensures)
 
+pub returns-in-Observe : goal.returns-in-Observe
+returns-in-Observe g c =
+    did_run _ c.args.texts.now c.way_of.result (map file_tree c.in-Ok.trees.items) _ _ _ _ _ _ _ (c.way_of.ensures.runs (runs_as c.in-Observe.is tt)) c.way_of.ensures.numbered (rw c.texts_among.ensures at c.in-Ok.ensures.trees)
+    (rw (← c.as_slice-in-Observe.ensures.value) c.run_trees-in-Observe.ensures)
+
 pub returns-in-Sample : goal.returns-in-Sample
 returns-in-Sample g c =
     did_run _ c.args.texts.now c.way_of.result (map file_tree c.in-Ok.trees.items) _ _ _ _ _ _ _ (c.way_of.ensures.runs (runs_as c.in-Sample.is tt)) c.way_of.ensures.numbered (rw c.texts_among.ensures at c.in-Ok.ensures.trees)

@@ -5,10 +5,10 @@ use Rattle.wy_engine.specs.Answering.{accepted_trees, fails_check}
 use Rattle.wy_engine.proofs.Doing.{passes_check}
 use Rattle.wy_engine.proofs.running.run_trees.Goals as goal
 
-pub run_accepted-requires-clause-never_stuck : goal.run_accepted-requires-clause-never_stuck
-run_accepted-requires-clause-never_stuck g c =
-    (c.accepted_run_as_meant.ensures c.requires.of_files.texts (program_of c.in-Ok.accepted.core)
-    (passes_check c.requires.of_files.texts (map file_tree c.args.trees.now) (program_of c.in-Ok.accepted.core) c.requires.of_files.have c.in-Ok.ensures.resolved c.in-Ok.ensures.accepted.accepted)).stuck
+pub run_accepted-requires-clause-meant : goal.run_accepted-requires-clause-meant
+run_accepted-requires-clause-meant g c =
+    c.accepted_run_as_meant.ensures c.requires.of_files.texts (program_of c.in-Ok.accepted.core)
+    (passes_check c.requires.of_files.texts (map file_tree c.args.trees.now) (program_of c.in-Ok.accepted.core) c.requires.of_files.have c.in-Ok.ensures.resolved c.in-Ok.ensures.accepted.accepted)
 
 pub returns-in-Ok : goal.returns-in-Ok
 returns-in-Ok g c = accepted_trees (program_of c.in-Ok.accepted.core) c.in-Ok.ensures.resolved c.in-Ok.ensures.accepted.accepted c.run_accepted.ensures
