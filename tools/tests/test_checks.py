@@ -9,9 +9,14 @@ from support import TOP, ToolTest
 
 COPIED = ("README.md", "CHANGELOG.md", "LICENSE", "VERSION", "crates.txt", "docs", "editors", "examples", "bench", "dist", "tools")
 SOURCES = ("wy_text/src/fault.rt", "wy_text/src/limit.rt", "wy_engine/src/last_line.rt", "wy_calls/src/examples_table.rt")
-# Answers each call as the program does that it is compared with: by the report beside the files, or not at all.
+# Answers each call as the program does that it is compared with: by the report beside the files, or not at all; and each policy allows
+# all, but one that allows `main` nothing.
 STAND_IN = """#!/bin/sh
-[ "$1" = authority ] && cat "$(dirname "$2")/report.txt"
+case $1 in
+  authority) cat "$(dirname "$2")/report.txt" ;;
+  policy) ! grep -q '^main: -' "$2" && echo allowed ;;
+  *) exit 1 ;;
+esac
 """
 
 
@@ -54,9 +59,10 @@ class Checks(ToolTest):
         self.change("examples/logger/log.wy", "log", "lag")
         self.write("crates/wy_cli/data/b.wy", "program\n")
         self.change("examples/README.md", "| hello |", "| hallo |")
+        self.change("examples/plugin/policy.pol", "main: console.Out", "main: -")
         status, said = self.check("check_examples", "--program", f"{self.room}/program")
         self.assertEqual(status, 1)
-        for wanted in ("examples_table.rt: log.wy", "crates/wy_cli/data/b.wy", "one row for hello"):
+        for wanted in ("examples_table.rt: log.wy", "crates/wy_cli/data/b.wy", "one row for hello", "plugin: it does not keep to its policy"):
             self.assertIn(wanted, said)
 
     def test_pages(self):
