@@ -2,5 +2,6 @@
 #![tactic(auto)]
 
 pub mod atom;
+pub mod laws;
 pub mod rows;
 pub mod set;

@@ -1,7 +1,9 @@
-ghost use Rattle.std.specs.Prelude.{◌≡◌, ◌<◌, ◌↔◌, [], length, map, slice_index_or, IfOk, IsOkAnd, OnErr, IsTrue, false};
+ghost use Rattle.std.specs.Prelude.{◌≡◌, ◌<◌, ◌≤◌, ◌↔◌, [], length, map, slice_index_or, IfOk, IsOkAnd, OnErr, IsTrue, false};
 ghost use Rattle.wy_lanes.specs.Rows.{others};
 ghost use Rattle.wy_effects.specs.EffSet.{IsSet, insert_atom, union, without, replace};
 ghost use Rattle.wy_effects.specs.Members.{Within};
+ghost use Rattle.wy_effects.specs.Bounds.{GoDown, IsWidened};
+ghost use Rattle.wy_effects.specs.Widened.{with_bounded, widened_set};
 
 use crate::atom::Atom;
 use std::alloc::Global;
@@ -108,13 +110,43 @@ impl EffSet {
         }
     }
 
+    /// Adds an atom below 512.
+    fn add(&mut self, atom: u16)
+        requires { atom < 512 }
+        ensures { self.new ≡ insert_atom atom self.old }
+    {
+        self.set.insert(atom);
+    }
+
+    /// Adds an atom below 512 whose upper bound is in the set.
+    fn add_bounded(&mut self, atom: u16, bound: &Option<EffSet>)
+        requires { atom < 512 }
+        ensures { self.new ≡ with_bounded atom bound.now self.old }
+    {
+        if let Some(bound) = bound {
+            if self.includes(bound) {
+                self.add(atom);
+            }
+        }
+    }
+
+    /// A set of the same atoms.
+    fn copied(&self) -> EffSet
+        ensures { result ≡ self.now }
+    {
+        EffSet {
+            set: self.set.copy(),
+            alloc: self.alloc,
+        }
+    }
+
     /// Adds an atom below 512. It takes no memory, and always answers Ok.
     pub fn insert(&mut self, atom: Atom) -> Result<(), Memory>
         requires { atom.0 < 512 }
         ensures ok { IsOkAnd result (λ u. self.new ≡ insert_atom atom.0 self.old) }
         ensures refused { OnErr result (self.new ≡ self.old) }
     {
-        self.set.insert(atom.0);
+        self.add(atom.0);
         Ok(())
     }
 
@@ -170,6 +202,20 @@ impl EffSet {
         })
     }
 
+    /// The atoms that are within this set over upper bounds that name earlier atoms: its own, and each whose bound
+    /// is within it (docs/LANGUAGE.md, "Effects"). It takes no memory.
+    pub fn widened(&self, bounds: &[Option<EffSet>]) -> EffSet
+        requires { length bounds.now ≤ 512 }
+        ensures set { result ≡ widened_set bounds.now self.now }
+        ensures exact { GoDown bounds.now → IsWidened bounds.now self.now result }
+    {
+        let mut wide = self.copied();
+        for (atom, bound) in bounds.iter().enumerate() {
+            wide.add_bounded(atom as u16, bound);
+        }
+        wide
+    }
+
     /// The set's atoms, in ascending order.
     pub fn atoms(&self) -> Result<Vec<Atom>, Memory>
         ensures { IfOk result (λ v. map (λ a. a.0) v.items ≡ self.now) }
@@ -202,10 +248,7 @@ impl EffSet {
     pub fn copy(&self) -> Result<EffSet, Memory>
         ensures { IsOkAnd result (λ s. s ≡ self.now) }
     {
-        Ok(EffSet {
-            set: self.set.copy(),
-            alloc: self.alloc,
-        })
+        Ok(self.copied())
     }
 
     /// States what every set keeps: its atoms ascend, and are below 512.
