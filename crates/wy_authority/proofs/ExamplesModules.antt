@@ -149,7 +149,7 @@ maker_bound = refl
 --   run: {t.Log}
 
 both_type : TypeDecl
-both_type = record { name = codes "Both"; members = codes "Read" ∷ []; defined = record { name = codes "Log"; effects = 0 ∷ [] } ∷ []; methods = [] }
+both_type = record { name = codes "Both"; members = codes "Read" ∷ []; bounds = None ∷ []; defined = record { name = codes "Log"; effects = 0 ∷ [] } ∷ []; methods = [] }
 
 two : Scope
 two =

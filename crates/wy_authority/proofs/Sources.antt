@@ -1,5 +1,5 @@
 -- Short forms of programs, for the worked examples. What blocks do counts for nothing here, so each is `()`.
-use Rattle.std.specs.Prelude.{codes, ℕ, List, [], ◌∷◌, ◌++◌, map, Some, None}
+use Rattle.std.specs.Prelude.{codes, ℕ, List, [], ◌∷◌, ◌++◌, map, length, replicate, Some, None}
 use Rattle.wy_text.specs.declared.fault.Place.{Place}
 use Rattle.wy_text.specs.declared.fault.AtomName.{AtomName}
 use Rattle.wy_effects.specs.AtomTable.{atom_name}
@@ -26,7 +26,7 @@ method name params effect result = record { name = name; params = params; effect
 
 -- a type that is declared: its abstract members, its methods
 abbrev pub declaration : List ℕ → List (List ℕ) → List Method → TypeDecl
-declaration name members methods = record { name = name; members = members; defined = []; methods = methods }
+declaration name members methods = record { name = name; members = members; bounds = replicate (length members) None; defined = []; methods = methods }
 
 abbrev pub own : List ℕ → TypeRef → Origin → OwnName
 own name typ origin = record { name = name; place = at 1 1; typ = typ; origin = origin }
@@ -58,6 +58,7 @@ module_of k name atoms names sealed definitions bodies = record {
   name = name;
   place = at 1 1;
   atoms = atoms;
+  bounds = replicate (length atoms) None;
   names = names;
   ascribed = Some sealed;
   definitions = definitions;
@@ -75,6 +76,7 @@ main_of atoms names effect bodies = record {
   name = codes "main";
   place = at 1 1;
   atoms = atoms;
+  bounds = replicate (length atoms) None;
   names = names;
   ascribed = None;
   definitions = [];

@@ -1,7 +1,8 @@
 -- The law of annotation: a type is a subtype of itself at a bound exactly where its effects are in the bound and the bound is safe for what it takes.
 use Rattle.std.proofs.Common.{◌≡◌, ℕ, zero, suc, List, [], ◌∷◌, ◌++◌, map, ◌⊎◌, inl, inr, refl, sym, ap, ◌∙◌, subst, arith, Option, Some, Bool as Truth, true, false}
 use Rattle.std.specs.Prelude.{slice_get, not, ◌↔◌}
-use Rattle.wy_effects.specs.Members.{In, Within}
+use Rattle.wy_effects.specs.Members.{In}
+use Rattle.wy_effects.specs.Bounds.{Inside}
 use Rattle.wy_effects.specs.EffSet.{replace}
 use Rattle.wy_effects.proofs.Closure.{Closes, closure}
 use Rattle.wy_effects.proofs.Lists.{In-left, In-right, In-cases, In-map, In-unmap, In-at, In-slice_get}
@@ -126,23 +127,23 @@ object_cases (At d e) = inl tt
 object_cases (Own l) = inl tt
 
 -- a part of a method leads from a sided pair to a sided pair
-leads_true : (p : Program) (scope : ℕ) (e : List ℕ) (m : Signature TypeRef) (part : Part) (u : TypeRef) → IsPartOf TypeRef (methods_of p scope) m part u → LeadsBy TypeRef (methods_of p scope) IsObject Within m (at_bound e m) part (sided e (turned part true) u)
-leads_true p scope e m Result u h = (sym h, ap (annotated e) (sym h))
-leads_true p scope e m (Parameter i) u h = (slice_get-map' (annotated e) m.params i u h, h)
+leads_true : (Under : List ℕ → ℕ → Type 0) (p : Program) (scope : ℕ) (e : List ℕ) (m : Signature TypeRef) (part : Part) (u : TypeRef) → IsPartOf TypeRef (methods_of p scope) m part u → LeadsBy TypeRef (methods_of p scope) IsObject (Inside Under) m (at_bound e m) part (sided e (turned part true) u)
+leads_true Under p scope e m Result u h = (sym h, ap (annotated e) (sym h))
+leads_true Under p scope e m (Parameter i) u h = (slice_get-map' (annotated e) m.params i u h, h)
 
-leads_false : (p : Program) (scope : ℕ) (e : List ℕ) (m : Signature TypeRef) (part : Part) (u : TypeRef) → IsPartOf TypeRef (methods_of p scope) m part u → LeadsBy TypeRef (methods_of p scope) IsObject Within (at_bound e m) m part (sided e (turned part false) u)
-leads_false p scope e m Result u h = (ap (annotated e) (sym h), sym h)
-leads_false p scope e m (Parameter i) u h = (h, slice_get-map' (annotated e) m.params i u h)
+leads_false : (Under : List ℕ → ℕ → Type 0) (p : Program) (scope : ℕ) (e : List ℕ) (m : Signature TypeRef) (part : Part) (u : TypeRef) → IsPartOf TypeRef (methods_of p scope) m part u → LeadsBy TypeRef (methods_of p scope) IsObject (Inside Under) (at_bound e m) m part (sided e (turned part false) u)
+leads_false Under p scope e m Result u h = (ap (annotated e) (sym h), sym h)
+leads_false Under p scope e m (Parameter i) u h = (h, slice_get-map' (annotated e) m.params i u h)
 
 Writable-part : (p : Program) (scope : ℕ) (m : Signature TypeRef) (part : Part) (u : TypeRef) → FitsSignature p 512 0 m → IsPartOf TypeRef (methods_of p scope) m part u → Writable p u
 Writable-part p scope m Result u f h = let P : TypeRef → Type 0 = λ v. Writable p v in subst P h f.result
 Writable-part p scope m (Parameter i) u f h = f.params u (In-slice_get m.params i u h)
 
-module _ (p : Program) (w : IsCore p) (scope : ℕ) (e : List ℕ) where
+module _ (Under : List ℕ → ℕ → Type 0) (p : Program) (w : IsCore p) (scope : ℕ) (e : List ℕ) where
   Written-goes : (t : TypeRef) (s : Step) (u : TypeRef) → Writable p t → Goes TypeRef (methods_of p scope) t s u → Writable p u
   Written-goes t s u f g = Writable-part p scope g.method s.part u (Fits-written p (core_signatures_fit p w) scope t f g.method g.has) g.part
 
-  step_true : (t : TypeRef) (s : Step) (u : TypeRef) → Writable p t → Goes TypeRef (methods_of p scope) t s u → IsStep TypeRef (methods_of p scope) IsObject Within (sided e true t) s (sided e (turned s.part true) u)
+  step_true : (t : TypeRef) (s : Step) (u : TypeRef) → Writable p t → Goes TypeRef (methods_of p scope) t s u → IsStep TypeRef (methods_of p scope) IsObject (Inside Under) (sided e true t) s (sided e (turned s.part true) u)
   step_true t s u f g =
       let P : List (Signature TypeRef) → Type 0 = λ l. In (at_bound e g.method) l in
       record {
@@ -151,10 +152,10 @@ module _ (p : Program) (w : IsCore p) (scope : ℕ) (e : List ℕ) where
         found = names p w scope t g.method g.has;
         asked = subst P (sym (methods-bound p scope e t f)) (In-map (at_bound e) g.method (methods_of p scope t) g.has);
         named = g.named;
-        leads = leads_true p scope e g.method s.part u g.part;
+        leads = leads_true Under p scope e g.method s.part u g.part;
       }
 
-  step_false : (t : TypeRef) (s : Step) (u : TypeRef) → Writable p t → Goes TypeRef (methods_of p scope) t s u → IsStep TypeRef (methods_of p scope) IsObject Within (sided e false t) s (sided e (turned s.part false) u)
+  step_false : (t : TypeRef) (s : Step) (u : TypeRef) → Writable p t → Goes TypeRef (methods_of p scope) t s u → IsStep TypeRef (methods_of p scope) IsObject (Inside Under) (sided e false t) s (sided e (turned s.part false) u)
   step_false t s u f g =
       let P : List (Signature TypeRef) → Type 0 = λ l. find_method g.method.name l ≡ Some (at_bound e g.method) in
       record {
@@ -163,10 +164,10 @@ module _ (p : Program) (w : IsCore p) (scope : ℕ) (e : List ℕ) where
         found = subst P (sym (methods-bound p scope e t f)) (find-bounded e g.method.name (methods_of p scope t) g.method (names p w scope t g.method g.has));
         asked = g.has;
         named = g.named;
-        leads = leads_false p scope e g.method s.part u g.part;
+        leads = leads_false Under p scope e g.method s.part u g.part;
       }
 
-  step_sided : (b : Truth) (t : TypeRef) (s : Step) (u : TypeRef) → Writable p t → Goes TypeRef (methods_of p scope) t s u → IsStep TypeRef (methods_of p scope) IsObject Within (sided e b t) s (sided e (turned s.part b) u)
+  step_sided : (b : Truth) (t : TypeRef) (s : Step) (u : TypeRef) → Writable p t → Goes TypeRef (methods_of p scope) t s u → IsStep TypeRef (methods_of p scope) IsObject (Inside Under) (sided e b t) s (sided e (turned s.part b) u)
   step_sided true t s u f g = step_true t s u f g
   step_sided false t s u f g = step_false t s u f g
 
@@ -202,38 +203,38 @@ turned_by-other : (path : List Step) (start : Truth) → is_positive path ≡ no
 turned_by-other path true h = turned_by-true path ∙ h
 turned_by-other path false h = not-turned_by path true ∙ ap not (turned_by-true path ∙ h)
 
-module _ (p : Program) (w : IsCore p) (scope : ℕ) (e : List ℕ)
-    (ps : List (TypeRef × TypeRef)) (closed : (q : TypeRef × TypeRef) → In q ps → IsClosed TypeRef (methods_of p scope) IsObject Within ps q) where
+module _ (Under : List ℕ → ℕ → Type 0) (p : Program) (w : IsCore p) (scope : ℕ) (e : List ℕ)
+    (ps : List (TypeRef × TypeRef)) (closed : (q : TypeRef × TypeRef) → In q ps → IsClosed TypeRef (methods_of p scope) IsObject (Inside Under) ps q) where
   walk_sided : (path : List Step) (b : Truth) (t u : TypeRef) → Writable p t → In (sided e b t) ps → Walks TypeRef (methods_of p scope) t path u → Writable p u × In (sided e (turned_by path b) u) ps
   unfolding turned_by
   walk_sided [] b t u f i walk = let P : TypeRef → Type 0 = λ v. Writable p v × In (sided e b v) ps in subst P walk (f, i)
   walk_sided (s ∷ path) b t u f i walk =
-      walk_sided path (turned s.part b) walk.0 u (Written-goes p w scope e t s walk.0 f walk.1)
-      (closed_step TypeRef (methods_of p scope) IsObject Within (no_methods p scope) ps (sided e b t) s (sided e (turned s.part b) walk.0) (closed (sided e b t) i) (step_sided p w scope e b t s walk.0 f walk.1)) walk.2
+      walk_sided path (turned s.part b) walk.0 u (Written-goes Under p w scope e t s walk.0 f walk.1)
+      (closed_step TypeRef (methods_of p scope) IsObject (Inside Under) (no_methods p scope) ps (sided e b t) s (sided e (turned s.part b) walk.0) (closed (sided e b t) i) (step_sided Under p w scope e b t s walk.0 f walk.1)) walk.2
 
   -- what a closed pair says of the effects of the type
-  effect_true : (u : TypeRef) → Writable p u → IsClosed TypeRef (methods_of p scope) IsObject Within ps (sided e true u) → (m : Signature TypeRef) → In m (methods_of p scope u) → Within m.effect e
+  effect_true : (u : TypeRef) → Writable p u → IsClosed TypeRef (methods_of p scope) IsObject (Inside Under) ps (sided e true u) → (m : Signature TypeRef) → In m (methods_of p scope u) → Inside Under m.effect e
   effect_true u f (inl base) m i = absurd (base.1 (object_of p scope u m i))
   effect_true u f (inr h) m i =
       let P : List (Signature TypeRef) → Type 0 = λ l. In (at_bound e m) l in
-      let Q : Option (Signature TypeRef) → Type 0 = λ o. HasCover TypeRef (methods_of p scope) IsObject Within ps o (at_bound e m) in
-      let cover : Covers TypeRef (methods_of p scope) IsObject Within ps m (at_bound e m) =
+      let Q : Option (Signature TypeRef) → Type 0 = λ o. HasCover TypeRef (methods_of p scope) IsObject (Inside Under) ps o (at_bound e m) in
+      let cover : Covers TypeRef (methods_of p scope) IsObject (Inside Under) ps m (at_bound e m) =
       subst Q (names p w scope u m i) (h.2 (at_bound e m) (subst P (sym (methods-bound p scope e u f)) (In-map (at_bound e) m (methods_of p scope u) i))) in
       cover.effect
 
-  effect_false : (u : TypeRef) → Writable p u → IsClosed TypeRef (methods_of p scope) IsObject Within ps (sided e false u) → (m : Signature TypeRef) → In m (methods_of p scope u) → Within e m.effect
+  effect_false : (u : TypeRef) → Writable p u → IsClosed TypeRef (methods_of p scope) IsObject (Inside Under) ps (sided e false u) → (m : Signature TypeRef) → In m (methods_of p scope u) → Inside Under e m.effect
   effect_false u f (inl base) m i =
       let P : TypeRef → Type 0 = λ v. IsObject v → ⊥ in
       absurd (subst P base.0 base.1 (object_of p scope u m i))
   effect_false u f (inr h) m i =
       let P : List (Signature TypeRef) → Type 0 = λ l. find_method m.name l ≡ Some (at_bound e m) in
-      let Q : Option (Signature TypeRef) → Type 0 = λ o. HasCover TypeRef (methods_of p scope) IsObject Within ps o m in
+      let Q : Option (Signature TypeRef) → Type 0 = λ o. HasCover TypeRef (methods_of p scope) IsObject (Inside Under) ps o m in
       let found : find_method m.name (methods_of p scope (annotated e u)) ≡ Some (at_bound e m) =
       subst P (sym (methods-bound p scope e u f)) (find-bounded e m.name (methods_of p scope u) m (names p w scope u m i)) in
-      let cover : Covers TypeRef (methods_of p scope) IsObject Within ps (at_bound e m) m = subst Q found (h.2 m i) in
+      let cover : Covers TypeRef (methods_of p scope) IsObject (Inside Under) ps (at_bound e m) m = subst Q found (h.2 m i) in
       cover.effect
 
-  both_ways : (start : Truth) (t : TypeRef) → Writable p t → In (sided e start t) ps → EffectsWithin TypeRef (methods_of p scope) t start e × IsSafe TypeRef (methods_of p scope) t (not start) e
+  both_ways : (start : Truth) (t : TypeRef) → Writable p t → In (sided e start t) ps → EffectsWithin TypeRef (methods_of p scope) Under t start e × IsSafe TypeRef (methods_of p scope) Under t (not start) e
   both_ways start t f i = (
     λ a x. let u = x.0 in
         let r = x.1 in
@@ -245,9 +246,9 @@ module _ (p : Program) (w : IsCore p) (scope : ℕ) (e : List ℕ)
         effect_false u g.0 (closed (sided e false u) (subst P (turned_by-other r.0 start r.2) g.1)),
   )
 
-effects_from_subtype : (p : Program) (w : IsCore p) (scope : ℕ) → (e : List ℕ) (start : Truth) (t : TypeRef) → Writable p t →
-    IsSubtype TypeRef (methods_of p scope) IsObject Within (sided e start t).0 (sided e start t).1 → EffectsWithin TypeRef (methods_of p scope) t start e × IsSafe TypeRef (methods_of p scope) t (not start) e
-effects_from_subtype p w scope e start t f sub = both_ways p w scope e sub.pairs sub.closed start t f sub.first
+effects_from_subtype : (Under : List ℕ → ℕ → Type 0) (p : Program) (w : IsCore p) (scope : ℕ) → (e : List ℕ) (start : Truth) (t : TypeRef) → Writable p t →
+    IsSubtype TypeRef (methods_of p scope) IsObject (Inside Under) (sided e start t).0 (sided e start t).1 → EffectsWithin TypeRef (methods_of p scope) Under t start e × IsSafe TypeRef (methods_of p scope) Under t (not start) e
+effects_from_subtype Under p w scope e start t f sub = both_ways Under p w scope e sub.pairs sub.closed start t f sub.first
 
 -- the other way: what is reached, each type with its polarity
 abbrev Mark : Type 0
@@ -334,7 +335,7 @@ relative-turned true part b = refl
 relative-turned false part b = not-turned part b
 
 -- from a type on one of the two sides
-module _ (p : Program) (w : IsCore p) (scope : ℕ) (e : List ℕ) (start : Truth) (t : TypeRef) where
+module _ (Under : List ℕ → ℕ → Type 0) (p : Program) (w : IsCore p) (scope : ℕ) (e : List ℕ) (start : Truth) (t : TypeRef) where
   next_marks : Mark → List Mark
   next_marks x = marks x.1 (methods_of p scope x.0)
 
@@ -349,7 +350,7 @@ module _ (p : Program) (w : IsCore p) (scope : ℕ) (e : List ℕ) (start : Trut
       let s : Step = record { method = r.0.name; part = part.0 } in
       let g : Goes TypeRef (methods_of p scope) x.0 s y.0 = record { method = r.0; has = r.1; named = refl; part = part.1 } in
       let P : Truth → Type 0 = λ b. Reaches TypeRef (methods_of p scope) t b y.0 in
-      (Written-goes p w scope e x.0 s y.0 f.0 g, subst P (relative-turned start part.0 x.1 ∙ ap (relative start) part.2) (Reaches-more p scope t x.0 y.0 (relative start x.1) s f.1 g))
+      (Written-goes Under p w scope e x.0 s y.0 f.0 g, subst P (relative-turned start part.0 x.1 ∙ ap (relative start) part.2) (Reaches-more p scope t x.0 y.0 (relative start x.1) s f.1 g))
 
   all_marks : Writable p t → Closes Mark next_marks Marked [] ((t, start) ∷ [])
   all_marks f = closure Mark (decide_pair decide_type decide_truth) next_marks Marked mark_kept (marked_bound p scope)
@@ -363,8 +364,8 @@ module _ (p : Program) (w : IsCore p) (scope : ℕ) (e : List ℕ) (start : Trut
   params_false ps [] h = tt
   params_false ps (v ∷ vs) h = (h v (inl refl), params_false ps vs (λ u i. h u (inr i)))
 
-  module _ (effects : EffectsWithin TypeRef (methods_of p scope) t start e) (safe : IsSafe TypeRef (methods_of p scope) t (not start) e) (ps : List (TypeRef × TypeRef)) where
-    close_true : (u : TypeRef) → Marked (u, true) → ((m : Signature TypeRef) → In m (methods_of p scope u) → ((v : TypeRef) → In v m.params → In (sided e false v) ps) × In (sided e true m.result) ps) → IsClosed TypeRef (methods_of p scope) IsObject Within ps (sided e true u)
+  module _ (effects : EffectsWithin TypeRef (methods_of p scope) Under t start e) (safe : IsSafe TypeRef (methods_of p scope) Under t (not start) e) (ps : List (TypeRef × TypeRef)) where
+    close_true : (u : TypeRef) → Marked (u, true) → ((m : Signature TypeRef) → In m (methods_of p scope u) → ((v : TypeRef) → In v m.params → In (sided e false v) ps) × In (sided e true m.result) ps) → IsClosed TypeRef (methods_of p scope) IsObject (Inside Under) ps (sided e true u)
     close_true u f parts =
         elim (object_cases u) [
           | inr base ↦ inl (sym (bound-base e u base), base)
@@ -376,8 +377,8 @@ module _ (p : Program) (w : IsCore p) (scope : ℕ) (e : List ℕ) (start : Trut
                 let r = In-unmap (at_bound e) n (methods_of p scope u) (subst P (methods-bound p scope e u f.0) i) in
                 let m : Signature TypeRef = r.0 in
                 let q = parts m r.1 in
-                let Q : Option (Signature TypeRef) → Type 0 = λ o. HasCover TypeRef (methods_of p scope) IsObject Within ps o (at_bound e m) in
-                let R : Signature TypeRef → Type 0 = λ v. HasCover TypeRef (methods_of p scope) IsObject Within ps (find_method v.name (methods_of p scope u)) v in
+                let Q : Option (Signature TypeRef) → Type 0 = λ o. HasCover TypeRef (methods_of p scope) IsObject (Inside Under) ps o (at_bound e m) in
+                let R : Signature TypeRef → Type 0 = λ v. HasCover TypeRef (methods_of p scope) IsObject (Inside Under) ps (find_method v.name (methods_of p scope u)) v in
                 let S : Truth → Type 0 = λ b. Reaches TypeRef (methods_of p scope) t b u in
                 subst R r.2 (subst Q (sym (names p w scope u m r.1)) (record {
                   params = params_true ps m.params q.0;
@@ -387,7 +388,7 @@ module _ (p : Program) (w : IsCore p) (scope : ℕ) (e : List ℕ) (start : Trut
           )
         ]
 
-    close_false : (u : TypeRef) → Marked (u, false) → ((m : Signature TypeRef) → In m (methods_of p scope u) → ((v : TypeRef) → In v m.params → In (sided e true v) ps) × In (sided e false m.result) ps) → IsClosed TypeRef (methods_of p scope) IsObject Within ps (sided e false u)
+    close_false : (u : TypeRef) → Marked (u, false) → ((m : Signature TypeRef) → In m (methods_of p scope u) → ((v : TypeRef) → In v m.params → In (sided e true v) ps) × In (sided e false m.result) ps) → IsClosed TypeRef (methods_of p scope) IsObject (Inside Under) ps (sided e false u)
     close_false u f parts =
         elim (object_cases u) [
           | inr base ↦
@@ -400,7 +401,7 @@ module _ (p : Program) (w : IsCore p) (scope : ℕ) (e : List ℕ) (start : Trut
             λ m i.
                 let q = parts m i in
                 let P : List (Signature TypeRef) → Type 0 = λ l. find_method m.name l ≡ Some (at_bound e m) in
-                let Q : Option (Signature TypeRef) → Type 0 = λ o. HasCover TypeRef (methods_of p scope) IsObject Within ps o m in
+                let Q : Option (Signature TypeRef) → Type 0 = λ o. HasCover TypeRef (methods_of p scope) IsObject (Inside Under) ps o m in
                 let found : find_method m.name (methods_of p scope (annotated e u)) ≡ Some (at_bound e m) =
                 subst P (sym (methods-bound p scope e u f.0)) (find-bounded e m.name (methods_of p scope u) m (names p w scope u m i)) in
                 let S : Truth → Type 0 = λ b. Reaches TypeRef (methods_of p scope) t b u in
@@ -412,11 +413,11 @@ module _ (p : Program) (w : IsCore p) (scope : ℕ) (e : List ℕ) (start : Trut
           )
         ]
 
-    close : (b : Truth) (u : TypeRef) → Marked (u, b) → ((m : Signature TypeRef) → In m (methods_of p scope u) → ((v : TypeRef) → In v m.params → In (sided e (not b) v) ps) × In (sided e b m.result) ps) → IsClosed TypeRef (methods_of p scope) IsObject Within ps (sided e b u)
+    close : (b : Truth) (u : TypeRef) → Marked (u, b) → ((m : Signature TypeRef) → In m (methods_of p scope u) → ((v : TypeRef) → In v m.params → In (sided e (not b) v) ps) × In (sided e b m.result) ps) → IsClosed TypeRef (methods_of p scope) IsObject (Inside Under) ps (sided e b u)
     close true u f parts = close_true u f parts
     close false u f parts = close_false u f parts
 
-  sub_from : Writable p t → EffectsWithin TypeRef (methods_of p scope) t start e → IsSafe TypeRef (methods_of p scope) t (not start) e → IsSubtype TypeRef (methods_of p scope) IsObject Within (sided e start t).0 (sided e start t).1
+  sub_from : Writable p t → EffectsWithin TypeRef (methods_of p scope) Under t start e → IsSafe TypeRef (methods_of p scope) Under t (not start) e → IsSubtype TypeRef (methods_of p scope) IsObject (Inside Under) (sided e start t).0 (sided e start t).1
   unfolding next_marks
   sub_from f effects safe =
       let r : Closes Mark next_marks Marked [] ((t, start) ∷ []) = all_marks f in
@@ -427,7 +428,7 @@ module _ (p : Program) (w : IsCore p) (scope : ℕ) (e : List ℕ) (start : Trut
         first = In-map turn (t, start) r.list (r.new (t, start) (inl refl));
         closed = λ z i.
             let q = In-unmap turn z r.list i in
-            let P : (TypeRef × TypeRef) → Type 0 = λ v. IsClosed TypeRef (methods_of p scope) IsObject Within ps v in
+            let P : (TypeRef × TypeRef) → Type 0 = λ v. IsClosed TypeRef (methods_of p scope) IsObject (Inside Under) ps v in
             let x : Mark = q.0 in
             let next : (y : Mark) → In y (next_marks x) → In (turn y) ps = λ y j. In-map turn y r.list (r.closed x q.1 y j) in
             subst P q.2 (close effects safe ps x.1 x.0 (r.each x q.1) (λ m j. (
@@ -437,11 +438,11 @@ module _ (p : Program) (w : IsCore p) (scope : ℕ) (e : List ℕ) (start : Trut
       }
 
 -- the law of annotation
-pub annotation : (p : Program) (w : IsCore p) (scope : ℕ) → (e : List ℕ) (t : TypeRef) → Writable p t →
-    (EffectsWithin TypeRef (methods_of p scope) t true e × IsSafe TypeRef (methods_of p scope) t false e) ↔ IsSubtype TypeRef (methods_of p scope) IsObject Within t (annotated e t)
-annotation p w scope e t f = (λ h. sub_from p w scope e true t f h.0 h.1, λ sub. effects_from_subtype p w scope e true t f sub)
+pub annotation : (Under : List ℕ → ℕ → Type 0) (p : Program) (w : IsCore p) (scope : ℕ) → (e : List ℕ) (t : TypeRef) → Writable p t →
+    (EffectsWithin TypeRef (methods_of p scope) Under t true e × IsSafe TypeRef (methods_of p scope) Under t false e) ↔ IsSubtype TypeRef (methods_of p scope) IsObject (Inside Under) t (annotated e t)
+annotation Under p w scope e t f = (λ h. sub_from Under p w scope e true t f h.0 h.1, λ sub. effects_from_subtype Under p w scope e true t f sub)
 
 -- its dual: the sides are exchanged, and so are the polarities
-pub dual_annotation : (p : Program) (w : IsCore p) (scope : ℕ) → (e : List ℕ) (t : TypeRef) → Writable p t →
-    (IsSafe TypeRef (methods_of p scope) t true e × EffectsWithin TypeRef (methods_of p scope) t false e) ↔ IsSubtype TypeRef (methods_of p scope) IsObject Within (annotated e t) t
-dual_annotation p w scope e t f = (λ h. sub_from p w scope e false t f h.1 h.0, λ sub. (let r = effects_from_subtype p w scope e false t f sub in (r.1, r.0)))
+pub dual_annotation : (Under : List ℕ → ℕ → Type 0) (p : Program) (w : IsCore p) (scope : ℕ) → (e : List ℕ) (t : TypeRef) → Writable p t →
+    (IsSafe TypeRef (methods_of p scope) Under t true e × EffectsWithin TypeRef (methods_of p scope) Under t false e) ↔ IsSubtype TypeRef (methods_of p scope) IsObject (Inside Under) (annotated e t) t
+dual_annotation Under p w scope e t f = (λ h. sub_from Under p w scope e false t f h.1 h.0, λ sub. (let r = effects_from_subtype Under p w scope e false t f sub in (r.1, r.0)))

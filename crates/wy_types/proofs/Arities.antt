@@ -1,8 +1,9 @@
 -- The methods of a core's types have few parameters.
-use Rattle.std.proofs.Common.{◌≡◌, ℕ, ◌≤◌, List, [], ◌∷◌, map, inl, inr, length, refl, sym, subst, Option, Bool as Truth, true, false}
+use Rattle.std.proofs.Common.{◌≡◌, ℕ, ◌≤◌, List, [], ◌∷◌, map, inl, inr, length, refl, sym, subst, Option, Bool as Truth, true, false, arith}
 use Rattle.std.specs.Prelude.{slice_get, nat_eq, if◌then◌else◌}
 use Rattle.std.proofs.lemmas.List.{length-map}
 use Rattle.wy_effects.specs.EffSet.{replace}
+use Rattle.wy_effects.proofs.Ordering.{fit_down}
 use Rattle.wy_effects.specs.Members.{In}
 use Rattle.wy_effects.proofs.Lists.{In-map, In-unmap, In-slice_get}
 use Rattle.wy_types.specs.declared.types.TypeRef.{TypeRef}
@@ -80,4 +81,5 @@ core_in_range p c = record {
   signatures = core_signatures_fit p c;
   declared = λ d i. (c.declarations d i).few_parameters;
   written = λ s i. (c.scopes s i).few_parameters;
+  bounds = λ s i. (let f = c.scopes s i in (fit_down (length s.atoms) s.bounds f.bounds, (let e = f.bounds.0 in let n = f.atoms in omega (arith, e, n))));
 }

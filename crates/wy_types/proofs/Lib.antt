@@ -1,5 +1,6 @@
 pub mod Annotating
 pub mod Arities
+pub mod Bounding
 pub mod Closing
 pub mod Composing
 pub mod Deciding

@@ -1,12 +1,15 @@
 -- Each type in range is a subtype of itself.
 use Rattle.std.proofs.Common.{ℕ, List, map, ◌⊎◌, inl, inr, sym, subst, Option, Bool as Truth, true, false}
 use Rattle.std.specs.Prelude.{slice_get}
-use Rattle.wy_effects.specs.Members.{In, Within, Apart}
+use Rattle.wy_effects.specs.Members.{In, Apart}
+use Rattle.wy_effects.specs.Bounds.{IsWithin, by_member}
 use Rattle.wy_effects.proofs.Lists.{In-slice_get}
+use Rattle.wy_effects.proofs.Ordering.{onward_within}
 use Rattle.wy_types.specs.declared.types.TypeRef.{TypeRef}
 use Rattle.wy_types.specs.declared.types.TypeRef.TheVariants.{Int, Bool, Text, Unit as Nothing, Named, At, Own}
 use Rattle.wy_types.specs.declared.resolved.TypeDecl.{TypeDecl}
 use Rattle.wy_types.specs.Program.{Program, Scope}
+use Rattle.wy_types.specs.Bounds.{bounds_of}
 use Rattle.wy_types.specs.Signature.{mapped_signature, signature_types}
 use Rattle.wy_types.specs.Types.{IsObject, declared_methods, methods_of_owner, named_methods, scope_is_plain, scope_bodies, methods_of}
 use Rattle.wy_types.specs.Subtyping.{IsSubtype, AnyEffect}
@@ -78,10 +81,10 @@ module _ (p : Program) (c : IsCore p) (scope : ℕ) where
       (length-le-type_bound p scope) methods_differ
 
 pub reflexivity : IsReflexive
-reflexivity p c scope t f = (reflexive p c scope Within (λ e a i. i) t f, reflexive p c scope AnyEffect (λ e. tt) t f)
+reflexivity p c scope t f = (reflexive p c scope (IsWithin (bounds_of p scope)) (λ e a i. by_member a i) t f, reflexive p c scope AnyEffect (λ e. tt) t f)
 
 pub transitivity : IsTransitive
 transitivity p scope a b d = (
-  transitive TypeRef decide_type (methods_of p scope) IsObject Within (λ e f g v w x i. w x (v x i)) a b d,
+  transitive TypeRef decide_type (methods_of p scope) IsObject (IsWithin (bounds_of p scope)) (onward_within (bounds_of p scope)) a b d,
   transitive TypeRef decide_type (methods_of p scope) IsObject AnyEffect (λ e f g v w. tt) a b d,
 )

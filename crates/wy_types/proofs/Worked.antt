@@ -1,7 +1,7 @@
 -- The definitions tried on worked examples.
-use Rattle.std.proofs.Common.{◌≡◌, ℕ, ◌+◌, ◌*◌, List, [], ◌∷◌, inl, inr, refl, subst, true, false}
+use Rattle.std.proofs.Common.{◌≡◌, ℕ, ◌+◌, ◌*◌, List, [], ◌∷◌, length, replicate, inl, inr, refl, subst, Option, None, true, false}
 use Rattle.std.specs.Prelude.{codes}
-use Rattle.wy_effects.specs.Members.{Within}
+use Rattle.wy_effects.specs.Bounds.{IsWithin, by_member}
 use Rattle.wy_types.specs.declared.types.TypeRef.{TypeRef}
 use Rattle.wy_types.specs.declared.types.TypeRef.TheVariants.{Int, Unit as Nothing, Named, Bool}
 use Rattle.wy_types.specs.declared.types.Method.{Method}
@@ -10,6 +10,7 @@ use Rattle.wy_types.specs.declared.path.Part.TheVariants.{Parameter, Result}
 use Rattle.wy_types.specs.declared.path.Step.{Step}
 use Rattle.wy_types.specs.declared.resolved.TypeDecl.{TypeDecl}
 use Rattle.wy_types.specs.Program.{Program}
+use Rattle.wy_types.specs.Bounds.{bounds_of}
 use Rattle.wy_types.specs.Signature.{Signature, find_method}
 use Rattle.wy_types.specs.Types.{IsObject, methods_of, signature}
 use Rattle.wy_types.specs.Subtyping.{IsClosed, HasCover, IsAnnotatedSubtype, Leads}
@@ -23,7 +24,7 @@ method : List ℕ → List TypeRef → List ℕ → TypeRef → Method
 method name params effect result = record { name = name; params = params; effect = effect; result = result }
 
 declaration : List ℕ → List (List ℕ) → List Method → TypeDecl
-declaration name members methods = record { name = name; members = members; defined = []; methods = methods }
+declaration name members methods = record { name = name; members = members; bounds = replicate (length members) None; defined = []; methods = methods }
 
 ------------------------------------------------------------
 -- Types that go on by one method:
@@ -48,13 +49,13 @@ P_under_Q = record {
   pairs = (Named 0 [], Named 1 []) ∷ [];
   first = inl refl;
   closed = λ p i. elim i [
-    | inl e ↦ (let C : Pair → Type 0 = λ q. IsClosed TypeRef (methods_of going_on 0) IsObject Within ((Named 0 [], Named 1 []) ∷ []) q in
+    | inl e ↦ (let C : Pair → Type 0 = λ q. IsClosed TypeRef (methods_of going_on 0) IsObject (IsWithin (bounds_of going_on 0)) ((Named 0 [], Named 1 []) ∷ []) q in
         subst C e (inr (
           tt,
           tt,
           λ m j. elim j [
-            | inl f ↦ (let D : Signature TypeRef → Type 0 = λ v. HasCover TypeRef (methods_of going_on 0) IsObject Within ((Named 0 [], Named 1 []) ∷ []) (find_method v.name (methods_of going_on 0 (Named 0 []))) v in
-                subst D f (record { params = tt; effect = λ a h. h; result = inl refl }))
+            | inl f ↦ (let D : Signature TypeRef → Type 0 = λ v. HasCover TypeRef (methods_of going_on 0) IsObject (IsWithin (bounds_of going_on 0)) ((Named 0 [], Named 1 []) ∷ []) (find_method v.name (methods_of going_on 0 (Named 0 []))) v in
+                subst D f (record { params = tt; effect = by_member; result = inl refl }))
             | inr z ↦ absurd z
           ],
         )))
@@ -68,13 +69,13 @@ R_under_P = record {
   pairs = (Named 2 [], Named 0 []) ∷ [];
   first = inl refl;
   closed = λ p i. elim i [
-    | inl e ↦ (let C : Pair → Type 0 = λ q. IsClosed TypeRef (methods_of going_on 0) IsObject Within ((Named 2 [], Named 0 []) ∷ []) q in
+    | inl e ↦ (let C : Pair → Type 0 = λ q. IsClosed TypeRef (methods_of going_on 0) IsObject (IsWithin (bounds_of going_on 0)) ((Named 2 [], Named 0 []) ∷ []) q in
         subst C e (inr (
           tt,
           tt,
           λ m j. elim j [
-            | inl f ↦ (let D : Signature TypeRef → Type 0 = λ v. HasCover TypeRef (methods_of going_on 0) IsObject Within ((Named 2 [], Named 0 []) ∷ []) (find_method v.name (methods_of going_on 0 (Named 2 []))) v in
-                subst D f (record { params = tt; effect = λ a h. h; result = inl refl }))
+            | inl f ↦ (let D : Signature TypeRef → Type 0 = λ v. HasCover TypeRef (methods_of going_on 0) IsObject (IsWithin (bounds_of going_on 0)) ((Named 2 [], Named 0 []) ∷ []) (find_method v.name (methods_of going_on 0 (Named 2 []))) v in
+                subst D f (record { params = tt; effect = by_member; result = inl refl }))
             | inr z ↦ absurd z
           ],
         )))
@@ -169,7 +170,7 @@ next_result : Step
 next_result = step (codes "next") Result
 
 -- three steps lead from S0 and U0 to Int and Bool
-to_different_ends : Leads TypeRef (methods_of ending_apart 0) IsObject Within (Named 0 [], Named 3 []) (next_result ∷ next_result ∷ next_result ∷ []) (Int, Bool)
+to_different_ends : Leads TypeRef (methods_of ending_apart 0) IsObject (IsWithin (bounds_of ending_apart 0)) (Named 0 [], Named 3 []) (next_result ∷ next_result ∷ next_result ∷ []) (Int, Bool)
 unfolding ending_apart ending declaration method next_result step
 to_different_ends = (
   (Named 1 [], Named 4 []),
@@ -184,7 +185,7 @@ to_different_ends = (
 -- so S0 is no subtype of U0
 S0_not_under_U0 : IsAnnotatedSubtype ending_apart 0 (Named 0 []) (Named 3 []) → ⊥
 S0_not_under_U0 h =
-    elim (h.closed (Int, Bool) (closed_path TypeRef (methods_of ending_apart 0) IsObject Within (no_methods ending_apart 0) h.pairs h.closed (next_result ∷ next_result ∷ next_result ∷ []) (Named 0 [], Named 3 []) (Int, Bool) h.first to_different_ends)) [
+    elim (h.closed (Int, Bool) (closed_path TypeRef (methods_of ending_apart 0) IsObject (IsWithin (bounds_of ending_apart 0)) (no_methods ending_apart 0) h.pairs h.closed (next_result ∷ next_result ∷ next_result ∷ []) (Named 0 [], Named 3 []) (Int, Bool) h.first to_different_ends)) [
       | inl base ↦ (let e : Int ≡ Bool = base.0 in absurd (cc))
       | inr object ↦ object.0
     ]

@@ -3,6 +3,7 @@ use Rattle.std.specs.Prelude.{◌≡◌, ℕ, ◌+◌, ◌<◌, ◌≤◌, ◌�
 use Rattle.std.specs.List.{range_with_len}
 use Rattle.wy_effects.specs.Members.{In, Within, Apart}
 use Rattle.wy_effects.specs.EffSet.{IsSet, AreSets}
+use Rattle.wy_effects.specs.Bounds.{BoundsFit}
 use Rattle.wy_types.specs.declared.types.TypeRef.{TypeRef}
 use Rattle.wy_types.specs.declared.types.TypeRef.TheVariants.{Int, Bool, Text, Unit as Nothing, Named, At, Own}
 use Rattle.wy_types.specs.declared.code.Variable.{Variable}
@@ -289,6 +290,7 @@ BodiesHaveNoEffect Unannotated effect bodies = (effect ≡ []) × ((b : Body) �
 pub record ScopeFits (p : Program) (s : Scope) : Type 0 where
   pub ascribed : IsAscribed p s s.kind s.ascribed
   pub definitions : AreSets (length s.atoms) s.definitions
+  pub bounds : BoundsFit (length s.atoms) s.bounds
   pub names : (k : ℕ) (n : OwnName) → slice_get s.names k ≡ Some n → IsWritten p s n.typ × OriginFits p s k n n.origin
   pub starts : StartIs s.kind s.start × StartFits p s s.start × IsSet (length s.atoms) s.start_effect
   pub bodies : (k : ℕ) (b : Body) → slice_get s.bodies k ≡ Some b → BodyFits p s k b
@@ -318,6 +320,7 @@ pub record ScopeFits (p : Program) (s : Scope) : Type 0 where
 pub record DeclarationFits (p : Program) (d : TypeDecl) : Type 0 where
   pub written : (m : Signature TypeRef) → In m (map signature d.methods) → FitsSignature p (length d.members) 0 m × ((t : TypeRef) → In t (m.params ++ m.result ∷ []) → HasSets p false t)
   pub defined : (m : DefinedMember) → In m d.defined → IsSet (length d.members) m.effects
+  pub bounds : BoundsFit (length d.members) d.bounds
   pub member_names : Apart (d.members ++ map (λ (m : DefinedMember). m.name) d.defined)
   pub method_names : Apart (map (λ (m : Signature TypeRef). m.name) (map signature d.methods))
   pub few_members : length d.members ≤ 512

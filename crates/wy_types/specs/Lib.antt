@@ -1,4 +1,5 @@
 pub mod Bodies
+pub mod Bounds
 pub mod Code
 pub mod Core
 pub mod Few

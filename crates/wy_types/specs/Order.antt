@@ -1,7 +1,9 @@
 -- The laws of subtyping and of annotation.
 use Rattle.std.specs.Prelude.{ℕ, List, ◌↔◌, true, false}
+use Rattle.wy_effects.specs.Bounds.{IsUnder}
 use Rattle.wy_types.specs.declared.types.TypeRef.{TypeRef}
 use Rattle.wy_types.specs.Program.{Program}
+use Rattle.wy_types.specs.Bounds.{bounds_of}
 use Rattle.wy_types.specs.Fitting.{FitsType, IsTypeOf}
 use Rattle.wy_types.specs.Types.{annotated, methods_of}
 use Rattle.wy_types.specs.Paths.{EffectsWithin, IsSafe}
@@ -19,8 +21,8 @@ IsTransitive =
     (IsAnnotatedSubtype p scope a b → IsAnnotatedSubtype p scope b c → IsAnnotatedSubtype p scope a c) ×
     (IsPlainSubtype p scope a b → IsPlainSubtype p scope b c → IsPlainSubtype p scope a c)
 
--- for a type that can be written: its effects are in a bound that is higher-order safe for it exactly where it is a subtype of itself at the bound
+-- for a type that can be written: its effects are within a bound that is higher-order safe for it exactly where it is a subtype of itself at the bound
 abbrev pub AnnotationHolds : Type 0
 AnnotationHolds =
     (p : Program) → IsCore p → (scope : ℕ) (e : List ℕ) (t : TypeRef) → FitsType p 512 0 t →
-    (EffectsWithin TypeRef (methods_of p scope) t true e × IsSafe TypeRef (methods_of p scope) t false e) ↔ IsAnnotatedSubtype p scope t (annotated e t)
+    (EffectsWithin TypeRef (methods_of p scope) (IsUnder (bounds_of p scope)) t true e × IsSafe TypeRef (methods_of p scope) (IsUnder (bounds_of p scope)) t false e) ↔ IsAnnotatedSubtype p scope t (annotated e t)

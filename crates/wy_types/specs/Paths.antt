@@ -1,6 +1,7 @@
 -- Paths through the methods of types: what they reach, and the effects on their ways. Over any types and their methods.
 use Rattle.std.specs.Prelude.{◌≡◌, ℕ, List, [], ◌∷◌, Some, Bool, true, not, slice_get}
-use Rattle.wy_effects.specs.Members.{In, Within}
+use Rattle.wy_effects.specs.Members.{In}
+use Rattle.wy_effects.specs.Bounds.{Inside}
 use Rattle.wy_types.specs.declared.path.Part.{Part}
 use Rattle.wy_types.specs.declared.path.Part.TheVariants.{Parameter, Result}
 use Rattle.wy_types.specs.declared.path.Step.{Step}
@@ -42,10 +43,10 @@ module _ (K : Type 0) (methods : K → List (Signature K)) where
   abbrev pub IsEffect : K → Bool → ℕ → Type 0
   IsEffect t positive a = (u : K) × Reaches t positive u × ((m : Signature K) × In m (methods u) × In a m.effect)
 
-  -- the effects of what is reached so are all in the set
-  abbrev pub EffectsWithin : K → Bool → List ℕ → Type 0
-  EffectsWithin t positive e = (a : ℕ) → IsEffect t positive a → In a e
+  -- the effects of what is reached so are all under the set, in an order between sets and atoms
+  abbrev pub EffectsWithin : (List ℕ → ℕ → Type 0) → K → Bool → List ℕ → Type 0
+  EffectsWithin Under t positive e = (a : ℕ) → IsEffect t positive a → Under e a
 
-  -- the set is in the effect of every method of what is reached so; `safe` for the positive paths, `ho_safe` for the negative ones
-  abbrev pub IsSafe : K → Bool → List ℕ → Type 0
-  IsSafe t positive e = (u : K) → Reaches t positive u → (m : Signature K) → In m (methods u) → Within e m.effect
+  -- the set is inside the effect of every method of what is reached so, in such an order; `safe` for the positive paths, `ho_safe` for the negative ones
+  abbrev pub IsSafe : (List ℕ → ℕ → Type 0) → K → Bool → List ℕ → Type 0
+  IsSafe Under t positive e = (u : K) → Reaches t positive u → (m : Signature K) → In m (methods u) → Inside Under e m.effect

@@ -1,5 +1,5 @@
 -- The primitive types: the first declarations of each program.
-use Rattle.std.specs.Prelude.{codes, ℕ, List, [], ◌∷◌, replicate}
+use Rattle.std.specs.Prelude.{codes, ℕ, List, [], ◌∷◌, Option, None, length, replicate}
 use Rattle.wy_types.specs.declared.types.TypeRef.{TypeRef}
 use Rattle.wy_types.specs.declared.types.TypeRef.TheVariants.{Int, Bool, Text, Unit as Nothing}
 use Rattle.wy_types.specs.declared.types.Method.{Method}
@@ -10,7 +10,7 @@ abbrev pub primitive_method : List ℕ → ℕ → ℕ → TypeRef → Method
 primitive_method name texts member result = record { name = name; params = replicate texts Text; effect = member ∷ []; result = result }
 
 abbrev pub primitive_type : List ℕ → List (List ℕ) → List Method → TypeDecl
-primitive_type name members methods = record { name = name; members = members; defined = []; methods = methods }
+primitive_type name members methods = record { name = name; members = members; bounds = replicate (length members) None; defined = []; methods = methods }
 
 abbrev pub console : TypeDecl
 console =

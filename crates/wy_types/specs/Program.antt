@@ -2,6 +2,7 @@
 use Rattle.std.specs.Prelude.{ℕ, List, Option, map}
 use Rattle.wy_text.specs.declared.fault.Place.{Place}
 use Rattle.wy_text.specs.declared.fault.AtomName.{AtomName}
+use Rattle.wy_effects.specs.Bounds.{Bounds}
 use Rattle.wy_types.specs.declared.types.Method.{Method}
 use Rattle.wy_types.specs.declared.resolved.TypeDecl.{TypeDecl}
 use Rattle.wy_types.specs.declared.resolved.ScopeKind.{ScopeKind}
@@ -33,6 +34,7 @@ pub record Scope : Type 0 where
   pub name : List ℕ
   pub place : Place
   pub atoms : List AtomName
+  pub bounds : Bounds
   pub names : List OwnName
   pub ascribed : Option ℕ
   pub definitions : List (List ℕ)
@@ -59,6 +61,7 @@ scope_of x = record {
   name = x.name;
   place = x.place;
   atoms = x.atoms;
+  bounds = x.bounds;
   names = x.names;
   ascribed = x.ascribed;
   definitions = x.definitions;

@@ -1,11 +1,13 @@
 -- When a type is a subtype of another, over any types, their methods and any test of effects.
 use Rattle.std.specs.Prelude.{◌≡◌, ℕ, List, [], ◌∷◌, ◌⊎◌, Option, Some, None, slice_get}
-use Rattle.wy_effects.specs.Members.{In, Within}
+use Rattle.wy_effects.specs.Members.{In}
+use Rattle.wy_effects.specs.Bounds.{IsWithin}
 use Rattle.wy_types.specs.declared.types.TypeRef.{TypeRef}
 use Rattle.wy_types.specs.declared.path.Part.{Part}
 use Rattle.wy_types.specs.declared.path.Part.TheVariants.{Parameter, Result}
 use Rattle.wy_types.specs.declared.path.Step.{Step}
 use Rattle.wy_types.specs.Program.{Program}
+use Rattle.wy_types.specs.Bounds.{bounds_of}
 use Rattle.wy_types.specs.Signature.{Signature, find_method}
 use Rattle.wy_types.specs.Types.{IsObject as IsObjectType, methods_of}
 
@@ -64,7 +66,7 @@ AnyEffect e f = Unit {0}
 
 -- annotated and plain subtyping of a scope's types
 abbrev pub IsAnnotatedSubtype : Program → ℕ → TypeRef → TypeRef → Type 0
-IsAnnotatedSubtype p scope s t = IsSubtype TypeRef (methods_of p scope) IsObjectType Within s t
+IsAnnotatedSubtype p scope s t = IsSubtype TypeRef (methods_of p scope) IsObjectType (IsWithin (bounds_of p scope)) s t
 
 abbrev pub IsPlainSubtype : Program → ℕ → TypeRef → TypeRef → Type 0
 IsPlainSubtype p scope s t = IsSubtype TypeRef (methods_of p scope) IsObjectType AnyEffect s t

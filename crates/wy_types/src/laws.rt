@@ -19,7 +19,7 @@ pub fn subtyping_is_transitive()
     ensures { IsTransitive }
 {}
 
-/// For a type that can be written: its effects are in a bound that is higher-order safe for it
+/// For a type that can be written: its effects are within a bound that is higher-order safe for it
 /// exactly where it is a subtype of itself at the bound.
 pub fn annotation_holds()
     ensures { AnnotationHolds }

@@ -3,6 +3,7 @@
 #![tactic(auto)]
 
 pub mod bodies;
+pub mod bounds;
 pub mod code;
 pub mod key;
 pub mod laws;

@@ -1,9 +1,9 @@
 //! The primitive types, which stand before the declared ones.
 
-ghost use Rattle.std.specs.Prelude.{◌≡◌, ◌<◌, ◌++◌, ◌∷◌, [], replicate, OnOk, IfOk};
+ghost use Rattle.std.specs.Prelude.{◌≡◌, ◌<◌, ◌++◌, ◌∷◌, [], None, replicate, OnOk, IfOk};
 ghost use Rattle.wy_types.specs.Primitive.{primitive_method, console, folder, clock, random, primitive_types};
 
-use crate::resolved::TypeDecl;
+use crate::resolved::{BoundList, TypeDecl};
 use crate::types::{Method, TypeList, TypeRef};
 use std::alloc::Global;
 use wy_effects::atom::Atom;
@@ -49,6 +49,17 @@ fn add_member(alloc: Global, members: &mut Items<Text>, name: &str) -> Result<()
     members.push(from_bytes(alloc, name.as_bytes())?)
 }
 
+/// No upper bound for any of so many members.
+fn unbounded(alloc: Global, members: usize) -> Result<BoundList, Memory>
+    ensures { IfOk result (λ bs. bs ≡ replicate members None) }
+{
+    let mut bounds = Items::new(alloc);
+    for _n in 0..members {
+        bounds.push(None)?;
+    }
+    Ok(bounds)
+}
+
 fn make_console(alloc: Global) -> Result<TypeDecl, Memory>
     ensures { IfOk result (λ d. d ≡ console) }
 {
@@ -61,6 +72,7 @@ fn make_console(alloc: Global) -> Result<TypeDecl, Memory>
     Ok(TypeDecl {
         name: from_bytes(alloc, b"Console")?,
         members,
+        bounds: unbounded(alloc, 2)?,
         defined: Items::new(alloc),
         methods,
     })
@@ -83,6 +95,7 @@ fn make_folder(alloc: Global) -> Result<TypeDecl, Memory>
     Ok(TypeDecl {
         name: from_bytes(alloc, b"Folder")?,
         members,
+        bounds: unbounded(alloc, 4)?,
         defined: Items::new(alloc),
         methods,
     })
@@ -98,6 +111,7 @@ fn make_clock(alloc: Global) -> Result<TypeDecl, Memory>
     Ok(TypeDecl {
         name: from_bytes(alloc, b"Clock")?,
         members,
+        bounds: unbounded(alloc, 1)?,
         defined: Items::new(alloc),
         methods,
     })
@@ -113,6 +127,7 @@ fn make_random(alloc: Global) -> Result<TypeDecl, Memory>
     Ok(TypeDecl {
         name: from_bytes(alloc, b"Random")?,
         members,
+        bounds: unbounded(alloc, 1)?,
         defined: Items::new(alloc),
         methods,
     })

@@ -14,12 +14,17 @@ pub struct DefinedMember {
     pub effects: EffSet,
 }
 
+/// Upper bounds, by the numbers of the members or atoms that they bound: none where there is no bound.
+pub type BoundList = Items<Option<EffSet>>;
+
 /// A type declaration. The sets in its signatures are of its abstract members, by their numbers.
 #[derive(Drop)]
 pub struct TypeDecl {
     pub name: Text,
     /// The names of its abstract members.
     pub members: Items<Text>,
+    /// For each of these its upper bound, a set of abstract members before it.
+    pub bounds: BoundList,
     pub defined: Items<DefinedMember>,
     pub methods: Items<Method>,
 }
@@ -109,6 +114,8 @@ pub struct Scope {
     pub name: Text,
     pub place: Place,
     pub atoms: AtomTable,
+    /// For each atom its upper bound, a set of atoms before it.
+    pub bounds: BoundList,
     /// The scope's own names: parameters or grants, then used modules, then lines.
     pub names: Items<OwnName>,
     /// The number of the declared type that a module is sealed at; none for the program.

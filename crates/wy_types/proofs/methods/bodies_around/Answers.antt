@@ -1,7 +1,7 @@
-use Rattle.std.proofs.Common.{rules, ◌≡◌, [], List, map, slice_get, Option, Some, None, sym, ap, ◌∙◌}
+use Rattle.std.proofs.Common.{sym, ap, ◌∙◌}
 use Rattle.std.proofs.lemmas.Option.{slice_get-map}
 use Rattle.std.specs.Option.{option_map}
-use Rattle.wy_types.specs.Program.{scope_of, body_of}
+use Rattle.wy_types.specs.Program.{scope_of}
 use Rattle.wy_types.specs.Types.{methods_of_owner, scope_bodies}
 use Rattle.wy_types.proofs.Spans.{same_methods}
 use Rattle.wy_types.proofs.methods.bodies_around.Goals as goal

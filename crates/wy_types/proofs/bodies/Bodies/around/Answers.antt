@@ -1,5 +1,4 @@
-use Rattle.std.proofs.Common.{rules, ◌≡◌, ℕ, length, nat_eq, ◌-◌, ◌≤◌, take, drop, Some, None, List, [], sym, ap, ◌∙◌, subst}
-use Rattle.indexmap.specs.IndexMap.{get}
+use Rattle.std.proofs.Common.{◌≡◌, length, ◌-◌, ◌≤◌, take, drop, [], sym, ap, ◌∙◌, subst}
 use Rattle.wy_types.specs.Bodies.{StandFrom, StandIn, owned_by}
 use Rattle.wy_types.proofs.Spans.{in_bounds, owned_among, part_is}
 use Rattle.wy_types.proofs.bodies.Bodies.around.Goals as goal
