@@ -5,10 +5,12 @@ use Rattle.wy_text.specs.declared.fault.Place.{Place}
 use Rattle.wy_text.specs.declared.token.TokenKind.{TokenKind}
 use Rattle.wy_text.specs.declared.token.TokenKind.TheVariants as kind
 use Rattle.wy_syntax.specs.declared.types.Name.{Name}
+use Rattle.wy_syntax.specs.declared.types.AtomUse.{AtomUse}
+use Rattle.wy_syntax.specs.declared.items.Member.TheVariants as members
 use Rattle.wy_syntax.specs.Tokens.{Tok}
 use Rattle.wy_syntax.specs.Trees.{ExprTree, name, text, yes, no, call, none, more, value, run, no_stmts, more_stmts, long, ItemTree, type_item, program_item}
 use Rattle.wy_syntax.specs.Canonical.{canonical_form}
-use Rattle.wy_canonical.specs.Unplaced.{unplaced}
+use Rattle.wy_canonical.specs.Unplaced.{bare_member, unplaced}
 use Rattle.wy_syntax.specs.OwnWords.{IsWord, HasWords}
 
 abbrev at : ℕ → ℕ → Place
@@ -37,6 +39,14 @@ printed_tree = refl
 -- places are gone, and the canonical form stays
 printed_unplaced : canonical_form (unplaced (writes (at 1 1) (text (codes "a") (at 4 13)))) ≡ codes "program\n  grant c: Console\n  run: {}\n    c.write(\"a\")\n"
 printed_unplaced = refl
+
+-- a type whose one member has an upper bound: its canonical form stays without places
+printed_bound : canonical_form (unplaced (type_item (record { place = at 1 1; name = named (codes "C") 1 6; members = members.Bounded (named (codes "E") 2 10) [] ∷ [] }) ∷ [])) ≡ codes "type C\n  effect E <= {}\n"
+printed_bound = refl
+
+-- a bound is no definition
+other_member : (n : Name) (s : List AtomUse) → bare_member (members.Bounded n s) ≡ bare_member (members.Defined n s) → ⊥
+other_member n s e = absurd cc
 
 -- a word, and three that are none
 letter : IsWord (codes "C")

@@ -220,6 +220,7 @@ mutual
 
 member_same : (m : Member) → member_text (bare_member m) ≡ member_text m
 member_same (members.Abstract n) = refl
+member_same (members.Bounded n s) = ap (λ (t : List ℕ). codes "  effect " ++ n.text ++ codes " <= " ++ t ++ newline) (set_same s)
 member_same (members.Defined n s) = ap (λ (t : List ℕ). codes "  effect " ++ n.text ++ codes " = " ++ t ++ newline) (set_same s)
 member_same (members.Method s) = ap (λ (t : List ℕ). codes "  " ++ t ++ newline) (signature_same s)
 

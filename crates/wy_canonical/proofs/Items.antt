@@ -1,5 +1,6 @@
 -- Printed items.
 use Rattle.std.proofs.Common.{◌≡◌, ℕ, Bool, true, false, Option, Some, None, List, [], ◌∷◌, ◌++◌, map, codes, refl, sym, ap, subst, ◌∙◌, append_assoc, inl, inr}
+use Rattle.wy_text.specs.declared.token.TokenKind.{TokenKind}
 use Rattle.wy_text.specs.declared.token.TokenKind.TheVariants as kind
 use Rattle.wy_syntax.specs.declared.types.Name.{Name}
 use Rattle.wy_syntax.specs.declared.types.AtomUse.{AtomUse}
@@ -18,10 +19,10 @@ use Rattle.wy_syntax.specs.StmtGrammar.{SpellsParts, SpellsTail}
 use Rattle.wy_syntax.specs.Grammar.{SpellsMember, SpellsUse, SpellsLine, SpellsDefine, SpellsInit, SpellsGrant, nothing_inside, SpellsInside, SpellsItem}
 use Rattle.wy_syntax.specs.Canonical.{newline, with_commas, in_order, name_text, set_text, param_text, signature_text, parts_text, tail_text, member_text, use_text, line_text, define_text, init_text, grant_text, inside_text, item_text}
 use Rattle.wy_canonical.specs.Unplaced.{nowhere, maybe, bare_name, bare_set, bare_param, bare_parts, bare_tail, bare_member, bare_line, bare_define, bare_init, bare_grant, bare_inside, bare_item}
-use Rattle.wy_canonical.proofs.PrintedWords.{any}
+use Rattle.wy_canonical.proofs.PrintedWords.{any, closes}
 use Rattle.wy_canonical.proofs.Source.{AllFair}
 use Rattle.wy_canonical.proofs.Printing.{first_map, anew, group2, group3, group4, group5, group8, group10, group11, fair_front, fair_back, mark_of, Prints, seq, word_of, blank, Again, name_again, commas_print, commas_free}
-use Rattle.wy_canonical.proofs.Types.{equals, colon, open_parens, close_parens, close_colon, at_word, set_again, module_param_again, signature_again}
+use Rattle.wy_canonical.proofs.Types.{equals, at_most, colon, open_parens, close_parens, close_colon, at_word, set_again, module_param_again, signature_again}
 use Rattle.wy_canonical.proofs.Turning.{Ends, Inner, Led, OpenEnds, line_end, seq_turn, seq_end, turn_inner, turn_ends, conv_end, conv_led, in_led, LedOr, nothing, line, both_led, conv_or, some_led, or_led}
 use Rattle.wy_canonical.proofs.Statements.{end3, end4, end6, inner_indented, no_parts_printed, printed_parts, printed_tail, tail_closes}
 
@@ -49,6 +50,36 @@ one_line p h = turn_ends (seq_turn p line_end h)
 effect_word : Prints any (codes "effect ") (λ Q. Sign kind.KwEffect ⨟ Q)
 effect_word = seq (word_of kind.KwEffect refl refl) blank (λ z h. refl)
 
+-- ---- effects with a set behind a sign
+
+abbrev SpellsEffectLine : TokenKind → Name → List AtomUse → Lang
+SpellsEffectLine k n s = Sign kind.KwEffect ⨟ Word n ⨟ Sign k ⨟ SpellsSet s ⨟ Sign kind.Nl
+
+-- what is read of such a line, the same but for places
+record AgainEffect (k : TokenKind) (n : Name) (s : List AtomUse) (u : List Tok) : Type 0 where
+  name : Name
+  effect : List AtomUse
+  spelled : SpellsEffectLine k name effect u
+  same_name : bare_name name ≡ bare_name n
+  same_effect : bare_set effect ≡ bare_set s
+
+effect_line : (k : TokenKind) {sign : List ℕ} → Prints any sign (λ Q. Sign k ⨟ Q) → ((z : List ℕ) → closes (sign ++ z) ≡ true) → (n : Name) (s : List AtomUse) (u : List Tok) → SpellsEffectLine k n s u → AllFair u →
+    Ends 1 ((((codes "effect " ++ n.text) ++ sign) ++ set_text s) ++ newline) (λ Q. AgainEffect k n s ⨟ Q)
+effect_line k p c n s u x h =
+    let x1 = x.second in let x2 = x1.second in let x3 = x2.second in
+    let h1 = fair_back x h in let h2 = fair_back x1 h1 in let h3 = fair_back x2 h2 in
+    let o = name_again n x1.front x1.first (fair_front x1 h1) in
+    let e = set_again s x3.front x3.first (fair_front x3 h3) in
+    conv_end (one_line (seq (seq (seq effect_word o.prints (λ z i. refl)) p (λ z i. c z)) e.prints (λ z i. refl)) (λ r. refl)) (λ Q w y. first_map (λ v q.
+    let q1 = q.second in let q2 = q1.second in let q3 = q2.second in
+    record {
+      name = q1.first.it;
+      effect = q3.first.it;
+      spelled = anew q q.first (anew q1 q1.first.spelled (anew q2 q2.first (anew q3 q3.first.spelled q3.second)));
+      same_name = q1.first.same;
+      same_effect = q3.first.same;
+    }) (group5 y))
+
 -- ---- members
 
 member_line : (m : Member) → PrintsLine member_text bare_member SpellsMember m
@@ -61,22 +92,19 @@ member_line (members.Abstract n) u x h =
       begins = refl;
       ends = end3 (one_line (seq effect_word o.prints (λ z i. refl)) (λ r. refl)) (λ w q. record { it = members.Abstract q.second.first.it; spelled = anew q q.first (anew q.second q.second.first.spelled q.second.second); same = ap members.Abstract q.second.first.same });
     }
+member_line (members.Bounded n s) u x h =
+    record {
+      line = (((codes "effect " ++ n.text) ++ codes " <= ") ++ set_text s) ++ newline;
+      parts = refl;
+      begins = refl;
+      ends = conv_end (effect_line kind.SymLessEqual at_most (λ z. refl) n s u x h) (λ Q w y. first_map (λ v q. record { it = members.Bounded q.name q.effect; spelled = q.spelled; same = let e1 = q.same_name in let e2 = q.same_effect in rw (e1, e2) refl }) y);
+    }
 member_line (members.Defined n s) u x h =
-    let x1 = x.second in let x2 = x1.second in let x3 = x2.second in
-    let h1 = fair_back x h in let h2 = fair_back x1 h1 in let h3 = fair_back x2 h2 in
-    let o = name_again n x1.front x1.first (fair_front x1 h1) in
-    let e = set_again s x3.front x3.first (fair_front x3 h3) in
     record {
       line = (((codes "effect " ++ n.text) ++ codes " = ") ++ set_text s) ++ newline;
       parts = refl;
       begins = refl;
-      ends = conv_end (one_line (seq (seq (seq effect_word o.prints (λ z i. refl)) equals (λ z i. refl)) e.prints (λ z i. refl)) (λ r. refl)) (λ Q w y. first_map (λ v q.
-          let q1 = q.second in let q2 = q1.second in let q3 = q2.second in
-          record {
-            it = members.Defined q1.first.it q3.first.it;
-            spelled = anew q q.first (anew q1 q1.first.spelled (anew q2 q2.first (anew q3 q3.first.spelled q3.second)));
-            same = let e1 = q1.first.same in let e2 = q3.first.same in rw (e1, e2) refl;
-          }) (group5 y));
+      ends = conv_end (effect_line kind.SymEqual equals (λ z. refl) n s u x h) (λ Q w y. first_map (λ v q. record { it = members.Defined q.name q.effect; spelled = q.spelled; same = let e1 = q.same_name in let e2 = q.same_effect in rw (e1, e2) refl }) y);
     }
 member_line (members.Method s) u x h =
     let o = signature_again false s x.front x.first (fair_front x h) in
@@ -145,21 +173,11 @@ line_line (items.Import a m arguments bound) u x h =
 
 define_line : (d : Define) → PrintsLine define_text bare_define SpellsDefine d
 define_line d u x h =
-    let x1 = x.second in let x2 = x1.second in let x3 = x2.second in
-    let h1 = fair_back x h in let h2 = fair_back x1 h1 in let h3 = fair_back x2 h2 in
-    let o = name_again d.name x1.front x1.first (fair_front x1 h1) in
-    let e = set_again d.effect x3.front x3.first (fair_front x3 h3) in
     record {
       line = (((codes "effect " ++ d.name.text) ++ codes " = ") ++ set_text d.effect) ++ newline;
       parts = refl;
       begins = refl;
-      ends = conv_end (one_line (seq (seq (seq effect_word o.prints (λ z i. refl)) equals (λ z i. refl)) e.prints (λ z i. refl)) (λ r. refl)) (λ Q w y. first_map (λ v q.
-          let q1 = q.second in let q2 = q1.second in let q3 = q2.second in
-          record {
-            it = record { name = q1.first.it; effect = q3.first.it };
-            spelled = anew q q.first (anew q1 q1.first.spelled (anew q2 q2.first (anew q3 q3.first.spelled q3.second)));
-            same = let e1 = q1.first.same in let e2 = q3.first.same in rw (e1, e2) refl;
-          }) (group5 y));
+      ends = conv_end (effect_line kind.SymEqual equals (λ z. refl) d.name d.effect u x h) (λ Q w y. first_map (λ v q. record { it = record { name = q.name; effect = q.effect }; spelled = q.spelled; same = let e1 = q.same_name in let e2 = q.same_effect in rw (e1, e2) refl }) y);
     }
 
 init_line : (i : Option Init) (u : List Tok) → SpellsInit i u → AllFair u → LedOr 1 (init_text i) (λ Q. Again (maybe bare_init) SpellsInit i ⨟ Q)
@@ -208,6 +226,7 @@ append_none (b ∷ u) v e = absurd cc
 no_members : (ms : List Member) → in_order member_text ms ≡ [] → ms ≡ []
 no_members [] e = refl
 no_members (members.Abstract n ∷ ms) e = absurd cc
+no_members (members.Bounded n s ∷ ms) e = absurd cc
 no_members (members.Defined n s ∷ ms) e = absurd cc
 no_members (members.Method s ∷ ms) e = absurd cc
 

@@ -35,6 +35,9 @@ close_parens = symbol kind.SymCloseParen refl refl refl
 pub equals : Prints any (codes " = ") (λ Q. Sign kind.SymEqual ⨟ Q)
 equals = seq (seq blank (symbol kind.SymEqual refl refl refl) (λ z h. refl)) blank (λ z h. refl)
 
+pub at_most : Prints any (codes " <= ") (λ Q. Sign kind.SymLessEqual ⨟ Q)
+at_most = seq (seq blank (symbol kind.SymLessEqual refl refl refl) (λ z h. refl)) blank (λ z h. refl)
+
 pub colon : Prints any (codes ": ") (λ Q. Sign kind.SymColon ⨟ Q)
 colon = seq (symbol kind.SymColon refl refl refl) blank (λ z h. refl)
 

@@ -117,6 +117,7 @@ abbrev mutual
 
 abbrev pub bare_member : Member → Member
 bare_member (members.Abstract n) = members.Abstract (bare_name n)
+bare_member (members.Bounded n s) = members.Bounded (bare_name n) (bare_set s)
 bare_member (members.Defined n s) = members.Defined (bare_name n) (bare_set s)
 bare_member (members.Method s) = members.Method (bare_signature s)
 

@@ -6,6 +6,7 @@ use std::test::Fail;
 use wy_layout::lex;
 use wy_parser::{ParseRefusal, parse};
 use wy_syntax::items::{Item, Member, Tree};
+use wy_syntax::printing::print;
 use wy_text::token::{Token, TokenKind};
 
 fn tokens_of(alloc: Global, text: &str) -> Result<Vec<Token>, Fail>
@@ -17,6 +18,23 @@ fn tokens_of(alloc: Global, text: &str) -> Result<Vec<Token>, Fail>
 fn parsed(alloc: Global, text: &str) -> Result<Result<Tree, ParseRefusal>, Fail> {
     let tokens = tokens_of(alloc, text)?;
     Ok(parse(alloc, tokens.as_slice()))
+}
+
+/// The canonical form of a file, or the place of the token that fits nothing.
+fn printed(alloc: Global, text: &str) -> Result<String, Fail> {
+    match parsed(alloc, text)? {
+        Ok(tree) => {
+            let form = print(alloc, &tree)?;
+            let form = std::str::from_utf8(form.as_bytes())?;
+            Ok(format!(in alloc; "{form}")?)
+        }
+        Err(ParseRefusal::Unexpected { place, token: _ }) => {
+            let line = place.line;
+            let column = place.column;
+            Ok(format!(in alloc; "Unexpected {line}:{column}")?)
+        }
+        Err(ParseRefusal::Memory) => Ok(format!(in alloc; "Memory")?),
+    }
 }
 
 #[test]
@@ -59,6 +77,55 @@ fn the_first_token_that_fits_nothing_is_named(rt: HostRuntime) -> Result<(), Fai
             assert_eq!(rt; place.column, 5);
         }
         _ => panic!(rt; "another answer"),
+    }
+    Ok(())
+}
+
+#[test]
+fn a_member_with_an_upper_bound_is_printed_and_read_back(rt: HostRuntime) -> Result<(), Fail> {
+    let alloc = rt.alloc();
+    let cases = [
+        (
+            "type T\n  effect A\n  effect E <= {A}\n",
+            "type T\n  effect A\n  effect E <= {A}\n",
+        ),
+        ("type T\n  effect E <= {}\n", "type T\n  effect E <= {}\n"),
+        (
+            "type T // t\n effect A\n effect B={A}\n effect E<={ A,B }\n effect F <=   {E} // f",
+            "type T\n  effect A\n  effect B = {A}\n  effect E <= {A, B}\n  effect F <= {E}\n",
+        ),
+    ];
+    for (text, wanted) in cases {
+        let form = printed(alloc, text)?;
+        assert_eq!(rt; form.as_str(), wanted);
+        let again = printed(alloc, form.as_str())?;
+        assert_eq!(rt; again.as_str(), wanted);
+    }
+    Ok(())
+}
+
+#[test]
+fn an_upper_bound_is_a_set_behind_its_sign_and_stands_in_a_type(
+    rt: HostRuntime,
+) -> Result<(), Fail> {
+    let alloc = rt.alloc();
+    let cases = [
+        ("type T\n  effect E <=\n", "Unexpected 2:14"),
+        ("type T\n  effect E <=", "Unexpected 2:14"),
+        ("type T\n  effect E <= A\n", "Unexpected 2:15"),
+        ("type T\n  effect E <= {A\n", "Unexpected 2:17"),
+        ("type T\n  effect E <= {A} {A}\n", "Unexpected 2:19"),
+        ("type T\n  effect E <= = {A}\n", "Unexpected 2:15"),
+        ("type T\n  effect E < {A}\n", "Unexpected 2:12"),
+        ("type T\n  effect E < = {A}\n", "Unexpected 2:12"),
+        ("type T\n  effect E =< {A}\n", "Unexpected 2:13"),
+        ("type T\n  effect E >= {A}\n", "Unexpected 2:12"),
+        ("type T\n  effect <= {A}\n", "Unexpected 2:10"),
+        ("module m: T\n  effect E <= {A}\n", "Unexpected 2:12"),
+    ];
+    for (text, wanted) in cases {
+        let found = printed(alloc, text)?;
+        assert_eq!(rt; found.as_str(), wanted);
     }
     Ok(())
 }

@@ -113,6 +113,29 @@ logger_spelled = spelled_by logger_tokens logger_tree (record { front = logger_f
     logger_no_end : NoEnd logger_front
     logger_no_end = ((λ e. cc), ((λ e. cc), ((λ e. cc), ((λ e. cc), ((λ e. cc), ((λ e. cc), ((λ e. cc), ((λ e. cc), ((λ e. cc), ((λ e. cc), ((λ e. cc), ((λ e. cc), ((λ e. cc), ((λ e. cc), ((λ e. cc), ((λ e. cc), ((λ e. cc), ((λ e. cc), ((λ e. cc), ((λ e. cc), ((λ e. cc), ((λ e. cc), ((λ e. cc), ((λ e. cc), ((λ e. cc), ((λ e. cc), ((λ e. cc), ((λ e. cc), ((λ e. cc), ((λ e. cc), ((λ e. cc), ((λ e. cc), ((λ e. cc), ((λ e. cc), ((λ e. cc), ((λ e. cc), ((λ e. cc), ((λ e. cc), ((λ e. cc), ((λ e. cc), ((λ e. cc), ((λ e. cc), ((λ e. cc), ((λ e. cc), ((λ e. cc), ((λ e. cc), ((λ e. cc), ((λ e. cc), ((λ e. cc), ((λ e. cc), ((λ e. cc), ((λ e. cc), ((λ e. cc), ((λ e. cc), ((λ e. cc), ((λ e. cc), ((λ e. cc), ((λ e. cc), ((λ e. cc), ((λ e. cc), ((λ e. cc), ((λ e. cc), ((λ e. cc), ((λ e. cc), ((λ e. cc), tt)))))))))))))))))))))))))))))))))))))))))))))))))))))))))))))))))
 
+--     type Quiet
+--       effect Log
+--       effect Tick <= {Log}
+--       effect Idle <= {}
+abbrev pub quiet_front : List Tok
+quiet_front = tok kind.KwType 1 1 ∷ tok (kind.Name (codes "Quiet")) 1 6 ∷ tok kind.Nl 1 11 ∷ tok kind.In 2 3 ∷ tok kind.KwEffect 2 3 ∷ tok (kind.Name (codes "Log")) 2 10 ∷ tok kind.Nl 2 13 ∷ tok kind.KwEffect 3 3 ∷ tok (kind.Name (codes "Tick")) 3 10 ∷ tok kind.SymLessEqual 3 15 ∷ tok kind.SymOpenBrace 3 18 ∷ tok (kind.Name (codes "Log")) 3 19 ∷ tok kind.SymCloseBrace 3 22 ∷ tok kind.Nl 3 23 ∷ tok kind.KwEffect 4 3 ∷ tok (kind.Name (codes "Idle")) 4 10 ∷ tok kind.SymLessEqual 4 15 ∷ tok kind.SymOpenBrace 4 18 ∷ tok kind.SymCloseBrace 4 19 ∷ tok kind.Nl 4 20 ∷ tok kind.Out 5 1 ∷ []
+
+abbrev pub quiet_tokens : List Tok
+quiet_tokens = quiet_front ++ tok kind.End 5 1 ∷ []
+
+abbrev pub quiet_tree : List ItemTree
+quiet_tree = type_item (record { place = at 1 1; name = named (codes "Quiet") 1 6; members = members.Abstract (named (codes "Log") 2 10) ∷ members.Bounded (named (codes "Tick") 3 10) (alone (codes "Log") 3 19 ∷ []) ∷ members.Bounded (named (codes "Idle") 4 10) [] ∷ [] }) ∷ []
+
+quiet_read : p_file (length quiet_tokens + 2) quiet_tokens ≡ Yes quiet_tree []
+unfolding items item type_of pure_of resource_of plain_of program_of p_file inside_lines inside_of grant_of init_of define_of line_of import_of instance_of use_of members_inside member_of method_member effect_member part method_of field_of tail block_of stmt assign_of val_of untyped_val typed_val untyped_rhs rhs expr_line if_of branch_rest indented_block literal_of parts_inside p_rhs atomic built built1 built2 built3 one_argument parens ascription call_part post minus bang unary product sum compare conj disj choice_rest choice_of p_unary atom set member_set object_rest object type_use param module_param effect signature
+quiet_read = refl
+
+pub quiet_spelled : Spells quiet_tokens quiet_tree
+quiet_spelled = spelled_by quiet_tokens quiet_tree (record { front = quiet_front; last = tok kind.End 5 1; parts = refl; is = refl; before = quiet_no_end }) quiet_read
+  where
+    quiet_no_end : NoEnd quiet_front
+    quiet_no_end = ((λ e. cc), ((λ e. cc), ((λ e. cc), ((λ e. cc), ((λ e. cc), ((λ e. cc), ((λ e. cc), ((λ e. cc), ((λ e. cc), ((λ e. cc), ((λ e. cc), ((λ e. cc), ((λ e. cc), ((λ e. cc), ((λ e. cc), ((λ e. cc), ((λ e. cc), ((λ e. cc), ((λ e. cc), ((λ e. cc), ((λ e. cc), tt)))))))))))))))))))))
+
 --     resource module pick(): Pick
 --       def pick(c: Bool, x: B, y: A): {} A = if c then x else y
 abbrev pub pick_front : List Tok
@@ -184,6 +207,9 @@ hello_printed = refl
 logger_printed : canonical_form logger_tree ≡ codes "type Logger\n  effect Log\n  def log(t: String): {Log} Unit\n\nresource module logger(disk: Folder): Logger\n  effect Log = {disk.Append}\n  def log(t: String): {Log} Unit = disk.append(\"log\", t)\n"
 logger_printed = refl
 
+quiet_printed : canonical_form quiet_tree ≡ codes "type Quiet\n  effect Log\n  effect Tick <= {Log}\n  effect Idle <= {}\n"
+quiet_printed = refl
+
 pick_printed : canonical_form pick_tree ≡ codes "resource module pick(): Pick\n  def pick(c: Bool, x: B, y: A): {} A = if c then x else y\n"
 pick_printed = refl
 
@@ -213,10 +239,36 @@ format_nodes = refl
 no_nodes : count_before format_tree (at 3 10) ≡ 0
 no_nodes = refl
 
--- ---- where reading stops: the end of the file behind `run: {`, and a comparison behind a comparison
+-- ---- where reading stops: the end of the line behind `run: {`, and a member's `<=` without a set or another sign in its place
 abbrev open_set : List Tok
 open_set = tok kind.KwProgram 1 1 ∷ tok kind.Nl 1 8 ∷ tok kind.In 2 3 ∷ tok kind.KwRun 2 3 ∷ tok kind.SymColon 2 6 ∷ tok kind.SymOpenBrace 2 8 ∷ tok kind.Nl 2 9 ∷ tok kind.Out 3 1 ∷ tok kind.End 3 1 ∷ []
 
 open_set_stops : p_file (length open_set + 2) open_set ≡ No (tok kind.Nl 2 9 ∷ tok kind.Out 3 1 ∷ tok kind.End 3 1 ∷ [])
 unfolding items item type_of pure_of resource_of plain_of program_of p_file inside_lines inside_of grant_of init_of define_of line_of import_of instance_of use_of members_inside member_of method_member effect_member part method_of field_of tail block_of stmt assign_of val_of untyped_val typed_val untyped_rhs rhs expr_line if_of branch_rest indented_block literal_of parts_inside p_rhs atomic built built1 built2 built3 one_argument parens ascription call_part post minus bang unary product sum compare conj disj choice_rest choice_of p_unary atom set member_set object_rest object type_use param module_param effect signature
 open_set_stops = refl
+
+-- a type whose one member goes on by these tokens behind its name
+abbrev of_member : List Tok → List Tok
+of_member ts = tok kind.KwType 1 1 ∷ tok (kind.Name (codes "Quiet")) 1 6 ∷ tok kind.Nl 1 11 ∷ tok kind.In 2 3 ∷ tok kind.KwEffect 2 3 ∷ tok (kind.Name (codes "Tick")) 2 10 ∷ ts
+
+--       effect Tick <=
+abbrev no_bound : List Tok
+no_bound = tok kind.Nl 2 17 ∷ tok kind.Out 3 1 ∷ tok kind.End 3 1 ∷ []
+
+abbrev no_bound_tokens : List Tok
+no_bound_tokens = of_member (tok kind.SymLessEqual 2 15 ∷ no_bound)
+
+no_bound_stops : p_file (length no_bound_tokens + 2) no_bound_tokens ≡ No no_bound
+unfolding items item type_of pure_of resource_of plain_of program_of p_file inside_lines inside_of grant_of init_of define_of line_of import_of instance_of use_of members_inside member_of method_member effect_member part method_of field_of tail block_of stmt assign_of val_of untyped_val typed_val untyped_rhs rhs expr_line if_of branch_rest indented_block literal_of parts_inside p_rhs atomic built built1 built2 built3 one_argument parens ascription call_part post minus bang unary product sum compare conj disj choice_rest choice_of p_unary atom set member_set object_rest object type_use param module_param effect signature
+no_bound_stops = refl
+
+--       effect Tick < {}
+abbrev less_alone : List Tok
+less_alone = tok kind.SymLess 2 15 ∷ tok kind.SymOpenBrace 2 17 ∷ tok kind.SymCloseBrace 2 18 ∷ tok kind.Nl 2 19 ∷ tok kind.Out 3 1 ∷ tok kind.End 3 1 ∷ []
+
+abbrev less_alone_tokens : List Tok
+less_alone_tokens = of_member less_alone
+
+less_alone_stops : p_file (length less_alone_tokens + 2) less_alone_tokens ≡ No less_alone
+unfolding items item type_of pure_of resource_of plain_of program_of p_file inside_lines inside_of grant_of init_of define_of line_of import_of instance_of use_of members_inside member_of method_member effect_member part method_of field_of tail block_of stmt assign_of val_of untyped_val typed_val untyped_rhs rhs expr_line if_of branch_rest indented_block literal_of parts_inside p_rhs atomic built built1 built2 built3 one_argument parens ascription call_part post minus bang unary product sum compare conj disj choice_rest choice_of p_unary atom set member_set object_rest object type_use param module_param effect signature
+less_alone_stops = refl

@@ -14,51 +14,74 @@ use Rattle.wy_syntax.specs.declared.items.Init.{Init}
 use Rattle.wy_syntax.specs.declared.items.Grant.{Grant}
 use Rattle.wy_syntax.specs.Tokens.{Tok}
 use Rattle.wy_syntax.specs.Trees.{PartTree, PartTrees, no_parts, parts_of, InsideTree, ItemTree, type_item, pure_item, resource_item, plain_item, program_item}
-use Rattle.wy_syntax.specs.Languages.{Mark, Word, Each, Commas, Indented, InParens, ◌⨟◌}
+use Rattle.wy_syntax.specs.Languages.{Sign, Mark, Word, Each, Commas, Indented, InParens, ◌⨟◌}
 use Rattle.wy_syntax.specs.TypeGrammar.{SpellsSet, SpellsModuleParam, SpellsSignature}
 use Rattle.wy_syntax.specs.StmtGrammar.{SpellsPart, SpellsParts, SpellsTail}
 use Rattle.wy_syntax.specs.Grammar.{SpellsMember, SpellsUse, SpellsLine, SpellsDefine, SpellsInit, SpellsGrant, nothing_inside, SpellsInside, SpellsItem}
 use Rattle.wy_parser.specs.Reading.{◌>>=◌, ret}
 use Rattle.wy_parser.specs.Parsing.{mark, each}
 use Rattle.wy_parser.specs.StmtParsing.{part_first, part_at}
-use Rattle.wy_parser.specs.ItemParsing.{effect_member, method_member, member_of, member_first, members_inside, use_of, arguments, instance_of, import_of, line_of, line_first, define_of, init_of, grant_of, inside_lines, inside_of, type_of, pure_of, params_of, resource_of, plain_of, program_of, item_first, item, items}
-use Rattle.wy_parser.proofs.Made.{Made, SeqOf, MapOf, IsOf, Or, seq, map_to, give, alt, become, made_mark, made_word, made_each, made_commas, pass, unpass, map_of, sign, unsign}
+use Rattle.wy_parser.specs.ItemParsing.{set_line, effect_member, method_member, member_of, member_first, members_inside, use_of, arguments, instance_of, import_of, line_of, line_first, define_of, init_of, grant_of, inside_lines, inside_of, type_of, pure_of, params_of, resource_of, plain_of, program_of, item_first, item, items}
+use Rattle.wy_parser.proofs.KindNumbers.{kind_at}
+use Rattle.wy_parser.proofs.Made.{Made, SeqOf, MapOf, IsOf, Or, seq, map_to, give, alt, become, marks, made_mark, made_word, self_true, made_each, made_commas, pass, unpass, map_of, sign, unsign}
 use Rattle.wy_parser.proofs.TypeReaders.{made_set, made_signature, made_module_param}
 use Rattle.wy_parser.proofs.StmtReaders.{listed_parts, parts_back, parts_to, parts_from, made_parts_inside, all_stmts, made_part_at, made_tail_at}
+
+-- ---- a sign, a set and the end of the line
+
+abbrev SetLine : ℕ → List AtomUse → List Tok → Type 0
+SetLine k s = Sign (kind_at k) ⨟ SpellsSet s ⨟ Sign kind.Nl
+
+made_set_line : (k n n' m : ℕ) → marks k ≡ true → n ≤ n' → m ≤ n → Made (set_line k n) (set_line k n') (λ s u. SetLine k s u) (k ∷ []) [] false m
+made_set_line k n n' m e h j = become (
+    seq (made_mark k m e) (λ k0.
+    seq (made_set n n' m h j) (λ s.
+    map_to (λ k2. s) (made_mark 63 m refl)) refl) refl)
+    (λ z u s. subst (λ y. SetLine k y u) (sym s.second.second.is) (pass s (sign s.first) (pass s.second s.second.first (sign s.second.second.spelled))))
+    (λ z u s. (unpass s s.first.token.place (unsign s.first) (unpass s.second z s.second.first (map_of s.second.second.token.place refl (unsign s.second.second))))) (self_true (k ∷ []) [])
 
 -- ---- members of a type
 
 abbrev Defined : Name → Member → List Tok → Type 0
-Defined w = SeqOf (λ q. Mark kind.SymEqual q) (λ k0. SeqOf (λ s u. SpellsSet s u) (λ s. MapOf (λ k2. members.Defined w s) (λ q. Mark kind.Nl q)))
+Defined w = MapOf (λ s. members.Defined w s) (λ s u. SetLine 47 s u)
+
+abbrev Bounded : Name → Member → List Tok → Type 0
+Bounded w = MapOf (λ s. members.Bounded w s) (λ s u. SetLine 51 s u)
 
 abbrev Abstract : Name → Member → List Tok → Type 0
 Abstract w = MapOf (λ k0. members.Abstract w) (λ q. Mark kind.Nl q)
 
-made_effect_member : (n n' m : ℕ) → n ≤ n' → m ≤ n → Made (effect_member n) (effect_member n') (SeqOf (λ q. Mark kind.KwEffect q) (λ p. SeqOf (λ w. Word w) (λ w. Or (Defined w) (Abstract w)))) (6 ∷ []) [] false m
+abbrev EffectMembers : Member → List Tok → Type 0
+EffectMembers = SeqOf (λ q. Mark kind.KwEffect q) (λ p. SeqOf (λ w. Word w) (λ w. Or (Defined w) (Or (Bounded w) (Abstract w))))
+
+made_effect_member : (n n' m : ℕ) → n ≤ n' → m ≤ n → Made (effect_member n) (effect_member n') EffectMembers (6 ∷ []) [] false m
 unfolding effect_member
-made_effect_member n n' m h k = seq (made_mark 6 m refl) (λ p. seq (made_word m) (λ w. alt (47 ∷ []) (
-    seq (made_mark 47 m refl) (λ k0.
-    seq (made_set n n' m h k) (λ s.
-    map_to (λ k2. members.Defined w s) (made_mark 63 m refl)) refl) refl) (map_to (λ k0. members.Abstract w) (made_mark 63 m refl)) refl) refl) refl
+made_effect_member n n' m h k = seq (made_mark 6 m refl) (λ p. seq (made_word m) (λ w. alt (47 ∷ [])
+    (map_to (λ s. members.Defined w s) (made_set_line 47 n n' m refl h k))
+    (alt (51 ∷ [])
+    (map_to (λ s. members.Bounded w s) (made_set_line 51 n n' m refl h k))
+    (map_to (λ k0. members.Abstract w) (made_mark 63 m refl)) refl) refl) refl) refl
 
 made_method_member : (n n' m : ℕ) → n ≤ n' → m ≤ n → Made (method_member n) (method_member n') (SeqOf (λ s u. SpellsSignature false s u) (λ s. MapOf (λ l. members.Method s) (λ q. Mark kind.Nl q))) (7 ∷ []) [] false m
 unfolding method_member
 made_method_member n n' m h k = seq (made_signature false n n' m h k) (λ s. map_to (λ l. members.Method s) (made_mark 63 m refl)) refl
 
 abbrev Members : Member → List Tok → Type 0
-Members = Or (SeqOf (λ q. Mark kind.KwEffect q) (λ p. SeqOf (λ w. Word w) (λ w. Or (Defined w) (Abstract w)))) (SeqOf (λ s u. SpellsSignature false s u) (λ s. MapOf (λ l. members.Method s) (λ q. Mark kind.Nl q)))
+Members = Or EffectMembers (SeqOf (λ s u. SpellsSignature false s u) (λ s. MapOf (λ l. members.Method s) (λ q. Mark kind.Nl q)))
 
 member_to : (z : Member) (u : List Tok) → Members z u → SpellsMember z u
 member_to z u (inl s) = go s.second.second
   where
-    go : Or (Defined s.second.value) (Abstract s.second.value) z s.second.back → SpellsMember z u
-    go (inl t) = subst (λ (y : Member). SpellsMember y u) (sym t.second.second.is) (pass s (sign s.first) (pass s.second s.second.first (pass t (sign t.first) (pass t.second t.second.first (sign t.second.second.spelled)))))
-    go (inr t) = subst (λ (y : Member). SpellsMember y u) (sym t.is) (pass s (sign s.first) (pass s.second s.second.first (sign t.spelled)))
+    go : Or (Defined s.second.value) (Or (Bounded s.second.value) (Abstract s.second.value)) z s.second.back → SpellsMember z u
+    go (inl t) = subst (λ (y : Member). SpellsMember y u) (sym t.is) (pass s (sign s.first) (pass s.second s.second.first t.spelled))
+    go (inr (inl t)) = subst (λ (y : Member). SpellsMember y u) (sym t.is) (pass s (sign s.first) (pass s.second s.second.first t.spelled))
+    go (inr (inr t)) = subst (λ (y : Member). SpellsMember y u) (sym t.is) (pass s (sign s.first) (pass s.second s.second.first (sign t.spelled)))
 member_to z u (inr s) = subst (λ (y : Member). SpellsMember y u) (sym s.second.is) (pass s s.first (sign s.second.spelled))
 
 member_from : (z : Member) (u : List Tok) → SpellsMember z u → Members z u
-member_from (members.Abstract w) u s = inl (unpass s s.first.token.place (unsign s.first) (unpass s.second w s.second.first (inr (map_of s.second.second.token.place refl (unsign s.second.second)))))
-member_from (members.Defined w x) u s = inl (unpass s s.first.token.place (unsign s.first) (unpass s.second w s.second.first (inl (unpass s.second.second s.second.second.first.token.place (unsign s.second.second.first) (unpass s.second.second.second x s.second.second.second.first (map_of s.second.second.second.second.token.place refl (unsign s.second.second.second.second)))))))
+member_from (members.Abstract w) u s = inl (unpass s s.first.token.place (unsign s.first) (unpass s.second w s.second.first (inr (inr (map_of s.second.second.token.place refl (unsign s.second.second))))))
+member_from (members.Bounded w x) u s = inl (unpass s s.first.token.place (unsign s.first) (unpass s.second w s.second.first (inr (inl (map_of x refl s.second.second)))))
+member_from (members.Defined w x) u s = inl (unpass s s.first.token.place (unsign s.first) (unpass s.second w s.second.first (inl (map_of x refl s.second.second))))
 member_from (members.Method x) u s = inr (unpass s x s.first (map_of s.second.token.place refl (unsign s.second)))
 
 made_member : (n n' m : ℕ) → n ≤ n' → m ≤ n → Made (member_of n) (member_of n') (λ z u. SpellsMember z u) member_first [] false m
@@ -148,34 +171,30 @@ unfolding define_of
 made_define n n' m h k = become (
     seq (made_mark 6 m refl) (λ k0.
     seq (made_word m) (λ w.
-    seq (made_mark 47 m refl) (λ k2.
-    seq (made_set n n' m h k) (λ s.
-    map_to (λ k4. define_with w s) (made_mark 63 m refl)) refl) refl) refl) refl)
-    (λ z u s. subst (λ y. SpellsDefine y u) (sym s.second.second.second.second.is) (pass s (sign s.first) (pass s.second s.second.first (pass s.second.second (sign s.second.second.first) (pass s.second.second.second s.second.second.second.first (sign s.second.second.second.second.spelled))))))
-    (λ z u s. (unpass s s.first.token.place (unsign s.first) (unpass s.second z.name s.second.first (unpass s.second.second s.second.second.first.token.place (unsign s.second.second.first) (unpass s.second.second.second z.effect s.second.second.second.first (map_of s.second.second.second.second.token.place refl (unsign s.second.second.second.second))))))) refl
+    map_to (λ s. define_with w s) (made_set_line 47 n n' m refl h k)) refl) refl)
+    (λ z u s. subst (λ y. SpellsDefine y u) (sym s.second.second.is) (pass s (sign s.first) (pass s.second s.second.first s.second.second.spelled)))
+    (λ z u s. (unpass s s.first.token.place (unsign s.first) (unpass s.second z.name s.second.first (map_of z.effect refl s.second.second)))) refl
 
 abbrev init_with : Place → List AtomUse → Option Init
 init_with p s = Some (record { place = p; effect = s })
 
 abbrev InitLine : Option Init → List Tok → Type 0
-InitLine = SeqOf (λ q. Mark kind.KwInit q) (λ p. SeqOf (λ q. Mark kind.SymColon q) (λ k1. SeqOf (λ s u. SpellsSet s u) (λ s. MapOf (λ k3. init_with p s) (λ q. Mark kind.Nl q))))
+InitLine = SeqOf (λ q. Mark kind.KwInit q) (λ p. MapOf (λ s. init_with p s) (λ s u. SetLine 45 s u))
 
 made_init : (n n' m : ℕ) → n ≤ n' → m ≤ n → Made (init_of n) (init_of n') (λ i u. SpellsInit i u) (17 ∷ []) (17 ∷ []) true m
 unfolding init_of
 made_init n n' m h k = become (alt (17 ∷ []) (
     seq (made_mark 17 m refl) (λ p.
-    seq (made_mark 45 m refl) (λ k1.
-    seq (made_set n n' m h k) (λ s.
-    map_to (λ k3. init_with p s) (made_mark 63 m refl)) refl) refl) refl) (give None m) refl)
+    map_to (λ s. init_with p s) (made_set_line 45 n n' m refl h k)) refl) (give None m) refl)
     (λ z u s. elim s [
-      | inl t ↦ subst (λ y. SpellsInit y u) (sym t.second.second.second.is) (pass t t.first (pass t.second (sign t.second.first) (pass t.second.second t.second.second.first (sign t.second.second.second.spelled))))
+      | inl t ↦ subst (λ y. SpellsInit y u) (sym t.second.is) (pass t t.first t.second.spelled)
       | inr t ↦ subst (λ (y : Option Init). SpellsInit y u) (sym t.same) t.empty
     ])
     (λ z u s. from z u s) refl
   where
     from : (z : Option Init) (u : List Tok) → SpellsInit z u → Or InitLine (IsOf None) z u
     from None u s = inr (record { same = refl; empty = s })
-    from (Some i) u s = inl (unpass s i.place s.first (unpass s.second s.second.first.token.place (unsign s.second.first) (unpass s.second.second i.effect s.second.second.first (map_of s.second.second.second.token.place refl (unsign s.second.second.second)))))
+    from (Some i) u s = inl (unpass s i.place s.first (map_of i.effect refl s.second))
 
 abbrev grant_with : Name → Name → Grant
 grant_with w t = record { name = w; kind = t }

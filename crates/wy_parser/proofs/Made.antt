@@ -343,7 +343,7 @@ made_more {A} {p} {q} {P} {F} {C} {m} n n' h1 h2 M e acc = record {
   some = record { value = acc; text = []; spelled = record { items = []; is = refl; spelled = refl } };
 }
 
-self_true : (F C : List ℕ) → (sub F F && sub C C) ≡ true
+pub self_true : (F C : List ℕ) → (sub F F && sub C C) ≡ true
 self_true F C = rw (sub_self F, sub_self C) refl
 
 pub made_each : {A : Type 0} {p q : R A} {P : A → List Tok → Type 0} {F C : List ℕ} {m : ℕ} (n n' : ℕ) → n ≤ n' → m ≤ n → Made p q P F C false m → off F C ≡ true → Made (each F p n) (each F q n') (λ as' u. Each P as' u) F (F ++ C) true m

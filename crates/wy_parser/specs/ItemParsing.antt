@@ -1,6 +1,7 @@
 -- Items and files, read from left to right.
 use Rattle.std.specs.Prelude.{ℕ, Bool, true, false, List, [], ◌∷◌, Option, None, Some}
 use Rattle.wy_syntax.specs.declared.types.Name.{Name}
+use Rattle.wy_syntax.specs.declared.types.AtomUse.{AtomUse}
 use Rattle.wy_syntax.specs.declared.types.Param.{Param}
 use Rattle.wy_syntax.specs.declared.items.Member.{Member}
 use Rattle.wy_syntax.specs.declared.items.Member.TheVariants as members
@@ -17,14 +18,26 @@ use Rattle.wy_parser.specs.Reading.{◌>>=◌, ret, choose}
 use Rattle.wy_parser.specs.Parsing.{R, mark, word, each, commas, set, signature, module_param}
 use Rattle.wy_parser.specs.StmtParsing.{part_first, part_at, tail_at, parts_inside}
 
+-- ---- a sign, a set and the end of the line
+
+abbrev pub set_line : ℕ → ℕ → R (List AtomUse)
+set_line k n = do
+  sign ← mark k
+  s ← set n
+  line ← mark kinds.Nl
+  ret s
+
 -- ---- members of a type
 
 abbrev pub defined_member : Name → ℕ → R Member
 defined_member w n = do
-  equal ← mark kinds.SymEqual
-  s ← set n
-  line ← mark kinds.Nl
+  s ← set_line kinds.SymEqual n
   ret (members.Defined w s)
+
+abbrev pub bounded_member : Name → ℕ → R Member
+bounded_member w n = do
+  s ← set_line kinds.SymLessEqual n
+  ret (members.Bounded w s)
 
 abbrev pub abstract_member : Name → R Member
 abstract_member w = do
@@ -35,7 +48,8 @@ unfoldable pub effect_member : ℕ → R Member
 effect_member n = do
   word' ← mark kinds.KwEffect
   w ← word
-  choose code (kinds.SymEqual ∷ []) (defined_member w n) (abstract_member w)
+  choose code (kinds.SymEqual ∷ []) (defined_member w n)
+      (choose code (kinds.SymLessEqual ∷ []) (bounded_member w n) (abstract_member w))
 
 unfoldable pub method_member : ℕ → R Member
 method_member n = do
@@ -104,17 +118,13 @@ unfoldable pub define_of : ℕ → R Define
 define_of n = do
   word' ← mark kinds.KwEffect
   w ← word
-  equal ← mark kinds.SymEqual
-  s ← set n
-  line ← mark kinds.Nl
+  s ← set_line kinds.SymEqual n
   ret (record { name = w; effect = s })
 
 abbrev pub init_line : ℕ → R (Option Init)
 init_line n = do
   p ← mark kinds.KwInit
-  colon ← mark kinds.SymColon
-  s ← set n
-  line ← mark kinds.Nl
+  s ← set_line kinds.SymColon n
   ret (Some (record { place = p; effect = s }))
 
 unfoldable pub init_of : ℕ → R (Option Init)

@@ -5,8 +5,8 @@ ghost use Rattle.wy_syntax.specs.declared.items.Member.TheVariants as members;
 ghost use Rattle.wy_syntax.specs.Tokens.{tok_of, toks};
 ghost use Rattle.wy_parser.specs.Kinds as kinds;
 ghost use Rattle.wy_parser.specs.Parsing.{each, name_at, word};
-ghost use Rattle.wy_parser.specs.ItemParsing.{defined_member, abstract_member, effect_member, method_member, member_of, members_inside, use_of, arguments, instance_of, import_of, line_of, line_first, define_of, init_of, grant_of};
-ghost use Rattle.wy_parser.specs.Sorts.{Gives};
+ghost use Rattle.wy_parser.specs.ItemParsing.{set_line, defined_member, bounded_member, abstract_member, effect_member, method_member, member_of, members_inside, use_of, arguments, instance_of, import_of, line_of, line_first, define_of, init_of, grant_of};
+ghost use Rattle.wy_parser.specs.Sorts.{number_of, Gives};
 
 use crate::cursor::{begins, mark, name_of, name_token, word};
 use crate::lists::{Entry, named, row};
@@ -20,11 +20,33 @@ use wy_text::list::Items;
 use wy_text::text::Memory;
 use wy_text::token::Token;
 
+/// A sign, a set and the end of the line.
+fn set_line<'a>(
+    alloc: Global,
+    tokens: &'a [Token],
+    sign: Sort,
+    turns: usize,
+) -> Result<(SetUse, &'a [Token]), Stop<'a>>
+    ensures { Gives (λ x. x) result (set_line (number_of sign) turns (toks tokens.now)) }
+{
+    let (_, rest) = mark(tokens, sign)?;
+    let (set, rest) = set(alloc, rest, turns)?;
+    let (_, rest) = mark(rest, Sort::Nl)?;
+    Ok((set, rest))
+}
+
 fn defined_node(alloc: Global, name: &Token, effect: SetUse) -> Result<Box<Member>, Memory>
     ensures { IfOk result (λ b. b.value ≡ members.Defined (name_at (tok_of name.now)) effect) }
 {
     let name = name_of(alloc, name)?;
     Ok(Box::new(alloc, Member::Defined(name, effect))?)
+}
+
+fn bounded_node(alloc: Global, name: &Token, bound: SetUse) -> Result<Box<Member>, Memory>
+    ensures { IfOk result (λ b. b.value ≡ members.Bounded (name_at (tok_of name.now)) bound) }
+{
+    let name = name_of(alloc, name)?;
+    Ok(Box::new(alloc, Member::Bounded(name, bound))?)
 }
 
 fn abstract_node(alloc: Global, name: &Token) -> Result<Box<Member>, Memory>
@@ -43,13 +65,24 @@ fn defined_member<'a>(
 ) -> Result<(Box<Member>, &'a [Token]), Stop<'a>>
     ensures { Gives (λ x. x.value) result (defined_member (name_at (tok_of name.now)) turns (toks tokens.now)) }
 {
-    let (_, rest) = mark(tokens, Sort::SymEqual)?;
-    let (effect, rest) = set(alloc, rest, turns)?;
-    let (_, rest) = mark(rest, Sort::Nl)?;
+    let (effect, rest) = set_line(alloc, tokens, Sort::SymEqual, turns)?;
     Ok((defined_node(alloc, name, effect)?, rest))
 }
 
-/// The end of the line of an abstract member.
+/// The upper bound of an abstract member.
+fn bounded_member<'a>(
+    alloc: Global,
+    tokens: &'a [Token],
+    name: &Token,
+    turns: usize,
+) -> Result<(Box<Member>, &'a [Token]), Stop<'a>>
+    ensures { Gives (λ x. x.value) result (bounded_member (name_at (tok_of name.now)) turns (toks tokens.now)) }
+{
+    let (bound, rest) = set_line(alloc, tokens, Sort::SymLessEqual, turns)?;
+    Ok((bounded_node(alloc, name, bound)?, rest))
+}
+
+/// The end of the line of an abstract member without a bound.
 fn abstract_member<'a>(
     alloc: Global,
     tokens: &'a [Token],
@@ -61,7 +94,7 @@ fn abstract_member<'a>(
     Ok((abstract_node(alloc, name)?, rest))
 }
 
-/// An abstract or defined member.
+/// An abstract or defined member, or an abstract one with an upper bound.
 #[tactic(auto, unfolding(crate::specs::ItemParsing::effect_member))]
 fn effect_member<'a>(
     alloc: Global,
@@ -73,10 +106,12 @@ fn effect_member<'a>(
     let (_, rest) = mark(tokens, Sort::KwEffect)?;
     let (name, rest) = name_token(rest)?;
     if begins(rest, &[Sort::SymEqual]) {
-        defined_member(alloc, rest, name, turns)
-    } else {
-        abstract_member(alloc, rest, name)
+        return defined_member(alloc, rest, name, turns);
     }
+    if begins(rest, &[Sort::SymLessEqual]) {
+        return bounded_member(alloc, rest, name, turns);
+    }
+    abstract_member(alloc, rest, name)
 }
 
 #[tactic(auto, unfolding(crate::specs::ItemParsing::method_member))]
@@ -345,9 +380,7 @@ fn define<'a>(
 {
     let (_, rest) = mark(tokens, Sort::KwEffect)?;
     let (name, rest) = name_token(rest)?;
-    let (_, rest) = mark(rest, Sort::SymEqual)?;
-    let (effect, rest) = set(alloc, rest, turns)?;
-    let (_, rest) = mark(rest, Sort::Nl)?;
+    let (effect, rest) = set_line(alloc, rest, Sort::SymEqual, turns)?;
     let name = name_of(alloc, name)?;
     Ok((Define { name, effect }, rest))
 }
@@ -401,9 +434,7 @@ pub fn init<'a>(
         return Ok((None, tokens));
     }
     let (place, rest) = mark(tokens, Sort::KwInit)?;
-    let (_, rest) = mark(rest, Sort::SymColon)?;
-    let (effect, rest) = set(alloc, rest, turns)?;
-    let (_, rest) = mark(rest, Sort::Nl)?;
+    let (effect, rest) = set_line(alloc, rest, Sort::SymColon, turns)?;
     Ok((Some(Init { place, effect }), rest))
 }
 

@@ -197,6 +197,7 @@ abbrev mutual
 
 abbrev pub member_text : Member → List ℕ
 member_text (members.Abstract n) = codes "  effect " ++ n.text ++ newline
+member_text (members.Bounded n s) = codes "  effect " ++ n.text ++ codes " <= " ++ set_text s ++ newline
 member_text (members.Defined n s) = codes "  effect " ++ n.text ++ codes " = " ++ set_text s ++ newline
 member_text (members.Method s) = codes "  " ++ signature_text s ++ newline
 

@@ -18,6 +18,7 @@ use Rattle.wy_syntax.specs.StmtGrammar.{SpellsParts, SpellsTail}
 -- Member
 abbrev pub SpellsMember : Member → Lang
 SpellsMember (members.Abstract n) = Sign kind.KwEffect ⨟ Word n ⨟ Sign kind.Nl
+SpellsMember (members.Bounded n s) = Sign kind.KwEffect ⨟ Word n ⨟ Sign kind.SymLessEqual ⨟ SpellsSet s ⨟ Sign kind.Nl
 SpellsMember (members.Defined n s) = Sign kind.KwEffect ⨟ Word n ⨟ Sign kind.SymEqual ⨟ SpellsSet s ⨟ Sign kind.Nl
 SpellsMember (members.Method s) = SpellsSignature false s ⨟ Sign kind.Nl
 

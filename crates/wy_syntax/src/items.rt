@@ -3,10 +3,11 @@ use crate::types::{Name, NameList, ParamList, SetUse, Signature};
 use wy_text::fault::Place;
 use wy_text::list::Items;
 
-/// A member of a type declaration: an abstract effect, a defined one, or a method.
+/// A member of a type declaration: an abstract effect, one with an upper bound, a defined one, or a method.
 #[derive(Drop)]
 pub enum Member {
     Abstract(Name),
+    Bounded(Name, SetUse),
     Defined(Name, SetUse),
     Method(Signature),
 }

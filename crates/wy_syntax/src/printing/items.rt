@@ -25,6 +25,12 @@ impl Printed for Member {
                 push(out, b"  effect ")?;
                 name.push_to(out)?;
             }
+            Member::Bounded(name, set) => {
+                push(out, b"  effect ")?;
+                name.push_to(out)?;
+                push(out, b" <= ")?;
+                push_set(out, set)?;
+            }
             Member::Defined(name, set) => {
                 push(out, b"  effect ")?;
                 name.push_to(out)?;
