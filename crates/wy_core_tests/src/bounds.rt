@@ -63,11 +63,14 @@ fn method(
 fn declare(alloc: Global, core: &mut Core, m: Method) -> Result<(), Memory> {
     let mut members = Items::new(alloc);
     members.push(from_bytes(alloc, b"E")?)?;
+    let mut bounds = Items::new(alloc);
+    bounds.push(None)?;
     let mut methods = Items::new(alloc);
     methods.push(m)?;
     core.declarations.push(TypeDecl {
         name: from_bytes(alloc, b"T")?,
         members,
+        bounds,
         defined: Items::new(alloc),
         methods,
     })
@@ -103,6 +106,7 @@ fn empty_core(alloc: Global, kind: ScopeKind) -> Result<Core, Memory> {
         name: from_bytes(alloc, b"main")?,
         place: PLACE,
         atoms: AtomTable::new(alloc),
+        bounds: Items::new(alloc),
         names: Items::new(alloc),
         ascribed: None,
         definitions: Items::new(alloc),

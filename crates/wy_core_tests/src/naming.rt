@@ -1,3 +1,4 @@
+mod members;
 mod modules;
 mod programs;
 

@@ -58,6 +58,7 @@ fn empty_core(alloc: Global, kind: ScopeKind) -> Result<Core, Memory> {
         name: from_bytes(alloc, b"main")?,
         place: PLACE,
         atoms: AtomTable::new(alloc),
+        bounds: Items::new(alloc),
         names: Items::new(alloc),
         ascribed: None,
         definitions: Items::new(alloc),
@@ -101,12 +102,15 @@ fn declare(
     methods: Items<Method>,
 ) -> Result<(), Memory> {
     let mut members = Items::new(alloc);
+    let mut bounds = Items::new(alloc);
     if has_member {
         members.push(from_bytes(alloc, b"E")?)?;
+        bounds.push(None)?;
     }
     core.declarations.push(TypeDecl {
         name: from_bytes(alloc, b"T")?,
         members,
+        bounds,
         defined: Items::new(alloc),
         methods,
     })

@@ -64,6 +64,7 @@ fn small_core(alloc: Global, kind: ScopeKind, ascribed: Option<u16>) -> Result<C
         name: from_bytes(alloc, b"main")?,
         place: PLACE,
         atoms: AtomTable::new(alloc),
+        bounds: Items::new(alloc),
         names,
         ascribed,
         definitions: Items::new(alloc),
@@ -161,6 +162,7 @@ fn chained_core(alloc: Global, number: u16) -> Result<Core, Memory> {
         core.declarations.push(TypeDecl {
             name: from_bytes(alloc, &k.to_be_bytes())?,
             members: Items::new(alloc),
+            bounds: Items::new(alloc),
             defined: Items::new(alloc),
             methods: calls,
         })?;

@@ -4,7 +4,7 @@ use Rattle.wy_text.specs.declared.limit.LimitName.{LimitName}
 use Rattle.wy_text.specs.declared.limit.LimitName.TheVariants as limit
 use Rattle.wy_text.specs.LimitName.{limit_number}
 use Rattle.wy_syntax.specs.declared.items.Member.{Member}
-use Rattle.wy_syntax.specs.declared.items.Member.TheVariants.{Abstract, Defined, Method}
+use Rattle.wy_syntax.specs.declared.items.Member.TheVariants.{Abstract, Bounded, Defined, Method}
 use Rattle.wy_syntax.specs.declared.items.TypeDecl.{TypeDecl}
 use Rattle.wy_syntax.specs.Trees as t
 use Rattle.wy_types.specs.declared.resolved.TypeDecl as core
@@ -85,18 +85,21 @@ parts_params (p ∷ ps) = part_params p ++ parts_params ps
 abbrev pub signature_count : List Member → ℕ
 signature_count [] = 0
 signature_count (Abstract n ∷ ms) = signature_count ms
+signature_count (Bounded n set ∷ ms) = signature_count ms
 signature_count (Defined n set ∷ ms) = signature_count ms
 signature_count (Method g ∷ ms) = signature_count ms + 1
 
 abbrev pub abstract_count : List Member → ℕ
 abstract_count [] = 0
 abstract_count (Abstract n ∷ ms) = abstract_count ms + 1
+abstract_count (Bounded n set ∷ ms) = abstract_count ms + 1
 abstract_count (Defined n set ∷ ms) = abstract_count ms
 abstract_count (Method g ∷ ms) = abstract_count ms
 
 abbrev pub member_params : List Member → List ℕ
 member_params [] = []
 member_params (Abstract n ∷ ms) = member_params ms
+member_params (Bounded n set ∷ ms) = member_params ms
 member_params (Defined n set ∷ ms) = member_params ms
 member_params (Method g ∷ ms) = length g.params ∷ member_params ms
 

@@ -18,7 +18,7 @@ fn abstract_count(members: &[Member]) -> usize
     let mut count = 0;
     for member in members {
         match member {
-            Member::Abstract(_) => count += 1,
+            Member::Abstract(_) | Member::Bounded(_, _) => count += 1,
             Member::Defined(_, _) | Member::Method(_) => {}
         }
     }

@@ -47,7 +47,7 @@ pub fn with_members(most: Most, members: &[Member]) -> Most
     let mut parameters = most.parameters;
     for member in members {
         match member {
-            Member::Abstract(_) | Member::Defined(_, _) => {}
+            Member::Abstract(_) | Member::Bounded(_, _) | Member::Defined(_, _) => {}
             Member::Method(signature) => {
                 methods += 1;
                 parameters = parameters.max(signature.params.len());

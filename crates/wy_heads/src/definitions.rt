@@ -40,6 +40,7 @@ fn read_definition(
         name: name.copy()?,
         is_abstract: false,
         atoms,
+        bound: None,
     })
 }
 

@@ -17,7 +17,7 @@
 --   15  plain module plug(l: Log): Log
 --   16    def put(t: String): Unit = l.put(t)
 use Rattle.std.proofs.Common.{◌≡◌, ℕ, List, [], ◌∷◌, refl, true, false, Some, None}
-use Rattle.std.specs.Prelude.{codes, ◌++◌}
+use Rattle.std.specs.Prelude.{codes, ◌++◌, replicate}
 use Rattle.wy_syntax.specs.declared.types.TypeUse.TheVariants as use_of
 use Rattle.wy_syntax.specs.declared.items.Member.TheVariants as member
 use Rattle.wy_syntax.specs.declared.items.Line.TheVariants as line
@@ -96,6 +96,7 @@ log_type : TypeDecl
 log_type = record {
   name = codes "Log";
   members = codes "Put" ∷ [];
+  bounds = None ∷ [];
   defined = record { name = codes "Any"; effects = 0 ∷ [] } ∷ [];
   methods = put (0 ∷ []) ∷ [];
 }
@@ -107,6 +108,7 @@ log_module = record {
   name = codes "log";
   place = at 5 17;
   atoms = folder_atoms;
+  bounds = replicate 4 None;
   names = record { name = codes "disk"; place = at 5 21; typ = folder; origin = origin.Parameter true } ∷ [];
   ascribed = Some 4;
   definitions = (2 ∷ []) ∷ [];
@@ -130,6 +132,7 @@ plug_module = record {
   name = codes "plug";
   place = at 15 14;
   atoms = [];
+  bounds = [];
   names = record { name = codes "l"; place = at 15 19; typ = ref.Named 4 []; origin = origin.Parameter false } ∷ [];
   ascribed = Some 4;
   definitions = [];
@@ -152,6 +155,7 @@ program_scope = record {
   name = codes "main";
   place = at 9 1;
   atoms = folder_atoms ++ atom_of (codes "lg") (codes "Put") ∷ [];
+  bounds = replicate 5 None;
   names =
       record { name = codes "disk"; place = at 10 9; typ = folder; origin = origin.Grant }
       ∷ record { name = codes "lg"; place = at 11 12; typ = ref.Named 4 ((4 ∷ []) ∷ []); origin = origin.Instance 0 (0 ∷ []) }

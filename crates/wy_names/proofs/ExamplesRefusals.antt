@@ -70,6 +70,13 @@ later_member : refusals_of (type_decl 1 (word (codes "D") 1 6) (member.Defined (
     refusal_at (at 2 15) Unknown ∷ []
 later_member = refl
 
+-- and so does a member's upper bound, which does not see itself
+bound_members : refusals_of (type_decl 1 (word (codes "D") 1 6) (
+    member.Bounded (word (codes "B") 2 10) (member_atom (word (codes "A") 2 16) ∷ []) ∷ member.Abstract (word (codes "A") 3 10)
+    ∷ member.Bounded (word (codes "C") 4 10) (member_atom (word (codes "A") 4 16) ∷ member_atom (word (codes "C") 4 19) ∷ []) ∷ []) ∷ []) ≡
+    refusal_at (at 2 16) Unknown ∷ refusal_at (at 4 19) Unknown ∷ []
+bound_members = refl
+
 ------------------------------------------------------------
 -- Twice
 
@@ -80,7 +87,7 @@ names_twice : refusals_of (type_decl 1 (word (codes "Clock") 1 6) [] ∷ type_de
     refusal_at (at 1 6) Twice ∷ refusal_at (at 3 6) Twice ∷ refusal_at (at 5 14) Twice ∷ []
 names_twice = refl
 
--- members, abstract or defined, methods, and parameters of a method
+-- members, abstract, bounded or defined, methods, and parameters of a method
 members_twice : refusals_of (type_decl 1 (word (codes "T") 1 6) (
     member.Abstract (word (codes "A") 2 10) ∷ member.Defined (word (codes "A") 3 10) []
     ∷ member.Method (def 4 (word (codes "f") 4 7) (param (word (codes "a") 4 9) (use_of.Int (at 4 12)) ∷ param (word (codes "a") 4 17) (use_of.Int (at 4 20)) ∷ []) [] (use_of.Int (at 4 29)))

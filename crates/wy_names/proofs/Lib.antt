@@ -1,3 +1,4 @@
+mod ExamplesBounds
 mod ExamplesPrograms
 mod ExamplesRefusals
 mod Judging

@@ -78,21 +78,22 @@ module_noted heads modules m old front defined end f d e =
     ∙ ap (noted old) (five sealed words params uses lines (defines ++ (definitions ++ (init ++ parts))))
 
 -- a scope by its parts
-pub scope_by_parts : (s t : Scope) → s.kind ≡ t.kind → s.name ≡ t.name → s.place ≡ t.place → s.atoms ≡ t.atoms → s.names ≡ t.names → s.ascribed ≡ t.ascribed → s.definitions ≡ t.definitions →
+pub scope_by_parts : (s t : Scope) → s.kind ≡ t.kind → s.name ≡ t.name → s.place ≡ t.place → s.atoms ≡ t.atoms → s.bounds ≡ t.bounds → s.names ≡ t.names → s.ascribed ≡ t.ascribed → s.definitions ≡ t.definitions →
     s.literals ≡ t.literals → s.start_place ≡ t.start_place → s.start_effect ≡ t.start_effect → s.start ≡ t.start → s.bodies ≡ t.bodies → s ≡ t
-scope_by_parts s t a b c d e f g h i j k l =
+scope_by_parts s t a b c d e f g h i j k l m =
     ap (λ x. record s { kind = x }) a
     ∙ ap (λ x. record s { kind = t.kind; name = x }) b
     ∙ ap (λ x. record s { kind = t.kind; name = t.name; place = x }) c
     ∙ ap (λ x. record s { kind = t.kind; name = t.name; place = t.place; atoms = x }) d
-    ∙ ap (λ x. record s { kind = t.kind; name = t.name; place = t.place; atoms = t.atoms; names = x }) e
-    ∙ ap (λ x. record t { ascribed = x; definitions = s.definitions; literals = s.literals; start_place = s.start_place; start_effect = s.start_effect; start = s.start; bodies = s.bodies }) f
-    ∙ ap (λ x. record t { definitions = x; literals = s.literals; start_place = s.start_place; start_effect = s.start_effect; start = s.start; bodies = s.bodies }) g
-    ∙ ap (λ x. record t { literals = x; start_place = s.start_place; start_effect = s.start_effect; start = s.start; bodies = s.bodies }) h
-    ∙ ap (λ x. record t { start_place = x; start_effect = s.start_effect; start = s.start; bodies = s.bodies }) i
-    ∙ ap (λ x. record t { start_effect = x; start = s.start; bodies = s.bodies }) j
-    ∙ ap (λ x. record t { start = x; bodies = s.bodies }) k
-    ∙ ap (λ x. record t { bodies = x }) l
+    ∙ ap (λ x. record s { kind = t.kind; name = t.name; place = t.place; atoms = t.atoms; bounds = x }) e
+    ∙ ap (λ x. record s { kind = t.kind; name = t.name; place = t.place; atoms = t.atoms; bounds = t.bounds; names = x }) f
+    ∙ ap (λ x. record t { ascribed = x; definitions = s.definitions; literals = s.literals; start_place = s.start_place; start_effect = s.start_effect; start = s.start; bodies = s.bodies }) g
+    ∙ ap (λ x. record t { definitions = x; literals = s.literals; start_place = s.start_place; start_effect = s.start_effect; start = s.start; bodies = s.bodies }) h
+    ∙ ap (λ x. record t { literals = x; start_place = s.start_place; start_effect = s.start_effect; start = s.start; bodies = s.bodies }) i
+    ∙ ap (λ x. record t { start_place = x; start_effect = s.start_effect; start = s.start; bodies = s.bodies }) j
+    ∙ ap (λ x. record t { start_effect = x; start = s.start; bodies = s.bodies }) k
+    ∙ ap (λ x. record t { start = x; bodies = s.bodies }) l
+    ∙ ap (λ x. record t { bodies = x }) m
 
 pub place_same : (heads hs : List Head) (ms ns : List ModuleTree) (m : ModuleTree) (o : Option Init) → start_place heads ms m o ≡ start_place hs ns m o
 place_same heads hs ms ns m None = refl

@@ -8,14 +8,15 @@ use Rattle.wy_types.specs.Program.{Scope, body_of, start_of, Init, Run}
 use Rattle.wy_names.specs.declared.scopes.Parts.{Parts}
 use Rattle.wy_symbols.specs.declared.scoping.Head.{Head}
 use Rattle.wy_symbols.specs.Declarations.{ModuleTree, ProgramTree}
-use Rattle.wy_symbols.specs.Atoms.{head_names, type_number, set_of}
+use Rattle.wy_symbols.specs.Atoms.{bounds_of_owners, head_names, type_number, set_of}
 use Rattle.wy_bodies.specs.Sight.{outermost, inside}
 use Rattle.wy_bodies.specs.Bodies.{at_start, part_values, tail_block, literal_of, parts_literals, tail_literals, parts_bodies, tail_bodies}
-use Rattle.wy_heads.specs.ScopeHeads.{module_own, module_meanings, module_scope, definitions_at, start_effect, program_own, program_scope}
+use Rattle.wy_heads.specs.ScopeHeads.{module_atoms, module_owners, module_own, module_meanings, module_scope, definitions_at, start_effect, program_atoms, program_owners, program_own, program_scope}
 use Rattle.wy_names.specs.Scopes.{module_within, program_within}
 
 module _ (heads : List Head) (modules : List ModuleTree) where
   pub record ArePartsOfModule (m : ModuleTree) (p : Parts) : Type 0 where
+    pub bounds : p.bounds ≡ bounds_of_owners heads (module_atoms heads modules m) (module_owners heads modules m)
     pub names : p.names ≡ module_own heads modules m
     pub definitions : p.definitions ≡ definitions_at heads modules (is_plain m.kind) (module_meanings heads modules m) (type_number (head_names heads) m.sealed.text)
     pub effect : p.start_effect ≡ start_effect heads modules (module_scope heads modules m) m.init
@@ -24,6 +25,7 @@ module _ (heads : List Head) (modules : List ModuleTree) where
     pub bodies : map body_of p.resolved.bodies ≡ parts_bodies (module_within heads modules m) outermost (inside outermost m.parts) 0 at_start m.parts
 
   pub record ArePartsOfProgram (g : ProgramTree) (p : Parts) : Type 0 where
+    pub bounds : p.bounds ≡ bounds_of_owners heads (program_atoms heads modules g) (program_owners heads modules g)
     pub names : p.names ≡ program_own heads modules g
     pub definitions : p.definitions ≡ []
     pub effect : p.start_effect ≡ set_of (program_scope heads modules g) g.effect
@@ -38,6 +40,7 @@ scope_with kind name place atoms ascribed at p = record {
   name = name;
   place = place;
   atoms = atoms;
+  bounds = p.bounds;
   names = p.names;
   ascribed = ascribed;
   definitions = p.definitions;

@@ -10,7 +10,7 @@ use Rattle.wy_symbols.specs.declared.refusal.Refusal.{Refusal}
 use Rattle.wy_symbols.specs.declared.scoping.Head.{Head}
 use Rattle.wy_symbols.specs.Least.{refusal_at}
 use Rattle.wy_symbols.specs.Declarations.{ModuleTree, ProgramTree, types_of, modules_of, programs_of, module_names, type_names, repeated}
-use Rattle.wy_symbols.specs.Atoms.{head_names, type_number, set_of, set_refusals, heads_of, primitive_names, owner_names}
+use Rattle.wy_symbols.specs.Atoms.{bounds_of_owners, head_names, type_number, set_of, set_refusals, heads_of, primitive_names, owner_names}
 use Rattle.wy_symbols.specs.TypeUses.{declarations_of, declarations_refusals, param_names}
 use Rattle.wy_heads.specs.Lines.{param_refusals, grant_refusals, uses_refusals, lines_refusals}
 use Rattle.wy_bodies.specs.Sight.{outermost, inside}
@@ -33,6 +33,7 @@ module _ (heads : List Head) (modules : List ModuleTree) where
         name = m.name.text;
         place = m.name.place;
         atoms = module_atoms heads modules m;
+        bounds = bounds_of_owners heads (module_atoms heads modules m) (module_owners heads modules m);
         names = module_own heads modules m;
         ascribed = type_number (head_names heads) m.sealed.text;
         definitions = definitions_at heads modules (is_plain m.kind) (module_meanings heads modules m) (type_number (head_names heads) m.sealed.text);
@@ -75,6 +76,7 @@ module _ (heads : List Head) (modules : List ModuleTree) where
         name = codes "main";
         place = g.place;
         atoms = program_atoms heads modules g;
+        bounds = bounds_of_owners heads (program_atoms heads modules g) (program_owners heads modules g);
         names = program_own heads modules g;
         ascribed = None;
         definitions = [];

@@ -30,11 +30,12 @@ use wy_syntax::items::Program;
 use wy_text::fault::Place;
 use wy_text::list::Items;
 use wy_text::text::{Memory, Text, from_bytes};
-use wy_types::resolved::{OwnName, Scope, ScopeKind};
+use wy_types::resolved::{BoundList, OwnName, Scope, ScopeKind};
 
 /// What a module has besides its atoms.
 #[derive(Drop)]
 pub struct Parts {
+    pub bounds: BoundList,
     pub names: Items<OwnName>,
     pub definitions: SetList,
     pub start_effect: EffSet,
@@ -88,12 +89,14 @@ fn parts_with(
         own: owners.names(),
     };
     let number = owners.heads().number(&view.sealed.text);
+    let bounds = owners.bounds(alloc)?;
     let own = own_of(alloc, owners, numbers, modules, view)?;
     let definitions = definitions_at(alloc, owners.heads(), plain, meanings, number)?;
     let start_effect = start_effect(alloc, &scope, view.init)?;
     note_init(&scope, view.init, least);
     let resolved = module_parts(alloc, &within, view.parts, least)?;
     Ok(Parts {
+        bounds,
         names: own,
         definitions,
         start_effect,
@@ -124,6 +127,7 @@ fn scope_with(
     ensures { scope_of result ≡ scope_with kind name place atoms ascribed start_place parts }
 {
     let Parts {
+        bounds,
         names,
         definitions,
         start_effect,
@@ -139,6 +143,7 @@ fn scope_with(
         name,
         place,
         atoms,
+        bounds,
         names,
         ascribed,
         definitions,
@@ -197,12 +202,14 @@ fn program_parts(
     };
     let effect = program.effect.as_slice();
     let definitions = Items::new(alloc);
+    let bounds = owners.bounds(alloc)?;
     let own = program_own(alloc, owners, numbers, modules, program)?;
     let start_effect = set_of(alloc, &scope, effect)?;
     note_program(alloc, owners, numbers, modules, program, least)?;
     note_set(&scope, effect, least);
     let resolved = program_block(alloc, &within, program.run, &program.body, least)?;
     Ok(Parts {
+        bounds,
         names: own,
         definitions,
         start_effect,

@@ -1,8 +1,10 @@
 -- What the own names of scopes are: parameters stand first, a name opens an atom for each abstract member of its type, and its type is
 -- the one that it is declared with or its module is sealed at, of those atoms (docs/LANGUAGE.md, "Modules and lines").
-use Rattle.std.specs.Prelude.{codes, ◌≡◌, ◌≤◌, ◌^◌, ℕ, ◌+◌, List, [], ◌∷◌, Option, Some, None, true, false, length, slice_get, if◌then◌else◌}
+use Rattle.std.specs.Prelude.{codes, ◌≡◌, ◌≤◌, ◌^◌, ℕ, ◌+◌, List, [], ◌∷◌, ◌++◌, map, Option, Some, None, true, false, length, slice_get, if◌then◌else◌}
+use Rattle.std.specs.Option.{option_map}
 use Rattle.wy_effects.specs.Members.{In}
 use Rattle.wy_effects.specs.EffSet.{IsSet}
+use Rattle.wy_effects.specs.Bounds.{Bounds}
 use Rattle.wy_types.specs.declared.types.TypeRef.{TypeRef}
 use Rattle.wy_types.specs.declared.types.TypeRef.TheVariants.{Named, At}
 use Rattle.wy_types.specs.declared.resolved.Origin.{Origin}
@@ -11,6 +13,7 @@ use Rattle.wy_types.specs.declared.resolved.OwnName.{OwnName}
 use Rattle.wy_types.specs.declared.resolved.ScopeKind.{ScopeKind}
 use Rattle.wy_types.specs.declared.resolved.ScopeKind.TheVariants.{Pure, Resource, Plain, Program as Main}
 use Rattle.wy_types.specs.Program.{Program, Scope, Body}
+use Rattle.wy_types.specs.Bounds.{type_bounds}
 use Rattle.wy_types.specs.Core.{literal_captures}
 use Rattle.wy_types.specs.Fitting.{FitsType}
 use Rattle.wy_types.specs.Ground.{members_of, abstract_names, single_sets}
@@ -24,6 +27,24 @@ opens p n Grant = members_of p n.typ
 opens p n (Use m) = members_of p n.typ
 opens p n (Instance m arguments) = members_of p n.typ
 opens p n (Import m arguments bound) = []
+
+-- the upper bounds of the members for which it opens atoms
+abbrev pub opened_bounds : Program → OwnName → Origin → Bounds
+opened_bounds p n (Parameter true) = type_bounds p n.typ
+opened_bounds p n (Parameter false) = []
+opened_bounds p n Grant = type_bounds p n.typ
+opened_bounds p n (Use m) = type_bounds p n.typ
+opened_bounds p n (Instance m arguments) = type_bounds p n.typ
+opened_bounds p n (Import m arguments bound) = []
+
+-- the bounds of members as those of the atoms from a number on
+abbrev pub shifted_bounds : ℕ → Bounds → Bounds
+shifted_bounds k bounds = map (option_map (map (λ m. k + m))) bounds
+
+-- the bounds of the atoms from a number on that own names open, one name's after another's
+abbrev pub names_bounds : Program → ℕ → List OwnName → Bounds
+names_bounds p k [] = []
+names_bounds p k (n ∷ ns) = shifted_bounds k (opened_bounds p n n.origin) ++ names_bounds p (k + length (opens p n n.origin)) ns
 
 -- how many atoms own names open
 abbrev pub opened_count : Program → List OwnName → ℕ
@@ -74,11 +95,13 @@ MayHave Resource parameters = Unit {0}
 MayHave Plain parameters = Unit {0}
 MayHave Main parameters = parameters ≡ []
 
--- the scope's own names: its parameters, whose types are of the parameters' atoms, and then the others
+-- the scope's own names: its parameters, whose types are of the parameters' atoms, and then the others; the bounds of the scope's atoms are
+-- those of the members for which they are opened
 pub record OwnNamesFit (p : Program) (s : Scope) : Type 0 where
   pub may_have : MayHave s.kind (parameters_among s.names)
   pub parameters : (n : OwnName) → In n (parameters_among s.names) → FitsType p (opened_count p (parameters_among s.names)) 0 n.typ
   pub others : HaveTheirTypes p (opened_count p (parameters_among s.names)) (after_parameters s.names)
+  pub bounds : s.bounds ≡ names_bounds p 0 s.names
 
 abbrev pub LinesAreTyped : Program → Type 0
 LinesAreTyped p = (s : Scope) → In s p.scopes → OwnNamesFit p s

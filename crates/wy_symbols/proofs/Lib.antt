@@ -1,5 +1,7 @@
+mod AbstractBounds
 pub mod AbstractNames
 pub mod AtomsPut
+mod ExamplesBounds
 mod Filling
 pub mod Finding
 pub mod Firsts

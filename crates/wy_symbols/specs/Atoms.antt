@@ -1,5 +1,6 @@
 -- Scopes of atoms: what opens atoms, their numbers, and what a written set stands for.
 use Rattle.std.specs.Prelude.{ℕ, ◌+◌, Bool, true, false, List, [], ◌∷◌, ◌++◌, map, Option, Some, None, ◌&&◌, slice_get, nat_lt, if◌then◌else◌}
+use Rattle.std.specs.Option.{option_map}
 use Rattle.wy_text.specs.declared.fault.AtomName.{AtomName}
 use Rattle.wy_syntax.specs.declared.types.Name.{Name}
 use Rattle.wy_syntax.specs.declared.types.AtomUse.{AtomUse}
@@ -7,12 +8,13 @@ use Rattle.wy_syntax.specs.declared.types.TypeUse.{TypeUse}
 use Rattle.wy_syntax.specs.declared.types.TypeUse.TheVariants as use_of
 use Rattle.wy_syntax.specs.declared.types.Param.{Param}
 use Rattle.wy_syntax.specs.declared.items.Member.{Member}
-use Rattle.wy_syntax.specs.declared.items.Member.TheVariants.{Abstract, Defined, Method}
+use Rattle.wy_syntax.specs.declared.items.Member.TheVariants.{Abstract, Bounded, Defined, Method}
 use Rattle.wy_syntax.specs.declared.items.Line.{Line}
 use Rattle.wy_syntax.specs.declared.items.Line.TheVariants.{Instance, Import}
 use Rattle.wy_syntax.specs.declared.items.Grant.{Grant}
 use Rattle.wy_syntax.specs.declared.items.TypeDecl.{TypeDecl}
 use Rattle.wy_effects.specs.EffSet.{union, replace}
+use Rattle.wy_effects.specs.Bounds.{Bounds}
 use Rattle.wy_types.specs.declared.resolved.TypeDecl as core
 use Rattle.wy_types.specs.Primitive.{primitive_types}
 use Rattle.wy_symbols.specs.declared.refusal.Cause.TheVariants.{Unknown, MemberUnknown}
@@ -23,7 +25,7 @@ use Rattle.wy_symbols.specs.declared.scoping.Opening.{Opening}
 use Rattle.wy_symbols.specs.declared.scoping.Opening.TheVariants.{Members, Nothing, Missing}
 use Rattle.wy_symbols.specs.declared.scoping.Owner.{Owner}
 use Rattle.wy_symbols.specs.Least.{refusal_at}
-use Rattle.wy_symbols.specs.Meanings.{meaning_of, abstract_names}
+use Rattle.wy_symbols.specs.Meanings.{meaning_of, abstract_names, abstract_bounds}
 use Rattle.wy_symbols.specs.Declarations.{ModuleTree, same_name, first_from, module_number, type_names, texts}
 
 -- a scope of atoms: the types of the program, the scope's atoms, its owners, and what its names of one word stand for
@@ -164,6 +166,22 @@ abbrev pub owner_sets : List AtomName → List ℕ → List (List ℕ) → List 
 owner_sets atoms owner [] = []
 owner_sets atoms owner (m ∷ ms) = (atom_number atoms (atom_of owner m) ∷ []) ∷ owner_sets atoms owner ms
 
+-- the upper bounds of the members that are opened
+abbrev pub opened_bounds : List Head → Opening → Bounds
+opened_bounds heads (Members d) = abstract_bounds (members_of heads d)
+opened_bounds heads Nothing = []
+opened_bounds heads Missing = []
+
+-- bounds with these sets put in for the members that they name
+abbrev pub bounds_at : List (List ℕ) → Bounds → Bounds
+bounds_at sets bounds = map (option_map (replace sets)) bounds
+
+-- the upper bounds of the atoms of owners, in the same order
+abbrev pub bounds_of_owners : List Head → List AtomName → List Owner → Bounds
+bounds_of_owners heads atoms [] = []
+bounds_of_owners heads atoms (o ∷ os) =
+    bounds_at (owner_sets atoms o.name (opened_names heads o.opening)) (opened_bounds heads o.opening) ++ bounds_of_owners heads atoms os
+
 ------------------------------------------------------------
 -- Written sets
 
@@ -228,15 +246,19 @@ abbrev pub member_scope : List Meaning → AtomScope
 member_scope members = record { heads = []; atoms = []; owners = []; meanings = members }
 
 abbrev pub abstract_member : List ℕ → ℕ → Meaning
-abstract_member name k = record { name = name; is_abstract = true; atoms = k ∷ [] }
+abstract_member name k = record { name = name; is_abstract = true; atoms = k ∷ []; bound = None }
+
+abbrev pub bounded_member : List ℕ → ℕ → List ℕ → Meaning
+bounded_member name k set = record { name = name; is_abstract = true; atoms = k ∷ []; bound = Some set }
 
 abbrev pub defined_member : List ℕ → List ℕ → Meaning
-defined_member name atoms = record { name = name; is_abstract = false; atoms = atoms }
+defined_member name atoms = record { name = name; is_abstract = false; atoms = atoms; bound = None }
 
--- members in their order, `k` abstract ones before; the set of a defined one sees those before it
+-- members in their order, `k` abstract ones before; the set of a defined one and an upper bound see those before it
 abbrev pub members_after : List Meaning → ℕ → List Member → List Meaning
 members_after before k [] = before
 members_after before k (Abstract n ∷ ms) = members_after (before ++ abstract_member n.text k ∷ []) (k + 1) ms
+members_after before k (Bounded n set ∷ ms) = members_after (before ++ bounded_member n.text k (set_of (member_scope before) set) ∷ []) (k + 1) ms
 members_after before k (Defined n set ∷ ms) = members_after (before ++ defined_member n.text (set_of (member_scope before) set) ∷ []) k ms
 members_after before k (Method s ∷ ms) = members_after before k ms
 

@@ -9,7 +9,7 @@ use Rattle.wy_syntax.specs.declared.types.TypeUse.TheVariants as use_of
 use Rattle.wy_syntax.specs.declared.types.Param.{Param}
 use Rattle.wy_syntax.specs.declared.types.Signature.{Signature}
 use Rattle.wy_syntax.specs.declared.items.Member.{Member}
-use Rattle.wy_syntax.specs.declared.items.Member.TheVariants.{Abstract, Defined, Method}
+use Rattle.wy_syntax.specs.declared.items.Member.TheVariants.{Abstract, Bounded, Defined, Method}
 use Rattle.wy_syntax.specs.declared.items.TypeDecl.{TypeDecl}
 use Rattle.wy_types.specs.declared.types.TypeRef.{TypeRef}
 use Rattle.wy_types.specs.declared.types.TypeRef.TheVariants as ref
@@ -23,7 +23,7 @@ use Rattle.wy_symbols.specs.declared.scoping.Meaning.{Meaning}
 use Rattle.wy_symbols.specs.declared.scoping.Head.{Head}
 use Rattle.wy_symbols.specs.Least.{refusal_at}
 use Rattle.wy_symbols.specs.Declarations.{has_name, same_name, repeated}
-use Rattle.wy_symbols.specs.Meanings.{meaning_of, abstract_names}
+use Rattle.wy_symbols.specs.Meanings.{meaning_of, abstract_names, abstract_bounds}
 use Rattle.wy_symbols.specs.Atoms.{AtomScope, unknown, head_names, type_number, members_of, set_of, set_refusals, members_after, member_scope}
 
 ------------------------------------------------------------
@@ -179,6 +179,7 @@ defined_members (m ∷ ms) = if m.is_abstract then defined_members ms else recor
 abbrev pub declared_methods : AtomScope → List Member → List core.Method
 declared_methods s [] = []
 declared_methods s (Abstract n ∷ ms) = declared_methods s ms
+declared_methods s (Bounded n set ∷ ms) = declared_methods s ms
 declared_methods s (Defined n set ∷ ms) = declared_methods s ms
 declared_methods s (Method g ∷ ms) = method_of s false g ∷ declared_methods s ms
 
@@ -188,6 +189,7 @@ declaration heads d =
     record {
       name = d.name.text;
       members = abstract_names members;
+      bounds = abstract_bounds members;
       defined = defined_members members;
       methods = declared_methods (declaration_scope heads members) d.members;
     }
@@ -200,19 +202,23 @@ declarations_of heads types = primitive_types ++ map (declaration heads) types
 abbrev pub member_names : List Member → List Name
 member_names [] = []
 member_names (Abstract n ∷ ms) = n ∷ member_names ms
+member_names (Bounded n set ∷ ms) = n ∷ member_names ms
 member_names (Defined n set ∷ ms) = n ∷ member_names ms
 member_names (Method g ∷ ms) = member_names ms
 
 abbrev pub method_names : List Member → List Name
 method_names [] = []
 method_names (Abstract n ∷ ms) = method_names ms
+method_names (Bounded n set ∷ ms) = method_names ms
 method_names (Defined n set ∷ ms) = method_names ms
 method_names (Method g ∷ ms) = g.name ∷ method_names ms
 
--- a defined member's set sees the members before it, a signature sees them all
+-- the set of a defined member and an upper bound see the members before them, a signature sees them all
 abbrev pub members_refusals : AtomScope → List Meaning → ℕ → List Member → List Refusal
 members_refusals s before k [] = []
 members_refusals s before k (Abstract n ∷ ms) = members_refusals s (members_after before k (Abstract n ∷ [])) (k + 1) ms
+members_refusals s before k (Bounded n set ∷ ms) =
+    set_refusals (member_scope before) set ++ members_refusals s (members_after before k (Bounded n set ∷ [])) (k + 1) ms
 members_refusals s before k (Defined n set ∷ ms) =
     set_refusals (member_scope before) set ++ members_refusals s (members_after before k (Defined n set ∷ [])) k ms
 members_refusals s before k (Method g ∷ ms) = signature_refusals s false g ++ members_refusals s before k ms

@@ -1,13 +1,15 @@
 //! What written sets and types see (docs/LANGUAGE.md, "Names").
 
-ghost use Rattle.std.specs.Prelude.{◌≡◌, [], ◌∷◌, ◌++◌, take, slice_get, IfOk, OnOk};
+ghost use Rattle.std.specs.Prelude.{◌≡◌, [], ◌∷◌, ◌++◌, List, map, take, slice_get, IfOk, OnOk};
 ghost use Rattle.std.specs.Option.{option_copied};
-ghost use Rattle.wy_symbols.specs.Atoms.{atoms_of, owner_of, owner_names, atom_scope};
+ghost use Rattle.wy_symbols.specs.Atoms.{atoms_of, bounds_of_owners, owner_of, owner_names, atom_scope};
 ghost use Rattle.wy_symbols.specs.Declarations.{first_from};
 ghost use Rattle.wy_symbols.specs.Meanings.{meaning_of};
-ghost use Rattle.wy_symbols.specs.Found.{IsFound};
+ghost use Rattle.wy_symbols.specs.Found.{IsFound, HaveSets};
+ghost use Rattle.wy_symbols.specs.declared.atom_scope.Opened.{Opened};
+ghost use Rattle.wy_text.specs.declared.fault.AtomName.{AtomName};
 
-use crate::atoms::open;
+use crate::atoms::{add_bounds, open};
 use crate::heads::Heads;
 use crate::items::item;
 use crate::meanings::Meanings;
@@ -17,7 +19,9 @@ use std::alloc::Global;
 use std::marker::Model;
 use wy_effects::atom::AtomTable;
 use wy_effects::set::SetList;
+use wy_text::list::Items;
 use wy_text::text::{Memory, Text};
+use wy_types::resolved::BoundList;
 
 /// An owner, with the set of the one atom of each member that it opens.
 #[derive(Drop)]
@@ -67,6 +71,22 @@ fn add_owner(
     list.push(Opened { owner, sets })?;
     names.push(again)?;
     Ok(())
+}
+
+/// The upper bounds of the members that owners open, with the set of each put in.
+fn bounds_of(alloc: Global, heads: &Heads, list: &[Opened]) -> Result<BoundList, Memory>
+    ensures { IfOk result (λ bs. (atoms : List AtomName) → HaveSets heads.now atoms list.now → bs ≡ bounds_of_owners heads.now atoms (map (λ (p : Opened). p.owner) list.now)) }
+{
+    let mut bounds = Items::new(alloc);
+    for opened in list {
+        add_bounds(
+            &mut bounds,
+            heads,
+            opened.owner.opening,
+            opened.sets.as_slice(),
+        )?;
+    }
+    Ok(bounds)
 }
 
 impl<'a> Owners<'a> {
@@ -136,6 +156,14 @@ impl<'a> Owners<'a> {
                 }
             }
         }
+    }
+
+    /// The upper bounds of the members that the owners open, by the owners' order: those of the scope's atoms, where no
+    /// two owners and no two members of a type have one name.
+    pub fn bounds(&self, alloc: Global) -> Result<BoundList, Memory>
+        ensures { IfOk result (λ bs. bs ≡ bounds_of_owners self.now.heads self.now.atoms self.now.owners) }
+    {
+        bounds_of(alloc, self.heads, &self.list)
     }
 
     /// Only the atoms. It takes no memory.

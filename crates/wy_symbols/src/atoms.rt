@@ -1,10 +1,12 @@
 //! The atoms of a scope (docs/LANGUAGE.md, "Names").
 
 ghost use Rattle.std.specs.Prelude.{◌≡◌, ◌<◌, [], ◌∷◌, ◌++◌, List, Some, slice_get, IfOk, OnOk};
+ghost use Rattle.std.specs.Option.{option_map};
 ghost use Rattle.wy_text.specs.declared.fault.AtomName.{AtomName};
 ghost use Rattle.wy_effects.specs.Members.{Apart};
-ghost use Rattle.wy_symbols.specs.Meanings.{abstract_names};
-ghost use Rattle.wy_symbols.specs.Atoms.{atom_of, with_atom, with_members, owner_sets, opened_names};
+ghost use Rattle.wy_symbols.specs.Meanings.{abstract_names, abstract_bounds};
+ghost use Rattle.wy_symbols.specs.Atoms.{atom_of, with_atom, with_members, owner_sets, opened_names, opened_bounds, bounds_at};
+ghost use Rattle.wy_effects.specs.EffSet.{replace};
 
 use crate::heads::Heads;
 use crate::scoping::{Meaning, Opening, Owner};
@@ -14,6 +16,7 @@ use wy_effects::set::{EffSet, SetList};
 use wy_text::limit::MOST_ATOMS;
 use wy_text::list::Items;
 use wy_text::text::{Memory, Text};
+use wy_types::resolved::BoundList;
 
 /// Adds an atom, where it is not there, and gives its number. The limits keep a table from being full.
 fn add_atom(atoms: &mut AtomTable, owner: &Text, member: &Text) -> Result<Atom, Memory>
@@ -84,5 +87,49 @@ pub fn open(
             None => Ok(Items::new(alloc)),
         },
         Opening::Nothing | Opening::Missing => Ok(Items::new(alloc)),
+    }
+}
+
+/// An upper bound with these sets put in for the members that it names.
+fn bound_at(bound: &Option<EffSet>, sets: &[EffSet]) -> Result<Option<EffSet>, Memory>
+    ensures { IfOk result (λ b. b ≡ option_map (replace sets.now) bound.now) }
+{
+    match bound {
+        None => Ok(None),
+        Some(set) => Ok(Some(set.substitute(sets)?)),
+    }
+}
+
+/// Adds the upper bounds of abstract members, with these sets put in.
+fn add_member_bounds(
+    bounds: &mut BoundList,
+    members: &[Meaning],
+    sets: &[EffSet],
+) -> Result<(), Memory>
+    ensures { OnOk result (bounds.new ≡ bounds.old ++ bounds_at sets.now (abstract_bounds members.now)) }
+{
+    for member in members {
+        if member.is_abstract {
+            bounds.push(bound_at(&member.bound, sets)?)?;
+        }
+    }
+    Ok(())
+}
+
+/// Adds the upper bounds of the atoms that an owner opens, by the set of each.
+pub fn add_bounds(
+    bounds: &mut BoundList,
+    heads: &Heads,
+    opening: Opening,
+    sets: &[EffSet],
+) -> Result<(), Memory>
+    ensures { OnOk result (bounds.new ≡ bounds.old ++ bounds_at sets.now (opened_bounds heads.now opening)) }
+{
+    match opening {
+        Opening::Members { decl } => match heads.head(decl) {
+            Some(head) => add_member_bounds(bounds, head.members.as_slice(), sets),
+            None => Ok(()),
+        },
+        Opening::Nothing | Opening::Missing => Ok(()),
     }
 }

@@ -5,7 +5,7 @@ ghost use Rattle.wy_types.specs.Primitive.{primitive_types};
 ghost use Rattle.wy_symbols.specs.Least.{noted};
 ghost use Rattle.wy_symbols.specs.Declarations.{repeated};
 ghost use Rattle.wy_symbols.specs.Collected.{Adds};
-ghost use Rattle.wy_symbols.specs.Meanings.{abstract_names};
+ghost use Rattle.wy_symbols.specs.Meanings.{abstract_names, abstract_bounds};
 ghost use Rattle.wy_symbols.specs.Atoms.{member_scope, members_after};
 ghost use Rattle.wy_symbols.specs.TypeUses.{declaration_scope, defined_members, declared_methods, method_of, signature_refusals, declaration, declarations_of, member_names, method_names, members_refusals, declaration_refusals, declarations_refusals};
 ghost use Rattle.wy_symbols.specs.Lent.{lent_name, lent_type};
@@ -13,18 +13,19 @@ ghost use Rattle.wy_symbols.specs.Lent.{lent_name, lent_type};
 use crate::atom_scope::{AtomScope, Owners};
 use crate::collected::WrittenNames;
 use crate::meanings::Meanings;
-use crate::members::{add_abstract, members_after, read_defined};
+use crate::members::{add_abstract, members_after, read_bounded, read_defined};
 use crate::refusal::Refusal;
 use crate::scoping::Meaning;
 use crate::signatures::read_method;
 use crate::tables::note_repeated;
 use std::alloc::Global;
+use wy_effects::set::EffSet;
 use wy_syntax::items::{Member, TypeDecl};
 use wy_syntax::types::Signature;
 use wy_text::list::Items;
 use wy_text::text::{Memory, Text};
 use wy_types::resolved;
-use wy_types::resolved::DefinedMember;
+use wy_types::resolved::{BoundList, DefinedMember};
 use wy_types::types::Method;
 
 /// The names of the abstract members.
@@ -38,6 +39,29 @@ fn abstract_names(alloc: Global, members: &[Meaning]) -> Result<Items<Text>, Mem
         }
     }
     Ok(names)
+}
+
+/// An upper bound, where there is one, with the same atoms.
+fn copy_bound(bound: &Option<EffSet>) -> Result<Option<EffSet>, Memory>
+    ensures { IfOk result (λ b. b ≡ bound.now) }
+{
+    match bound {
+        None => Ok(None),
+        Some(set) => Ok(Some(set.copy()?)),
+    }
+}
+
+/// The upper bounds of the abstract members.
+fn abstract_bounds(alloc: Global, members: &[Meaning]) -> Result<BoundList, Memory>
+    ensures { IfOk result (λ bs. bs ≡ abstract_bounds members.now) }
+{
+    let mut bounds = Items::new(alloc);
+    for member in members {
+        if member.is_abstract {
+            bounds.push(copy_bound(&member.bound)?)?;
+        }
+    }
+    Ok(bounds)
 }
 
 /// The defined members with their sets.
@@ -63,11 +87,12 @@ fn declared(
     members: &[Meaning],
     methods: Items<Method>,
 ) -> Result<resolved::TypeDecl, Memory>
-    ensures { IfOk result (λ d. d ≡ record { name = decl.now.name.text; members = abstract_names members.now; defined = defined_members members.now; methods = methods }) }
+    ensures { IfOk result (λ d. d ≡ record { name = decl.now.name.text; members = abstract_names members.now; bounds = abstract_bounds members.now; defined = defined_members members.now; methods = methods }) }
 {
     Ok(resolved::TypeDecl {
         name: decl.name.text.copy()?,
         members: abstract_names(alloc, members)?,
+        bounds: abstract_bounds(alloc, members)?,
         defined: defined_members(alloc, members)?,
         methods,
     })
@@ -80,6 +105,7 @@ fn add_member_names<'a>(names: &mut WrittenNames<'a>, members: &'a [Member])
     for member in members {
         match member {
             Member::Abstract(name) => names.add(name),
+            Member::Bounded(name, _) => names.add(name),
             Member::Defined(name, _) => names.add(name),
             Member::Method(_) => {}
         }
@@ -93,6 +119,7 @@ fn add_method_names<'a>(names: &mut WrittenNames<'a>, members: &'a [Member])
     for member in members {
         match member {
             Member::Abstract(_) => {}
+            Member::Bounded(_, _) => {}
             Member::Defined(_, _) => {}
             Member::Method(signature) => names.add(&signature.name),
         }
@@ -114,8 +141,8 @@ fn add_method(
     Ok(())
 }
 
-/// The methods of a declaration. The refusals inside its members are noted: the set of a defined one sees
-/// those before it, a signature all.
+/// The methods of a declaration. The refusals inside its members are noted: the set of a defined one
+/// and an upper bound see those before it, a signature all.
 fn read_members(
     alloc: Global,
     nothing: &Owners,
@@ -134,6 +161,11 @@ fn read_members(
         match member {
             Member::Abstract(name) => {
                 add_abstract(alloc, &mut before, &name.text, number)?;
+                number += 1;
+            }
+            Member::Bounded(name, set) => {
+                let set = set.as_slice();
+                read_bounded(alloc, nothing, &mut before, &name.text, number, set, least)?;
                 number += 1;
             }
             Member::Defined(name, set) => {

@@ -1,7 +1,7 @@
 //! The members of types (docs/LANGUAGE.md, "Types").
 
 ghost use Rattle.std.specs.Prelude.{◌≡◌, ◌≤◌, ◌+◌, ◌++◌, ◌∷◌, [], List, map, length, IfOk, OnOk};
-ghost use Rattle.wy_symbols.specs.Atoms.{member_scope, abstract_member, defined_member, members_after, abstract_members, primitive_head, head, head_names, heads_of, set_of, set_refusals};
+ghost use Rattle.wy_symbols.specs.Atoms.{member_scope, abstract_member, bounded_member, defined_member, members_after, abstract_members, primitive_head, head, head_names, heads_of, set_of, set_refusals};
 ghost use Rattle.wy_symbols.specs.Least.{noted};
 ghost use Rattle.wy_types.specs.Primitive.{primitive_types};
 ghost use Rattle.wy_symbols.specs.Lent.{lent_type};
@@ -33,6 +33,28 @@ pub fn add_abstract(
         name: name.copy()?,
         is_abstract: true,
         atoms: single(alloc, number)?,
+        bound: None,
+    })
+}
+
+/// Adds an abstract member with its number and an upper bound, whose set sees the members before it.
+fn add_bounded(
+    alloc: Global,
+    nothing: &Owners,
+    members: &mut Meanings,
+    name: &Text,
+    number: usize,
+    set: &[AtomUse],
+) -> Result<(), Memory>
+    requires { nothing.now ≡ member_scope [] }
+    ensures { OnOk result (members.new ≡ members.old ++ bounded_member name.now number (set_of (member_scope members.old) set.now) ∷ []) }
+{
+    let bound = set_of(alloc, &AtomScope::new(nothing, 0, members), set)?;
+    members.push(Meaning {
+        name: name.copy()?,
+        is_abstract: true,
+        atoms: single(alloc, number)?,
+        bound: Some(bound),
     })
 }
 
@@ -52,15 +74,40 @@ fn add_defined(
         name: name.copy()?,
         is_abstract: false,
         atoms,
+        bound: None,
     })
 }
 
-/// Notes the refusals of a defined member's set, which sees the members before it.
-fn note_defined(nothing: &Owners, members: &Meanings, set: &[AtomUse], least: &mut Option<Refusal>)
+/// Notes the refusals of the set of a defined member or of an upper bound, which sees the members before it.
+fn note_member_set(
+    nothing: &Owners,
+    members: &Meanings,
+    set: &[AtomUse],
+    least: &mut Option<Refusal>,
+)
     requires { nothing.now ≡ member_scope [] }
     ensures { least.new ≡ noted least.old (set_refusals (member_scope members.now) set.now) }
 {
     note_set(&AtomScope::new(nothing, 0, members), set, least);
+}
+
+/// Adds an abstract member with its number and an upper bound, whose set sees the members before it. The refusals of
+/// the set are noted.
+pub fn read_bounded(
+    alloc: Global,
+    nothing: &Owners,
+    members: &mut Meanings,
+    name: &Text,
+    number: usize,
+    set: &[AtomUse],
+    least: &mut Option<Refusal>,
+) -> Result<(), Memory>
+    requires { nothing.now ≡ member_scope [] }
+    ensures members { OnOk result (members.new ≡ members.old ++ bounded_member name.now number (set_of (member_scope members.old) set.now) ∷ []) }
+    ensures noted { OnOk result (least.new ≡ noted least.old (set_refusals (member_scope members.old) set.now)) }
+{
+    note_member_set(nothing, members, set, least);
+    add_bounded(alloc, nothing, members, name, number, set)
 }
 
 /// Adds a defined member, whose set sees the members before it. The refusals of the set are noted.
@@ -76,7 +123,7 @@ pub fn read_defined(
     ensures members { OnOk result (members.new ≡ members.old ++ defined_member name.now (set_of (member_scope members.old) set.now) ∷ []) }
     ensures noted { OnOk result (least.new ≡ noted least.old (set_refusals (member_scope members.old) set.now)) }
 {
-    note_defined(nothing, members, set, least);
+    note_member_set(nothing, members, set, least);
     add_defined(alloc, nothing, members, name, set)
 }
 
@@ -95,6 +142,11 @@ pub fn members_after(
         match member {
             Member::Abstract(name) => {
                 add_abstract(alloc, &mut before, &name.text, number)?;
+                number += 1;
+            }
+            Member::Bounded(name, set) => {
+                let set = set.as_slice();
+                add_bounded(alloc, nothing, &mut before, &name.text, number, set)?;
                 number += 1;
             }
             Member::Defined(name, set) => {

@@ -11,6 +11,8 @@ pub struct Meaning {
     /// Whether it is an abstract member, which stands for itself alone.
     pub is_abstract: bool,
     pub atoms: EffSet,
+    /// The upper bound of an abstract member, where it has one: a set of abstract members before it.
+    pub bound: Option<EffSet>,
 }
 
 /// A type's name and its effect members, in their order. The atoms are its abstract members, by their numbers.

@@ -5,7 +5,7 @@ use Rattle.std.proofs.lemmas.List.{length-append, map-append}
 use Rattle.wy_text.specs.declared.fault.AtomName.{AtomName}
 use Rattle.wy_syntax.specs.declared.items.TypeDecl.{TypeDecl}
 use Rattle.wy_syntax.specs.declared.items.Member.{Member}
-use Rattle.wy_syntax.specs.declared.items.Member.TheVariants.{Abstract, Defined, Method}
+use Rattle.wy_syntax.specs.declared.items.Member.TheVariants.{Abstract, Bounded, Defined, Method}
 use Rattle.wy_types.specs.Primitive.{primitive_types}
 use Rattle.wy_symbols.specs.declared.scoping.Head.{Head}
 use Rattle.wy_symbols.specs.declared.scoping.Meaning.{Meaning}
@@ -13,7 +13,7 @@ use Rattle.wy_symbols.specs.declared.scoping.Opening.{Opening}
 use Rattle.wy_symbols.specs.declared.scoping.Opening.TheVariants.{Members, Nothing, Missing}
 use Rattle.wy_symbols.specs.declared.scoping.Owner.{Owner}
 use Rattle.wy_symbols.specs.Meanings.{abstract_names}
-use Rattle.wy_symbols.specs.Atoms.{atom_of, has_atom, with_atom, with_members, opened_names, with_owners, atoms_of, members_of, members_after, member_scope, abstract_member, defined_member, set_of, head, heads_of, primitive_head}
+use Rattle.wy_symbols.specs.Atoms.{atom_of, has_atom, with_atom, with_members, opened_names, with_owners, atoms_of, members_of, members_after, member_scope, abstract_member, bounded_member, defined_member, set_of, head, heads_of, primitive_head}
 use Rattle.wy_heads.specs.Counts.{abstract_count, abstract_counts, type_counts, opening_count, owners_count}
 
 length_with_atom : (atoms : List AtomName) (a : AtomName) → length (with_atom atoms a) ≤ length atoms + 1
@@ -67,6 +67,11 @@ abstract_members_count before k [] = omega arith
 abstract_members_count before k (Abstract n ∷ ms) =
     let one = length_abstract before (abstract_member n.text k) 1 refl in
     let rest = abstract_members_count (before ++ abstract_member n.text k ∷ []) (k + 1) ms in
+    omega (arith, one, rest)
+abstract_members_count before k (Bounded n set ∷ ms) =
+    let bounded = bounded_member n.text k (set_of (member_scope before) set) in
+    let one = length_abstract before bounded 1 refl in
+    let rest = abstract_members_count (before ++ bounded ∷ []) (k + 1) ms in
     omega (arith, one, rest)
 abstract_members_count before k (Defined n set ∷ ms) =
     let defined = defined_member n.text (set_of (member_scope before) set) in

@@ -149,6 +149,23 @@ module _ (heads : List Head) where
   abbrev AreOthers : List AtomName → List Owner → Type 0
   AreOthers atoms os = (a : AtomName) → In a atoms → In a.owner (owner_names os) → ⊥
 
+  -- those of the first of them are new
+  new_of : (atoms : List AtomName) (o : Owner) (os : List Owner) → AreOthers atoms (o ∷ os) → AreNew atoms o.name (opened_names heads o.opening)
+  new_of atoms o os others m i j = others (atom_of o.name m) j (inl refl)
+
+  -- and with them none is one of the other owners'
+  others_after : (atoms : List AtomName) (o : Owner) (os : List Owner) → (In o.name (owner_names os) → ⊥) → AreOthers atoms (o ∷ os) →
+      AreOthers (atoms ++ map (atom_of o.name) (opened_names heads o.opening)) os
+  others_after atoms o os absent others a i j =
+      let mine = map (atom_of o.name) (opened_names heads o.opening) in
+      elim (In-cases a atoms mine i) [
+        | inl l ↦ others a l (inr j)
+        | inr l ↦ (
+            let r = In-unmap (atom_of o.name) a (opened_names heads o.opening) l in
+            let P : List ℕ → Type 0 = λ v. In v (owner_names os) in
+            absent (subst P (sym (ap (λ (b : AtomName). b.owner) r.2)) j))
+      ]
+
   module _ (members_apart : (o : Owner) → Apart (opened_names heads o.opening)) where
     numbered_after : (atoms : List AtomName) (os : List Owner) → Apart (owner_names os) → AreOthers atoms os →
         AreNumbered (with_owners heads atoms os) (length atoms) os
@@ -156,15 +173,9 @@ module _ (heads : List Head) where
     numbered_after atoms (o ∷ os) d others =
         let ms = opened_names heads o.opening in
         let mine = map (atom_of o.name) ms in
-        let new : AreNew atoms o.name ms = λ m i j. others (atom_of o.name m) j (inl refl) in
+        let new = new_of atoms o os others in
         let behind : with_members atoms o.name ms ≡ atoms ++ mine = members_behind atoms o.name ms new (members_apart o) in
-        let after : AreOthers (atoms ++ mine) os = λ a i j. elim (In-cases a atoms mine i) [
-          | inl l ↦ others a l (inr j)
-          | inr l ↦ (
-              let r = In-unmap (atom_of o.name) a ms l in
-              let P : List ℕ → Type 0 = λ v. In v (owner_names os) in
-              d.0 (subst P (sym (ap (λ (b : AtomName). b.owner) r.2)) j))
-        ] in
+        let after = others_after atoms o os d.0 others in
         let g = grown_owners (atoms ++ mine) os in
         let all = with_owners heads (atoms ++ mine) os in
         let first : owner_sets all o.name ms ≡ single_sets (length atoms) ms =
@@ -177,6 +188,21 @@ module _ (heads : List Head) where
         let rest : AreNumbered all (length atoms + length ms) os = subst P count (numbered_after (atoms ++ mine) os d.1 after) in
         let Q : List AtomName → Type 0 = λ l. AreNumbered (with_owners heads l os) (length atoms) (o ∷ os) in
         subst Q (sym behind) (first, rest)
+
+    -- how many they are
+    counted_after : (atoms : List AtomName) (os : List Owner) → Apart (owner_names os) → AreOthers atoms os → length (with_owners heads atoms os) ≡ length atoms + owned_count os
+    counted_after atoms [] d others = omega arith
+    counted_after atoms (o ∷ os) d others =
+        let ms = opened_names heads o.opening in
+        let mine = map (atom_of o.name) ms in
+        let behind = members_behind atoms o.name ms (new_of atoms o os others) (members_apart o) in
+        let rest = ap (λ l. length (with_owners heads l os)) behind ∙ counted_after (atoms ++ mine) os d.1 (others_after atoms o os d.0 others) in
+        let a = length-append atoms mine in
+        let b = length-map ms (atom_of o.name) in
+        omega (arith, rest, a, b)
+
+    pub owners_counted : (os : List Owner) → Apart (owner_names os) → length (with_owners heads [] os) ≡ owned_count os
+    owners_counted os d = (let c = counted_after [] os d (λ a i j. i) in omega (arith, c))
 
     -- the atoms of owners are numbered from the first on
     pub owners_numbered : (os : List Owner) → Apart (owner_names os) → AreNumbered (with_owners heads [] os) 0 os

@@ -5,7 +5,7 @@ use Rattle.std.proofs.lemmas.List.{length-map}
 use Rattle.wy_syntax.specs.declared.types.Param.{Param}
 use Rattle.wy_syntax.specs.declared.types.Signature as tree
 use Rattle.wy_syntax.specs.declared.items.Member.{Member}
-use Rattle.wy_syntax.specs.declared.items.Member.TheVariants.{Abstract, Defined, Method}
+use Rattle.wy_syntax.specs.declared.items.Member.TheVariants.{Abstract, Bounded, Defined, Method}
 use Rattle.wy_syntax.specs.declared.items.TypeDecl.{TypeDecl}
 use Rattle.wy_effects.specs.Members.{In, Apart}
 use Rattle.wy_effects.specs.EffSet.{IsSet}
@@ -20,13 +20,14 @@ use Rattle.wy_types.specs.Core.{HasSets, DeclarationFits}
 use Rattle.wy_symbols.specs.declared.scoping.Head.{Head}
 use Rattle.wy_symbols.specs.declared.scoping.Meaning.{Meaning}
 use Rattle.wy_symbols.specs.Declarations.{repeated}
-use Rattle.wy_symbols.specs.Meanings.{abstract_names}
+use Rattle.wy_symbols.specs.Meanings.{abstract_names, abstract_bounds}
 use Rattle.wy_symbols.specs.Atoms.{AtomScope, members_after}
 use Rattle.wy_symbols.specs.TypeUses.{param_types, type_ref, method_of, declaration_scope, defined_members, declared_methods, member_names, method_names, declaration}
 use Rattle.wy_heads.specs.Counts.{signature_count, abstract_count, member_params}
 use Rattle.wy_well_formed.proofs.Repeats.{repeated_apart}
 use Rattle.wy_well_formed.proofs.Sets.{AreMeant, Holds}
-use Rattle.wy_well_formed.proofs.Meant.{none_meant, members_meant}
+use Rattle.wy_well_formed.proofs.BoundLists.{from_fits}
+use Rattle.wy_well_formed.proofs.Meant.{none_meant, members_meant, length_bounds, bounds_from}
 use Rattle.wy_well_formed.proofs.WrittenTypes.{Knows, Stands, use_stands, effect_below}
 use Rattle.wy_well_formed.proofs.AtomCounts.{abstract_members_count}
 use Rattle.wy_well_formed.proofs.MemberNames.{split_apart, names_after, methods_names, methods_count}
@@ -78,6 +79,7 @@ module _ (p : Program) (n : ℕ) (s : AtomScope) (holds : Holds n s) (knows : Kn
   methods_over : (ms : List Member) (m : Signature TypeRef) → In m (map signature (declared_methods s ms)) → IsOver m
   methods_over [] m i = absurd i
   methods_over (Abstract x ∷ ms) m i = methods_over ms m i
+  methods_over (Bounded x set ∷ ms) m i = methods_over ms m i
   methods_over (Defined x set ∷ ms) m i = methods_over ms m i
   methods_over (Method g ∷ ms) m (inl e) = let P : Signature TypeRef → Type 0 = λ v. IsOver v in subst P e (signature_over g)
   methods_over (Method g ∷ ms) m (inr i) = methods_over ms m i
@@ -85,6 +87,7 @@ module _ (p : Program) (n : ℕ) (s : AtomScope) (holds : Holds n s) (knows : Kn
 few_params : (s : AtomScope) (ms : List Member) → ((n : ℕ) → In n (member_params ms) → n ≤ 16) → (m : Signature TypeRef) → In m (map signature (declared_methods s ms)) → length m.params ≤ 16
 few_params s [] h m i = absurd i
 few_params s (Abstract x ∷ ms) h m i = few_params s ms h m i
+few_params s (Bounded x set ∷ ms) h m i = few_params s ms h m i
 few_params s (Defined x set ∷ ms) h m i = few_params s ms h m i
 few_params s (Method g ∷ ms) h m (inl e) =
     let few : length g.params ≤ 16 = h (length g.params) (inl refl) in
@@ -105,6 +108,7 @@ declaration_fits p heads d knows few differ =
     record {
       written = methods_over p n s holds knows d.members;
       defined = defined_meant n members meant;
+      bounds = from_fits n (abstract_bounds members) (length_bounds members) (bounds_from d.members);
       member_names = split_apart members (subst P (sym (names_after [] 0 d.members)) (repeated_apart [] (member_names d.members) differ.members));
       method_names = subst P (sym (methods_names s d.members)) (repeated_apart [] (method_names d.members) differ.methods);
       few_members = let f = few.members in omega (arith, f, count);

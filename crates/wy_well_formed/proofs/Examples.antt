@@ -9,7 +9,7 @@
 --     instance lg = log(disk)
 --     import pl = log(disk) at {lg.Put}
 use Rattle.std.proofs.Common.{◌≡◌, ℕ, zero, suc, ◌<◌, List, [], ◌∷◌, ◌++◌, true, Some, None, inl, inr, refl, ap, ◌∙◌, subst, arith}
-use Rattle.std.specs.Prelude.{codes, slice_get, pos}
+use Rattle.std.specs.Prelude.{codes, slice_get, pos, replicate}
 use Rattle.wy_text.specs.declared.fault.Place.{Place}
 use Rattle.wy_syntax.specs.declared.types.Name.{Name}
 use Rattle.wy_syntax.specs.declared.types.Signature.{Signature}
@@ -30,7 +30,7 @@ use Rattle.wy_types.specs.Ground.{single_sets}
 use Rattle.wy_types.specs.Core.{AreNumbered, ScopeFits, literal_captures, scope_vals}
 use Rattle.wy_bodies.specs.Sight.{outermost}
 use Rattle.wy_bodies.specs.Bodies.{Within, at_start, stmts_block, stmts_bodies}
-use Rattle.wy_rules.specs.OwnNames.{opened_count, HasItsType, HaveTheirTypes, IsPlainName, GrantsStandFirst, ModulesCaptureNothing}
+use Rattle.wy_rules.specs.OwnNames.{names_bounds, opened_count, HasItsType, HaveTheirTypes, IsPlainName, GrantsStandFirst, ModulesCaptureNothing}
 use Rattle.wy_rules.specs.News.{scope_news}
 use Rattle.wy_syntax.specs.OwnWords.{IsWord}
 use Rattle.wy_well_formed.specs.ValPlaces.{val_at, stmts_val_places, block_vals_at, bodies_vals_at}
@@ -65,6 +65,7 @@ log_with own = record {
   name = codes "log";
   place = nowhere;
   atoms = [];
+  bounds = [];
   names = named (codes "disk") (Named 1 (single_sets 0 (codes "Read" ∷ codes "Write" ∷ codes "Append" ∷ codes "List" ∷ []))) (Parameter true) ∷ [];
   ascribed = Some 4;
   definitions = [];
@@ -89,6 +90,7 @@ main_with methods = record {
   name = codes "main";
   place = nowhere;
   atoms = [];
+  bounds = [];
   names = disk ∷ lg ∷ pl ∷ [];
   ascribed = None;
   definitions = [];
@@ -114,6 +116,16 @@ names_have_types = ((1, refl), (refl, (((omega arith, omega arith, tt), refl), t
 -- with the grant's atoms the instance has not its type
 other_atoms : HasItsType program 4 (named (codes "lg") (Named 4 ((0 ∷ []) ∷ [])) (Instance 0 (0 ∷ []))) (Instance 0 (0 ∷ [])) → ⊥
 other_atoms e = cc
+
+-- where the type has a second member below the first, that atom of the instance is bounded by the first one's
+abbrev bounded : Program
+bounded = record {
+  declarations = primitive_types ++ record { name = codes "Log"; members = codes "Put" ∷ codes "All" ∷ []; bounds = None ∷ Some (0 ∷ []) ∷ []; defined = []; methods = [] } ∷ [];
+  scopes = log ∷ main ∷ [];
+}
+
+names_are_bounded : names_bounds bounded 0 (main.names) ≡ replicate 4 None ++ None ∷ Some (4 ∷ []) ∷ []
+names_are_bounded = refl
 
 parameter_opens : opened_count program (log.names) ≡ 4
 parameter_opens = refl

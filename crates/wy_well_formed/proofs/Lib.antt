@@ -16,6 +16,7 @@ mod Parameters
 pub mod FittingBodies
 mod Sets
 mod AtomsThere
+mod BoundLists
 mod Meant
 mod AtomCounts
 mod WrittenTypes
@@ -31,12 +32,13 @@ mod Limits
 mod NamedModules
 mod NoCycles
 mod ModuleForms
+mod AtomsOpened
+mod OwnTyped
+mod ScopeBounds
 mod ModuleScopes
 mod ProgramScope
 mod Assembled
 mod Resolved
-mod AtomsOpened
-mod OwnTyped
 mod SealedModules
 mod NamesFit
 mod EachScope

@@ -3,7 +3,7 @@ use Rattle.std.proofs.Common.{◌≡◌, ℕ, ◌+◌, List, [], ◌∷◌, ◌+
 use Rattle.std.specs.Prelude.{if◌then◌else◌}
 use Rattle.std.proofs.lemmas.List.{map-append, append-nil}
 use Rattle.wy_syntax.specs.declared.items.Member.{Member}
-use Rattle.wy_syntax.specs.declared.items.Member.TheVariants.{Abstract, Defined, Method}
+use Rattle.wy_syntax.specs.declared.items.Member.TheVariants.{Abstract, Bounded, Defined, Method}
 use Rattle.wy_effects.specs.Members.{In, Apart}
 use Rattle.wy_effects.proofs.Lists.{In-cases, In-left, In-right}
 use Rattle.wy_types.specs.declared.types.TypeRef.{TypeRef}
@@ -13,7 +13,7 @@ use Rattle.wy_types.specs.Types.{signature}
 use Rattle.wy_symbols.specs.declared.scoping.Meaning.{Meaning}
 use Rattle.wy_symbols.specs.Declarations.{texts}
 use Rattle.wy_symbols.specs.Meanings.{meaning_names, abstract_names}
-use Rattle.wy_symbols.specs.Atoms.{AtomScope, members_after, member_scope, abstract_member, defined_member, set_of}
+use Rattle.wy_symbols.specs.Atoms.{AtomScope, members_after, member_scope, abstract_member, bounded_member, defined_member, set_of}
 use Rattle.wy_symbols.specs.TypeUses.{defined_members, declared_methods, member_names, method_names}
 use Rattle.wy_heads.specs.Counts.{signature_count}
 
@@ -64,6 +64,10 @@ names_after before k (Abstract n ∷ ms) =
     let m = abstract_member n.text k in
     names_after (before ++ m ∷ []) (k + 1) ms ∙ ap (λ l. l ++ texts (member_names ms)) (map-append (λ (m : Meaning). m.name) before (m ∷ []))
     ∙ append_assoc (meaning_names before) (n.text ∷ []) (texts (member_names ms))
+names_after before k (Bounded n set ∷ ms) =
+    let m = bounded_member n.text k (set_of (member_scope before) set) in
+    names_after (before ++ m ∷ []) (k + 1) ms ∙ ap (λ l. l ++ texts (member_names ms)) (map-append (λ (m : Meaning). m.name) before (m ∷ []))
+    ∙ append_assoc (meaning_names before) (n.text ∷ []) (texts (member_names ms))
 names_after before k (Defined n set ∷ ms) =
     let m = defined_member n.text (set_of (member_scope before) set) in
     names_after (before ++ m ∷ []) k ms ∙ ap (λ l. l ++ texts (member_names ms)) (map-append (λ (m : Meaning). m.name) before (m ∷ []))
@@ -75,11 +79,13 @@ module _ (s : AtomScope) where
   pub methods_names : (ms : List Member) → map (λ (m : Signature TypeRef). m.name) (map signature (declared_methods s ms)) ≡ texts (method_names ms)
   methods_names [] = refl
   methods_names (Abstract n ∷ ms) = methods_names ms
+  methods_names (Bounded n set ∷ ms) = methods_names ms
   methods_names (Defined n set ∷ ms) = methods_names ms
   methods_names (Method g ∷ ms) = ap (λ l. g.name.text ∷ l) (methods_names ms)
 
   pub methods_count : (ms : List Member) → length (declared_methods s ms) ≡ signature_count ms
   methods_count [] = refl
   methods_count (Abstract n ∷ ms) = methods_count ms
+  methods_count (Bounded n set ∷ ms) = methods_count ms
   methods_count (Defined n set ∷ ms) = methods_count ms
   methods_count (Method g ∷ ms) = (let r = methods_count ms in omega (arith, r))

@@ -4,8 +4,9 @@ use Rattle.std.proofs.lemmas.List.{length-map, length-append}
 use Rattle.wy_syntax.specs.declared.types.Name.{Name}
 use Rattle.wy_syntax.specs.declared.items.Line.{Line}
 use Rattle.wy_syntax.specs.declared.items.Init as tree
-use Rattle.wy_effects.specs.Members.{In, Within}
+use Rattle.wy_effects.specs.Members.{In, Within, Apart}
 use Rattle.wy_effects.specs.EffSet.{IsSet, AreSets}
+use Rattle.wy_effects.specs.Bounds.{BoundsFit}
 use Rattle.wy_effects.proofs.Lists.{In-left, In-right, In-unmap}
 use Rattle.wy_types.specs.declared.resolved.ScopeKind.{ScopeKind}
 use Rattle.wy_types.specs.declared.resolved.ScopeKind.TheVariants.{Pure, Resource, Plain, Program as Main}
@@ -19,7 +20,7 @@ use Rattle.wy_symbols.specs.declared.scoping.Meaning.{Meaning}
 use Rattle.wy_symbols.specs.declared.scoping.Owner.{Owner}
 use Rattle.wy_symbols.specs.Declarations.{ModuleTree, repeated}
 use Rattle.wy_symbols.specs.Meanings.{meaning_of, abstract_names}
-use Rattle.wy_symbols.specs.Atoms.{AtomScope, head_names, type_number, members_of, meaning_set, params_owners, closed_owner, param_owner, use_owner, line_owner, owner_names}
+use Rattle.wy_symbols.specs.Atoms.{AtomScope, bounds_of_owners, head_names, type_number, members_of, meaning_set, params_owners, closed_owner, param_owner, use_owner, line_owner, owner_names}
 use Rattle.wy_symbols.specs.TypeUses.{param_names}
 use Rattle.wy_heads.specs.Lines.{param_name, param_refusals, use_name, uses_refusals, line_names, lines_refusals}
 use Rattle.wy_bodies.specs.Sight.{outermost, inside}
@@ -34,8 +35,11 @@ use Rattle.wy_well_formed.proofs.AtomsThere.{owners_open}
 use Rattle.wy_well_formed.proofs.Meant.{none_meant, definitions_meant}
 use Rattle.wy_well_formed.proofs.WrittenTypes.{Knows, IsType, number_known, use_stands, effect_below}
 use Rattle.wy_well_formed.proofs.OwnNames.{AllOwn, own_at, own_append, params_own, uses_own, lines_own}
-use Rattle.wy_well_formed.proofs.OwnApart.{param_texts, own_apart, lines_length}
+use Rattle.wy_well_formed.proofs.OwnApart.{own_texts, param_texts, own_apart, lines_length}
 use Rattle.wy_well_formed.proofs.OwnCounts.{module_grants, module_parameters}
+use Rattle.wy_well_formed.proofs.Known.{KnowsMembers}
+use Rattle.wy_well_formed.proofs.OwnTyped.{params_follow}
+use Rattle.wy_well_formed.proofs.ScopeBounds.{DeclarationsFit, all_follow, scope_bounds_fit}
 use Rattle.wy_well_formed.proofs.ModuleForms.{HasForm, is_module, plain_is_bare}
 
 ------------------------------------------------------------
@@ -215,10 +219,24 @@ module _ (p : Program) (heads : List Head) (modules : List ModuleTree) (knows : 
       (ascribed heads modules p the_scope m.kind (module_meanings heads modules m) s.number knows (is_module m.kind m form)
       (ap (definitions_at heads modules (is_plain m.kind) (module_meanings heads modules m)) s.is) known)
 
-  pub module_fits : atom_count ≤ 512 → length m.params ≤ 16 → BodiesFit p the_scope → ScopeFits p the_scope
-  module_fits few few_params b = record {
+  names_apart : Apart (own_texts (module_own heads modules m))
+  names_apart =
+      own_apart heads modules (module_atoms heads modules m) first_names (param_names m.params) m.uses (early_owners heads modules m) m.lines
+      (param_texts (param_scope heads modules m) (is_plain m.kind) m.params) sound.names
+
+  -- the upper bounds of its atoms
+  bounds_fit : KnowsMembers p heads → DeclarationsFit p → BoundsFit atom_count (bounds_of_owners heads (module_atoms heads modules m) (module_owners heads modules m))
+  bounds_fit members declared =
+      let atoms = module_atoms heads modules m in
+      let owners = param_owners heads modules m in
+      scope_bounds_fit p heads members declared (module_own heads modules m) (module_owners heads modules m)
+      (all_follow heads modules p members first_names owners atoms m.uses m.lines (params_follow p heads members atoms owners (is_plain m.kind) m.params)) names_apart
+
+  pub module_fits : KnowsMembers p heads → DeclarationsFit p → atom_count ≤ 512 → length m.params ≤ 16 → BodiesFit p the_scope → ScopeFits p the_scope
+  module_fits members declared few few_params b = record {
     ascribed = is_ascribed;
     definitions = definitions_below heads modules atom_count (is_plain m.kind) (module_meanings heads modules m) (type_number (head_names heads) m.sealed.text) holds.meanings;
+    bounds = bounds_fit members declared;
     names = λ k n e. (let f = own_at p the_scope (is_plain m.kind) (module_own heads modules m) all_own k n e in (f.written, f.origin));
     starts = (start_is m.kind _ (is_module m.kind m form), b.starts, start_below heads modules atom_count (module_scope heads modules m) m.init holds);
     bodies = b.bodies;
@@ -231,9 +249,7 @@ module _ (p : Program) (heads : List Head) (modules : List ModuleTree) (knows : 
     numbered = b.numbered;
     captured = b.captured;
     captured_parameters = b.captured_parameters;
-    own_names =
-        own_apart heads modules (module_atoms heads modules m) first_names (param_names m.params) m.uses (early_owners heads modules m) m.lines
-        (param_texts (param_scope heads modules m) (is_plain m.kind) m.params) sound.names;
+    own_names = names_apart;
     field_names = b.field_names;
     method_names = b.method_names;
     atoms = few;

@@ -7,8 +7,7 @@ use Rattle.wy_syntax.specs.declared.types.Param.{Param}
 use Rattle.wy_syntax.specs.declared.items.Line.{Line}
 use Rattle.wy_syntax.specs.Trees.{ItemTree}
 use Rattle.wy_effects.specs.Members.{In, Within, Apart}
-use Rattle.wy_effects.proofs.Lists.{In-left, In-cases, In-unmap, In-slice_get}
-use Rattle.wy_types.specs.declared.resolved.TypeDecl.{TypeDecl}
+use Rattle.wy_effects.proofs.Lists.{In-cases, In-unmap}
 use Rattle.wy_types.specs.declared.resolved.ScopeKind.{ScopeKind}
 use Rattle.wy_types.specs.declared.resolved.ScopeKind.TheVariants.{Pure, Resource, Plain, Program as Main}
 use Rattle.wy_types.specs.declared.resolved.OwnName.{OwnName}
@@ -17,16 +16,13 @@ use Rattle.wy_types.specs.declared.resolved.Origin.TheVariants.{Parameter, Grant
 use Rattle.wy_types.specs.Program.{Program, Scope}
 use Rattle.wy_types.specs.Types.{is_plain}
 use Rattle.wy_types.specs.Fitting.{FitsType}
-use Rattle.wy_types.specs.Ground.{abstract_names as declared_members}
 use Rattle.wy_types.specs.Core.{IsCore}
 use Rattle.wy_rules.specs.Acceptance.{is_parameter, parameters_until, parameters_among}
-use Rattle.wy_rules.specs.OwnNames.{opened_count, after_parameters, HasItsType, HaveTheirTypes, MayHave, OwnNamesFit, LinesAreTyped}
+use Rattle.wy_rules.specs.OwnNames.{names_bounds, opened_count, after_parameters, HasItsType, HaveTheirTypes, MayHave, OwnNamesFit, LinesAreTyped}
 use Rattle.wy_symbols.specs.declared.scoping.Head.{Head}
-use Rattle.wy_symbols.specs.declared.scoping.Opening.{Opening}
-use Rattle.wy_symbols.specs.declared.scoping.Opening.TheVariants.{Members, Nothing, Missing}
 use Rattle.wy_symbols.specs.declared.scoping.Owner.{Owner}
 use Rattle.wy_symbols.specs.Declarations.{ModuleTree, ProgramTree, types_of, modules_of}
-use Rattle.wy_symbols.specs.Atoms.{AtomScope, head_names, opened_names, params_owners, grant_owner, atoms_of, heads_of, atom_scope}
+use Rattle.wy_symbols.specs.Atoms.{AtomScope, head_names, params_owners, grant_owner, heads_of, atom_scope}
 use Rattle.wy_heads.specs.Lines.{param_name, grant_name, use_name, uses_refusals, line_names, lines_refusals}
 use Rattle.wy_heads.specs.ScopeHeads.{use_owners, line_owners, param_owners, module_owners, module_atoms, param_scope, module_own, program_owners, program_atoms, program_scope, program_own}
 use Rattle.wy_names.specs.Scopes.{scope_of_module, scope_of_program, refusals_of, resolved}
@@ -41,8 +37,9 @@ use Rattle.wy_well_formed.proofs.OwnApart.{own_texts}
 use Rattle.wy_well_formed.proofs.ModuleForms.{HasForm, is_module, pure_is_bare, modules_have_form}
 use Rattle.wy_well_formed.proofs.ModuleScopes.{NotRefused}
 use Rattle.wy_well_formed.proofs.ProgramScope.{ProgramNotRefused}
-use Rattle.wy_well_formed.proofs.AtomsOpened.{owned_count, AreNumbered, numbered_left, numbered_right, all_numbered_open, owners_numbered}
-use Rattle.wy_well_formed.proofs.OwnTyped.{AreSealed, AllFollow, follow_both, following_names, following_count, params_follow, grants_follow, uses_follow, lines_follow, typed_append, grants_typed, uses_typed, lines_typed}
+use Rattle.wy_well_formed.proofs.AtomsOpened.{owned_count, AreNumbered, numbered_left, numbered_right, all_numbered_open}
+use Rattle.wy_well_formed.proofs.OwnTyped.{AreSealed, following_count, params_follow, grants_follow, uses_follow, typed_append, grants_typed, uses_typed, lines_typed}
+use Rattle.wy_well_formed.proofs.ScopeBounds.{DeclarationsFit, names_behind, owners_after, all_follow, all_numbered, scope_bounds_are}
 use Rattle.wy_well_formed.proofs.SealedModules.{modules_sealed}
 use Rattle.wy_well_formed.proofs.Assembled.{nothing_in}
 use Rattle.wy_well_formed.proofs.Resolved.{ItemsNotRefused, items_not_refused, resolved_core}
@@ -81,8 +78,9 @@ module _ (rest : List OwnName) where
       ap (λ (b : Bool). if b then after_parameters (ns ++ rest) else n ∷ (ns ++ rest)) (h n (inl refl)) ∙ after_first ns (λ m i. h m (inr i)) e
 
 fits : (p : Program) (s : Scope) (first rest : List OwnName) → s.names ≡ first ++ rest → AreParameters first → MayHave s.kind first →
-    ((n : OwnName) → In n first → FitsType p (opened_count p first) 0 n.typ) → HaveTheirTypes p (opened_count p first) rest → OwnNamesFit p s
-fits p s first rest names are may fit have =
+    ((n : OwnName) → In n first → FitsType p (opened_count p first) 0 n.typ) → HaveTheirTypes p (opened_count p first) rest →
+    s.bounds ≡ names_bounds p 0 s.names → OwnNamesFit p s
+fits p s first rest names are may fit have bounds =
     let k = opened_count p first in
     let among : parameters_among s.names ≡ first = ap (λ l. parameters_among l) names ∙ among_first rest first are (none_among p k rest have) in
     let after : after_parameters s.names ≡ rest = ap (λ l. after_parameters l) names ∙ after_first rest first are (all_after p k rest have) in
@@ -92,62 +90,21 @@ fits p s first rest names are may fit have =
       may_have = subst (λ l. MayHave s.kind l) (sym among) may;
       parameters = subst P (sym among) fit;
       others = subst (λ l. HaveTheirTypes p (opened_count p (parameters_among s.names)) l) (sym after) (subst Q (sym among) have);
+      bounds = bounds;
     }
-
-------------------------------------------------------------
--- The members of a type differ
-
-apart_left : {X : Type 0} (xs ys : List X) → Apart (xs ++ ys) → Apart xs
-apart_left [] ys d = tt
-apart_left (x ∷ xs) ys d = (λ i. d.0 (In-left x xs ys i), apart_left xs ys d.1)
-
-declared_apart : (p : Program) → IsCore p → (o : Option TypeDecl) → ((d : TypeDecl) → o ≡ Some d → In d p.declarations) → Apart (declared_members o)
-declared_apart p core None h = tt
-declared_apart p core (Some d) h = apart_left d.members _ ((core.declarations d (h d refl)).member_names)
-
-opened_apart : (p : Program) (heads : List Head) → IsCore p → KnowsMembers p heads → (o : Opening) → Apart (opened_names heads o)
-opened_apart p heads core knows (Members d) =
-    let P : List (List ℕ) → Type 0 = λ l. Apart l in
-    subst P (knows.same d) (declared_apart p core (slice_get p.declarations d) (λ t e. In-slice_get p.declarations d t e))
-opened_apart p heads core knows Nothing = tt
-opened_apart p heads core knows Missing = tt
 
 ------------------------------------------------------------
 -- Scopes
 
-module _ (p : Program) (heads : List Head) (modules : List ModuleTree) (core : IsCore p) (known : Knows p heads) (knows : KnowsMembers p heads)
+module _ (p : Program) (heads : List Head) (modules : List ModuleTree) (fit : DeclarationsFit p) (known : Knows p heads) (knows : KnowsMembers p heads)
     (sealed : AreSealed p heads modules) where
   owned_append : (xs ys : List Owner) → owned_count heads (xs ++ ys) ≡ owned_count heads xs + owned_count heads ys
   owned_append [] ys = omega arith
   owned_append (x ∷ xs) ys = (let r = owned_append xs ys in omega (arith, r))
 
-  -- names behind the first ones: those of uses and lines, and their owners
-  abbrev names_behind : List Owner → List AtomName → List Name → List Line → List OwnName
-  names_behind owners atoms us ls = map (use_name heads modules atoms) us ++ line_names heads modules atoms (owners ++ use_owners heads modules us) ls
-
-  abbrev owners_after : List Owner → List Name → List Line → List Owner
-  owners_after owners us ls = (owners ++ use_owners heads modules us) ++ line_owners heads modules ls
-
-  all_follow : (first : List OwnName) (owners : List Owner) (atoms : List AtomName) (us : List Name) (ls : List Line) → AllFollow p heads first owners →
-      AllFollow p heads (first ++ names_behind owners atoms us ls) (owners_after owners us ls)
-  all_follow first owners atoms us ls h =
-      let uses = map (use_name heads modules atoms) us in
-      let used = use_owners heads modules us in
-      let lines = line_names heads modules atoms (owners ++ used) ls in
-      let lined = line_owners heads modules ls in
-      let rest = follow_both p heads knows uses lines used lined (uses_follow p heads knows modules atoms us) (lines_follow p heads knows modules atoms (owners ++ used) ls) in
-      let P : List Owner → Type 0 = λ l. AllFollow p heads (first ++ (uses ++ lines)) l in
-      subst P (sym (append_assoc owners used lined)) (follow_both p heads knows first (uses ++ lines) owners (used ++ lined) h rest)
-
-  all_numbered : (names : List OwnName) (owners : List Owner) → AllFollow p heads names owners → Apart (own_texts names) →
-      AreNumbered heads (atoms_of heads owners) 0 owners
-  all_numbered names owners h d =
-      let P : List (List ℕ) → Type 0 = λ l. Apart l in
-      owners_numbered heads (λ o. opened_apart p heads core knows o.opening) owners (subst P (following_names p heads knows names owners h) d)
-
-  rest_typed : (owners : List Owner) (atoms : List AtomName) (us : List Name) (ls : List Line) → AreNumbered heads atoms 0 (owners_after owners us ls) →
+  rest_typed : (owners : List Owner) (atoms : List AtomName) (us : List Name) (ls : List Line) → AreNumbered heads atoms 0 (owners_after heads modules owners us ls) →
       uses_refusals heads modules atoms us ≡ [] → lines_refusals heads modules atoms (owners ++ use_owners heads modules us) ls ≡ [] →
-      HaveTheirTypes p (owned_count heads owners) (names_behind owners atoms us ls)
+      HaveTheirTypes p (owned_count heads owners) (names_behind heads modules owners atoms us ls)
   rest_typed owners atoms us ls numbered eu el =
       let uses = map (use_name heads modules atoms) us in
       let used = use_owners heads modules us in
@@ -203,9 +160,10 @@ module _ (p : Program) (heads : List Head) (modules : List ModuleTree) (core : I
       let atoms = module_atoms heads modules m in
       let owners = param_owners heads modules m in
       let first = map (param_name (param_scope heads modules m) plain) m.params in
-      let rest = names_behind owners atoms m.uses m.lines in
+      let rest = names_behind heads modules owners atoms m.uses m.lines in
       let follow = params_follow p heads knows atoms owners plain m.params in
-      let numbered = all_numbered (module_own heads modules m) (module_owners heads modules m) (all_follow first owners atoms m.uses m.lines follow) d in
+      let all = all_follow heads modules p knows first owners atoms m.uses m.lines follow in
+      let numbered = all_numbered p heads knows fit (module_own heads modules m) (module_owners heads modules m) all d in
       let early = numbered_left heads atoms 0 (owners ++ use_owners heads modules m.uses) (line_owners heads modules m.lines) numbered in
       let mine = numbered_left heads atoms 0 owners (use_owners heads modules m.uses) early in
       let k = owned_count heads owners in
@@ -216,6 +174,7 @@ module _ (p : Program) (heads : List Head) (modules : List ModuleTree) (core : I
       (may_have m.kind m form first (λ e. ap (λ ps. map (param_name (param_scope heads modules m) plain) ps) e))
       (subst P (sym count) (params_fit k atoms owners plain m.params (all_numbered_open heads atoms k owners mine (omega arith)) (λ o i. i)))
       (subst Q (sym count) (rest_typed owners atoms m.uses m.lines numbered sound.uses sound.lines))
+      (scope_bounds_are p heads knows fit (module_own heads modules m) (module_owners heads modules m) all d)
 
   ------------------------------------------------------------
   -- The program
@@ -226,9 +185,10 @@ module _ (p : Program) (heads : List Head) (modules : List ModuleTree) (core : I
       let atoms = program_atoms heads modules g in
       let owners = map (grant_owner (head_names heads)) g.grants in
       let first = map (grant_name (program_scope heads modules g)) g.grants in
-      let rest = names_behind owners atoms g.uses g.lines in
+      let rest = names_behind heads modules owners atoms g.uses g.lines in
       let follow = grants_follow p heads knows atoms (program_owners heads modules g) g.grants in
-      let numbered = all_numbered (program_own heads modules g) (program_owners heads modules g) (all_follow first owners atoms g.uses g.lines follow) d in
+      let all = all_follow heads modules p knows first owners atoms g.uses g.lines follow in
+      let numbered = all_numbered p heads knows fit (program_own heads modules g) (program_owners heads modules g) all d in
       let early = numbered_left heads atoms 0 (owners ++ use_owners heads modules g.uses) (line_owners heads modules g.lines) numbered in
       let mine = numbered_left heads atoms 0 owners (use_owners heads modules g.uses) early in
       let k = owned_count heads owners in
@@ -237,6 +197,7 @@ module _ (p : Program) (heads : List Head) (modules : List ModuleTree) (core : I
       (grants_typed p heads knows atoms (program_owners heads modules g) 0 g.grants mine sound.grants)
       (rest_typed owners atoms g.uses g.lines numbered sound.uses sound.lines) in
       fits p (scope_of_program heads modules g) [] (program_own heads modules g) refl (λ n i. absurd i) refl (λ n i. absurd i) have
+      (scope_bounds_are p heads knows fit (program_own heads modules g) (program_owners heads modules g) all d)
 
 ------------------------------------------------------------
 -- All scopes
@@ -249,12 +210,13 @@ scopes_fit items g sound core s i =
     let known = heads_known p (types_of items) refl in
     let knows = members_known p (types_of items) refl in
     let sealed = modules_sealed p heads modules (scope_of_program heads modules g) refl sound.modules in
+    let declared : DeclarationsFit p = record { each = core.declarations } in
     let P : Scope → Type 0 = λ v. Apart (own_texts v.names) → OwnNamesFit p v in
     let fit : P s = elim (In-cases s (map (scope_of_module heads modules) modules) (scope_of_program heads modules g ∷ []) i) [
       | inl j ↦ (
           let r = In-unmap (scope_of_module heads modules) s modules j in
-          subst P r.2 (module_names_fit p heads modules core known knows sealed r.0 (modules_have_form items r.0 r.1) (sound.modules r.0 r.1)))
-      | inr j ↦ elim j [ inl e ↦ subst P e (program_names_fit p heads modules core known knows sealed g sound.program) | inr l ↦ absurd l ]
+          subst P r.2 (module_names_fit p heads modules declared known knows sealed r.0 (modules_have_form items r.0 r.1) (sound.modules r.0 r.1)))
+      | inr j ↦ elim j [ inl e ↦ subst P e (program_names_fit p heads modules declared known knows sealed g sound.program) | inr l ↦ absurd l ]
     ] in
     fit ((core.scopes s i).own_names)
 

@@ -16,13 +16,14 @@ use Rattle.wy_types.specs.declared.resolved.OwnName.{OwnName}
 use Rattle.wy_types.specs.declared.resolved.Origin.TheVariants as origin
 use Rattle.wy_types.specs.Program.{Program}
 use Rattle.wy_types.specs.Ground.{single_sets, members_of}
-use Rattle.wy_rules.specs.OwnNames.{opens as opened_by, opened_count, sealed_of, name_of, IsOpened, IsBounded, HasItsType, HaveTheirTypes}
+use Rattle.wy_types.specs.Bounds.{type_bounds}
+use Rattle.wy_rules.specs.OwnNames.{opens as opened_by, opened_bounds as bounds_by, opened_count, sealed_of, name_of, IsOpened, IsBounded, HasItsType, HaveTheirTypes}
 use Rattle.wy_symbols.specs.declared.scoping.Head.{Head}
 use Rattle.wy_symbols.specs.declared.scoping.Opening.{Opening}
 use Rattle.wy_symbols.specs.declared.scoping.Opening.TheVariants.{Members, Nothing, Missing}
 use Rattle.wy_symbols.specs.declared.scoping.Owner.{Owner}
 use Rattle.wy_symbols.specs.Declarations.{ModuleTree, module_number}
-use Rattle.wy_symbols.specs.Atoms.{head_names, opened_names, module_opening, owner_sets, params_owners, param_opening, grant_owner, use_owner, line_owner, set_of, owner_names, atom_scope}
+use Rattle.wy_symbols.specs.Atoms.{head_names, opened_names, opened_bounds, module_opening, owner_sets, params_owners, param_opening, grant_owner, use_owner, line_owner, set_of, owner_names, atom_scope}
 use Rattle.wy_heads.specs.Lines.{number_or_zero, opened_type, is_bare, param_type, param_name, grant_name, grant_refusals, unless_opened, at_bound, use_name, uses_refusals, unless_number, line_scope, line_name, line_names, line_refusals, lines_refusals}
 use Rattle.wy_well_formed.proofs.Repeats.{append_empty}
 use Rattle.wy_well_formed.proofs.Sets.{OpensBelow, AllOpen, Holds, set_below}
@@ -43,10 +44,11 @@ pub record IsSealedAs (p : Program) (heads : List Head) (modules : List ModuleTr
 pub record AreSealed (p : Program) (heads : List Head) (modules : List ModuleTree) : Type 0 where
   pub sealed_as : (word : List ℕ) (k : ℕ) → module_number modules word ≡ Some k → IsSealedAs p heads modules word
 
--- an own name has its owner's name and opens the same members
+-- an own name has its owner's name and opens the same members, with the same upper bounds
 pub record Follows (p : Program) (heads : List Head) (n : OwnName) (o : Owner) : Type 0 where
   pub name : n.name ≡ o.name
   pub opened : opened_by p n n.origin ≡ opened_names heads o.opening
+  pub bounds : bounds_by p n n.origin ≡ opened_bounds heads o.opening
 
 -- so do own names one after the other
 abbrev pub AllFollow : Program → List Head → List OwnName → List Owner → Type 0
@@ -81,6 +83,12 @@ module _ (p : Program) (heads : List Head) (knows : KnowsMembers p heads) where
   opened_members atoms x Nothing = refl
   opened_members atoms x Missing = refl
 
+  -- and their upper bounds
+  opened_are_bounded : (atoms : List AtomName) (x : List ℕ) (o : Opening) → type_bounds p (opened_type heads atoms x o) ≡ opened_bounds heads o
+  opened_are_bounded atoms x (Members d) = knows.bounds d
+  opened_are_bounded atoms x Nothing = refl
+  opened_are_bounded atoms x Missing = refl
+
   ------------------------------------------------------------
   -- What own names open
 
@@ -95,17 +103,36 @@ module _ (p : Program) (heads : List Head) (knows : KnowsMembers p heads) where
   param_opens atoms owners x place (use_of.With n sets) = refl
   param_opens atoms owners x place (use_of.At n set) = refl
 
+  param_bounds : (atoms : List AtomName) (owners : List Owner) (x : List ℕ) (place : Place) (t : TypeUse) →
+      let own : OwnName = record { name = x; place = place; typ = param_type (atom_scope heads atoms owners []) x t; origin = origin.Parameter (is_bare t) } in
+      bounds_by p own own.origin ≡ opened_bounds heads (param_opening (head_names heads) t)
+  param_bounds atoms owners x place (use_of.Int q) = refl
+  param_bounds atoms owners x place (use_of.Bool q) = refl
+  param_bounds atoms owners x place (use_of.Text q) = refl
+  param_bounds atoms owners x place (use_of.Unit q) = refl
+  param_bounds atoms owners x place (use_of.Bare n) = opened_are_bounded atoms x (param_opening (head_names heads) (use_of.Bare n))
+  param_bounds atoms owners x place (use_of.With n sets) = refl
+  param_bounds atoms owners x place (use_of.At n set) = refl
+
   pub params_follow : (atoms : List AtomName) (owners : List Owner) (plain : Bool) (ps : List Param) →
       AllFollow p heads (map (param_name (atom_scope heads atoms owners []) plain) ps) (params_owners (head_names heads) plain ps)
   params_follow atoms owners true [] = tt
   params_follow atoms owners false [] = tt
-  params_follow atoms owners true (x ∷ ps) = (record { name = refl; opened = refl }, params_follow atoms owners true ps)
-  params_follow atoms owners false (x ∷ ps) =
-      (record { name = refl; opened = param_opens atoms owners x.name.text x.name.place x.type_use }, params_follow atoms owners false ps)
+  params_follow atoms owners true (x ∷ ps) = (record { name = refl; opened = refl; bounds = refl }, params_follow atoms owners true ps)
+  params_follow atoms owners false (x ∷ ps) = (
+    record {
+      name = refl;
+      opened = param_opens atoms owners x.name.text x.name.place x.type_use;
+      bounds = param_bounds atoms owners x.name.text x.name.place x.type_use;
+    },
+    params_follow atoms owners false ps,
+  )
 
   grant_follows : (atoms : List AtomName) (owners : List Owner) (g : Grant) →
       Follows p heads (grant_name (atom_scope heads atoms owners []) g) (grant_owner (head_names heads) g)
-  grant_follows atoms owners g = record { name = refl; opened = opened_members atoms g.name.text ((grant_owner (head_names heads) g).opening) }
+  grant_follows atoms owners g =
+      let o = (grant_owner (head_names heads) g).opening in
+      record { name = refl; opened = opened_members atoms g.name.text o; bounds = opened_are_bounded atoms g.name.text o }
 
   pub grants_follow : (atoms : List AtomName) (owners : List Owner) (gs : List Grant) →
       AllFollow p heads (map (grant_name (atom_scope heads atoms owners [])) gs) (map (grant_owner (head_names heads)) gs)
@@ -114,15 +141,19 @@ module _ (p : Program) (heads : List Head) (knows : KnowsMembers p heads) where
 
   module _ (modules : List ModuleTree) (atoms : List AtomName) where
     use_follows : (u : Name) → Follows p heads (use_name heads modules atoms u) (use_owner (head_names heads) modules u)
-    use_follows u = record { name = refl; opened = opened_members atoms u.text (module_opening (head_names heads) modules u.text) }
+    use_follows u =
+        let o = module_opening (head_names heads) modules u.text in
+        record { name = refl; opened = opened_members atoms u.text o; bounds = opened_are_bounded atoms u.text o }
 
     pub uses_follow : (us : List Name) → AllFollow p heads (map (use_name heads modules atoms) us) (map (use_owner (head_names heads) modules) us)
     uses_follow [] = tt
     uses_follow (u ∷ us) = (use_follows u, uses_follow us)
 
     line_follows : (before : List Owner) (l : Line) → Follows p heads (line_name heads modules atoms before l) (line_owner (head_names heads) modules l)
-    line_follows before (line.Instance x m ns) = record { name = refl; opened = opened_members atoms x.text (module_opening (head_names heads) modules m.text) }
-    line_follows before (line.Import x m ns set) = record { name = refl; opened = refl }
+    line_follows before (line.Instance x m ns) =
+        let o = module_opening (head_names heads) modules m.text in
+        record { name = refl; opened = opened_members atoms x.text o; bounds = opened_are_bounded atoms x.text o }
+    line_follows before (line.Import x m ns set) = record { name = refl; opened = refl; bounds = refl }
 
     pub lines_follow : (before : List Owner) (ls : List Line) →
         AllFollow p heads (line_names heads modules atoms before ls) (map (line_owner (head_names heads) modules) ls)

@@ -1,5 +1,5 @@
 -- The primitive types are declarations that fit.
-use Rattle.std.proofs.Common.{◌≡◌, ℕ, zero, suc, ◌<◌, ◌≤◌, List, [], ◌∷◌, ◌++◌, map, length, Bool, true, false, inl, inr, refl, sym, ◌∙◌, subst, arith}
+use Rattle.std.proofs.Common.{◌≡◌, ℕ, zero, suc, ◌<◌, ◌≤◌, List, [], ◌∷◌, ◌++◌, map, length, Bool, true, false, None, inl, inr, refl, sym, ◌∙◌, subst, arith}
 use Rattle.std.specs.Prelude.{not, ◌&&◌, replicate}
 use Rattle.std.proofs.lemmas.List.{length-replicate, append-nil}
 use Rattle.wy_effects.specs.Members.{In, Apart}
@@ -18,6 +18,7 @@ use Rattle.wy_types.specs.Primitive.{primitive_method, primitive_type, primitive
 use Rattle.wy_symbols.specs.Declarations.{has_name}
 use Rattle.wy_symbols.specs.Atoms.{primitive_names}
 use Rattle.wy_well_formed.proofs.Repeats.{has_name_there}
+use Rattle.wy_well_formed.proofs.BoundLists.{from_fits, none_from}
 
 -- whether names differ
 differ : List (List ℕ) → Bool
@@ -99,6 +100,7 @@ primitive_type_fits : (p : Program) (name : List ℕ) (members : List (List ℕ)
 primitive_type_fits p name members methods ms ns few_members few_methods simple = record {
   written = λ m i. simple_written p (length members) m (each_simple (length members) methods simple m i);
   defined = λ m i. absurd i;
+  bounds = from_fits (length members) (replicate (length members) None) (length-replicate (length members) None) (none_from 0 (length members));
   member_names = let P : List (List ℕ) → Type 0 = λ l. Apart l in subst P (sym (append-nil members)) (differ_apart members ms);
   method_names = differ_apart (map (λ (m : Signature TypeRef). m.name) (map signature methods)) ns;
   few_members = few_members;

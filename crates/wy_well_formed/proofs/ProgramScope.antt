@@ -1,7 +1,8 @@
 -- The scope of a program block whose names are not refused fits, where its bodies do.
 use Rattle.std.proofs.Common.{◌≡◌, ℕ, ◌+◌, ◌≤◌, List, [], ◌++◌, map, length, false, refl, arith}
 use Rattle.std.proofs.lemmas.List.{length-map, length-append}
-use Rattle.wy_effects.specs.Members.{Within}
+use Rattle.wy_effects.specs.Members.{Within, Apart}
+use Rattle.wy_effects.specs.Bounds.{BoundsFit}
 use Rattle.wy_effects.proofs.Lists.{In-left, In-right}
 use Rattle.wy_types.specs.declared.resolved.OwnName.{OwnName}
 use Rattle.wy_types.specs.Program.{Program, Scope}
@@ -10,7 +11,7 @@ use Rattle.wy_types.specs.Core.{ScopeFits}
 use Rattle.wy_symbols.specs.declared.scoping.Head.{Head}
 use Rattle.wy_symbols.specs.declared.scoping.Owner.{Owner}
 use Rattle.wy_symbols.specs.Declarations.{ModuleTree, ProgramTree, repeated}
-use Rattle.wy_symbols.specs.Atoms.{head_names, set_refusals, grant_owner, use_owner, line_owner, owner_names}
+use Rattle.wy_symbols.specs.Atoms.{bounds_of_owners, head_names, set_refusals, grant_owner, use_owner, line_owner, owner_names}
 use Rattle.wy_heads.specs.Lines.{grant_name, grant_refusals, use_name, uses_refusals, line_names, lines_refusals}
 use Rattle.wy_bodies.specs.Sight.{outermost}
 use Rattle.wy_bodies.specs.Bodies.{at_start}
@@ -24,7 +25,10 @@ use Rattle.wy_well_formed.proofs.AtomsThere.{owners_open}
 use Rattle.wy_well_formed.proofs.Meant.{none_meant}
 use Rattle.wy_well_formed.proofs.WrittenTypes.{Knows, use_stands, effect_below}
 use Rattle.wy_well_formed.proofs.OwnNames.{AllOwn, own_at, own_append, grants_own, uses_own, lines_own}
-use Rattle.wy_well_formed.proofs.OwnApart.{grant_texts, own_apart, lines_length}
+use Rattle.wy_well_formed.proofs.OwnApart.{own_texts, grant_texts, own_apart, lines_length}
+use Rattle.wy_well_formed.proofs.Known.{KnowsMembers}
+use Rattle.wy_well_formed.proofs.OwnTyped.{grants_follow}
+use Rattle.wy_well_formed.proofs.ScopeBounds.{DeclarationsFit, all_follow, scope_bounds_fit}
 use Rattle.wy_well_formed.proofs.OwnCounts.{program_grants, program_parameters}
 
 -- the refusals of a program block, part by part
@@ -117,10 +121,25 @@ module _ (p : Program) (heads : List Head) (modules : List ModuleTree) (knows : 
   pub program_body_is : OfBody (program_within heads modules g) g the_scope
   program_body_is = record { literals = refl; start = refl; bodies = refl }
 
-  pub program_fits : atom_count ≤ 512 → length g.grants ≤ 64 → methods_of_owner 0 (the_scope.bodies) ≡ [] → BodiesFit p the_scope → ScopeFits p the_scope
-  program_fits few few_given none b = record {
+  names_apart : Apart (own_texts (program_own heads modules g))
+  names_apart =
+      own_apart heads modules (program_atoms heads modules g) first_names (grant_names g.grants) g.uses (grant_owners heads modules g) g.lines
+      (grant_texts (program_scope heads modules g) g.grants) sound.names
+
+  -- the upper bounds of its atoms
+  bounds_fit : KnowsMembers p heads → DeclarationsFit p → BoundsFit atom_count (bounds_of_owners heads (program_atoms heads modules g) (program_owners heads modules g))
+  bounds_fit members declared =
+      let atoms = program_atoms heads modules g in
+      let owners = map (grant_owner (head_names heads)) g.grants in
+      scope_bounds_fit p heads members declared (program_own heads modules g) (program_owners heads modules g)
+      (all_follow heads modules p members first_names owners atoms g.uses g.lines (grants_follow p heads members atoms (program_owners heads modules g) g.grants)) names_apart
+
+  pub program_fits : KnowsMembers p heads → DeclarationsFit p → atom_count ≤ 512 → length g.grants ≤ 64 → methods_of_owner 0 (the_scope.bodies) ≡ [] → BodiesFit p the_scope →
+      ScopeFits p the_scope
+  program_fits members declared few few_given none b = record {
     ascribed = refl;
     definitions = λ s i. absurd i;
+    bounds = bounds_fit members declared;
     names = λ k n e. (let f = own_at p the_scope false (program_own heads modules g) all_own k n e in (f.written, f.origin));
     starts = (tt, b.starts, set_below atom_count (program_scope heads modules g) holds g.effect);
     bodies = b.bodies;
@@ -133,9 +152,7 @@ module _ (p : Program) (heads : List Head) (modules : List ModuleTree) (knows : 
     numbered = b.numbered;
     captured = b.captured;
     captured_parameters = b.captured_parameters;
-    own_names =
-        own_apart heads modules (program_atoms heads modules g) first_names (grant_names g.grants) g.uses (grant_owners heads modules g) g.lines
-        (grant_texts (program_scope heads modules g) g.grants) sound.names;
+    own_names = names_apart;
     field_names = b.field_names;
     method_names = b.method_names;
     atoms = few;

@@ -28,7 +28,8 @@ use Rattle.wy_well_formed.proofs.Scoping.{ReadsIn, OfParts, OfBody, AllFew, Bodi
 use Rattle.wy_well_formed.proofs.Repeats.{append_empty, repeated_apart, repeated_absent}
 use Rattle.wy_well_formed.proofs.AtomCounts.{atoms_within, heads_count}
 use Rattle.wy_well_formed.proofs.WrittenTypes.{Knows}
-use Rattle.wy_well_formed.proofs.Known.{heads_known, head_names_are, declaration_names}
+use Rattle.wy_well_formed.proofs.Known.{KnowsMembers, heads_known, members_known, head_names_are, declaration_names}
+use Rattle.wy_well_formed.proofs.ScopeBounds.{DeclarationsFit}
 use Rattle.wy_well_formed.proofs.PrimitiveTypes.{primitive_fits, primitive_names_apart}
 use Rattle.wy_well_formed.proofs.Declared.{NamesDiffer, declaration_fits}
 use Rattle.wy_well_formed.proofs.Limits.{few_types, few_modules, few_module_parts, few_program_parts, few_members, few_module_atoms, few_program_atoms, few_module_params, few_program_grants}
@@ -186,11 +187,17 @@ module _ (items : List ItemTree) (g : ProgramTree) (one : programs_of items ≡ 
         (grants_lead_nowhere (program_scope heads modules g) g.grants) (sound.program).uses (sound.program).lines j i);
   }
 
+  members : KnowsMembers core heads
+  members = members_known core types refl
+
+  declared : DeclarationsFit core
+  declared = record { each = declarations_fit }
+
   module _ (parts_fit : PartsFit) (body_fits : BodyFits) (no_own_bodies : HasNoOwnBodies) where
     module_scope_fits : (m : ModuleTree) → In m modules → ScopeFits core (scope_of_module heads modules m)
     module_scope_fits m i =
         let s = sound.modules m i in
-        module_fits core heads modules knows scope_count m (form_of m i) s (module_atoms_few m i) (few_module_params items within m i)
+        module_fits core heads modules knows scope_count m (form_of m i) s members declared (module_atoms_few m i) (few_module_params items within m i)
         (parts_fit core (scope_of_module heads modules m) (module_within heads modules m) m.parts
         (module_reads core heads modules knows scope_count m (form_of m i) s) (module_parts_are core heads modules knows scope_count m (form_of m i) s)
         s.parts_names s.parts (few_module_parts items within m i))
@@ -201,7 +208,7 @@ module _ (items : List ItemTree) (g : ProgramTree) (one : programs_of items ≡ 
         let w = program_within heads modules g in
         let is = program_body_is core heads modules knows scope_count g sound.program in
         let few = few_program_parts items within g the_program in
-        program_fits core heads modules knows scope_count g sound.program program_atoms_few (few_program_grants items within g the_program)
+        program_fits core heads modules knows scope_count g sound.program members declared program_atoms_few (few_program_grants items within g the_program)
         (no_own_bodies s w g is (sound.program).body few)
         (body_fits core s w g (program_reads core heads modules knows scope_count g sound.program) is refl (sound.program).body few)
 

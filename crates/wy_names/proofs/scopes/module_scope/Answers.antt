@@ -19,7 +19,7 @@ returns-clause-scope c =
     c.scope_with.ensures
     ∙ scope_by_parts (scope_with c.args.view.now.kind c.in_ok-name.name c.args.view.now.name.now.place c.into_atoms-atoms.result c.number-ascribed.result c.start_place-at.result c.in_ok-parts.parts) (scope_of_module heads modules m) refl c.in_ok-name.ensures refl
     (c.into_atoms-atoms.ensures ∙ ap (λ (s : AtomScope). s.atoms) c.in_ok-owners.ensures)
-    parts.names c.number-ascribed.ensures parts.definitions parts.literals
+    parts.bounds parts.names c.number-ascribed.ensures parts.definitions parts.literals
     (c.start_place-at.ensures ∙ place_same [] heads [] modules m m.init) parts.effect parts.start parts.bodies
 
 pub returns-clause-noted : goal.returns-clause-noted

@@ -4,11 +4,11 @@ use Rattle.wy_types.specs.Program.{Init}
 use Rattle.wy_types.specs.Types.{is_plain}
 use Rattle.wy_symbols.specs.declared.scoping.Owner.{Owner}
 use Rattle.wy_symbols.specs.Least.{noted}
-use Rattle.wy_symbols.specs.Atoms.{AtomScope, head_names, type_number, owner_names}
+use Rattle.wy_symbols.specs.Atoms.{AtomScope, bounds_of_owners, head_names, type_number, owner_names}
 use Rattle.wy_bodies.specs.Sight.{outermost, inside}
 use Rattle.wy_bodies.specs.Bodies.{Within, at_start, part_values, literal_of, parts_literals, parts_bodies}
 use Rattle.wy_bodies.specs.BodyRefusals.{repeated_parts, parts_refusals}
-use Rattle.wy_heads.specs.ScopeHeads.{definitions_at, start_effect, init_refusals, module_scope, module_meanings}
+use Rattle.wy_heads.specs.ScopeHeads.{definitions_at, start_effect, init_refusals, module_atoms, module_scope, module_meanings}
 use Rattle.wy_symbols.specs.Lent.{module_tree}
 use Rattle.wy_heads.proofs.Fronts.{init_same, start_same, definitions_same}
 use Rattle.wy_symbols.proofs.Leasts.{noted_then}
@@ -32,6 +32,7 @@ returns-clause-parts c =
     let within = within_is o.heads modules m w scope plain (c.names-2.ensures ∙ ap owner_names owners) in
     let parts = m.parts in
     record {
+      bounds = c.in_ok-bounds.ensures ∙ ap (λ a. bounds_of_owners o.heads a o.owners) atoms ∙ ap (bounds_of_owners o.heads (module_atoms o.heads modules m)) owners;
       names = c.in_ok-own.ensures;
       definitions =
           c.in_ok-definitions.ensures

@@ -3,7 +3,7 @@ use Rattle.std.proofs.lemmas.List.{length-map}
 use Rattle.wy_types.specs.Program.{Run}
 use Rattle.wy_symbols.specs.declared.scoping.Owner.{Owner}
 use Rattle.wy_symbols.specs.Least.{noted}
-use Rattle.wy_symbols.specs.Atoms.{AtomScope, set_of, set_refusals, owner_names, atom_scope}
+use Rattle.wy_symbols.specs.Atoms.{AtomScope, bounds_of_owners, set_of, set_refusals, owner_names, atom_scope}
 use Rattle.wy_bodies.specs.Sight.{outermost}
 use Rattle.wy_bodies.specs.Bodies.{Within, at_start, tail_block, tail_literals, tail_bodies}
 use Rattle.wy_bodies.specs.BodyRefusals.{tail_refusals}
@@ -27,6 +27,7 @@ returns-clause-parts c =
     let within = ap (λ a. W a c.names-2.result.now) scope ∙ ap (W (program_scope o.heads modules g)) (c.names-2.ensures ∙ ap owner_names owners) in
     let effect : c.in_ok-start_effect.start_effect ≡ set_of c.new-scope.result g.effect = search rules in
     record {
+      bounds = c.in_ok-bounds.ensures ∙ ap (λ a. bounds_of_owners o.heads a o.owners) atoms ∙ ap (bounds_of_owners o.heads (program_atoms o.heads modules g)) owners;
       names = c.in_ok-own.ensures;
       definitions = c.new-definitions.ensures;
       effect = effect ∙ ap (λ s. set_of s g.effect) scope;

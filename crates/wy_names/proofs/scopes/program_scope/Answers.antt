@@ -21,7 +21,7 @@ returns-clause-scope c =
     c.scope_with.ensures
     ∙ scope_by_parts (scope_with Program c.in_ok-name.name g.place c.into_atoms-atoms.result None g.run c.in_ok-parts.parts) (scope_of_program heads modules g) refl name refl
     (c.into_atoms-atoms.ensures ∙ ap (λ (s : AtomScope). s.atoms) c.in_ok-owners.ensures)
-    parts.names refl parts.definitions parts.literals refl parts.effect parts.start parts.bodies
+    parts.bounds parts.names refl parts.definitions parts.literals refl parts.effect parts.start parts.bodies
 
 pub returns-clause-noted : goal.returns-clause-noted
 returns-clause-noted c =
