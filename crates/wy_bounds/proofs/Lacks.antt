@@ -8,25 +8,28 @@ use Rattle.wy_effects.specs.Members.{In}
 use Rattle.wy_effects.specs.EffSet.{IsSet, without}
 use Rattle.wy_effects.proofs.Closure.{in_decided}
 use Rattle.wy_effects.proofs.SetLaws.{cases_equal, IsSetFrom-without, at_least, without-from, In-without}
+use Rattle.wy_effects.specs.Bounds.{IsUnder, GoDown, IsWidened}
+use Rattle.wy_effects.proofs.Widening.{widened_is}
 use Rattle.wy_types.specs.declared.types.TypeRef.{TypeRef}
 use Rattle.wy_types.specs.declared.path.Step.{Step}
 use Rattle.wy_types.specs.Program.{Program}
 use Rattle.wy_types.specs.Signature.{Signature}
 use Rattle.wy_types.specs.Types.{methods_of}
 use Rattle.wy_types.specs.Paths.{is_positive, Walks, IsSafe}
+use Rattle.wy_types.specs.Bounds.{bounds_of}
 use Rattle.wy_bounds.specs.declared.entry.Entry.{Entry}
 use Rattle.wy_bounds.specs.declared.least.Lack.{Lack}
 use Rattle.wy_bounds.specs.declared.safety.Safety.{Safety}
 use Rattle.wy_bounds.specs.declared.safety.Safety.TheVariants.{Yes, No}
-use Rattle.wy_bounds.specs.Gathering.{methods_at, first_atom, lesser, lack_of_methods, lack_of_entries}
+use Rattle.wy_bounds.specs.Gathering.{wide_of, methods_at, first_atom, lesser, lack_of_methods, lack_of_entries}
 use Rattle.wy_bounds.specs.Safety.{IsMissing, Refutes, IsAnswer, IsYes}
 use Rattle.wy_bounds.specs.Worklist.{IsWhole, Traces}
 use Rattle.wy_bounds.proofs.Unions.{methods_at-from, In-methods_at, entry_of}
 use Rattle.wy_bounds.proofs.Working.{traces_lead}
 
--- the set has the atom, and a method lacks it
-abbrev LacksAny : List ℕ → List (Signature TypeRef) → ℕ → Type 0
-LacksAny set ms a = In a set × ((m : Signature TypeRef) × In m ms × (In a m.effect → ⊥))
+-- the set has the atom, and a method's widened effect lacks it
+abbrev LacksAny : (List ℕ → List ℕ) → List ℕ → List (Signature TypeRef) → ℕ → Type 0
+LacksAny wide set ms a = In a set × ((m : Signature TypeRef) × In m ms × (In a (wide m.effect) → ⊥))
 
 -- the least atom of those that are lacking at a place, where any is
 IsLess : (ℕ → ℕ → Type 0) → Option Lack → Type 0
@@ -80,16 +83,16 @@ lesser_is P Q (Some l) (Some x) at h g =
       )
     ] refl
 
-lack_of_methods_is : (n : ℕ) (set : List ℕ) → IsSet n set → (at : ℕ) (ms : List (Signature TypeRef)) (P : ℕ → ℕ → Type 0) (lack : Option Lack) → IsLess P lack →
-    IsLess (λ k a. P k a ⊎ ((k ≡ at) × LacksAny set ms a)) (lack_of_methods set at ms lack)
-lack_of_methods_is n set s at [] P lack h =
-    IsLess-same P (λ k a. P k a ⊎ ((k ≡ at) × LacksAny set [] a)) lack (λ k a q. inl q) (λ k a q. elim q [ inl x ↦ x | inr x ↦ absurd x.1.1.1 ]) h
-lack_of_methods_is n set s at (m ∷ ms) P lack h =
-    let Q : ℕ → Type 0 = λ a. In a set × (In a m.effect → ⊥) in
+lack_of_methods_is : (wide : List ℕ → List ℕ) (n : ℕ) (set : List ℕ) → IsSet n set → (at : ℕ) (ms : List (Signature TypeRef)) (P : ℕ → ℕ → Type 0) (lack : Option Lack) → IsLess P lack →
+    IsLess (λ k a. P k a ⊎ ((k ≡ at) × LacksAny wide set ms a)) (lack_of_methods wide set at ms lack)
+lack_of_methods_is wide n set s at [] P lack h =
+    IsLess-same P (λ k a. P k a ⊎ ((k ≡ at) × LacksAny wide set [] a)) lack (λ k a q. inl q) (λ k a q. elim q [ inl x ↦ x | inr x ↦ absurd x.1.1.1 ]) h
+lack_of_methods_is wide n set s at (m ∷ ms) P lack h =
+    let Q : ℕ → Type 0 = λ a. In a set × (In a (wide m.effect) → ⊥) in
     let P' : ℕ → ℕ → Type 0 = λ k a. P k a ⊎ ((k ≡ at) × Q a) in
-    let one : IsLess P' (lesser lack (first_atom (without set m.effect)) at) = lesser_is P Q lack (first_atom (without set m.effect)) at h (first_lacking n set m.effect s) in
-    let rest = lack_of_methods_is n set s at ms P' (lesser lack (first_atom (without set m.effect)) at) one in
-    IsLess-same (λ k a. P' k a ⊎ ((k ≡ at) × LacksAny set ms a)) (λ k a. P k a ⊎ ((k ≡ at) × LacksAny set (m ∷ ms) a)) _
+    let one : IsLess P' (lesser lack (first_atom (without set (wide m.effect))) at) = lesser_is P Q lack (first_atom (without set (wide m.effect))) at h (first_lacking n set (wide m.effect) s) in
+    let rest = lack_of_methods_is wide n set s at ms P' (lesser lack (first_atom (without set (wide m.effect))) at) one in
+    IsLess-same (λ k a. P' k a ⊎ ((k ≡ at) × LacksAny wide set ms a)) (λ k a. P k a ⊎ ((k ≡ at) × LacksAny wide set (m ∷ ms) a)) _
     (λ k a q. elim q [
       | inl x ↦ elim x [ inl y ↦ inl y | inr y ↦ inr (y.0, (y.1.0, (m, inl refl, y.1.1))) ]
       | inr x ↦ inr (x.0, (x.1.0, (x.1.1.0, inr x.1.1.1, x.1.1.2)))
@@ -97,7 +100,7 @@ lack_of_methods_is n set s at (m ∷ ms) P lack h =
     (λ k a q. elim q [
       | inl x ↦ inl (inl x)
       | inr x ↦ elim x.1.1.1 [
-        | inl e ↦ (let R : Signature TypeRef → Type 0 = λ v. In a v.effect → ⊥ in inl (inr (x.0, (x.1.0, subst R (sym e) x.1.1.2))))
+        | inl e ↦ (let R : Signature TypeRef → Type 0 = λ v. In a (wide v.effect) → ⊥ in inl (inr (x.0, (x.1.0, subst R (sym e) x.1.1.2))))
         | inr i ↦ inr (x.0, (x.1.0, (x.1.1.0, i, x.1.1.2)))
       ]
     ])
@@ -107,22 +110,22 @@ module _ (p : Program) (scope : ℕ) (positive : Truth) (set : List ℕ) where
   -- the entry at a place, counted from another, has a method that lacks the atom
   LackAt : ℕ → List Entry → ℕ → ℕ → Type 0
   LackAt from [] k a = ⊥
-  LackAt from (e ∷ es) k a = ((k ≡ from) × LacksAny set (methods_at p scope positive e) a) ⊎ LackAt (from + 1) es k a
+  LackAt from (e ∷ es) k a = ((k ≡ from) × LacksAny (wide_of p scope) set (methods_at p scope positive e) a) ⊎ LackAt (from + 1) es k a
 
   lack_of_entries_is : (n : ℕ) → IsSet n set → (from : ℕ) (es : List Entry) (P : ℕ → ℕ → Type 0) (lack : Option Lack) → IsLess P lack →
       IsLess (λ k a. P k a ⊎ LackAt from es k a) (lack_of_entries p scope positive set from es lack)
   unfolding LackAt
   lack_of_entries_is n s from [] P lack h = IsLess-same P (λ k a. P k a ⊎ LackAt from [] k a) lack (λ k a q. inl q) (λ k a q. elim q [ inl x ↦ x | inr x ↦ absurd x ]) h
   lack_of_entries_is n s from (e ∷ es) P lack h =
-      let P' : ℕ → ℕ → Type 0 = λ k a. P k a ⊎ ((k ≡ from) × LacksAny set (methods_at p scope positive e) a) in
-      let one : IsLess P' (lack_of_methods set from (methods_at p scope positive e) lack) = lack_of_methods_is n set s from (methods_at p scope positive e) P lack h in
-      let rest = lack_of_entries_is n s (from + 1) es P' (lack_of_methods set from (methods_at p scope positive e) lack) one in
+      let P' : ℕ → ℕ → Type 0 = λ k a. P k a ⊎ ((k ≡ from) × LacksAny (wide_of p scope) set (methods_at p scope positive e) a) in
+      let one : IsLess P' (lack_of_methods (wide_of p scope) set from (methods_at p scope positive e) lack) = lack_of_methods_is (wide_of p scope) n set s from (methods_at p scope positive e) P lack h in
+      let rest = lack_of_entries_is n s (from + 1) es P' (lack_of_methods (wide_of p scope) set from (methods_at p scope positive e) lack) one in
       IsLess-same (λ k a. P' k a ⊎ LackAt (from + 1) es k a) (λ k a. P k a ⊎ LackAt from (e ∷ es) k a) _
       (λ k a q. elim q [ inl x ↦ elim x [ inl y ↦ inl y | inr y ↦ inr (inl y) ] | inr x ↦ inr (inr x) ])
       (λ k a q. elim q [ inl x ↦ inl (inl x) | inr x ↦ elim x [ inl y ↦ inl (inr y) | inr y ↦ inr y ] ])
       rest
 
-  LackAt-from : (from : ℕ) (es : List Entry) (k a : ℕ) → LackAt from es k a → (i : ℕ) × (k ≡ from + i) × (e : Entry) × (slice_get es i ≡ Some e) × LacksAny set (methods_at p scope positive e) a
+  LackAt-from : (from : ℕ) (es : List Entry) (k a : ℕ) → LackAt from es k a → (i : ℕ) × (k ≡ from + i) × (e : Entry) × (slice_get es i ≡ Some e) × LacksAny (wide_of p scope) set (methods_at p scope positive e) a
   unfolding LackAt
   LackAt-from from [] k a h = absurd h
   LackAt-from from (e ∷ es) k a (inl h) = (0, h.0 ∙ sym (add-zero from), e, refl, h.1)
@@ -130,20 +133,24 @@ module _ (p : Program) (scope : ℕ) (positive : Truth) (set : List ℕ) where
       let r = LackAt-from (from + 1) es k a h in
       (suc r.0, (let q : k ≡ from + 1 + r.0 = r.1 in omega (arith, q)), r.2, r.3, r.4)
 
-  LackAt-at : (from : ℕ) (es : List Entry) (e : Entry) (a : ℕ) → In e es → LacksAny set (methods_at p scope positive e) a → (k : ℕ) × LackAt from es k a
+  LackAt-at : (from : ℕ) (es : List Entry) (e : Entry) (a : ℕ) → In e es → LacksAny (wide_of p scope) set (methods_at p scope positive e) a → (k : ℕ) × LackAt from es k a
   unfolding LackAt
   LackAt-at from [] e a i h = absurd i
-  LackAt-at from (x ∷ es) e a (inl s) h = (let P : Entry → Type 0 = λ v. LacksAny set (methods_at p scope positive v) a in (from, inl (refl, subst P (sym s) h)))
+  LackAt-at from (x ∷ es) e a (inl s) h = (let P : Entry → Type 0 = λ v. LacksAny (wide_of p scope) set (methods_at p scope positive v) a in (from, inl (refl, subst P (sym s) h)))
   LackAt-at from (x ∷ es) e a (inr i) h = (let r = LackAt-at (from + 1) es e a i h in (r.0, inr r.1))
 
-  module _ (t : TypeRef) (es : List Entry) (whole : IsWhole p scope t es) where
+  module _ (down : GoDown (bounds_of p scope)) (t : TypeRef) (es : List Entry) (whole : IsWhole p scope t es) where
+    -- what is within an effect is in the widened one
+    widened_at : (effect : List ℕ) → IsWidened (bounds_of p scope) effect (wide_of p scope effect)
+    widened_at effect = widened_is (bounds_of p scope) down effect
+
     -- what is missing is lacking at an entry
     lacking_entry : (a : ℕ) → IsMissing p scope t positive set a → (k : ℕ) × LackAt 0 es k a
     lacking_entry a h =
         let r = h.1 in
         let e = entry_of p scope positive t es whole r.0 r.1 in
         let P : TypeRef → Type 0 = λ v. In r.2.0 (methods_of p scope v) in
-        LackAt-at 0 es e.0 a e.1 (h.0, (r.2.0, In-methods_at p scope positive e.0 r.2.0 e.3 (subst P (sym e.2) r.2.1), r.2.2))
+        LackAt-at 0 es e.0 a e.1 (h.0, (r.2.0, In-methods_at p scope positive e.0 r.2.0 e.3 (subst P (sym e.2) r.2.1), λ i. r.2.2 ((widened_at r.2.0.effect a).0 i)))
 
     least_is : IsSet 512 set → IsLess (λ k a. LackAt 0 es k a) (lack_of_entries p scope positive set 0 es None)
     unfolding IsLess
@@ -153,19 +160,19 @@ module _ (p : Program) (scope : ℕ) (positive : Truth) (set : List ℕ) where
         (lack_of_entries_is 512 s 0 es (λ k a. ⊥) None none)
 
     -- where nothing is lacking the type is safe
-    pub none_lacking : IsSet 512 set → None ≡ lack_of_entries p scope positive set 0 es None → IsSafe TypeRef (methods_of p scope) t positive set
+    pub none_lacking : IsSet 512 set → None ≡ lack_of_entries p scope positive set 0 es None → IsSafe TypeRef (methods_of p scope) (IsUnder (bounds_of p scope)) t positive set
     unfolding IsLess
     none_lacking s eq u r m i a j =
         let P : Option Lack → Type 0 = λ o. IsLess (λ k a. LackAt 0 es k a) o in
         let nothing : IsLess (λ k a. LackAt 0 es k a) None = subst P (sym eq) (least_is s) in
-        elim (in_decided cases_equal a m.effect) [
-          | inl there ↦ there
-          | inr absent ↦ (let q = lacking_entry a (j, (u, r, (m, i, absent))) in absurd (nothing q.0 a q.1))
+        elim (in_decided cases_equal a (wide_of p scope m.effect)) [
+          | inl there ↦ (widened_at m.effect a).0 there
+          | inr absent ↦ (let q = lacking_entry a (j, (u, r, (m, i, λ h. absent ((widened_at m.effect a).1 h)))) in absurd (nothing q.0 a q.1))
         ]
 
     -- the entry where the least atom is lacking
     lack_at : (l : Lack) → IsSet 512 set → Some l ≡ lack_of_entries p scope positive set 0 es None →
-        ((e : Entry) × (slice_get es l.at ≡ Some e) × LacksAny set (methods_at p scope positive e) l.atom.0) × ((k a : ℕ) → LackAt 0 es k a → l.atom.0 ≤ a)
+        ((e : Entry) × (slice_get es l.at ≡ Some e) × LacksAny (wide_of p scope) set (methods_at p scope positive e) l.atom.0) × ((k a : ℕ) → LackAt 0 es k a → l.atom.0 ≤ a)
     unfolding IsLess
     lack_at l s eq =
         let P : Option Lack → Type 0 = λ o. IsLess (λ k a. LackAt 0 es k a) o in
@@ -194,12 +201,12 @@ module _ (p : Program) (scope : ℕ) (positive : Truth) (set : List ℕ) where
           at = e.typ;
           walks = subst P (sym back) lead.0;
           polarity = subst Q (sym back) (lead.1 ∙ q.0);
-          lacks = (m, q.1, lacks.1.2);
+          lacks = (m, q.1, λ h. lacks.1.2 ((widened_at m.effect l.atom.0).1 h));
           least = λ b h. (let k = lacking_entry b h in r.1 k.0 b k.1);
         }
 
 -- an answer is exact
-pub exact : (p : Program) (scope : ℕ) (t : TypeRef) (positive : Truth) (set : List ℕ) (v : Safety) → IsAnswer p scope t positive set v → IsYes v ↔ IsSafe TypeRef (methods_of p scope) t positive set
+pub exact : (p : Program) (scope : ℕ) (t : TypeRef) (positive : Truth) (set : List ℕ) (v : Safety) → IsAnswer p scope t positive set v → IsYes v ↔ IsSafe TypeRef (methods_of p scope) (IsUnder (bounds_of p scope)) t positive set
 exact p scope t positive set Yes h = (λ _. h, λ _. tt)
 exact p scope t positive set (No path atom) h = (
   λ f. absurd f,

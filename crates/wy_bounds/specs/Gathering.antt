@@ -2,12 +2,18 @@
 use Rattle.std.specs.Prelude.{ℕ, ◌+◌, List, [], ◌∷◌, Option, Some, None, Bool as Truth, true, false, not, nat_lt, if◌then◌else◌}
 use Rattle.wy_effects.specs.declared.atom.Atom.{Atom}
 use Rattle.wy_effects.specs.EffSet.{union, without}
+use Rattle.wy_effects.specs.Widened.{widened_set}
 use Rattle.wy_types.specs.declared.types.TypeRef.{TypeRef}
 use Rattle.wy_types.specs.Program.{Program}
 use Rattle.wy_types.specs.Signature.{Signature}
 use Rattle.wy_types.specs.Types.{methods_of}
+use Rattle.wy_types.specs.Bounds.{bounds_of}
 use Rattle.wy_bounds.specs.declared.entry.Entry.{Entry}
 use Rattle.wy_bounds.specs.declared.least.Lack.{Lack}
+
+-- an effect with the atoms that are within it over the bounds of a scope's atoms
+abbrev pub wide_of : Program → ℕ → List ℕ → List ℕ
+wide_of p scope = widened_set (bounds_of p scope)
 
 abbrev pub same : Truth → Truth → Truth
 same true b = b
@@ -37,13 +43,13 @@ lesser lack None at = lack
 lesser None (Some a) at = Some (record { atom = a; at = at })
 lesser (Some l) (Some a) at = if nat_lt a.0 l.atom.0 then Some (record { atom = a; at = at }) else Some l
 
--- what is lacking, and what the methods of the entry at a place lack of the set
-abbrev pub lack_of_methods : List ℕ → ℕ → List (Signature TypeRef) → Option Lack → Option Lack
-lack_of_methods set at [] lack = lack
-lack_of_methods set at (m ∷ ms) lack = lack_of_methods set at ms (lesser lack (first_atom (without set m.effect)) at)
+-- what is lacking, and what the methods of the entry at a place lack of the set, their effects being widened
+abbrev pub lack_of_methods : (List ℕ → List ℕ) → List ℕ → ℕ → List (Signature TypeRef) → Option Lack → Option Lack
+lack_of_methods wide set at [] lack = lack
+lack_of_methods wide set at (m ∷ ms) lack = lack_of_methods wide set at ms (lesser lack (first_atom (without set (wide m.effect))) at)
 
 -- and those of all entries from a place on
 abbrev pub lack_of_entries : Program → ℕ → Truth → List ℕ → ℕ → List Entry → Option Lack → Option Lack
 lack_of_entries p scope positive set at [] lack = lack
 lack_of_entries p scope positive set at (e ∷ es) lack =
-    lack_of_entries p scope positive set (at + 1) es (lack_of_methods set at (methods_at p scope positive e) lack)
+    lack_of_entries p scope positive set (at + 1) es (lack_of_methods (wide_of p scope) set at (methods_at p scope positive e) lack)

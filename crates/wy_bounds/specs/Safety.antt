@@ -1,20 +1,22 @@
 -- What the test of safety answers: yes, or a path to a method whose effect lacks an atom of the set.
 use Rattle.std.specs.Prelude.{◌≡◌, ℕ, ◌≤◌, List, Bool as Truth}
 use Rattle.wy_effects.specs.Members.{In}
+use Rattle.wy_effects.specs.Bounds.{IsUnder}
 use Rattle.wy_types.specs.declared.types.TypeRef.{TypeRef}
 use Rattle.wy_types.specs.declared.path.Step.{Step}
 use Rattle.wy_types.specs.Program.{Program}
 use Rattle.wy_types.specs.Signature.{Signature}
 use Rattle.wy_types.specs.Types.{methods_of}
 use Rattle.wy_types.specs.Paths.{is_positive, Walks, Reaches, IsSafe}
+use Rattle.wy_types.specs.Bounds.{bounds_of}
 use Rattle.wy_bounds.specs.declared.safety.Safety.{Safety}
 use Rattle.wy_bounds.specs.declared.safety.Safety.TheVariants.{Yes, No}
 
--- the type has a method whose effect lacks the atom
+-- the type has a method whose effect the atom isn't within
 abbrev pub Lacks : Program → ℕ → TypeRef → ℕ → Type 0
-Lacks p scope u a = (m : Signature TypeRef) × In m (methods_of p scope u) × (In a m.effect → ⊥)
+Lacks p scope u a = (m : Signature TypeRef) × In m (methods_of p scope u) × (IsUnder (bounds_of p scope) m.effect a → ⊥)
 
--- the set has the atom, and a method of what the type reaches by paths of the polarity lacks it
+-- the set has the atom, and it isn't within a method of what the type reaches by paths of the polarity
 abbrev pub IsMissing : Program → ℕ → TypeRef → Truth → List ℕ → ℕ → Type 0
 IsMissing p scope t positive e a = In a e × ((u : TypeRef) × Reaches TypeRef (methods_of p scope) t positive u × Lacks p scope u a)
 
@@ -29,7 +31,7 @@ pub record Refutes (p : Program) (scope : ℕ) (t : TypeRef) (positive : Truth) 
 
 -- what is answered of a type and a set, for the paths of a polarity
 abbrev pub IsAnswer : Program → ℕ → TypeRef → Truth → List ℕ → Safety → Type 0
-IsAnswer p scope t positive e Yes = IsSafe TypeRef (methods_of p scope) t positive e
+IsAnswer p scope t positive e Yes = IsSafe TypeRef (methods_of p scope) (IsUnder (bounds_of p scope)) t positive e
 IsAnswer p scope t positive e (No path atom) = Refutes p scope t positive e path atom.0
 
 abbrev pub IsYes : Safety → Type 0

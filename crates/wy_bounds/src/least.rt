@@ -4,13 +4,15 @@ ghost use Rattle.std.specs.Prelude.{◌≡◌, IfOk, map, None};
 ghost use Rattle.wy_effects.specs.EffSet.{without};
 ghost use Rattle.wy_types.specs.Program.{program_of};
 ghost use Rattle.wy_types.specs.Types.{signature};
-ghost use Rattle.wy_bounds.specs.Gathering.{methods_at as entry_methods, first_atom, lesser as lesser_of, lack_of_methods, lack_of_entries};
+ghost use Rattle.wy_types.specs.InRange.{IsInRange};
+ghost use Rattle.wy_bounds.specs.Gathering.{wide_of, methods_at as entry_methods, first_atom, lesser as lesser_of, lack_of_methods, lack_of_entries};
 
 use crate::entry::Entry;
 use std::alloc::Global;
 use wy_effects::atom::Atom;
 use wy_effects::set::EffSet;
 use wy_text::text::Memory;
+use wy_types::bounds::widened;
 use wy_types::methods::methods;
 use wy_types::resolved::Core;
 use wy_types::types::Method;
@@ -38,11 +40,12 @@ pub fn methods_at(
     methods(alloc, core, scope, &entry.typ)
 }
 
-/// The least atom of the set that the effect lacks.
-fn lacking(set: &EffSet, effect: &EffSet) -> Result<Option<Atom>, Memory>
-    ensures { IfOk result (λ o. o ≡ first_atom (without set.now effect.now)) }
+/// The least atom of the set that is not within the effect in a scope.
+fn lacking(core: &Core, scope: u16, set: &EffSet, effect: &EffSet) -> Result<Option<Atom>, Memory>
+    requires { IsInRange (program_of core.now) }
+    ensures { IfOk result (λ o. o ≡ first_atom (without set.now (wide_of (program_of core.now) scope effect.now))) }
 {
-    let atoms = set.without(effect)?.atoms()?;
+    let atoms = set.without(&widened(core, scope, effect))?.atoms()?;
     Ok(atoms.first().copied())
 }
 
@@ -65,16 +68,19 @@ fn lesser(lack: Option<Lack>, atom: Option<Atom>, at: usize) -> Option<Lack>
 
 /// The lesser of what is lacking and what the methods of the entry at a place lack of the set.
 fn with_methods(
+    core: &Core,
+    scope: u16,
     methods: &[Method],
     set: &EffSet,
     at: usize,
     lack: Option<Lack>,
 ) -> Result<Option<Lack>, Memory>
-    ensures { IfOk result (λ o. o ≡ lack_of_methods set.now at (map signature methods.now) lack) }
+    requires { IsInRange (program_of core.now) }
+    ensures { IfOk result (λ o. o ≡ lack_of_methods (wide_of (program_of core.now) scope) set.now at (map signature methods.now) lack) }
 {
     let mut least = lack;
     for m in methods {
-        least = lesser(least, lacking(set, &m.effect)?, at);
+        least = lesser(least, lacking(core, scope, set, &m.effect)?, at);
     }
     Ok(least)
 }
@@ -88,12 +94,13 @@ pub fn least_lack(
     positive: bool,
     set: &EffSet,
 ) -> Result<Option<Lack>, Memory>
+    requires { IsInRange (program_of core.now) }
     ensures { IfOk result (λ o. o ≡ lack_of_entries (program_of core.now) scope positive set.now 0 entries.now None) }
 {
     let mut least = None;
     for (at, entry) in entries.iter().enumerate() {
         let found = methods_at(alloc, core, scope, entry, positive)?;
-        least = with_methods(found.as_slice(), set, at, least)?;
+        least = with_methods(core, scope, found.as_slice(), set, at, least)?;
     }
     Ok(least)
 }

@@ -2,13 +2,16 @@
 
 ghost use Rattle.std.specs.Prelude.{◌≡◌, ◌↔◌, ℕ, Bool, IfOk, OnOk, IsTrue, map, true, false, if◌then◌else◌};
 ghost use Rattle.wy_effects.specs.Members.{In as IsIn};
+ghost use Rattle.wy_effects.specs.Bounds.{IsUnder};
 ghost use Rattle.wy_effects.specs.Rows.{IsInAll};
 ghost use Rattle.wy_types.specs.declared.types.TypeRef.{TypeRef};
 ghost use Rattle.wy_types.specs.Program.{Program, program_of};
+ghost use Rattle.wy_types.specs.Bounds.{bounds_of};
 ghost use Rattle.wy_types.specs.Types.{signature, methods_of};
 ghost use Rattle.wy_types.specs.Fitting.{IsTypeOf};
 ghost use Rattle.wy_types.specs.InRange.{IsInRange};
 ghost use Rattle.wy_types.specs.Paths.{IsEffect, IsSafe};
+ghost use Rattle.wy_bounds.specs.Gathering.{wide_of};
 ghost use Rattle.wy_bounds.specs.Matrix.{IsMatrix, no_effects, with_effect, with_effects};
 
 use crate::entry::Entry;
@@ -18,12 +21,13 @@ use std::alloc::Global;
 use wy_effects::rows::SetRows;
 use wy_effects::set::EffSet;
 use wy_text::text::Memory;
+use wy_types::bounds::widened;
 use wy_types::methods::methods;
 use wy_types::resolved::Core;
 use wy_types::types::{Method, TypeRef};
 
-/// The effects of the methods that are reached by paths of one polarity: their atoms together, and
-/// each effect as a row.
+/// The effects of the methods that are reached by paths of one polarity: their atoms together, and as a
+/// row for each effect the atoms that are within it.
 #[derive(Drop)]
 pub struct Side {
     atoms: EffSet,
@@ -41,21 +45,23 @@ impl Side {
         }
     }
 
-    /// Adds the effect of a method.
-    fn add(&mut self, effect: &EffSet) -> Result<(), Memory>
-        ensures { OnOk result (self.new ≡ with_effect effect.now self.old) }
+    /// Adds the effect of a method, and as a row what it is widened to in a scope.
+    fn add(&mut self, core: &Core, scope: u16, effect: &EffSet) -> Result<(), Memory>
+        requires { IsInRange (program_of core.now) }
+        ensures { OnOk result (self.new ≡ with_effect (wide_of (program_of core.now) scope) effect.now self.old) }
     {
-        self.rows.push(effect)?;
+        self.rows.push(&widened(core, scope, effect))?;
         effect.union_into(&mut self.atoms)?;
         Ok(())
     }
 
     /// Adds the effects of the methods.
-    fn add_all(&mut self, methods: &[Method]) -> Result<(), Memory>
-        ensures { OnOk result (self.new ≡ with_effects (map signature methods.now) self.old) }
+    fn add_all(&mut self, core: &Core, scope: u16, methods: &[Method]) -> Result<(), Memory>
+        requires { IsInRange (program_of core.now) }
+        ensures { OnOk result (self.new ≡ with_effects (wide_of (program_of core.now) scope) (map signature methods.now) self.old) }
     {
         for m in methods {
-            self.add(&m.effect)?;
+            self.add(core, scope, &m.effect)?;
         }
         Ok(())
     }
@@ -86,9 +92,9 @@ impl Matrix {
         for entry in table.as_slice() {
             let found = methods(alloc, core, scope, &entry.typ)?;
             if entry.positive {
-                positive.add_all(found.as_slice())?;
+                positive.add_all(core, scope, found.as_slice())?;
             } else {
-                negative.add_all(found.as_slice())?;
+                negative.add_all(core, scope, found.as_slice())?;
             }
         }
         Ok(Matrix {
@@ -129,11 +135,11 @@ impl Matrix {
         }
     }
 
-    /// Whether the set is in every effect at a polarity.
+    /// Whether the set is within every effect at a polarity.
     pub(crate) fn is_safe_at(&self, positive: bool, e: &EffSet) -> bool
         ensures { (p : Program) (scope : ℕ) (t : TypeRef)
             → IsMatrix p scope t self.now
-            → IsTrue result ↔ IsSafe TypeRef (methods_of p scope) t positive e.now }
+            → IsTrue result ↔ IsSafe TypeRef (methods_of p scope) (IsUnder (bounds_of p scope)) t positive e.now }
     {
         self.side(positive).rows.all_include(e)
     }
@@ -162,7 +168,7 @@ impl Matrix {
     pub fn is_safe(&self, e: &EffSet) -> bool
         ensures { (p : Program) (scope : ℕ) (t : TypeRef)
             → IsMatrix p scope t self.now
-            → IsTrue result ↔ IsSafe TypeRef (methods_of p scope) t true e.now }
+            → IsTrue result ↔ IsSafe TypeRef (methods_of p scope) (IsUnder (bounds_of p scope)) t true e.now }
     {
         self.is_safe_at(true, e)
     }
@@ -171,7 +177,7 @@ impl Matrix {
     pub fn is_ho_safe(&self, e: &EffSet) -> bool
         ensures { (p : Program) (scope : ℕ) (t : TypeRef)
             → IsMatrix p scope t self.now
-            → IsTrue result ↔ IsSafe TypeRef (methods_of p scope) t false e.now }
+            → IsTrue result ↔ IsSafe TypeRef (methods_of p scope) (IsUnder (bounds_of p scope)) t false e.now }
     {
         self.is_safe_at(false, e)
     }

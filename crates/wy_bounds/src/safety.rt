@@ -1,7 +1,9 @@
 //! Whether a type is safe, and higher-order safe, for a set.
 
 ghost use Rattle.std.specs.Prelude.{◌↔◌, IfOk, true, false};
+ghost use Rattle.wy_effects.specs.Bounds.{IsUnder};
 ghost use Rattle.wy_types.specs.Program.{program_of};
+ghost use Rattle.wy_types.specs.Bounds.{bounds_of};
 ghost use Rattle.wy_types.specs.Types.{methods_of};
 ghost use Rattle.wy_types.specs.Fitting.{IsTypeOf};
 ghost use Rattle.wy_types.specs.InRange.{IsInRange};
@@ -72,7 +74,7 @@ pub fn safe(
 ) -> Result<Safety, Memory>
     requires core { IsInRange (program_of core.now) }
     requires typ { IsTypeOf (program_of core.now) scope t.now }
-    ensures exact { IfOk result (λ v. IsYes v ↔ IsSafe TypeRef (methods_of (program_of core.now) scope) t.now true e.now) }
+    ensures exact { IfOk result (λ v. IsYes v ↔ IsSafe TypeRef (methods_of (program_of core.now) scope) (IsUnder (bounds_of (program_of core.now) scope)) t.now true e.now) }
     ensures answer { IfOk result (λ v. IsAnswer (program_of core.now) scope t.now true e.now v) }
 {
     is_safe(alloc, core, scope, t, e, true)
@@ -89,7 +91,7 @@ pub fn ho_safe(
 ) -> Result<Safety, Memory>
     requires core { IsInRange (program_of core.now) }
     requires typ { IsTypeOf (program_of core.now) scope t.now }
-    ensures exact { IfOk result (λ v. IsYes v ↔ IsSafe TypeRef (methods_of (program_of core.now) scope) t.now false e.now) }
+    ensures exact { IfOk result (λ v. IsYes v ↔ IsSafe TypeRef (methods_of (program_of core.now) scope) (IsUnder (bounds_of (program_of core.now) scope)) t.now false e.now) }
     ensures answer { IfOk result (λ v. IsAnswer (program_of core.now) scope t.now false e.now v) }
 {
     is_safe(alloc, core, scope, t, e, false)

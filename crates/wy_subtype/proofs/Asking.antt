@@ -8,6 +8,8 @@ use Rattle.wy_effects.proofs.Closure.{in_decided}
 use Rattle.wy_effects.proofs.SetLaws.{cases_equal, IsSetFrom-without, at_least, without-from, In-without}
 use Rattle.wy_effects.proofs.Walks.{drop_none}
 use Rattle.wy_effects.specs.Members.{In, Within}
+use Rattle.wy_effects.specs.Bounds.{IsOneOf, IsLeastMissing, IsWidened}
+use Rattle.wy_effects.proofs.Ordering.{missing_exactly, widened_exactly}
 use Rattle.wy_effects.proofs.Lists.{In-left, In-right, In-cases, In-map, In-unmap}
 use Rattle.wy_types.specs.declared.types.TypeRef.{TypeRef}
 use Rattle.wy_types.specs.declared.types.Method.{Method}
@@ -16,15 +18,17 @@ use Rattle.wy_types.specs.declared.path.Step.{Step}
 use Rattle.wy_types.specs.Program.{Program}
 use Rattle.wy_types.specs.Signature.{Signature, find_method}
 use Rattle.wy_types.specs.Types.{IsObject, signature, methods_of}
+use Rattle.wy_types.specs.Bounds.{bounds_of}
 use Rattle.wy_types.specs.Subtyping.{ParamsIn, HasCover, LeadsBy}
 use Rattle.wy_subtype.specs.declared.verdict.Mode.{Mode}
+use Rattle.wy_subtype.specs.declared.verdict.Mode.TheVariants.{Annotated, Plain}
 use Rattle.wy_subtype.specs.declared.verdict.Cause.{Cause}
 use Rattle.wy_subtype.specs.declared.verdict.Cause.TheVariants.{MissingMethod, Arity, Base, Effect}
 use Rattle.wy_subtype.specs.declared.unfolding.UnfoldedPair.{UnfoldedPair}
 use Rattle.wy_subtype.specs.declared.unfolding.Unfolding.{Unfolding}
 use Rattle.wy_subtype.specs.declared.unfolding.Unfolding.TheVariants.{Fails, Closed}
-use Rattle.wy_subtype.specs.Verdict.{Pair, Includes, IsLeastMissing, AreObjects, FailsBy}
-use Rattle.wy_subtype.specs.Unfolding.{sides, Asks, IsUnfolded, param_pairs, method_pairs, found_pairs, all_pairs, IsMet, FaultOf, AreMet}
+use Rattle.wy_subtype.specs.Verdict.{Pair, Allows, AreObjects, FailsBy}
+use Rattle.wy_subtype.specs.Unfolding.{sides, Asks, IsUnfolded, param_pairs, method_pairs, found_pairs, all_pairs, IsMet, LacksAtom, FaultOf, AreMet}
 
 -- one method of the right side more
 pub all_step : (lefts : List (Signature TypeRef)) (rights : List Method) (i : ℕ) (r d : Method) (out new whole : List UnfoldedPair) → i < length rights → r ≡ get_or rights i d →
@@ -42,13 +46,13 @@ all_end lefts rights i out whole le inv =
     sym (append-nil out) ∙ subst P (drop_none rights i le) inv
 
 -- the least atom that is in one effect and not in the other
-pub lacking_some : (xs ys : List ℕ) (atoms : List Atom) (o : Option Atom) → IsSet 512 xs → map (λ (a : Atom). a.0) atoms ≡ without xs ys → o ≡ slice_get atoms 0 → IfSome o (λ a. IsLeastMissing a.0 xs ys)
+pub lacking_some : (xs ys : List ℕ) (atoms : List Atom) (o : Option Atom) → IsSet 512 xs → map (λ (a : Atom). a.0) atoms ≡ without xs ys → o ≡ slice_get atoms 0 → IfSome o (λ a. IsLeastMissing IsOneOf a.0 xs ys)
 lacking_some xs ys atoms None s e is = tt
 lacking_some xs ys [] (Some a) s e is = absurd (cc)
 lacking_some xs ys (x ∷ atoms) (Some a) s e is =
     let P : List ℕ → Type 0 = λ l. In x.0 l in
     let Q : List ℕ → Type 0 = λ l. IsSet 512 l in
-    let L : Atom → Type 0 = λ v. IsLeastMissing v.0 xs ys in
+    let L : Atom → Type 0 = λ v. IsLeastMissing IsOneOf v.0 xs ys in
     let there = without-from x.0 xs ys (subst P e (inl refl)) in
     let order : IsSet 512 (x.0 ∷ map (λ (b : Atom). b.0) atoms) = subst Q (sym e) (IsSetFrom-without 0 512 xs ys s) in
     let same : x ≡ a = cc in
@@ -109,9 +113,19 @@ all_from lefts (n ∷ ns) c h =
       | inr g ↦ (let r = all_from lefts ns c g in (r.0, inr r.1, r.2, r.3, r.4))
     ]
 
+-- what is told of a widened right effect is told of the effect
+module _ (p : Program) (scope : ℕ) (mode : Mode) (same : mode ≡ Annotated) (e f wide : List ℕ) (is : IsWidened (bounds_of p scope) f wide) where
+  pub none_allowed : (o : Option Atom) → IfNone o (Within e wide) → IfNone o (Allows p scope mode e f)
+  none_allowed None h = subst (λ m. Allows p scope m e f) (sym same) ((widened_exactly (bounds_of p scope) e f wide is).1 h)
+  none_allowed (Some a) h = tt
+
+  pub some_lacks : (o : Option Atom) → IfSome o (λ a. IsLeastMissing IsOneOf a.0 e wide) → IfSome o (λ a. LacksAtom p scope mode a.0 e f)
+  some_lacks None h = tt
+  some_lacks (Some a) h = (same, (missing_exactly (bounds_of p scope) e f wide a.0 is).1 h)
+
 module _ (p : Program) (scope : ℕ) (mode : Mode) where
   Leading : Signature TypeRef → Signature TypeRef → Step → Pair → Type 0
-  Leading m n s q = (n.name ≡ s.method) × LeadsBy TypeRef (methods_of p scope) IsObject (Includes mode) m n s.part q
+  Leading m n s q = (n.name ≡ s.method) × LeadsBy TypeRef (methods_of p scope) IsObject (Allows p scope mode) m n s.part q
 
   -- each pair of two methods is what one of their parts leads to
   pair_leads : (m n : Signature TypeRef) (c : UnfoldedPair) → In c (method_pairs m n) → Leading m n c.step (sides c)
@@ -128,8 +142,8 @@ module _ (p : Program) (scope : ℕ) (mode : Mode) where
         ]
       ]
 
-  has_cover : (o : Option (Signature TypeRef)) (n : Signature TypeRef) (ps : List Pair) → IsMet mode o n → Within (map sides (found_pairs o n)) ps →
-      HasCover TypeRef (methods_of p scope) IsObject (Includes mode) ps o n
+  has_cover : (o : Option (Signature TypeRef)) (n : Signature TypeRef) (ps : List Pair) → IsMet p scope mode o n → Within (map sides (found_pairs o n)) ps →
+      HasCover TypeRef (methods_of p scope) IsObject (Allows p scope mode) ps o n
   has_cover None n ps f w = absurd f
   has_cover (Some m) n ps f w = record {
     params = params_closed n.name 0 m.params n.params ps f.0 (Within-left sides (param_pairs n.name 0 m.params n.params) _ ps w);
@@ -137,16 +151,16 @@ module _ (p : Program) (scope : ℕ) (mode : Mode) where
     result = Within-right sides (param_pairs n.name 0 m.params n.params) _ ps w (m.result, n.result) (inl refl);
   }
 
-  all_covered : (lefts ns : List (Signature TypeRef)) (ps : List Pair) → ((n : Signature TypeRef) → In n ns → IsMet mode (find_method n.name lefts) n) → Within (map sides (all_pairs lefts ns)) ps →
-      (n : Signature TypeRef) → In n ns → HasCover TypeRef (methods_of p scope) IsObject (Includes mode) ps (find_method n.name lefts) n
+  all_covered : (lefts ns : List (Signature TypeRef)) (ps : List Pair) → ((n : Signature TypeRef) → In n ns → IsMet p scope mode (find_method n.name lefts) n) → Within (map sides (all_pairs lefts ns)) ps →
+      (n : Signature TypeRef) → In n ns → HasCover TypeRef (methods_of p scope) IsObject (Allows p scope mode) ps (find_method n.name lefts) n
   all_covered lefts [] ps f w n i = absurd i
   all_covered lefts (m ∷ ns) ps f w n (inl e) =
-      let P : Signature TypeRef → Type 0 = λ v. HasCover TypeRef (methods_of p scope) IsObject (Includes mode) ps (find_method v.name lefts) v in
+      let P : Signature TypeRef → Type 0 = λ v. HasCover TypeRef (methods_of p scope) IsObject (Allows p scope mode) ps (find_method v.name lefts) v in
       subst P e (has_cover (find_method m.name lefts) m ps (f m (inl refl)) (Within-left sides (found_pairs (find_method m.name lefts) m) (all_pairs lefts ns) ps w))
   all_covered lefts (m ∷ ns) ps f w n (inr i) =
       all_covered lefts ns ps (λ v j. f v (inr j)) (Within-right sides (found_pairs (find_method m.name lefts) m) (all_pairs lefts ns) ps w) n i
 
-  asks : (q : Pair) → AreObjects q → ((n : Signature TypeRef) → In n (methods_of p scope q.1) → IsMet mode (find_method n.name (methods_of p scope q.0)) n) →
+  asks : (q : Pair) → AreObjects q → ((n : Signature TypeRef) → In n (methods_of p scope q.1) → IsMet p scope mode (find_method n.name (methods_of p scope q.0)) n) →
       (cs : List UnfoldedPair) → cs ≡ all_pairs (methods_of p scope q.0) (methods_of p scope q.1) → Asks p scope mode q cs
   unfolding Leading
   asks q both f cs e = record {
@@ -161,7 +175,7 @@ module _ (p : Program) (scope : ℕ) (mode : Mode) where
   }
 
   fault : (q : Pair) (n : Signature TypeRef) → AreObjects q → In n (methods_of p scope q.1) →
-      (o : Option (Signature TypeRef)) → o ≡ find_method n.name (methods_of p scope q.0) → (c : Cause) → FaultOf mode o n c → FailsBy p scope mode q c
+      (o : Option (Signature TypeRef)) → o ≡ find_method n.name (methods_of p scope q.0) → (c : Cause) → FaultOf p scope mode o n c → FailsBy p scope mode q c
   fault q n both i None e Base f = absurd f
   fault q n both i None e (MissingMethod name) f = (both, (n, i, f, sym e))
   fault q n both i None e (Arity name) f = absurd f
@@ -169,16 +183,17 @@ module _ (p : Program) (scope : ℕ) (mode : Mode) where
   fault q n both i (Some m) e Base f = absurd f
   fault q n both i (Some m) e (MissingMethod name) f = absurd f
   fault q n both i (Some m) e (Arity name) f = (both, (n, i, f.0, (m, sym e, f.1)))
-  fault q n both i (Some m) e (Effect name a) f = (f.0, (both, (n, i, f.1, (m, sym e, f.2))))
+  fault q n both i (Some m) e (Effect name a) f =
+      (f.1.0, (both, (n, i, f.0, (m, sym e, f.1.1))))
 
   pub is_unfolded : (s t : TypeRef) → IsObject s → IsObject t → (lefts rights : List (Signature TypeRef)) → lefts ≡ methods_of p scope s → rights ≡ methods_of p scope t →
-      (u : Unfolding) → AreMet mode lefts rights u → IsUnfolded p scope mode (s, t) u
+      (u : Unfolding) → AreMet p scope mode lefts rights u → IsUnfolded p scope mode (s, t) u
   is_unfolded s t os ot lefts rights el er (Fails c) h =
-      let P : List (Signature TypeRef) → Type 0 = λ l. FaultOf mode (find_method h.0.name l) h.0 c in
+      let P : List (Signature TypeRef) → Type 0 = λ l. FaultOf p scope mode (find_method h.0.name l) h.0 c in
       let Q : List (Signature TypeRef) → Type 0 = λ l. In h.0 l in
       fault (s, t) h.0 (os, ot) (subst Q er h.1) (find_method h.0.name (methods_of p scope s)) refl c (subst P el h.2)
   is_unfolded s t os ot lefts rights el er (Closed cs) h =
-      let P : List (Signature TypeRef) → List (Signature TypeRef) → Type 0 = λ l r. (cs ≡ all_pairs l r) × ((n : Signature TypeRef) → In n r → IsMet mode (find_method n.name l) n) in
+      let P : List (Signature TypeRef) → List (Signature TypeRef) → Type 0 = λ l r. (cs ≡ all_pairs l r) × ((n : Signature TypeRef) → In n r → IsMet p scope mode (find_method n.name l) n) in
       let P1 : List (Signature TypeRef) → Type 0 = λ l. P l rights in
       let P2 : List (Signature TypeRef) → Type 0 = λ r. P (methods_of p scope s) r in
       let g : P (methods_of p scope s) (methods_of p scope t) = subst P2 er (subst P1 el h) in

@@ -9,7 +9,7 @@ use Rattle.wy_types.specs.Signature.{Signature, find_method}
 use Rattle.wy_types.specs.Types.{IsObject, methods_of}
 use Rattle.wy_types.specs.Subtyping.{LeadsBy}
 use Rattle.wy_subtype.specs.declared.verdict.Mode.{Mode}
-use Rattle.wy_subtype.specs.Verdict.{Pair, Includes, StepsTo}
+use Rattle.wy_subtype.specs.Verdict.{Pair, Allows, StepsTo}
 use Rattle.wy_subtype.specs.Asked.{AreExchanged, AsksBy, IsAskedOf, IsAskedBy}
 
 -- no parameter asks and the results are others, so no part asks
@@ -18,11 +18,11 @@ asks_by_none m n q f g (Parameter i) h = f i h
 asks_by_none m n q f g Result h = g h
 
 module _ (program : Program) (scope : ℕ) (mode : Mode) where
-  leads_asks : (m n : Signature TypeRef) (part : Part) (q : Pair) → LeadsBy TypeRef (methods_of program scope) IsObject (Includes mode) m n part q → AsksBy m n part q
+  leads_asks : (m n : Signature TypeRef) (part : Part) (q : Pair) → LeadsBy TypeRef (methods_of program scope) IsObject (Allows program scope mode) m n part q → AsksBy m n part q
   leads_asks m n (Parameter i) q h = h
   leads_asks m n Result q h = h
 
-  asks_leads : (m n : Signature TypeRef) (part : Part) (q : Pair) → AsksBy m n part q → LeadsBy TypeRef (methods_of program scope) IsObject (Includes mode) m n part q
+  asks_leads : (m n : Signature TypeRef) (part : Part) (q : Pair) → AsksBy m n part q → LeadsBy TypeRef (methods_of program scope) IsObject (Allows program scope mode) m n part q
   asks_leads m n (Parameter i) q h = h
   asks_leads m n Result q h = h
 

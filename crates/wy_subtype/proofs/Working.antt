@@ -6,6 +6,7 @@ use Rattle.std.proofs.lemmas.Bool.{cases_lt}
 use Rattle.std.proofs.lemmas.Option.{slice_get_within}
 use Rattle.wy_effects.specs.Members.{In, Within, Apart}
 use Rattle.wy_effects.proofs.Lists.{In-left, In-right, In-cases, In-map, In-unmap, In-at, In-slice_get, Apart-push}
+use Rattle.wy_effects.specs.Bounds.{IsWithin}
 use Rattle.wy_types.specs.declared.types.TypeRef.{TypeRef}
 use Rattle.wy_types.specs.declared.types.TypeRef.TheVariants.{Int, Bool, Text, Unit as Nothing}
 use Rattle.wy_types.specs.declared.path.Part.{Part}
@@ -27,7 +28,8 @@ use Rattle.wy_subtype.specs.declared.verdict.Verdict.{Verdict}
 use Rattle.wy_subtype.specs.declared.verdict.Verdict.TheVariants.{Yes, No}
 use Rattle.wy_subtype.specs.declared.entry.Entry.{Entry}
 use Rattle.wy_types.specs.InRange.{IsInRange}
-use Rattle.wy_subtype.specs.Verdict.{Pair, Includes, IsSubtypeIn, Closes, StepsTo, LeadsTo, AreObjects, FailsBy, FailsAt, IsVerdict, IsYes, is_yes}
+use Rattle.wy_types.specs.Bounds.{bounds_of}
+use Rattle.wy_subtype.specs.Verdict.{Pair, Allows, IsSubtypeIn, Closes, StepsTo, LeadsTo, AreObjects, FailsBy, FailsAt, IsVerdict, IsYes, is_yes}
 use Rattle.wy_subtype.specs.Nodes.{base_pairs, pair_at, HasStep, IsAsking}
 use Rattle.wy_subtype.specs.Work.{entry_node, entry_of, IsAdded, AreAdded}
 use Rattle.wy_subtype.specs.Decided.{About}
@@ -75,7 +77,7 @@ abbrev FitsPair : Program → ℕ → Pair → Type 0
 FitsPair program scope p = IsTypeOf program scope p.0 × IsTypeOf program scope p.1
 
 Fits-leads : (program : Program) (scope : ℕ) (mode : Mode) (left right : Signature TypeRef) (part : Part) (q : Pair) → FitsSignature program 512 (own_count program scope) left → FitsSignature program 512 (own_count program scope) right →
-    LeadsBy TypeRef (methods_of program scope) IsObject (Includes mode) left right part q → FitsPair program scope q
+    LeadsBy TypeRef (methods_of program scope) IsObject (Allows program scope mode) left right part q → FitsPair program scope q
 Fits-leads program scope mode left right Result q f g l =
     let P : TypeRef → Type 0 = λ v. IsTypeOf program scope v in
     (subst P (sym l.0) f.result, subst P (sym l.1) g.result)
@@ -261,7 +263,7 @@ within_more qs rs w x i = elim (In-cases x qs base_pairs i) [ inl j ↦ In-left 
 -- what is settled by a list is settled by a longer one
 settled_more : (program : Program) (scope : ℕ) (mode : Mode) (qs rs : List Pair) (q : Pair) → Within qs rs → IsSettled program scope mode qs q → IsSettled program scope mode rs q
 settled_more program scope mode qs rs q w (inl sub) = inl sub
-settled_more program scope mode qs rs q w (inr closed) = inr (IsClosed-more TypeRef (methods_of program scope) IsObject (Includes mode) (qs ++ base_pairs) (rs ++ base_pairs) q (within_more qs rs w) closed)
+settled_more program scope mode qs rs q w (inr closed) = inr (IsClosed-more TypeRef (methods_of program scope) IsObject (Allows program scope mode) (qs ++ base_pairs) (rs ++ base_pairs) q (within_more qs rs w) closed)
 
 -- one more entry is worked off
 pub work_more : (program : Program) (scope : ℕ) (mode : Mode) (first old new : List Met) (k : ℕ) → k < length old → IsWork program scope mode first old k → Advances program scope mode old new k → IsWork program scope mode first new (k + 1)
@@ -309,18 +311,18 @@ pub begins_still : (program : Program) (scope : ℕ) (mode : Mode) (p : Pair) (f
 begins_still program scope mode p first es k work b = (b.0, Extends-get first es 0 b.0 work.extends b.1, b.2)
 
 -- subtyping by the mode's test of effects is subtyping in the mode
-in_mode : (program : Program) (scope : ℕ) (mode : Mode) (s t : TypeRef) → IsSubtype TypeRef (methods_of program scope) IsObject (Includes mode) s t → IsSubtypeIn program scope mode s t
+in_mode : (program : Program) (scope : ℕ) (mode : Mode) (s t : TypeRef) → IsSubtype TypeRef (methods_of program scope) IsObject (Allows program scope mode) s t → IsSubtypeIn program scope mode s t
 in_mode program scope Annotated s t h = h
 in_mode program scope Plain s t h = h
 
-of_mode : (program : Program) (scope : ℕ) (mode : Mode) (s t : TypeRef) → IsSubtypeIn program scope mode s t → IsSubtype TypeRef (methods_of program scope) IsObject (Includes mode) s t
+of_mode : (program : Program) (scope : ℕ) (mode : Mode) (s t : TypeRef) → IsSubtypeIn program scope mode s t → IsSubtype TypeRef (methods_of program scope) IsObject (Allows program scope mode) s t
 of_mode program scope Annotated s t h = h
 of_mode program scope Plain s t h = h
 
 -- a closed list has those of the pairs that are known, and the others are closed by the list of all
 module _ (program : Program) (scope : ℕ) (mode : Mode) where
   more : (qs rs : List Pair) (q : Pair) → Within qs rs → Closes program scope mode qs q → Closes program scope mode rs q
-  more qs rs q w c = IsClosed-more TypeRef (methods_of program scope) IsObject (Includes mode) qs rs q w c
+  more qs rs q w c = IsClosed-more TypeRef (methods_of program scope) IsObject (Allows program scope mode) qs rs q w c
 
   record Gathers (all qs : List Pair) : Type 0 where
     known : List Pair
@@ -405,7 +407,7 @@ no_params ps [] (y ∷ ys) h = absurd h
 no_params ps (x ∷ xs) [] h = absurd h
 no_params ps (x ∷ xs) (y ∷ ys) h = ap suc (no_params ps xs ys h.1)
 
-objects_only : (program : Program) (scope : ℕ) (mode : Mode) (ps : List Pair) (p : Pair) → AreObjects p → Closes program scope mode ps p → (n : Signature TypeRef) → In n (methods_of program scope p.1) → HasCover TypeRef (methods_of program scope) IsObject (Includes mode) ps (find_method n.name (methods_of program scope p.0)) n
+objects_only : (program : Program) (scope : ℕ) (mode : Mode) (ps : List Pair) (p : Pair) → AreObjects p → Closes program scope mode ps p → (n : Signature TypeRef) → In n (methods_of program scope p.1) → HasCover TypeRef (methods_of program scope) IsObject (Allows program scope mode) ps (find_method n.name (methods_of program scope p.0)) n
 objects_only program scope mode ps p both (inl base) n i = absurd (base.1 both.0)
 objects_only program scope mode ps p both (inr h) n i = h.2 n i
 
@@ -413,20 +415,20 @@ pub fails_open : (program : Program) (scope : ℕ) (mode : Mode) (ps : List Pair
 fails_open program scope mode ps p Base f (inl base) = f.0 base
 fails_open program scope mode ps p Base f (inr h) = f.1 (h.0, h.1)
 fails_open program scope mode ps p (MissingMethod name) f closed =
-    let P : Option (Signature TypeRef) → Type 0 = λ o. HasCover TypeRef (methods_of program scope) IsObject (Includes mode) ps o f.1.0 in
+    let P : Option (Signature TypeRef) → Type 0 = λ o. HasCover TypeRef (methods_of program scope) IsObject (Allows program scope mode) ps o f.1.0 in
     subst P f.1.3 (objects_only program scope mode ps p f.0 closed f.1.0 f.1.1)
 fails_open program scope mode ps p (Arity name) f closed =
-    let P : Option (Signature TypeRef) → Type 0 = λ o. HasCover TypeRef (methods_of program scope) IsObject (Includes mode) ps o f.1.0 in
+    let P : Option (Signature TypeRef) → Type 0 = λ o. HasCover TypeRef (methods_of program scope) IsObject (Allows program scope mode) ps o f.1.0 in
     let m = f.1.3 in
-    let cover : Covers TypeRef (methods_of program scope) IsObject (Includes mode) ps m.0 f.1.0 = subst P m.1 (objects_only program scope mode ps p f.0 closed f.1.0 f.1.1) in
+    let cover : Covers TypeRef (methods_of program scope) IsObject (Allows program scope mode) ps m.0 f.1.0 = subst P m.1 (objects_only program scope mode ps p f.0 closed f.1.0 f.1.1) in
     m.2 (no_params ps m.0.params f.1.0.params cover.params)
 fails_open program scope mode ps p (Effect name a) f closed =
     let fault = f.1 in
     let m = fault.1.3 in
-    let P : Option (Signature TypeRef) → Type 0 = λ o. HasCover TypeRef (methods_of program scope) IsObject (Includes mode) ps o fault.1.0 in
-    let cover : Covers TypeRef (methods_of program scope) IsObject (Includes mode) ps m.0 fault.1.0 = subst P m.1 (objects_only program scope mode ps p fault.0 closed fault.1.0 fault.1.1) in
-    let Q : Mode → Type 0 = λ v. Includes v m.0.effect fault.1.0.effect in
-    let within : Within m.0.effect fault.1.0.effect = subst Q f.0 cover.effect in
+    let P : Option (Signature TypeRef) → Type 0 = λ o. HasCover TypeRef (methods_of program scope) IsObject (Allows program scope mode) ps o fault.1.0 in
+    let cover : Covers TypeRef (methods_of program scope) IsObject (Allows program scope mode) ps m.0 fault.1.0 = subst P m.1 (objects_only program scope mode ps p fault.0 closed fault.1.0 fault.1.1) in
+    let Q : Mode → Type 0 = λ v. Allows program scope v m.0.effect fault.1.0.effect in
+    let within : IsWithin (bounds_of program scope) m.0.effect fault.1.0.effect = subst Q f.0 cover.effect in
     m.2.1 (within a.0 m.2.0)
 
 -- a failing path refutes
@@ -434,7 +436,7 @@ pub refutes : (program : Program) (scope : ℕ) (mode : Mode) (p : Pair) (path :
 refutes program scope mode p path c f h =
     let sub = of_mode program scope mode p.0 p.1 h in
     fails_open program scope mode sub.pairs f.0 c f.2
-    (sub.closed f.0 (closed_path TypeRef (methods_of program scope) IsObject (Includes mode) (no_methods program scope) sub.pairs sub.closed path p f.0 sub.first f.1))
+    (sub.closed f.0 (closed_path TypeRef (methods_of program scope) IsObject (Allows program scope mode) (no_methods program scope) sub.pairs sub.closed path p f.0 sub.first f.1))
 
 pub exact : (program : Program) (scope : ℕ) (mode : Mode) (p : Pair) (v : Verdict) → IsVerdict program scope mode p v → IsYes v ↔ IsSubtypeIn program scope mode p.0 p.1
 exact program scope mode p Yes h = (λ _. h, λ _. tt)

@@ -1,10 +1,12 @@
 -- One pair's own test: the cause by which it fails, or the pairs that it asks for.
 use Rattle.std.specs.Prelude.{◌≡◌, ℕ, ◌+◌, List, [], ◌∷◌, ◌++◌, Option, Some, None, map, length}
 use Rattle.wy_effects.specs.Members.{In, Within}
+use Rattle.wy_effects.specs.Bounds.{IsUnder, IsLeastMissing}
 use Rattle.wy_types.specs.declared.types.TypeRef.{TypeRef}
 use Rattle.wy_types.specs.declared.path.Part.TheVariants.{Parameter, Result}
 use Rattle.wy_types.specs.Program.{Program}
 use Rattle.wy_types.specs.Signature.{Signature, find_method}
+use Rattle.wy_types.specs.Bounds.{bounds_of}
 use Rattle.wy_subtype.specs.declared.verdict.Mode.{Mode}
 use Rattle.wy_subtype.specs.declared.verdict.Mode.TheVariants.{Annotated}
 use Rattle.wy_subtype.specs.declared.verdict.Cause.{Cause}
@@ -12,7 +14,7 @@ use Rattle.wy_subtype.specs.declared.verdict.Cause.TheVariants.{MissingMethod, A
 use Rattle.wy_subtype.specs.declared.unfolding.UnfoldedPair.{UnfoldedPair}
 use Rattle.wy_subtype.specs.declared.unfolding.Unfolding.{Unfolding}
 use Rattle.wy_subtype.specs.declared.unfolding.Unfolding.TheVariants.{Fails, Closed}
-use Rattle.wy_subtype.specs.Verdict.{Pair, Includes, Closes, StepsTo, IsLeastMissing, FailsBy}
+use Rattle.wy_subtype.specs.Verdict.{Pair, Allows, Closes, StepsTo, FailsBy}
 
 abbrev pub sides : UnfoldedPair → Pair
 sides c = (c.left, c.right)
@@ -53,27 +55,31 @@ all_pairs lefts [] = []
 all_pairs lefts (n ∷ ns) = found_pairs (find_method n.name lefts) n ++ all_pairs lefts ns
 
 -- a method of the name is found and has the number of parameters and an effect as wanted
-abbrev pub IsMet : Mode → Option (Signature TypeRef) → Signature TypeRef → Type 0
-IsMet mode None n = ⊥
-IsMet mode (Some m) n = (length m.params ≡ length n.params) × Includes mode m.effect n.effect
+abbrev pub IsMet : Program → ℕ → Mode → Option (Signature TypeRef) → Signature TypeRef → Type 0
+IsMet p scope mode None n = ⊥
+IsMet p scope mode (Some m) n = (length m.params ≡ length n.params) × Allows p scope mode m.effect n.effect
+
+-- the least atom of an effect that is not allowed by another, in annotated subtyping alone
+abbrev pub LacksAtom : Program → ℕ → Mode → ℕ → List ℕ → List ℕ → Type 0
+LacksAtom p scope mode a e f = (mode ≡ Annotated) × IsLeastMissing (IsUnder (bounds_of p scope)) a e f
 
 -- what is at fault with a method that has the name
-abbrev pub CauseOf : Mode → Signature TypeRef → Signature TypeRef → Cause → Type 0
-CauseOf mode m n Base = ⊥
-CauseOf mode m n (MissingMethod name) = ⊥
-CauseOf mode m n (Arity name) = (n.name ≡ name) × (length m.params ≡ length n.params → ⊥)
-CauseOf mode m n (Effect name a) = (mode ≡ Annotated) × (n.name ≡ name) × IsLeastMissing a.0 m.effect n.effect
+abbrev pub CauseOf : Program → ℕ → Mode → Signature TypeRef → Signature TypeRef → Cause → Type 0
+CauseOf p scope mode m n Base = ⊥
+CauseOf p scope mode m n (MissingMethod name) = ⊥
+CauseOf p scope mode m n (Arity name) = (n.name ≡ name) × (length m.params ≡ length n.params → ⊥)
+CauseOf p scope mode m n (Effect name a) = (n.name ≡ name) × LacksAtom p scope mode a.0 m.effect n.effect
 
 -- what is at fault with what is found by the name
-abbrev pub FaultOf : Mode → Option (Signature TypeRef) → Signature TypeRef → Cause → Type 0
-FaultOf mode None n Base = ⊥
-FaultOf mode None n (MissingMethod name) = n.name ≡ name
-FaultOf mode None n (Arity name) = ⊥
-FaultOf mode None n (Effect name a) = ⊥
-FaultOf mode (Some m) n cause = CauseOf mode m n cause
+abbrev pub FaultOf : Program → ℕ → Mode → Option (Signature TypeRef) → Signature TypeRef → Cause → Type 0
+FaultOf p scope mode None n Base = ⊥
+FaultOf p scope mode None n (MissingMethod name) = n.name ≡ name
+FaultOf p scope mode None n (Arity name) = ⊥
+FaultOf p scope mode None n (Effect name a) = ⊥
+FaultOf p scope mode (Some m) n cause = CauseOf p scope mode m n cause
 
 -- the test of all methods of the right side
-abbrev pub AreMet : Mode → List (Signature TypeRef) → List (Signature TypeRef) → Unfolding → Type 0
-AreMet mode lefts rights (Fails cause) = (n : Signature TypeRef) × In n rights × FaultOf mode (find_method n.name lefts) n cause
-AreMet mode lefts rights (Closed asked) =
-    (asked ≡ all_pairs lefts rights) × ((n : Signature TypeRef) → In n rights → IsMet mode (find_method n.name lefts) n)
+abbrev pub AreMet : Program → ℕ → Mode → List (Signature TypeRef) → List (Signature TypeRef) → Unfolding → Type 0
+AreMet p scope mode lefts rights (Fails cause) = (n : Signature TypeRef) × In n rights × FaultOf p scope mode (find_method n.name lefts) n cause
+AreMet p scope mode lefts rights (Closed asked) =
+    (asked ≡ all_pairs lefts rights) × ((n : Signature TypeRef) → In n rights → IsMet p scope mode (find_method n.name lefts) n)

@@ -1,12 +1,14 @@
 -- What the test of subtyping answers: yes, or a path to a pair that fails by itself, with the cause.
-use Rattle.std.specs.Prelude.{◌≡◌, ℕ, ◌≤◌, List, Bool, true, false, Option, Some, None, length}
-use Rattle.wy_effects.specs.Members.{In, Within}
+use Rattle.std.specs.Prelude.{◌≡◌, ℕ, List, Bool, true, false, Option, Some, None, length}
+use Rattle.wy_effects.specs.Members.{In}
+use Rattle.wy_effects.specs.Bounds.{IsLeastMissing, IsUnder, IsWithin}
 use Rattle.wy_types.specs.declared.types.TypeRef.{TypeRef}
 use Rattle.wy_types.specs.declared.path.Step.{Step}
 use Rattle.wy_types.specs.Program.{Program}
 use Rattle.wy_types.specs.Signature.{Signature, find_method}
 use Rattle.wy_types.specs.Types.{IsObject, methods_of}
 use Rattle.wy_types.specs.Subtyping.{IsClosed, IsStep, Leads, AnyEffect, IsAnnotatedSubtype, IsPlainSubtype}
+use Rattle.wy_types.specs.Bounds.{bounds_of}
 use Rattle.wy_subtype.specs.declared.verdict.Mode.{Mode}
 use Rattle.wy_subtype.specs.declared.verdict.Mode.TheVariants.{Annotated, Plain}
 use Rattle.wy_subtype.specs.declared.verdict.Cause.{Cause}
@@ -18,10 +20,10 @@ use Rattle.wy_subtype.specs.declared.verdict.Verdict.TheVariants.{Yes, No}
 abbrev pub Pair : Type 0
 Pair = TypeRef × TypeRef
 
--- annotated subtyping wants the left effect within the right one, plain subtyping looks at neither
-abbrev pub Includes : Mode → List ℕ → List ℕ → Type 0
-Includes Annotated e f = Within e f
-Includes Plain e f = AnyEffect e f
+-- annotated subtyping wants the left effect within the right one, over the upper bounds of the scope's atoms; plain subtyping looks at neither
+abbrev pub Allows : Program → ℕ → Mode → List ℕ → List ℕ → Type 0
+Allows p scope Annotated e f = IsWithin (bounds_of p scope) e f
+Allows p scope Plain e f = AnyEffect e f
 
 -- subtyping in a mode
 abbrev pub IsSubtypeIn : Program → ℕ → Mode → TypeRef → TypeRef → Type 0
@@ -30,15 +32,15 @@ IsSubtypeIn p scope Plain s t = IsPlainSubtype p scope s t
 
 -- the list closes the pair
 abbrev pub Closes : Program → ℕ → Mode → List Pair → Pair → Type 0
-Closes p scope mode pairs q = IsClosed TypeRef (methods_of p scope) IsObject (Includes mode) pairs q
+Closes p scope mode pairs q = IsClosed TypeRef (methods_of p scope) IsObject (Allows p scope mode) pairs q
 
 -- one step from a pair to another
 abbrev pub StepsTo : Program → ℕ → Mode → Pair → Step → Pair → Type 0
-StepsTo p scope mode q s r = IsStep TypeRef (methods_of p scope) IsObject (Includes mode) q s r
+StepsTo p scope mode q s r = IsStep TypeRef (methods_of p scope) IsObject (Allows p scope mode) q s r
 
 -- the path leads from a pair to another, with the sides exchanged at each parameter
 abbrev pub LeadsTo : Program → ℕ → Mode → Pair → List Step → Pair → Type 0
-LeadsTo p scope mode q path r = Leads TypeRef (methods_of p scope) IsObject (Includes mode) q path r
+LeadsTo p scope mode q path r = Leads TypeRef (methods_of p scope) IsObject (Allows p scope mode) q path r
 
 abbrev pub AreSameBase : Pair → Type 0
 AreSameBase q = (q.0 ≡ q.1) × (IsObject q.0 → ⊥)
@@ -59,20 +61,16 @@ IsMissing found n = found ≡ None
 abbrev pub HasOtherArity : Option (Signature TypeRef) → Signature TypeRef → Type 0
 HasOtherArity found n = (m : Signature TypeRef) × (found ≡ Some m) × (length m.params ≡ length n.params → ⊥)
 
--- the least atom that is in the first effect and not in the second
-abbrev pub IsLeastMissing : ℕ → List ℕ → List ℕ → Type 0
-IsLeastMissing a e f = In a e × (In a f → ⊥) × ((b : ℕ) → In b e → (In b f → ⊥) → a ≤ b)
-
--- the atom is the least one in the effect of the method of the name that is not in the other's
-abbrev pub HasAtom : ℕ → Option (Signature TypeRef) → Signature TypeRef → Type 0
-HasAtom a found n = (m : Signature TypeRef) × (found ≡ Some m) × IsLeastMissing a m.effect n.effect
+-- the atom is the least one in the effect of the method of the name that is not within the other's
+abbrev pub HasAtom : Program → ℕ → ℕ → Option (Signature TypeRef) → Signature TypeRef → Type 0
+HasAtom p scope a found n = (m : Signature TypeRef) × (found ≡ Some m) × IsLeastMissing (IsUnder (bounds_of p scope)) a m.effect n.effect
 
 -- the pair's own test fails by the cause; by an effect in annotated subtyping alone
 abbrev pub FailsBy : Program → ℕ → Mode → Pair → Cause → Type 0
 FailsBy p scope mode q Base = (AreSameBase q → ⊥) × (AreObjects q → ⊥)
 FailsBy p scope mode q (MissingMethod name) = HasFault p scope q name IsMissing
 FailsBy p scope mode q (Arity name) = HasFault p scope q name HasOtherArity
-FailsBy p scope mode q (Effect name atom) = (mode ≡ Annotated) × HasFault p scope q name (HasAtom atom.0)
+FailsBy p scope mode q (Effect name atom) = (mode ≡ Annotated) × HasFault p scope q name (HasAtom p scope atom.0)
 
 -- the path leads to a pair whose own test fails by the cause
 abbrev pub FailsAt : Program → ℕ → Mode → Pair → List Step → Cause → Type 0

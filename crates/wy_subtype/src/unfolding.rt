@@ -3,12 +3,13 @@
 ghost use Rattle.std.specs.Prelude.{◌≡◌, ◌≤◌, ◌+◌, ◌++◌, IfOk, OnOk, OnErr, IfSome, IfNone, map, length};
 ghost use Rattle.std.specs.Option.{option_copied, option_map};
 ghost use Rattle.wy_effects.specs.Members.{In, Within};
+ghost use Rattle.wy_effects.specs.Bounds.{IsOneOf, IsLeastMissing};
 ghost use Rattle.wy_types.specs.Program.{program_of};
 ghost use Rattle.wy_types.specs.Types.{signature};
 ghost use Rattle.wy_types.specs.Signature.{find_method};
 ghost use Rattle.wy_types.specs.InRange.{IsInRange};
-ghost use Rattle.wy_subtype.specs.Verdict.{Includes, IsLeastMissing};
-ghost use Rattle.wy_subtype.specs.Unfolding.{param_pairs, method_pairs, found_pairs, CauseOf, FaultOf, IsMet, AreMet, IsUnfolded};
+ghost use Rattle.wy_subtype.specs.Verdict.{Allows};
+ghost use Rattle.wy_subtype.specs.Unfolding.{param_pairs, method_pairs, found_pairs, LacksAtom, CauseOf, FaultOf, IsMet, AreMet, IsUnfolded};
 
 use crate::steps::Steps;
 use crate::verdict::{Cause, Mode};
@@ -18,6 +19,7 @@ use wy_effects::atom::Atom;
 use wy_effects::set::EffSet;
 use wy_text::list::Items;
 use wy_text::text::{Memory, Text};
+use wy_types::bounds::widened;
 use wy_types::methods::methods;
 use wy_types::path::{Part, Step};
 use wy_types::resolved::Core;
@@ -58,7 +60,7 @@ pub(crate) fn find<'a>(methods: &'a [Method], name: &Text) -> Option<&'a Method>
 /// The least atom of the left effect that the right one lacks.
 fn lacking(left: &EffSet, right: &EffSet) -> Result<Option<Atom>, Memory>
     ensures none { IfOk result (λ o. IfNone o (Within left.now right.now)) }
-    ensures some { IfOk result (λ o. IfSome o (λ a. IsLeastMissing a.0 left.now right.now)) }
+    ensures some { IfOk result (λ o. IfSome o (λ a. IsLeastMissing IsOneOf a.0 left.now right.now)) }
 {
     left.is_set();
     if right.includes(left) {
@@ -68,26 +70,36 @@ fn lacking(left: &EffSet, right: &EffSet) -> Result<Option<Atom>, Memory>
     Ok(atoms.first().copied())
 }
 
-/// The least atom that the right effect should have and lacks.
-fn effect_fault(left: &EffSet, right: &EffSet, mode: Mode) -> Result<Option<Atom>, Memory>
-    ensures none { IfOk result (λ o. IfNone o (Includes mode left.now right.now)) }
-    ensures some { IfOk result (λ o. IfSome o (λ a. (mode ≡ Mode.Annotated) × IsLeastMissing a.0 left.now right.now)) }
+/// How effects are compared: in a mode, over the bounds of a scope's atoms.
+#[derive(Drop)]
+struct Order<'a> {
+    core: &'a Core,
+    scope: u16,
+    mode: Mode,
+}
+
+/// The least atom of the left effect that is not within the right one.
+fn effect_fault(left: &EffSet, right: &EffSet, order: &Order) -> Result<Option<Atom>, Memory>
+    requires core { IsInRange (program_of order.now.core.now) }
+    ensures none { IfOk result (λ o. IfNone o (Allows (program_of order.now.core.now) order.now.scope order.now.mode left.now right.now)) }
+    ensures some { IfOk result (λ o. IfSome o (λ a. LacksAtom (program_of order.now.core.now) order.now.scope order.now.mode a.0 left.now right.now)) }
 {
-    match mode {
+    match order.mode {
         Mode::Plain => Ok(None),
-        Mode::Annotated => lacking(left, right),
+        Mode::Annotated => lacking(left, &widened(order.core, order.scope, right)),
     }
 }
 
 /// What is at fault with the left side's method, but for the pairs that it then asks for.
-fn method_fault(left: &Method, right: &Method, mode: Mode) -> Result<Option<Cause>, Memory>
-    ensures none { IfOk result (λ o. IfNone o ((length left.now.params ≡ length right.now.params) × Includes mode left.now.effect right.now.effect)) }
-    ensures some { IfOk result (λ o. IfSome o (λ c. CauseOf mode (signature left.now) (signature right.now) c)) }
+fn method_fault(left: &Method, right: &Method, order: &Order) -> Result<Option<Cause>, Memory>
+    requires core { IsInRange (program_of order.now.core.now) }
+    ensures none { IfOk result (λ o. IfNone o ((length left.now.params ≡ length right.now.params) × Allows (program_of order.now.core.now) order.now.scope order.now.mode left.now.effect right.now.effect)) }
+    ensures some { IfOk result (λ o. IfSome o (λ c. CauseOf (program_of order.now.core.now) order.now.scope order.now.mode (signature left.now) (signature right.now) c)) }
 {
     if left.params.len() != right.params.len() {
         return Ok(Some(Cause::Arity(right.name.copy()?)));
     }
-    match effect_fault(&left.effect, &right.effect, mode)? {
+    match effect_fault(&left.effect, &right.effect, order)? {
         Some(atom) => Ok(Some(Cause::Effect {
             method: right.name.copy()?,
             atom,
@@ -156,17 +168,18 @@ fn meet(
     into: &mut PairList,
     lefts: &[Method],
     right: &Method,
-    mode: Mode,
+    order: &Order,
 ) -> Result<Option<Cause>, Memory>
+    requires core { IsInRange (program_of order.now.core.now) }
     requires few { length right.now.params ≤ 16 }
-    ensures met { IfOk result (λ o. IfNone o (IsMet mode (find_method right.now.name (map signature lefts.now)) (signature right.now))) }
+    ensures met { IfOk result (λ o. IfNone o (IsMet (program_of order.now.core.now) order.now.scope order.now.mode (find_method right.now.name (map signature lefts.now)) (signature right.now))) }
     ensures added { IfOk result (λ o. IfNone o (into.new ≡ into.old ++ found_pairs (find_method right.now.name (map signature lefts.now)) (signature right.now))) }
-    ensures fault { IfOk result (λ o. IfSome o (λ c. FaultOf mode (find_method right.now.name (map signature lefts.now)) (signature right.now) c)) }
+    ensures fault { IfOk result (λ o. IfSome o (λ c. FaultOf (program_of order.now.core.now) order.now.scope order.now.mode (find_method right.now.name (map signature lefts.now)) (signature right.now) c)) }
 {
     match find(lefts, &right.name) {
         None => Ok(Some(Cause::MissingMethod(right.name.copy()?))),
         Some(left) => {
-            if let Some(cause) = method_fault(left, right, mode)? {
+            if let Some(cause) = method_fault(left, right, order)? {
                 return Ok(Some(cause));
             }
             add_pairs(alloc, into, left, right)?;
@@ -180,14 +193,15 @@ fn meet_all(
     alloc: Global,
     lefts: &[Method],
     rights: &[Method],
-    mode: Mode,
+    order: &Order,
 ) -> Result<Unfolding, Memory>
+    requires core { IsInRange (program_of order.now.core.now) }
     requires few { (m : Method) → In m rights.now → length m.params ≤ 16 }
-    ensures { IfOk result (λ u. AreMet mode (map signature lefts.now) (map signature rights.now) u) }
+    ensures { IfOk result (λ u. AreMet (program_of order.now.core.now) order.now.scope order.now.mode (map signature lefts.now) (map signature rights.now) u) }
 {
     let mut asked = Items::new(alloc);
     for right in rights {
-        if let Some(cause) = meet(alloc, &mut asked, lefts, right, mode)? {
+        if let Some(cause) = meet(alloc, &mut asked, lefts, right, order)? {
             return Ok(Unfolding::Fails(cause));
         }
     }
@@ -217,7 +231,8 @@ pub(crate) fn test_pair(
     }
     let lefts = methods(alloc, core, scope, left)?;
     let rights = methods(alloc, core, scope, right)?;
-    meet_all(alloc, lefts.as_slice(), rights.as_slice(), mode)
+    let order = Order { core, scope, mode };
+    meet_all(alloc, lefts.as_slice(), rights.as_slice(), &order)
 }
 
 /// The test of one pair by itself, in a mode: the cause by which it fails, or the pairs that it

@@ -11,7 +11,7 @@ pub returns-in-None : goal.returns-in-None
 returns-in-None c =
     let program = program_of c.args.core.now in
     let F : List Entry → _ = λ l. lack_of_entries program c.args.scope c.args.positive c.args.e.now 0 l None in
-    none_lacking program c.args.scope c.args.positive c.args.e.now c.args.t.now c.in_ok-matrix.matrix.table c.in_ok-matrix.ensures.whole c.is_set.ensures
+    none_lacking program c.args.scope c.args.positive c.args.e.now c.in_ok-matrix.ensures.down c.args.t.now c.in_ok-matrix.matrix.table c.in_ok-matrix.ensures.whole c.is_set.ensures
     (sym c.in-None.is ∙ c.in_ok-least_lack.ensures ∙ ap F c.entries.ensures)
 
 pub path_to-requires-clause-within : goal.path_to-requires-clause-within
@@ -19,7 +19,7 @@ path_to-requires-clause-within c =
     let program = program_of c.args.core.now in
     let F : List Entry → _ = λ l. lack_of_entries program c.args.scope c.args.positive c.args.e.now 0 l None in
     let W : List Entry → Type 0 = λ l. c.in-Some.lack.at < length l in
-    subst W (sym c.entries-in-Some.ensures) (lack_within program c.args.scope c.args.positive c.args.e.now c.args.t.now c.in_ok-matrix.matrix.table c.in_ok-matrix.ensures.whole c.in-Some.lack c.is_set.ensures
+    subst W (sym c.entries-in-Some.ensures) (lack_within program c.args.scope c.args.positive c.args.e.now c.in_ok-matrix.ensures.down c.args.t.now c.in_ok-matrix.matrix.table c.in_ok-matrix.ensures.whole c.in-Some.lack c.is_set.ensures
     (sym c.in-Some.is ∙ c.in_ok-least_lack.ensures ∙ ap F c.entries.ensures))
 
 pub path_to-requires-clause-back : goal.path_to-requires-clause-back
@@ -33,7 +33,7 @@ returns c =
     let F : List Entry → _ = λ l. lack_of_entries program c.args.scope c.args.positive c.args.e.now 0 l None in
     let steps = c.in_ok-path-in-Some.ensures.0 in
     let P : List Entry → Type 0 = λ l. Traces l c.in-Some.lack.at steps in
-    some_lacking program c.args.scope c.args.positive c.args.e.now c.args.t.now c.in_ok-matrix.matrix.table c.in_ok-matrix.ensures.whole c.in-Some.lack c.is_set.ensures
+    some_lacking program c.args.scope c.args.positive c.args.e.now c.in_ok-matrix.ensures.down c.args.t.now c.in_ok-matrix.matrix.table c.in_ok-matrix.ensures.whole c.in-Some.lack c.is_set.ensures
     (sym c.in-Some.is ∙ c.in_ok-least_lack.ensures ∙ ap F c.entries.ensures)
     steps c.in_ok-path-in-Some.path (subst P c.entries-in-Some.ensures c.in_ok-path-in-Some.ensures.1) c.in_ok-path-in-Some.ensures.2
 

@@ -8,6 +8,7 @@ use Rattle.wy_subtype.proofs.unfolding.test_pair.Goals as goal
 
 pub meet_all-requires : goal.meet_all-requires
 meet_all-requires c = record {
+  core = c.requires.core;
   few = few_parameters (program_of c.args.core.now) c.requires.core c.args.scope c.args.right.now c.as_slice-2.result.now (ap (map signature) c.as_slice-2.ensures.value ∙ c.in_ok-rights.ensures);
 }
 
