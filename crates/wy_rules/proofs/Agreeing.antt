@@ -1,14 +1,17 @@
 -- Subtyping over tables of methods, and the tables of a scope before and after a replacement.
 use Rattle.std.proofs.Common.{◌≡◌, ℕ, List, [], ◌∷◌, map, ◌⊎◌, inl, inr, refl, sym, ap, ◌∙◌, subst, Option, Bool as Truth, true, false}
 use Rattle.std.specs.Prelude.{slice_get}
-use Rattle.wy_effects.specs.Members.{In, Within}
+use Rattle.wy_effects.specs.Members.{In}
 use Rattle.wy_effects.specs.EffSet.{AreSets, replace}
+use Rattle.wy_effects.specs.Bounds.{IsWithin, IsUnder, by_member}
 use Rattle.wy_effects.proofs.Lists.{In-map, In-unmap}
-use Rattle.wy_effects.proofs.Replacing.{Within-replace, replace-replace}
+use Rattle.wy_effects.proofs.Replacing.{replace-replace}
+use Rattle.wy_effects.proofs.Ordering.{onward_within, replaced_within}
 use Rattle.wy_types.specs.declared.types.TypeRef.{TypeRef}
 use Rattle.wy_types.specs.declared.types.TypeRef.TheVariants.{Int, Bool, Text, Unit as Nothing, Named, At, Own}
 use Rattle.wy_types.specs.Signature.{Signature, mapped_signature}
 use Rattle.wy_types.specs.Types.{IsObject, substituted, annotated, erased, declared_methods, named_methods, scope_is_plain}
+use Rattle.wy_types.specs.Bounds.{bounds_of}
 use Rattle.wy_types.specs.Subtyping.{ParamsIn, HasCover, IsClosed, IsSubtype, AnyEffect, IsAnnotatedSubtype}
 use Rattle.wy_types.proofs.Annotating.{annotation, dual_annotation, annotated-erased}
 use Rattle.wy_types.proofs.Closing.{subtype_read}
@@ -61,11 +64,11 @@ reflexive_over Includes same methods ts c t i =
     }
 
 pub reflexive_over_tables : ReflexiveOverTables
-reflexive_over_tables methods ts c t i = (reflexive_over Within (λ e a j. j) methods ts c t i, reflexive_over AnyEffect (λ e. tt) methods ts c t i)
+reflexive_over_tables bounds methods ts c t i = (reflexive_over (IsWithin bounds) (λ e a j. by_member a j) methods ts c t i, reflexive_over AnyEffect (λ e. tt) methods ts c t i)
 
 pub transitive_over_tables : TransitiveOverTables
-transitive_over_tables methods a b c = (
-  transitive TypeRef decide_type methods IsObject Within (λ e f g v w x i. w x (v x i)) a b c,
+transitive_over_tables bounds methods a b c = (
+  transitive TypeRef decide_type methods IsObject (IsWithin bounds) (onward_within bounds) a b c,
   transitive TypeRef decide_type methods IsObject AnyEffect (λ e f g v w. tt) a b c,
 )
 
@@ -88,8 +91,8 @@ substituted-object by (At d e) o = tt
 substituted-object by (Own l) o = tt
 
 pub kept_under_replacement : KeptUnderReplacement
-kept_under_replacement by methods methods' agree s t = (
-  subtype_read TypeRef TypeRef methods methods' IsObject IsObject Within Within (substituted by) (replace by) agree (object-substituted by) (substituted-object by) (Within-replace by) s t,
+kept_under_replacement bounds bounds' by r methods methods' agree s t = (
+  subtype_read TypeRef TypeRef methods methods' IsObject IsObject (IsWithin bounds) (IsWithin bounds') (substituted by) (replace by) agree (object-substituted by) (substituted-object by) (replaced_within bounds bounds' by r) s t,
   subtype_read TypeRef TypeRef methods methods' IsObject IsObject AnyEffect AnyEffect (substituted by) (replace by) agree (object-substituted by) (substituted-object by) (λ e f h. tt) s t,
 )
 
@@ -161,11 +164,11 @@ replaced_tables_agree p scope by s (Own l) = refl
 pub annotation_of_erasure : Annotation
 annotation_of_erasure p w scope e t f =
     let P : TypeRef → Type 0 = λ v. IsAnnotatedSubtype p scope t v in
-    let r = annotation p w scope e t f in
+    let r = annotation (IsUnder (bounds_of p scope)) p w scope e t f in
     (λ h. subst P (sym (annotated-erased e t)) (r.0 h), λ h. r.1 (subst P (annotated-erased e t) h))
 
 pub dual_of_erasure : DualAnnotation
 dual_of_erasure p w scope e t f =
     let P : TypeRef → Type 0 = λ v. IsAnnotatedSubtype p scope v t in
-    let r = dual_annotation p w scope e t f in
+    let r = dual_annotation (IsUnder (bounds_of p scope)) p w scope e t f in
     (λ h. subst P (sym (annotated-erased e t)) (r.0 h), λ h. r.1 (subst P (annotated-erased e t) h))

@@ -2,7 +2,8 @@
 -- it over the other.
 use Rattle.std.proofs.Common.{◌≡◌, ℕ, zero, suc, ◌+◌, ◌-◌, ◌≤◌, ◌⊎◌, List, [], ◌∷◌, inl, inr, refl, sym, ◌∙◌, ap, subst, Option, Some, None, map, take, length, Bool as Truth, true, false, le_antisymm, arith}
 use Rattle.std.proofs.lemmas.Bool.{cases_lt}
-use Rattle.wy_effects.specs.Members.{In, Within}
+use Rattle.wy_effects.specs.Bounds.{GoDown, IsLeastMissing}
+use Rattle.wy_effects.proofs.Ordering.{one_missing}
 use Rattle.wy_types.specs.declared.types.TypeRef.{TypeRef}
 use Rattle.wy_types.specs.declared.types.TypeRef.TheVariants.{Bool}
 use Rattle.wy_types.specs.declared.code.Binding.{Binding}
@@ -11,11 +12,12 @@ use Rattle.wy_types.specs.Program.{Program, Scope}
 use Rattle.wy_types.specs.Signature.{Signature, find_method}
 use Rattle.wy_types.specs.Subtyping.{ParamsIn}
 use Rattle.wy_types.specs.Core.{value_count}
+use Rattle.wy_types.specs.Bounds.{bounds_of}
 use Rattle.wy_rules.specs.Readings.{Reading, IsBelow}
 use Rattle.wy_rules.specs.Operators.{Operation, operation_of}
 use Rattle.wy_rules.specs.Derivations.{Derivations, none as no_derivations, more as one_more}
 use Rattle.wy_rules.specs.Typing.{field_types, DerivesAll, HasAt, BlockHas, BlockHasAt, AllHave, AllHaveAt}
-use Rattle.wy_rules.specs.Failing.{FirstFalse, IsLeastMissing, IsLeast, IsTarget, HasMethod, HasNumber, HasArguments, CallFails, IfFails, IsVar, IsFieldValue, SetFails, first_values, OperandsHave, OperationFails, ExprFails, ValFails, BodyStands, BodyFails, InitStands, InitFails}
+use Rattle.wy_rules.specs.Failing.{FirstFalse, IsLeast, IsTarget, HasMethod, HasNumber, HasArguments, CallFails, IfFails, IsVar, IsFieldValue, SetFails, first_values, OperandsHave, OperationFails, ExprFails, ValFails, BodyStands, BodyFails, InitStands, InitFails}
 use Rattle.wy_rules.specs.Acceptance.{reading_of}
 use Rattle.wy_rules.proofs.Forms.{Lawful, Above}
 use Rattle.wy_rules.proofs.Least.{raise, raise_block, all_raised}
@@ -32,17 +34,15 @@ first_same k A B C D m n f g h (inr a) (inr b) = h a.0 b.0 a.1 b.1
 pub only_same : (A B : Type 0) (m n : ℕ) → (A → B) → (B → A) → FirstFalse 1 A ⊥ m → FirstFalse 1 B ⊥ n → m ≡ n
 only_same A B m n f g a b = first_same 1 A B ⊥ ⊥ m n f g (λ x y c d. absurd c) a b
 
--- of two effects with the same atoms the least missing ones are one
-pub missing_same : (a b : ℕ) (e f g : List ℕ) → ((c : ℕ) → In c e → In c f) → ((c : ℕ) → In c f → In c e) → IsLeastMissing a e g → IsLeastMissing b f g → a ≡ b
-missing_same a b e f g there back h k = le_antisymm (h.2 b (back b k.0) k.1) (k.2 a (there a h.0) h.1)
-
--- inclusion of effects tells them apart by their atoms, or it tells none apart
+-- of two effects that may each stand for the other the least missing atoms are one, or each effect may stand for each
 abbrev pub Tells : Reading → Type 0
-Tells y = ((e f : List ℕ) → y.Includes e f → Within e f) ⊎ ((e f : List ℕ) → y.Includes e f)
+Tells y =
+    ((e f g : List ℕ) (a b : ℕ) → y.Allows e f → y.Allows f e → IsLeastMissing y.Under a e g → IsLeastMissing y.Under b f g → a ≡ b) ⊎
+    ((e f : List ℕ) → y.Allows e f)
 
-pub reading_tells : (p : Program) (k : ℕ) (plain : Truth) → Tells (reading_of p k plain)
-reading_tells p k true = inr (λ e f. tt)
-reading_tells p k false = inl (λ e f i. i)
+pub reading_tells : (p : Program) (k : ℕ) → GoDown (bounds_of p k) → (plain : Truth) → Tells (reading_of p k plain)
+reading_tells p k down true = inr (λ e f. tt)
+reading_tells p k down false = inl (one_missing (bounds_of p k) down)
 
 -- as many parameters
 pub as_many : {K : Type 0} (ps : List (K × K)) (xs ys : List K) → ParamsIn ps xs ys → length xs ≡ length ys
@@ -237,16 +237,16 @@ module _ (y : Reading) (w : Lawful y) (s : Scope) (owner : Option ℕ) where
 
   -- something in the second place with no larger effect, for what is in the first
   abbrev pub Shrinks : (List ℕ → Type 0) → (List ℕ → Type 0) → Type 0
-  Shrinks P Q = (f : List ℕ) → P f → (g : List ℕ) × Q g × y.Includes g f
+  Shrinks P Q = (f : List ℕ) → P f → (g : List ℕ) × Q g × y.Allows g f
 
-  -- the atom that a declared effect lacks is one, where inclusion tells effects apart; else no effect lacks one
-  lacks_same : Tells y → (P Q : List ℕ → Type 0) → Shrinks P Q → Shrinks Q P → (e f g : List ℕ) (a b : ℕ) → ((h : List ℕ) → P h → y.Includes h (y.effect e) → ⊥) →
-      P f → ((h : List ℕ) → P h → y.Includes f h) → Q g → ((h : List ℕ) → Q h → y.Includes g h) → IsLeastMissing a f (y.effect e) → IsLeastMissing b g (y.effect e) → a ≡ b
+  -- the atom that a declared effect lacks is one, where effects are told apart; else no effect lacks one
+  lacks_same : Tells y → (P Q : List ℕ → Type 0) → Shrinks P Q → Shrinks Q P → (e f g : List ℕ) (a b : ℕ) → ((h : List ℕ) → P h → y.Allows h (y.effect e) → ⊥) →
+      P f → ((h : List ℕ) → P h → y.Allows f h) → Q g → ((h : List ℕ) → Q h → y.Allows g h) → IsLeastMissing y.Under a f (y.effect e) → IsLeastMissing y.Under b g (y.effect e) → a ≡ b
   lacks_same (inr any) P Q there back e f g a b n h l k m i j = absurd (n f h (any f (y.effect e)))
-  lacks_same (inl within) P Q there back e f g a b n h l k m i j =
+  lacks_same (inl tells) P Q there back e f g a b n h l k m i j =
       let r = there f h in
       let q = back g k in
-      missing_same a b f g (y.effect e) (λ c v. within q.0 g q.2 c (within f q.0 (l q.0 q.1) c v)) (λ c v. within r.0 f r.2 c (within g r.0 (m r.0 r.1) c v)) i j
+      tells f g (y.effect e) a b (w.onward f q.0 g (l q.0 q.1) q.2) (w.onward g r.0 f (m r.0 r.1) r.2) i j
 
   not_false : (A : Type 0) (m : ℕ) → FirstFalse 1 A ⊥ m → A → ⊥
   not_false A m (inl h) a = h.0 a

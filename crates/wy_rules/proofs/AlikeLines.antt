@@ -6,9 +6,12 @@ use Rattle.wy_types.specs.declared.resolved.OwnName.{OwnName}
 use Rattle.wy_types.specs.declared.resolved.Origin.{Origin}
 use Rattle.wy_types.specs.declared.resolved.Origin.TheVariants.{Parameter, Grant, Use, Instance, Import}
 use Rattle.wy_types.specs.Program.{Program, Scope}
-use Rattle.wy_rules.specs.Acceptance.{scope_reading, Handed, EffectsBounded, IsHigherOrderSafe}
+use Rattle.wy_types.specs.Bounds.{bounds_of}
+use Rattle.wy_types.specs.Ground.{argument_sets}
+use Rattle.wy_rules.specs.Acceptance.{scope_reading, Handed, opened_members, RespectsBounds, EffectsBounded, IsHigherOrderSafe}
 use Rattle.wy_rules.specs.Nodes.{nothing, use_line, instance_line, import_line, bound_line, node, line_nodes, lines_nodes}
-use Rattle.wy_rules.specs.Failing.{FirstFalse, FirstOf, LacksInBound, LacksInMethod, Arguments, InstanceFails, ImportMisfits, BoundFails}
+use Rattle.wy_rules.specs.Failing.{FirstFalse, FirstOf, LacksInBound, LacksInMethod, Arguments, LacksInMember, InstanceMisfits, InstanceFits, InstanceFails, ImportMisfits, BoundFails}
+use Rattle.wy_rules.proofs.Outside.{outside_same}
 use Rattle.wy_rules.proofs.AlikeFails.{first_same}
 use Rattle.wy_rules.proofs.Alike.{Alike, append, alone, node_alike, nothing_alike}
 
@@ -40,11 +43,31 @@ module _ (p : Program) (k : ℕ) (outer : List OwnName) where
   one_in_method bound h (Some a) None f g = absurd g
   one_in_method bound h (Some a) (Some b) f g = ap (λ v. Some v) (le_antisymm (f.1 b g.0) (g.1 a f.0))
 
+  one_in_member : (h : Handed) (a b : Option ℕ) → LacksInMember p k outer h a → LacksInMember p k outer h b → a ≡ b
+  one_in_member h a b f g =
+      outside_same (opened_members p h.parameter h.parameter.origin) (bounds_of p k) (argument_sets p outer h.parameter.origin h.parameter h.argument) a b f g
+
+  pub misfits_not : (m : ℕ) (arguments : List ℕ) (n : ℕ) → InstanceFits p k outer m arguments → InstanceMisfits p k outer m arguments n → ⊥
+  misfits_not m arguments n fits f = elim f [
+    | inl one ↦ one.0 fits.resource
+    | inr f2 ↦ elim f2.1 [
+      | inl two ↦ two.0 fits.numbers
+      | inr f3 ↦ elim f3.1 [
+        | inl three ↦ three.0 fits.members
+        | inr f4 ↦ elim f4.1 [ inl four ↦ four.0 fits.types | inr none ↦ none.1 ]
+      ]
+    ]
+  ]
+
   instance_same : (m : ℕ) (arguments : List ℕ) (i j : ℕ) (a b : Option ℕ) → InstanceFails p k outer m arguments i a → InstanceFails p k outer m arguments j b → (i ≡ j) × (a ≡ b)
-  instance_same m arguments i j a b f g = (
-    still_same 1 _ _ _ i j (still_same 2 _ _ _ i j (still_same 3 _ _ _ i j (still_same 4 _ ⊥ ⊥ i j (λ v z. absurd v)))) f.1 g.1,
-    f.0 ∙ sym g.0,
+  instance_same m arguments i j a b (inl f) (inl g) = (
+    still_same 1 _ _ _ i j (still_same 2 _ _ _ i j (still_same 3 _ _ _ i j (still_same 4 _ ⊥ ⊥ i j (λ v z. absurd v)))) f.0 g.0,
+    f.1 ∙ sym g.1,
   )
+  instance_same m arguments i j a b (inl f) (inr g) = absurd (misfits_not m arguments i g.0 f.0)
+  instance_same m arguments i j a b (inr f) (inl g) = absurd (misfits_not m arguments j f.0 g.0)
+  instance_same m arguments i j a b (inr f) (inr g) =
+      (f.1 ∙ sym g.1, first_one (RespectsBounds p k outer) (LacksInMember p k outer) (Arguments p k outer m arguments) a b one_in_member f.2 g.2)
 
   import_same : (m : ℕ) (arguments : List ℕ) (i j : ℕ) (a b : Option ℕ) → ImportMisfits p k outer m arguments i a → ImportMisfits p k outer m arguments j b → (i ≡ j) × (a ≡ b)
   import_same m arguments i j a b f g = (still_same 1 _ _ _ i j (still_same 2 _ ⊥ ⊥ i j (λ v z. absurd v)) f.1 g.1, f.0 ∙ sym g.0)

@@ -4,6 +4,7 @@ use Rattle.std.specs.Prelude.{slice_get, if◌then◌else◌}
 use Rattle.wy_text.specs.declared.fault.Place.{Place}
 use Rattle.wy_text.specs.declared.fault.RuleName.TheVariants.{TBody, MPure, MAscribe}
 use Rattle.wy_effects.specs.Members.{In}
+use Rattle.wy_effects.specs.Bounds.{GoDown}
 use Rattle.wy_effects.proofs.Lists.{In-cases}
 use Rattle.wy_types.specs.declared.types.TypeRef.{TypeRef}
 use Rattle.wy_types.specs.declared.types.TypeRef.TheVariants.{Unit as Nothing}
@@ -17,6 +18,7 @@ use Rattle.wy_types.specs.declared.resolved.ScopeKind.TheVariants.{Pure, Resourc
 use Rattle.wy_types.specs.Code.{Values, Block}
 use Rattle.wy_types.specs.Program.{Program, Scope, Body, Start, Init, Run}
 use Rattle.wy_types.specs.Types.{is_plain}
+use Rattle.wy_types.specs.Bounds.{bounds_of}
 use Rattle.wy_types.specs.Core.{ScopeFits, StartFits, BodyFits, ValuesFit, BlockFits, literal_captures, body_parameters, start_vals, block_vals}
 use Rattle.wy_rules.specs.Typing.{BlockHas, AllHave, fields_of, field_types}
 use Rattle.wy_rules.specs.Acceptance.{scope_reading}
@@ -27,6 +29,7 @@ use Rattle.wy_rules.proofs.Narrowing.{Narrower, AllNarrower, ValuesReady, BlockR
 use Rattle.wy_rules.proofs.Passing.{left, right, start_holds}
 use Rattle.wy_rules.proofs.Standing.{reading_lawful, values_ready, block_ready}
 use Rattle.wy_rules.proofs.Holding.{BodiesScoped, bodies_scoped, nothing_seen, start_narrower, seen_narrower}
+use Rattle.wy_rules.proofs.Outside.{seal_same}
 use Rattle.wy_rules.proofs.AlikeFails.{reading_tells, Shrinks, body_same, init_same}
 use Rattle.wy_rules.proofs.Alike.{NodeAlike, Alike, append, alone, node_alike, nothing_alike, written_alike, written_all_alike, Sight, values_alike, block_alike}
 
@@ -45,12 +48,12 @@ module _ (p : Program) (k : ℕ) (s : Scope) (w : Lawful (scope_reading p k s)) 
   body_moves : (owner : Option ℕ) (b : Block) (t : TypeRef) (e : List ℕ) →
       Shrinks (scope_reading p k s) w s owner (BlockHas (scope_reading p k s) s from owner b ((scope_reading p k s).read t)) (BlockHas (scope_reading p k s) s into owner b ((scope_reading p k s).read t)) →
       BodyStands (scope_reading p k s) s from owner b t e → BodyStands (scope_reading p k s) s into owner b t e
-  body_moves owner b t e m h = let r = m h.0 h.1 in (r.0, r.1, w.within r.0 h.0 ((scope_reading p k s).effect e) r.2 h.2)
+  body_moves owner b t e m h = let r = m h.0 h.1 in (r.0, r.1, w.onward r.0 h.0 ((scope_reading p k s).effect e) r.2 h.2)
 
   init_moves : (owner : Option ℕ) (xs : Values) (e : List ℕ) →
       Shrinks (scope_reading p k s) w s owner (AllHave (scope_reading p k s) s from owner xs (map (scope_reading p k s).read (field_types s 0))) (AllHave (scope_reading p k s) s into owner xs (map (scope_reading p k s).read (field_types s 0))) →
       InitStands (scope_reading p k s) s from owner xs e → InitStands (scope_reading p k s) s into owner xs e
-  init_moves owner xs e m h = let r = m h.0 h.1 in (r.0, r.1, w.within r.0 h.0 ((scope_reading p k s).effect e) r.2 h.2)
+  init_moves owner xs e m h = let r = m h.0 h.1 in (r.0, r.1, w.onward r.0 h.0 ((scope_reading p k s).effect e) r.2 h.2)
 
   -- the `val`s of a start, and of a body, that pass over both lists
   passed_start : (st : Start) → StartFits p s st → AllPass p k s from (start_nodes s st) → AllPass p k s into (start_nodes s st) → (n : ℕ) → In n (start_vals st) → Narrower (scope_reading p k s) w p s into from n
@@ -64,7 +67,7 @@ module _ (p : Program) (k : ℕ) (s : Scope) (w : Lawful (scope_reading p k s)) 
       (narrow_block (scope_reading p k s) w p s into from (Some b.owner) b.block seen fit ok (block_ready p k s w into from (Some b.owner) b.block (written b.signature.result) (left p k s into nodes _ h)) ((scope_reading p k s).read b.signature.result)
       stands.0 stands.1).narrower
 
-module _ (p : Program) (k : ℕ) (s : Scope) (w : Lawful (scope_reading p k s)) (one other : List (scope_reading p k s).Kind) where
+module _ (p : Program) (k : ℕ) (s : Scope) (down : GoDown (bounds_of p k)) (w : Lawful (scope_reading p k s)) (one other : List (scope_reading p k s).Kind) where
   ------------------------------------------------------------
   -- What a pure module may not have, and the seal
 
@@ -101,7 +104,7 @@ module _ (p : Program) (k : ℕ) (s : Scope) (w : Lawful (scope_reading p k s)) 
   seal_alike None = tt
   seal_alike (Some d) =
       alone p k s one other _
-      (node_alike p k s one other (node s.place MAscribe None nothing seal) (nothing_alike p k s one other None) (λ o u e h. h) (λ o u e h. h) (λ o u i j a b e z h v. (h.0 ∙ sym v.0, h.1 ∙ sym v.1)))
+      (node_alike p k s one other (node s.place MAscribe None nothing seal) (nothing_alike p k s one other None) (λ o u e h. h) (λ o u e h. h) (λ o u i j a b e z h v. seal_same p k s i j a b h v))
 
   ------------------------------------------------------------
   -- Bodies
@@ -113,7 +116,7 @@ module _ (p : Program) (k : ℕ) (s : Scope) (w : Lawful (scope_reading p k s)) 
       let back = block_shrinks p k s w other one owner b seen fit ok.0 (block_ready p k s w one other owner b (written t) f) ((scope_reading p k s).read t) in
       node_alike p k s one other (node place TBody owner nothing (body b t e)) (nothing_alike p k s one other owner)
       (λ o u v h. body_moves p k s w one other owner b t e there h) (λ o u v h. body_moves p k s w other one owner b t e back h)
-      (λ o u m n i j v z h l. body_same (scope_reading p k s) w s owner one other (reading_tells p k (is_plain s.kind)) b t e m n i j there back z h l)
+      (λ o u m n i j v z h l. body_same (scope_reading p k s) w s owner one other (reading_tells p k down (is_plain s.kind)) b t e m n i j there back z h l)
 
   init_alike : (xs : Values) → ValuesFit p s None [] xs → AllPass p k s one (values_nodes s None (written_spots (field_types s 0)) xs) → AllPass p k s other (values_nodes s None (written_spots (field_types s 0)) xs) →
       NodeAlike p k s one other (node s.start_place TBody None nothing (init xs s.start_effect))
@@ -124,7 +127,7 @@ module _ (p : Program) (k : ℕ) (s : Scope) (w : Lawful (scope_reading p k s)) 
       let back = values_shrink p k s w other one None xs [] fit (nothing_seen p k s w one other) (values_ready p k s w one other None xs spots f) ts in
       node_alike p k s one other (node s.start_place TBody None nothing (init xs s.start_effect)) (nothing_alike p k s one other None)
       (λ o u v h. init_moves p k s w one other None xs s.start_effect there h) (λ o u v h. init_moves p k s w other one None xs s.start_effect back h)
-      (λ o u m n i j v z h l. init_same (scope_reading p k s) w s None one other (reading_tells p k (is_plain s.kind)) xs s.start_effect m n i j there back z h l)
+      (λ o u m n i j v z h l. init_same (scope_reading p k s) w s None one other (reading_tells p k down (is_plain s.kind)) xs s.start_effect m n i j there back z h l)
 
   start_alike : (st : Start) → StartFits p s st → Alike p k s one other (start_nodes s st)
   start_alike (Init values) fit =
@@ -163,5 +166,5 @@ module _ (p : Program) (k : ℕ) (s : Scope) (w : Lawful (scope_reading p k s)) 
       (bodies_alike s.bodies (start_vals s.start) 0 scoped (passed_start p k s w other one s.start fits.starts.1 d c) (passed_start p k s w one other s.start fits.starts.1 c d))
       (λ e f. seal_alike s.ascribed)))
 
-pub scope_alike : (p : Program) (k : ℕ) (s : Scope) (one other : List (scope_reading p k s).Kind) → ScopeFits p s → Alike p k s one other (scope_nodes s)
-scope_alike p k s one other fits = nodes_alike p k s (reading_lawful p k (is_plain s.kind)) one other fits
+pub scope_alike : (p : Program) (k : ℕ) (s : Scope) (one other : List (scope_reading p k s).Kind) → GoDown (bounds_of p k) → ScopeFits p s → Alike p k s one other (scope_nodes s)
+scope_alike p k s one other down fits = nodes_alike p k s down (reading_lawful p k (is_plain s.kind)) one other fits

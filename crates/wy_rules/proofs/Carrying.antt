@@ -28,6 +28,7 @@ pub record ReadsOn (y z : Reading) : Type 0 where
   pub object : (t : y.Kind) → y.IsObject t → z.IsObject (kind t)
   pub object_before : (t : y.Kind) → z.IsObject (kind t) → y.IsObject t
   pub includes : (e f : List ℕ) → y.Includes e f → z.Includes (effect e) (effect f)
+  pub allows : (e f : List ℕ) → y.Allows e f → z.Allows (effect e) (effect f)
   pub nothing : (e : List ℕ) → z.Includes [] e
   pub unions : (e f : List ℕ) → z.Includes (union (effect e) (effect f)) (effect (union e f))
   pub declared : (e : List ℕ) → z.Includes (effect (y.effect e)) (z.effect e)
@@ -35,7 +36,7 @@ pub record ReadsOn (y z : Reading) : Type 0 where
 
 module _ (y z : Reading) (r : ReadsOn y z) where
   below : (t u : y.Kind) → IsBelow y t u → IsBelow z (r.kind t) (r.kind u)
-  below t u b = subtype_read y.Kind z.Kind y.methods z.methods y.IsObject z.IsObject y.Includes z.Includes r.kind r.effect r.methods r.object r.object_before r.includes t u b
+  below t u b = subtype_read y.Kind z.Kind y.methods z.methods y.IsObject z.IsObject y.Allows z.Allows r.kind r.effect r.methods r.object r.object_before r.allows t u b
 
   found : (name : List ℕ) (t : y.Kind) (m : Signature y.Kind) → find_method name (y.methods t) ≡ Some m → find_method name (z.methods (r.kind t)) ≡ Some (mapped_signature r.kind r.effect m)
   found name t m e = ap (find_method name) (r.methods t) ∙ find-mapped r.kind r.effect name (y.methods t) m e
@@ -218,9 +219,9 @@ module _ (y z : Reading) (r : ReadsOn y z) where
   -- Scopes
 
   module _ (s : Scope) (locals : List y.Kind) where
-    within_declared : (e f g : List ℕ) → z.Includes e (r.effect f) → y.Includes f (y.effect g) → z.Includes e (z.effect g)
+    within_declared : (e f g : List ℕ) → z.Includes e (r.effect f) → y.Allows f (y.effect g) → z.Allows e (z.effect g)
     within_declared e f g v w =
-        r.lawful.within e (r.effect (y.effect g)) (z.effect g) (r.lawful.within e (r.effect f) (r.effect (y.effect g)) v (r.includes f (y.effect g) w)) (r.declared g)
+        r.lawful.onward e (r.effect (y.effect g)) (z.effect g) (r.lawful.onward e (r.effect f) (r.effect (y.effect g)) (r.lawful.allows e (r.effect f) v) (r.allows f (y.effect g) w)) (r.lawful.allows (r.effect (y.effect g)) (z.effect g) (r.declared g))
 
     start_carried : (d : BodyDerivation y.Kind) (st : Start) → DerivesStart y s locals d st → (c : BodyDerivation z.Kind) × DerivesStart z s (map r.kind locals) c st
     start_carried (T-Body-Init p ds) (Init values) h =

@@ -4,7 +4,9 @@ use Rattle.std.specs.Prelude.{bytes_eq}
 use Rattle.std.proofs.lemmas.Slice.Eq.{bytes_eq-Decides}
 use Rattle.wy_effects.specs.Members.{In, Within}
 use Rattle.wy_effects.specs.EffSet.{has}
+use Rattle.wy_effects.specs.Bounds.{Bounds, IsWithin}
 use Rattle.wy_effects.proofs.SetLaws.{In-has}
+use Rattle.wy_effects.proofs.Ordering.{same_within}
 use Rattle.wy_types.specs.declared.types.TypeRef.{TypeRef}
 use Rattle.wy_types.specs.declared.types.TypeRef.TheVariants.{Int, Bool, Text, Unit as Nothing, Named, At, Own}
 use Rattle.wy_types.specs.Keys.{type_key}
@@ -157,9 +159,10 @@ module _ (methods : TypeRef → List (Signature TypeRef)) (Includes : List ℕ �
   pub subtype_of : (ps : List Pair) (s t : TypeRef) → has_pair ps s t ≡ true → all_closed ps ps ≡ true → IsSubtype TypeRef methods IsObject Includes s t
   subtype_of ps s t h c = record { pairs = ps; first = has_pair_is ps s t h; closed = all_closed_is ps ps c }
 
--- annotated and plain subtyping over a table, by a list of pairs
-pub annotated_subtype : (methods : TypeRef → List (Signature TypeRef)) (ps : List Pair) (s t : TypeRef) → has_pair ps s t ≡ true → all_closed methods Within within within_is ps ps ≡ true → IsSubtype TypeRef methods IsObject Within s t
-annotated_subtype methods ps s t h c = subtype_of methods Within within within_is ps s t h c
+-- annotated and plain subtyping over a table, by a list of pairs; over any bounds, since no atom's bound is looked at
+pub annotated_subtype : {bounds : Bounds} (methods : TypeRef → List (Signature TypeRef)) (ps : List Pair) (s t : TypeRef) → has_pair ps s t ≡ true →
+    all_closed methods (IsWithin bounds) within (λ e f h. same_within bounds e f (within_is e f h)) ps ps ≡ true → IsSubtype TypeRef methods IsObject (IsWithin bounds) s t
+annotated_subtype {bounds} methods ps s t h c = subtype_of methods (IsWithin bounds) within (λ e f h. same_within bounds e f (within_is e f h)) ps s t h c
 
 pub plain_subtype : (methods : TypeRef → List (Signature TypeRef)) (ps : List Pair) (s t : TypeRef) → has_pair ps s t ≡ true → all_closed methods AnyEffect any_effect (λ e f h. tt) ps ps ≡ true → IsSubtype TypeRef methods IsObject AnyEffect s t
 plain_subtype methods ps s t h c = subtype_of methods AnyEffect any_effect (λ e f h. tt) ps s t h c

@@ -48,9 +48,9 @@ bodies_in [] b t i j = absurd i
 bodies_in (a ∷ bs) b t (inl e) j = In-left t (block_types a.block) (body_types bs) (subst (λ (v : Body). In t (block_types v.block)) (sym e) j)
 bodies_in (a ∷ bs) b t (inr i) j = In-right t (block_types a.block) (body_types bs) (bodies_in bs b t i j)
 
-module _ (p : Program) (k : ℕ) (s : Scope) (at : slice_get p.scopes k ≡ Some s) (fits : ScopeFits p s) (Includes : List ℕ → List ℕ → Type 0) where
+module _ (p : Program) (k : ℕ) (s : Scope) (at : slice_get p.scopes k ≡ Some s) (fits : ScopeFits p s) (Includes Allows : List ℕ → List ℕ → Type 0) (Under : List ℕ → ℕ → Type 0) where
   abbrev over : Reading
-  over = record { Kind = TypeRef; read = λ t. t; effect = λ e. e; methods = methods_of p k; IsObject = IsObject; Includes = Includes }
+  over = record { Kind = TypeRef; read = λ t. t; effect = λ e. e; methods = methods_of p k; IsObject = IsObject; Includes = Includes; Allows = Allows; Under = Under }
 
   abbrev of_names : List TypeRef
   of_names = map (λ (n : OwnName). n.typ) s.names
@@ -111,8 +111,8 @@ module _ (p : Program) (k : ℕ) (s : Scope) (at : slice_get p.scopes k ≡ Some
   counted t (of_result u h m i) = inr (counted_part u (counted u h) m i Result m.result refl)
 
 counted_in : (p : Program) (k : ℕ) (s : Scope) → slice_get p.scopes k ≡ Some s → ScopeFits p s → (plain : Truth) → EachReached (IsBaseOrCounted p k) p k s plain
-counted_in p k s at fits true = λ t h. counted p k s at fits _ t h
-counted_in p k s at fits false = λ t h. counted p k s at fits _ t h
+counted_in p k s at fits true = λ t h. counted p k s at fits _ _ _ t h
+counted_in p k s at fits false = λ t h. counted p k s at fits _ _ _ t h
 
 pub reached_types_are_counted : ReachedTypesAreCounted
 reached_types_are_counted p k s at fits = counted_in p k s at fits (is_plain s.kind)

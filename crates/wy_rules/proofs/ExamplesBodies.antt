@@ -18,6 +18,8 @@ use Rattle.wy_text.specs.declared.fault.Fault.{Fault}
 use Rattle.wy_text.specs.declared.fault.RuleName.TheVariants.{TBody}
 use Rattle.wy_effects.specs.AtomTable.{atom_name}
 use Rattle.wy_effects.specs.Members.{In}
+use Rattle.wy_effects.specs.Bounds.{by_member}
+use Rattle.wy_effects.proofs.Ordering.{none_bounded}
 use Rattle.wy_types.specs.declared.types.TypeRef.{TypeRef}
 use Rattle.wy_types.specs.declared.types.TypeRef.TheVariants.{Bool, Text, Unit as Nothing, Named}
 use Rattle.wy_types.specs.declared.resolved.TypeDecl.{TypeDecl}
@@ -75,15 +77,15 @@ logger_refused = record {
   locals = [];
   first =
       inr (
-        record { expected = None; spot = refl; stands = ([], record { derivations = none; derives = tt; effects = refl }, λ a i. i); settles = tt },
+        record { expected = None; spot = refl; stands = ([], record { derivations = none; derives = tt; effects = refl }, λ a i. by_member a i); settles = tt },
         inr (
           record { expected = None; spot = refl; stands = record { typ = Nothing; effect = 2 ∷ []; has = append_least.has }; settles = tt },
           inl (record {
             expected = None;
             atom = Some 2;
             spot = refl;
-            stands_not = body_refused p 0 s [] (Some 0) (last append_call) Nothing [] (2 ∷ []) 2 logger_body (one_missing 2 [] (λ i. i));
-            premise = inr (2 ∷ [], 2, logger_body, one_missing 2 [] (λ i. i), refl, refl);
+            stands_not = body_refused p 0 s [] (Some 0) (last append_call) Nothing [] (2 ∷ []) 2 logger_body (one_missing p 0 (none_bounded 4) 2 [] (λ i. i));
+            premise = inr (2 ∷ [], 2, logger_body, one_missing p 0 (none_bounded 4) 2 [] (λ i. i), refl, refl);
             place = refl;
             rule = refl;
             lacks = refl;
@@ -131,8 +133,8 @@ main_refused = record {
           expected = None;
           atom = Some 4;
           spot = refl;
-          stands_not = body_refused q 1 main [] None (last log_call) Nothing [] (4 ∷ []) 4 main_body (one_missing 4 [] (λ i. i));
-          premise = inr (4 ∷ [], 4, main_body, one_missing 4 [] (λ i. i), refl, refl);
+          stands_not = body_refused q 1 main [] None (last log_call) Nothing [] (4 ∷ []) 4 main_body (one_missing q 1 (none_bounded 5) 4 [] (λ i. i));
+          premise = inr (4 ∷ [], 4, main_body, one_missing q 1 (none_bounded 5) 4 [] (λ i. i), refl, refl);
           place = refl;
           rule = refl;
           lacks = refl;
@@ -186,15 +188,15 @@ two_refused = record {
   locals = [];
   first =
       inr (
-        record { expected = None; spot = refl; stands = ([], record { derivations = none; derives = tt; effects = refl }, λ a i. i); settles = tt },
+        record { expected = None; spot = refl; stands = ([], record { derivations = none; derives = tt; effects = refl }, λ a i. by_member a i); settles = tt },
         inr (
           record { expected = None; spot = refl; stands = record { typ = Nothing; effect = 1 ∷ []; has = f_least.has }; settles = tt },
           inl (record {
             expected = None;
             atom = Some 1;
             spot = refl;
-            stands_not = body_refused r 0 two [] (Some 0) (last f_call) Nothing (0 ∷ []) (1 ∷ []) 1 two_body (one_missing 1 (0 ∷ []) not_p);
-            premise = inr (1 ∷ [], 1, two_body, one_missing 1 (0 ∷ []) not_p, refl, refl);
+            stands_not = body_refused r 0 two [] (Some 0) (last f_call) Nothing (0 ∷ []) (1 ∷ []) 1 two_body (one_missing r 0 (none_bounded 2) 1 (0 ∷ []) not_p);
+            premise = inr (1 ∷ [], 1, two_body, one_missing r 0 (none_bounded 2) 1 (0 ∷ []) not_p, refl, refl);
             place = refl;
             rule = refl;
             lacks = refl;

@@ -24,6 +24,7 @@ use Rattle.wy_text.specs.declared.fault.Fault.{Fault}
 use Rattle.wy_text.specs.declared.fault.RuleName.TheVariants.{IImport}
 use Rattle.wy_effects.specs.AtomTable.{atom_name}
 use Rattle.wy_effects.specs.Members.{In}
+use Rattle.wy_effects.specs.Bounds.{IsUnder}
 use Rattle.wy_types.specs.declared.types.TypeRef.{TypeRef}
 use Rattle.wy_types.specs.declared.types.TypeRef.TheVariants.{Text, Unit as Nothing, Named, At}
 use Rattle.wy_types.specs.declared.path.Part.TheVariants as part
@@ -36,6 +37,8 @@ use Rattle.wy_types.specs.Code as code
 use Rattle.wy_types.specs.Program.{Program, Scope}
 use Rattle.wy_types.specs.Types.{methods_of, signature}
 use Rattle.wy_types.specs.Paths.{Reaches, IsEffect}
+use Rattle.wy_types.specs.Bounds.{bounds_of}
+use Rattle.wy_effects.proofs.Ordering.{none_bounded, unbounded_under}
 use Rattle.wy_rules.specs.Acceptance.{Handed, EffectsBounded, IsHigherOrderSafe}
 use Rattle.wy_rules.specs.Failing.{LacksBelow, IsLineFault}
 use Rattle.wy_rules.proofs.Each.{arguments_hold}
@@ -64,14 +67,13 @@ handler = Named 4 ((4 ∷ []) ∷ [])
 fires : IsEffect TypeRef (methods_of p 2) handler true 4
 fires = (handler, ([], refl, refl), (signature (method (codes "fire") (Text ∷ []) (4 ∷ []) Nothing), inl refl, inl refl))
 
-not_bounded : In {X = ℕ} 4 (2 ∷ []) → ⊥
-not_bounded (inl e) = absurd (cc)
-not_bounded (inr z) = z
+not_bounded : IsUnder (bounds_of p 2) (2 ∷ []) 4 → ⊥
+not_bounded h = elim (unbounded_under (bounds_of p 2) (none_bounded 5) (2 ∷ []) 4 h) [ inl e ↦ absurd (omega (arith, e)) | inr z ↦ z ]
 
 -- its effects are a.Fire alone
 fires_alone : (b : ℕ) → IsEffect TypeRef (methods_of p 2) handler true b → 4 ≤ b
 fires_alone b h =
-    elim (effects_are_within (methods_of p 2) ((handler, true) ∷ (Text, false) ∷ (Nothing, true) ∷ []) handler true (4 ∷ []) refl refl refl b h) [
+    elim (unbounded_under (bounds_of p 2) (none_bounded 5) (4 ∷ []) b (effects_are_within (methods_of p 2) (bounds_of p 2) ((handler, true) ∷ (Text, false) ∷ (Nothing, true) ∷ []) handler true (4 ∷ []) refl refl refl b h)) [
       | inl e ↦ subst (λ v. 4 ≤ v) e (omega arith)
       | inr z ↦ absurd z
     ]
@@ -151,7 +153,7 @@ asks = (
 )
 
 asks_too_little : LacksBelow q 2 main.names bound handed_b 1
-asks_too_little = (inl refl, (given, asks, (signature (method (codes "fire") [] [] Nothing), inl refl, λ i. i)))
+asks_too_little = (inl refl, (given, asks, (signature (method (codes "fire") [] [] Nothing), inl refl, unbounded_under (bounds_of q 2) (none_bounded 5) [] 1)))
 
 -- the bound's least atom is that one
 least_of_bound : (b : ℕ) → In b bound → 1 ≤ b
@@ -160,7 +162,7 @@ least_of_bound b (inr (inl e)) = subst (λ v. 1 ≤ v) e (omega arith)
 least_of_bound b (inr (inr z)) = absurd z
 
 unsafe : IsHigherOrderSafe q 2 main.names bound handed_b → ⊥
-unsafe h = h given asks (signature (method (codes "fire") [] [] Nothing)) (inl refl) 1 (inl refl)
+unsafe h = unbounded_under (bounds_of q 2) (none_bounded 5) [] 1 (h given asks (signature (method (codes "fire") [] [] Nothing)) (inl refl) 1 (inl refl))
 
 -- line 15, column 10: I-Import, premise 2, disk.Write
 callback_refused : IsLineFault q (lacks 15 2 (codes "disk") (codes "Write"))
@@ -174,7 +176,7 @@ callback_refused =
               record {
                 expected = None;
                 spot = refl;
-                stands = record { resource = (button, refl, refl); numbers = refl; members = λ h i. absurd i; types = λ h i. absurd i };
+                stands = record { resource = (button, refl, refl); numbers = refl; members = λ h i. absurd i; types = λ h i. absurd i; bounds = λ h i. absurd i };
                 settles = tt;
               },
               inr (
@@ -186,7 +188,7 @@ callback_refused =
                   stands_not = λ h. unsafe (h.safe handed_b (inl refl));
                   premise = inr (
                     arguments_hold q 2 main.names (EffectsBounded q 2 main.names bound) 1 (1 ∷ [])
-                        (effects_are_within (methods_of q 2) ((asked, true) ∷ (given, false) ∷ (Nothing, true) ∷ (Nothing, false) ∷ []) asked true bound refl refl refl, tt),
+                        (effects_are_within (methods_of q 2) (bounds_of q 2) ((asked, true) ∷ (given, false) ∷ (Nothing, true) ∷ (Nothing, false) ∷ []) asked true bound refl refl refl, tt),
                     inl (refl, inl (unsafe, (asks_too_little, λ b l. least_of_bound b l.0))),
                   );
                   place = refl;

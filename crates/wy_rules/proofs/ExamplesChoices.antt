@@ -4,6 +4,7 @@
 use Rattle.std.proofs.Common.{[], ◌∷◌, refl, inl, inr, Some, None}
 use Rattle.std.specs.Prelude.{codes}
 use Rattle.wy_text.specs.declared.fault.RuleName.TheVariants.{TIf}
+use Rattle.wy_effects.specs.Bounds.{by_member}
 use Rattle.wy_types.specs.declared.types.TypeRef.{TypeRef}
 use Rattle.wy_types.specs.declared.types.TypeRef.TheVariants.{Bool, Unit as Nothing, Named}
 use Rattle.wy_types.specs.Code as code
@@ -66,7 +67,7 @@ pick_refused =
       locals = [];
       first =
           inr (
-            record { expected = None; spot = refl; stands = ([], record { derivations = none; derives = tt; effects = refl }, λ a i. i); settles = tt },
+            record { expected = None; spot = refl; stands = ([], record { derivations = none; derives = tt; effects = refl }, λ a i. by_member a i); settles = tt },
             inl (record {
               expected = Some B;
               atom = None;

@@ -10,6 +10,7 @@
 -- 16      (text_part(t, z, 3) : String)
 use Rattle.std.proofs.Common.{pos, [], ◌∷◌, refl, inl, Some, None}
 use Rattle.std.specs.Prelude.{codes}
+use Rattle.wy_effects.specs.Bounds.{by_member}
 use Rattle.wy_types.specs.declared.types.TypeRef.TheVariants.{Int, Bool, Text, Unit as Nothing, Named, Own}
 use Rattle.wy_types.specs.declared.code.Binding.TheVariants as to
 use Rattle.wy_types.specs.declared.code.UnaryOperator.TheVariants.{Negate}
@@ -63,7 +64,7 @@ forms_derive = record {
         [] ∷ [];
   };
   derives = (
-    (refl, ((Int, refl, refl, refl, refl), ((Int, refl, refl, refl, refl), tt)), λ a i. i),
+    (refl, ((Int, refl, refl, refl, refl), ((Int, refl, refl, refl, refl), tt)), λ a i. by_member a i),
     (
       (
         refl,
@@ -105,7 +106,7 @@ forms_derive = record {
           ),
           refl,
         ),
-        λ a i. i,
+        λ a i. by_member a i,
       ),
       tt,
     ),

@@ -19,10 +19,10 @@ use Rattle.std.specs.Prelude.{codes, slice_get}
 use Rattle.wy_text.specs.declared.fault.Fault.{Fault}
 use Rattle.wy_text.specs.declared.fault.RuleName.{RuleName}
 use Rattle.wy_text.specs.declared.fault.RuleName.TheVariants.{MUse, MInst, MImport, IImport}
+use Rattle.wy_effects.specs.Members.{In}
 use Rattle.wy_types.specs.declared.types.TypeRef.{TypeRef}
 use Rattle.wy_types.specs.declared.types.TypeRef.TheVariants.{Int, Bool, Unit as Nothing, Named, At}
 use Rattle.wy_types.specs.declared.types.Method.{Method}
-use Rattle.wy_effects.specs.Members.{In}
 use Rattle.wy_types.specs.declared.resolved.OwnName.{OwnName}
 use Rattle.wy_types.specs.declared.resolved.ScopeKind.{ScopeKind}
 use Rattle.wy_types.specs.declared.resolved.ScopeKind.TheVariants as kind
@@ -32,6 +32,7 @@ use Rattle.wy_types.specs.Code as code
 use Rattle.wy_types.specs.Program.{Program, Scope}
 use Rattle.wy_types.specs.Types.{methods_of, signature}
 use Rattle.wy_types.specs.Subtyping.{IsAnnotatedSubtype, IsPlainSubtype}
+use Rattle.wy_types.specs.Bounds.{bounds_of}
 use Rattle.wy_rules.specs.Acceptance.{Handed, IsOfKind, HasMembers, EffectsBounded, IsHigherOrderSafe}
 use Rattle.wy_rules.specs.Nodes.{lines_nodes}
 use Rattle.wy_rules.specs.Failing.{FirstFailing, IsLineFault}
@@ -128,7 +129,7 @@ pure_instance_refused =
       atom = None;
       spot = refl;
       stands_not = λ h. wrong h.resource;
-      premise = (refl, inl (wrong, refl));
+      premise = inl (inl (wrong, refl), refl);
       place = refl;
       rule = refl;
       lacks = refl;
@@ -143,7 +144,7 @@ few_arguments_refused =
       atom = None;
       spot = refl;
       stands_not = λ h. none_is_one h.numbers;
-      premise = (refl, inr ((_, refl, refl), inl (none_is_one, refl)));
+      premise = inl (inr ((_, refl, refl), inl (none_is_one, refl)), refl);
       place = refl;
       rule = refl;
       lacks = refl;
@@ -166,7 +167,7 @@ member_refused =
       atom = None;
       spot = refl;
       stands_not = λ h. wrong (h.members handed_l (inl refl));
-      premise = (refl, inr ((_, refl, refl), inr (refl, inl (λ h. wrong (h handed_l (inl refl)), refl))));
+      premise = inl (inr ((_, refl, refl), inr (refl, inl (λ h. wrong (h handed_l (inl refl)), refl))), refl);
       place = refl;
       rule = refl;
       lacks = refl;
@@ -203,8 +204,7 @@ type_refused =
       atom = None;
       spot = refl;
       stands_not = λ h. clock_not_W (h.types handed_w (inl refl));
-      premise = (
-        refl,
+      premise = inl (
         inr (
           (_, refl, refl),
           inr (
@@ -215,6 +215,7 @@ type_refused =
             ),
           ),
         ),
+        refl,
       );
       place = refl;
       rule = refl;
@@ -289,9 +290,9 @@ plain_type_refused =
         spot = refl;
         stands_not = λ h. bare_clock_not_W (h.types handed_plug (inl refl));
         premise = inr (
-          arguments_hold q 4 names (EffectsBounded q 4 names (0 ∷ [])) 3 (0 ∷ []) (effects_are_within (methods_of q 4) ((clock, true) ∷ (Int, true) ∷ []) clock true (0 ∷ []) refl refl refl, tt),
+          arguments_hold q 4 names (EffectsBounded q 4 names (0 ∷ [])) 3 (0 ∷ []) (effects_are_within (methods_of q 4) (bounds_of q 4) ((clock, true) ∷ (Int, true) ∷ []) clock true (0 ∷ []) refl refl refl, tt),
           inr (
-            arguments_hold q 4 names (IsHigherOrderSafe q 4 names (0 ∷ [])) 3 (0 ∷ []) (is_safe_for (methods_of q 4) ((clock, true) ∷ (Int, true) ∷ []) clock false (0 ∷ []) refl refl refl, tt),
+            arguments_hold q 4 names (IsHigherOrderSafe q 4 names (0 ∷ [])) 3 (0 ∷ []) (is_safe_for (methods_of q 4) (bounds_of q 4) ((clock, true) ∷ (Int, true) ∷ []) clock false (0 ∷ []) refl refl refl, tt),
             (refl, inl (λ h. bare_clock_not_W (h handed_plug (inl refl)), refl)),
           ),
         );

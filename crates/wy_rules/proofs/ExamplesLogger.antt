@@ -15,6 +15,8 @@
 use Rattle.std.proofs.Common.{ℕ, List, [], ◌∷◌, refl, true, Some}
 use Rattle.std.specs.Prelude.{codes, ◌++◌}
 use Rattle.wy_text.specs.declared.fault.Place.{Place}
+use Rattle.wy_effects.specs.Bounds.{by_member}
+use Rattle.wy_effects.proofs.Ordering.{none_bounded}
 use Rattle.wy_types.specs.declared.types.TypeRef.TheVariants.{Bool, Text, Unit as Nothing, Named, Own}
 use Rattle.wy_types.specs.declared.resolved.TypeDecl.{TypeDecl}
 use Rattle.wy_types.specs.declared.resolved.Origin.TheVariants.{Parameter, Grant, Instance}
@@ -25,7 +27,7 @@ use Rattle.wy_types.specs.Types.{methods_of}
 use Rattle.wy_rules.specs.Readings.{annotated_reading}
 use Rattle.wy_rules.specs.Derivations.{T-Lit, T-Var, T-Call, none, more, Result, T-Body, T-Body-Init}
 use Rattle.wy_rules.specs.Typing.{ScopeHolds}
-use Rattle.wy_rules.specs.Acceptance.{Handed, HasMembers, IsArgument, SealHolds, LineHolds, ScopeAccepted, Accepted}
+use Rattle.wy_rules.specs.Acceptance.{Handed, HasMembers, IsArgument, RespectsBounds, SealHolds, LineHolds, ScopeAccepted, Accepted}
 use Rattle.wy_rules.proofs.Closed.{annotated_subtype}
 use Rattle.wy_rules.proofs.Each.{by_number, arguments_hold, members_hold, lines_hold}
 use Rattle.wy_rules.proofs.Sources.{at, parameter, own_name, one, two, last, method, declaration, own, object, body, atoms_of, folder_atoms, folder, head, module_of, main_of, program}
@@ -71,8 +73,8 @@ logger_derives = record {
     bodies = T-Body (at 6 3) (Result (T-Call (at 6 41) (T-Var (at 6 36)) folder [] (more (T-Lit (at 6 48)) [] (more (T-Var (at 6 55)) [] none)))) (2 ∷ []) ∷ [];
   };
   derives = (
-    (refl, tt, λ a i. i),
-    ((refl, (_, refl, (refl, refl, refl), tt, refl, ((_, refl, refl, refl, refl), ((refl, refl, refl), tt)), refl, refl), λ a i. i), tt),
+    (refl, tt, λ a i. by_member a i),
+    ((refl, (_, refl, (refl, refl, refl), tt, refl, ((_, refl, refl, refl, refl), ((refl, refl, refl), tt)), refl, refl), λ a i. by_member a i), tt),
   );
 }
 
@@ -85,7 +87,7 @@ main_derives = record {
     bodies = [];
   };
   derives = (
-    (refl, (_, refl, (refl, refl, refl), tt, refl, ((_, refl, refl, refl, refl), tt), refl, refl), λ a i. i),
+    (refl, (_, refl, (refl, refl, refl), tt, refl, ((_, refl, refl, refl, refl), tt), refl, refl), λ a i. by_member a i),
     tt,
   );
 }
@@ -110,12 +112,13 @@ line_holds =
           (members_hold accepted_program 1 names handed_disk ((_, refl), ((_, refl), ((_, refl), ((_, refl), tt)))), tt);
       types = arguments_hold accepted_program 1 names (IsArgument accepted_program 1 names ((0 ∷ []) ∷ (1 ∷ []) ∷ (2 ∷ []) ∷ (3 ∷ []) ∷ [])) 0 (0 ∷ [])
           (annotated_subtype (methods_of accepted_program 1) ((folder, folder) ∷ (Text, Text) ∷ (Bool, Bool) ∷ (Nothing, Nothing) ∷ []) folder folder refl refl, tt);
+      bounds = arguments_hold accepted_program 1 names (RespectsBounds accepted_program 1 names) 0 (0 ∷ []) (λ a b e. absurd (none_bounded 4 a b e), tt);
     }
 
 logger_accepted : Accepted accepted_program
 logger_accepted = record {
   scopes = by_number (ScopeAccepted accepted_program) accepted_program.scopes (
-    record { pure = tt; bodies = logger_derives; seal = logger_sealed; lines = lines_hold accepted_program 0 (logger_with (2 ∷ [])).names (tt, tt) },
-    (record { pure = tt; bodies = main_derives; seal = tt; lines = lines_hold accepted_program 1 (main_with (4 ∷ [])).names (tt, (line_holds, tt)) }, tt),
+    record { pure = tt; bodies = logger_derives; seal = (logger_sealed, λ a b e. absurd (none_bounded 1 a b e)); lines = lines_hold accepted_program 0 (logger_with (2 ∷ [])).names (tt, tt) },
+    (record { pure = tt; bodies = main_derives; seal = (tt, tt); lines = lines_hold accepted_program 1 (main_with (4 ∷ [])).names (tt, (line_holds, tt)) }, tt),
   );
 }

@@ -13,6 +13,7 @@
 -- 11        def put(t: String): {Put} Unit = disk.append("i", t)
 use Rattle.std.proofs.Common.{[], ◌∷◌, refl, true, Some}
 use Rattle.std.specs.Prelude.{codes}
+use Rattle.wy_effects.specs.Bounds.{by_member}
 use Rattle.wy_types.specs.declared.types.TypeRef.{TypeRef}
 use Rattle.wy_types.specs.declared.types.TypeRef.TheVariants.{Text, Unit as Nothing, Named, Own}
 use Rattle.wy_types.specs.declared.resolved.Origin.TheVariants.{Parameter}
@@ -56,10 +57,10 @@ maker_derives = record {
         T-Body (at 11 7) (Result (T-Call (at 11 45) (T-Var (at 11 40)) folder [] (more (T-Lit (at 11 52)) [] (more (T-Var (at 11 57)) [] none)))) (2 ∷ []) ∷ [];
   };
   derives = (
-    (refl, tt, λ a i. i),
+    (refl, tt, λ a i. by_member a i),
     (
-      (refl, (refl, (refl, tt, refl, refl), annotated_subtype (methods_of p 0) ((Own 1, item) ∷ (Text, Text) ∷ (Nothing, Nothing) ∷ []) (Own 1) item refl refl, λ a i. i), λ a i. i),
-      ((refl, (_, refl, (refl, refl, refl), tt, refl, ((_, refl, refl, refl, refl), ((refl, refl, refl), tt)), refl, refl), λ a i. i), tt),
+      (refl, (refl, (refl, tt, refl, refl), annotated_subtype (methods_of p 0) ((Own 1, item) ∷ (Text, Text) ∷ (Nothing, Nothing) ∷ []) (Own 1) item refl refl, λ a i. i), λ a i. by_member a i),
+      ((refl, (_, refl, (refl, refl, refl), tt, refl, ((_, refl, refl, refl, refl), ((refl, refl, refl), tt)), refl, refl), λ a i. by_member a i), tt),
     ),
   );
 }

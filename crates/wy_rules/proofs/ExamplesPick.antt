@@ -11,6 +11,7 @@
 -- 9    def pick(c: Bool, x: B, y: A): {} A = if c then x else y
 use Rattle.std.proofs.Common.{[], ◌∷◌, refl}
 use Rattle.std.specs.Prelude.{codes}
+use Rattle.wy_effects.specs.Bounds.{by_member}
 use Rattle.wy_types.specs.declared.types.TypeRef.{TypeRef}
 use Rattle.wy_types.specs.declared.types.TypeRef.TheVariants.{Bool, Unit as Nothing, Named}
 use Rattle.wy_types.specs.declared.resolved.ScopeKind.TheVariants as kind
@@ -53,7 +54,7 @@ pick_derives = record {
         [] ∷ [];
   };
   derives = (
-    (refl, tt, λ a i. i),
+    (refl, tt, λ a i. by_member a i),
     (
       (
         refl,
@@ -64,7 +65,7 @@ pick_derives = record {
           (refl, refl, refl),
           refl,
         ),
-        λ a i. i,
+        λ a i. by_member a i,
       ),
       tt,
     ),

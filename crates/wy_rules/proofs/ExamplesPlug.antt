@@ -27,6 +27,8 @@
 -- 25      p.go()
 use Rattle.std.proofs.Common.{ℕ, List, [], ◌∷◌, refl, true, false, Some, None}
 use Rattle.std.specs.Prelude.{codes, ◌++◌}
+use Rattle.wy_effects.specs.Bounds.{by_member}
+use Rattle.wy_effects.proofs.Ordering.{none_bounded}
 use Rattle.wy_types.specs.declared.types.TypeRef.{TypeRef}
 use Rattle.wy_types.specs.declared.types.TypeRef.TheVariants.{Bool, Text, Unit as Nothing, Named, At, Own}
 use Rattle.wy_types.specs.declared.code.Binding.TheVariants as to
@@ -37,10 +39,11 @@ use Rattle.wy_types.specs.declared.resolved.ScopeKind.TheVariants as kind
 use Rattle.wy_types.specs.Code as code
 use Rattle.wy_types.specs.Program.{Program, Scope}
 use Rattle.wy_types.specs.Types.{methods_of}
+use Rattle.wy_types.specs.Bounds.{bounds_of}
 use Rattle.wy_rules.specs.Readings.{annotated_reading, plain_reading}
 use Rattle.wy_rules.specs.Derivations.{T-Lit, T-Var, T-Call, T-New, T-Set, T-Sub, none, more, Result, T-Seq, T-Val, T-Body, T-Body-Init}
 use Rattle.wy_rules.specs.Typing.{ScopeHolds}
-use Rattle.wy_rules.specs.Acceptance.{Handed, HasMembers, IsArgument, EffectsBounded, IsHigherOrderSafe, IsPlainArgument, SealHolds, LineHolds, ScopeAccepted, Accepted}
+use Rattle.wy_rules.specs.Acceptance.{Handed, HasMembers, IsArgument, RespectsBounds, EffectsBounded, IsHigherOrderSafe, IsPlainArgument, SealHolds, LineHolds, ScopeAccepted, Accepted}
 use Rattle.wy_rules.proofs.Closed.{annotated_subtype, plain_subtype}
 use Rattle.wy_rules.proofs.Each.{by_number, arguments_hold, members_hold, lines_hold}
 use Rattle.wy_rules.proofs.Marks.{effects_are_within, is_safe_for}
@@ -104,8 +107,8 @@ app_derives = record {
     bodies = T-Body (at 10 3) (Result (T-Call (at 10 43) (T-Var (at 10 38)) folder [] (more (T-Lit (at 10 50)) [] (more (T-Var (at 10 55)) [] none)))) (2 ∷ []) ∷ [];
   };
   derives = (
-    (refl, tt, λ a i. i),
-    ((refl, (_, refl, (refl, refl, refl), tt, refl, ((_, refl, refl, refl, refl), ((refl, refl, refl), tt)), refl, refl), λ a i. i), tt),
+    (refl, tt, λ a i. by_member a i),
+    ((refl, (_, refl, (refl, refl, refl), tt, refl, ((_, refl, refl, refl, refl), ((refl, refl, refl), tt)), refl, refl), λ a i. by_member a i), tt),
   );
 }
 
@@ -172,9 +175,9 @@ main_derives = record {
         ),
         refl,
       ),
-      λ a i. i,
+      λ a i. by_member a i,
     ),
-    ((refl, (_, refl, (refl, refl, refl), tt, refl, ((_, refl, refl, refl, refl), ((refl, refl, refl), tt)), refl, refl), λ a i. i), tt),
+    ((refl, (_, refl, (refl, refl, refl), tt, refl, ((_, refl, refl, refl, refl), ((refl, refl, refl), tt)), refl, refl), λ a i. by_member a i), tt),
   );
 }
 
@@ -198,6 +201,7 @@ app_line bound = record {
   members = arguments_hold (plug_program bound) 2 (main_at bound).names (HasMembers (plug_program bound) 2 (main_at bound).names) 0 (0 ∷ []) (members_hold (plug_program bound) 2 (main_at bound).names handed_disk ((_, refl), ((_, refl), ((_, refl), ((_, refl), tt)))), tt);
   types = arguments_hold (plug_program bound) 2 (main_at bound).names (IsArgument (plug_program bound) 2 (main_at bound).names ((0 ∷ []) ∷ (1 ∷ []) ∷ (2 ∷ []) ∷ (3 ∷ []) ∷ [])) 0 (0 ∷ [])
       (annotated_subtype (methods_of (plug_program bound) 2) ((folder, folder) ∷ (Text, Text) ∷ (Bool, Bool) ∷ (Nothing, Nothing) ∷ []) folder folder refl refl, tt);
+  bounds = arguments_hold (plug_program bound) 2 (main_at bound).names (RespectsBounds (plug_program bound) 2 (main_at bound).names) 0 (0 ∷ []) (λ a b e. absurd (none_bounded 4 a b e), tt);
 }
 
 abbrev handler : TypeRef
@@ -209,9 +213,9 @@ plug_line = (
   record { plain = (plug, refl, refl); numbers = refl },
   record {
     effects = arguments_hold p 2 names (EffectsBounded p 2 names bound) 1 (1 ∷ [])
-        (effects_are_within (methods_of p 2) ((handler, true) ∷ (Text, false) ∷ (Nothing, true) ∷ []) handler true bound refl refl refl, tt);
+        (effects_are_within (methods_of p 2) (bounds_of p 2) ((handler, true) ∷ (Text, false) ∷ (Nothing, true) ∷ []) handler true bound refl refl refl, tt);
     safe = arguments_hold p 2 names (IsHigherOrderSafe p 2 names bound) 1 (1 ∷ [])
-        (is_safe_for (methods_of p 2) ((handler, true) ∷ (Text, false) ∷ (Nothing, true) ∷ []) handler false bound refl refl refl, tt);
+        (is_safe_for (methods_of p 2) (bounds_of p 2) ((handler, true) ∷ (Text, false) ∷ (Nothing, true) ∷ []) handler false bound refl refl refl, tt);
     types = arguments_hold p 2 names (IsPlainArgument p 2 names) 1 (1 ∷ [])
         (plain_subtype (methods_of p 2) ((Named 4 [], Named 4 []) ∷ (Text, Text) ∷ (Nothing, Nothing) ∷ []) (Named 4 []) (Named 4 []) refl refl, tt);
     module_holds = (plug, refl, plug_derives);
@@ -221,10 +225,10 @@ plug_line = (
 plug_accepted : Accepted p
 plug_accepted = record {
   scopes = by_number (ScopeAccepted p) p.scopes (
-    record { pure = tt; bodies = app_derives; seal = app_sealed; lines = lines_hold p 0 app.names (tt, tt) },
+    record { pure = tt; bodies = app_derives; seal = (app_sealed, λ a b e. absurd (none_bounded 1 a b e)); lines = lines_hold p 0 app.names (tt, tt) },
     (
-      record { pure = tt; bodies = plug_derives; seal = plug_sealed; lines = lines_hold p 1 plug.names (tt, tt) },
-      (record { pure = tt; bodies = main_derives; seal = tt; lines = lines_hold p 2 names (tt, (app_line bound, (plug_line, tt))) }, tt),
+      record { pure = tt; bodies = plug_derives; seal = (plug_sealed, tt); lines = lines_hold p 1 plug.names (tt, tt) },
+      (record { pure = tt; bodies = main_derives; seal = (tt, tt); lines = lines_hold p 2 names (tt, (app_line bound, (plug_line, tt))) }, tt),
     ),
   );
 }

@@ -166,4 +166,4 @@ logger_writes_not = record {
 
 -- so the logger does not reach it
 extra_not_reached : IsReached (annotated_reading (logging_and with_more) 0) (logger_with (2 ∷ [])) (Named 5 []) → ⊥
-extra_not_reached h = reached_not 5 (logging_and with_more) (logging_and with_less) 0 (logger_with (2 ∷ [])) extras_differ refl logger_writes_not _ (Named 5 []) h refl
+extra_not_reached h = reached_not 5 (logging_and with_more) (logging_and with_less) 0 (logger_with (2 ∷ [])) extras_differ refl logger_writes_not _ _ _ (Named 5 []) h refl

@@ -2,6 +2,8 @@
 -- module and the line pass.
 use Rattle.std.proofs.Common.{[], ◌∷◌, refl, inl, inr, true, Some, None}
 use Rattle.std.specs.Prelude.{codes}
+use Rattle.wy_effects.specs.Bounds.{by_member}
+use Rattle.wy_effects.proofs.Ordering.{none_bounded}
 use Rattle.wy_types.specs.declared.types.TypeRef.TheVariants.{Bool, Text, Unit as Nothing, Named, Own}
 use Rattle.wy_types.specs.declared.resolved.Origin.TheVariants.{Parameter, Instance}
 use Rattle.wy_types.specs.Code as code
@@ -10,7 +12,7 @@ use Rattle.wy_types.specs.Types.{methods_of}
 use Rattle.wy_rules.specs.Readings.{annotated_reading}
 use Rattle.wy_rules.specs.Derivations.{T-Lit, T-Var, T-Call, none, more, Result}
 use Rattle.wy_rules.specs.Typing.{Has}
-use Rattle.wy_rules.specs.Acceptance.{Handed, HasMembers, IsArgument, LineHolds}
+use Rattle.wy_rules.specs.Acceptance.{Handed, HasMembers, IsArgument, RespectsBounds, LineHolds}
 use Rattle.wy_rules.specs.Refusals.{IsRefusal, ScopePasses}
 use Rattle.wy_rules.proofs.Closed.{annotated_subtype}
 use Rattle.wy_rules.proofs.Each.{arguments_hold, members_hold}
@@ -41,16 +43,16 @@ module_passes : ScopePasses q 0 s
 module_passes = record {
   locals = [];
   nodes = (
-    record { expected = None; spot = refl; stands = ([], record { derivations = none; derives = tt; effects = refl }, λ a i. i); settles = tt },
+    record { expected = None; spot = refl; stands = ([], record { derivations = none; derives = tt; effects = refl }, λ a i. by_member a i); settles = tt },
     (
       record { expected = None; spot = refl; stands = record { typ = Nothing; effect = 2 ∷ []; has = append_has }; settles = tt },
       (
-        record { expected = None; spot = refl; stands = (2 ∷ [], record { derivation = Result append_has.derivation; derives = append_has.derives }, λ a i. i); settles = tt },
+        record { expected = None; spot = refl; stands = (2 ∷ [], record { derivation = Result append_has.derivation; derives = append_has.derives }, λ a i. by_member a i); settles = tt },
         (
           record {
             expected = None;
             spot = refl;
-            stands = annotated_subtype (methods_of q 0) ((Own 0, Named 4 ((2 ∷ []) ∷ [])) ∷ (Text, Text) ∷ (Nothing, Nothing) ∷ []) (Own 0) (Named 4 ((2 ∷ []) ∷ [])) refl refl;
+            stands = (annotated_subtype (methods_of q 0) ((Own 0, Named 4 ((2 ∷ []) ∷ [])) ∷ (Text, Text) ∷ (Nothing, Nothing) ∷ []) (Own 0) (Named 4 ((2 ∷ []) ∷ [])) refl refl, λ a b e. absurd (none_bounded 1 a b e));
             settles = tt;
           },
           tt,
@@ -72,6 +74,7 @@ line_holds =
       members = arguments_hold q 1 names (HasMembers q 1 names) 0 (0 ∷ []) (members_hold q 1 names handed_disk ((_, refl), ((_, refl), ((_, refl), ((_, refl), tt)))), tt);
       types = arguments_hold q 1 names (IsArgument q 1 names ((0 ∷ []) ∷ (1 ∷ []) ∷ (2 ∷ []) ∷ (3 ∷ []) ∷ [])) 0 (0 ∷ [])
           (annotated_subtype (methods_of q 1) ((folder, folder) ∷ (Text, Text) ∷ (Bool, Bool) ∷ (Nothing, Nothing) ∷ []) folder folder refl refl, tt);
+      bounds = arguments_hold q 1 names (RespectsBounds q 1 names) 0 (0 ∷ []) (λ a b e. absurd (none_bounded 4 a b e), tt);
     }
 
 -- in the second file

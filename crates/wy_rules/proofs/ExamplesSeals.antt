@@ -5,6 +5,8 @@ use Rattle.wy_text.specs.declared.fault.Fault.{Fault}
 use Rattle.wy_text.specs.declared.fault.RuleName.{RuleName}
 use Rattle.wy_text.specs.declared.fault.RuleName.TheVariants.{TBody, MPure, MAscribe}
 use Rattle.wy_effects.specs.AtomTable.{atom_name}
+use Rattle.wy_effects.specs.Bounds.{by_member}
+use Rattle.wy_effects.proofs.Ordering.{under_onward}
 use Rattle.wy_types.specs.declared.types.TypeRef.{TypeRef}
 use Rattle.wy_types.specs.declared.types.TypeRef.TheVariants.{Int, Text, Unit as Nothing, Named, Own}
 use Rattle.wy_types.specs.declared.resolved.Origin.TheVariants.{Parameter, Instance}
@@ -12,6 +14,8 @@ use Rattle.wy_types.specs.declared.resolved.ScopeKind.TheVariants as kind
 use Rattle.wy_types.specs.Code as code
 use Rattle.wy_types.specs.Program.{Program, Scope}
 use Rattle.wy_types.specs.Types.{methods_of, signature}
+use Rattle.wy_types.specs.Bounds.{bounds_of}
+use Rattle.wy_effects.proofs.Ordering.{none_bounded, unbounded_under}
 use Rattle.wy_rules.specs.Readings.{IsBelow, annotated_reading}
 use Rattle.wy_rules.specs.Typing.{AllHaveAt}
 use Rattle.wy_rules.specs.Failing.{IsLeast, AreLeastAt, IsScopeFault}
@@ -73,8 +77,8 @@ seal_refused = record {
   locals = [];
   first =
       inr (
-        record { expected = None; spot = refl; stands = ([], (no_values (annotated_reading (with_module without_method) 0) (annotated_lawful (with_module without_method) 0) without_method [] None).have, λ a i. i); settles = tt },
-        inl (record { expected = None; atom = None; spot = refl; stands_not = no_method; premise = (refl, refl); place = refl; rule = refl; lacks = refl }),
+        record { expected = None; spot = refl; stands = ([], (no_values (annotated_reading (with_module without_method) 0) (annotated_lawful (with_module without_method) 0) without_method [] None).have, λ a i. by_member a i); settles = tt },
+        inl (record { expected = None; atom = None; spot = refl; stands_not = λ h. no_method h.0; premise = inl (no_method, refl, refl); place = refl; rule = refl; lacks = refl }),
       );
 }
 
@@ -125,7 +129,7 @@ now_least : IsLeast (annotated_reading (with_module with_clock) 0) with_clock []
 now_least =
     let y = annotated_reading (with_module with_clock) 0 in
     let w = annotated_lawful (with_module with_clock) 0 in
-    let itself = annotated_subtype (methods_of (with_module with_clock) 0) ((clock, clock) ∷ (Int, Int) ∷ []) clock clock refl refl in
+    let itself : IsBelow y clock clock = annotated_subtype (methods_of (with_module with_clock) 0) ((clock, clock) ∷ (Int, Int) ∷ []) clock clock refl refl in
     call_least y w with_clock [] None _ _ _ _ clock [] _ [] (name_least y w with_clock [] None _ _ clock refl itself) tt refl (no_values y w with_clock [] None)
     (annotated_subtype (methods_of (with_module with_clock) 0) ((Int, Int) ∷ []) Int Int refl refl)
 
@@ -145,8 +149,8 @@ init_refused = record {
           expected = None;
           atom = Some 0;
           spot = refl;
-          stands_not = λ h. h.2 0 (init_least.least h.0 h.1 0 (inl refl));
-          premise = inr (0 ∷ [], 0, init_least, one_missing 0 [] (λ i. i), refl, refl);
+          stands_not = λ h. unbounded_under (bounds_of (with_module with_clock) 0) (none_bounded 1) [] 0 (under_onward (bounds_of (with_module with_clock) 0) h.0 [] 0 (init_least.least h.0 h.1 0 (inl refl)) h.2);
+          premise = inr (0 ∷ [], 0, init_least, one_missing (with_module with_clock) 0 (none_bounded 1) 0 [] (λ i. i), refl, refl);
           place = refl;
           rule = refl;
           lacks = refl;

@@ -27,6 +27,9 @@ pub record Lawful (y : Reading) : Type 0 where
   pub same : (e : List ℕ) → y.Includes e e
   pub within : (e f g : List ℕ) → y.Includes e f → y.Includes f g → y.Includes e g
   pub unions : (e f g h : List ℕ) → y.Includes e g → y.Includes f h → y.Includes (union e f) (union g h)
+  pub allows : (e f : List ℕ) → y.Includes e f → y.Allows e f
+  pub onward : (e f g : List ℕ) → y.Allows e f → y.Allows f g → y.Allows e g
+  pub unite : (e f g h : List ℕ) → y.Allows e g → y.Allows f h → y.Allows (union e f) (union g h)
   pub below : (a b c : y.Kind) → IsBelow y a b → IsBelow y b c → IsBelow y a c
 
 -- the same type, or a supertype
@@ -65,7 +68,7 @@ module _ (y : Reading) (w : Lawful y) (s : Scope) (locals : List y.Kind) (owner 
     pub effect : List ℕ
     pub formed : Formed x typ effect
     pub above : Above y typ u
-    pub within : y.Includes effect g
+    pub within : y.Allows effect g
 
   ------------------------------------------------------------
   -- Each derivation comes to a form's own rule
@@ -75,7 +78,7 @@ module _ (y : Reading) (w : Lawful y) (s : Scope) (locals : List y.Kind) (owner 
   above_sub t k u (inr a) b = inr (w.below t k u a b)
 
   exactly : (x : Value) (t : y.Kind) (f : List ℕ) → Formed x t f → Bare x t f
-  exactly x t f h = record { typ = t; effect = f; formed = h; above = inl refl; within = w.same f }
+  exactly x t f h = record { typ = t; effect = f; formed = h; above = inl refl; within = w.allows f f (w.same f) }
 
   literal_formed : (x : Expr) (u : TypeRef) (t : y.Kind) (f : List ℕ) → literal_type x ≡ Some u → t ≡ y.read u → f ≡ [] → ExprFormed x t f
   literal_formed (Number q n) u t f e h g = (let same : Int ≡ u = cc in subst (λ v. t ≡ y.read v) (sym same) h, g)
@@ -129,7 +132,7 @@ module _ (y : Reading) (w : Lawful y) (s : Scope) (locals : List y.Kind) (owner 
   bare_from (T-Asc p d) (Plain (Ascribe q x v)) u g h = exactly (Plain (Ascribe q x v)) u g (record { derivation = d; derives = h.1 }, h.2)
   bare_from (T-Sub p d k e) x u g h =
       let b = bare_from d x k e h.1 in
-      record { typ = b.typ; effect = b.effect; formed = b.formed; above = above_sub b.typ k u b.above h.2; within = w.within b.effect e g b.within h.3 }
+      record { typ = b.typ; effect = b.effect; formed = b.formed; above = above_sub b.typ k u b.above h.2; within = w.onward b.effect e g b.within (w.allows e g h.3) }
   bare_from d x u g h = absurd h
 
   pub bare : (x : Value) (u : y.Kind) (g : List ℕ) → Has y s locals owner x u g → Bare x u g
@@ -149,10 +152,10 @@ module _ (y : Reading) (w : Lawful y) (s : Scope) (locals : List y.Kind) (owner 
     pub effect : List ℕ
     pub formed : BlockFormed b typ effect
     pub above : Above y typ u
-    pub within : y.Includes effect g
+    pub within : y.Allows effect g
 
   exactly_block : (b : Block) (t : y.Kind) (f : List ℕ) → BlockFormed b t f → BlockBare b t f
-  exactly_block b t f h = record { typ = t; effect = f; formed = h; above = inl refl; within = w.same f }
+  exactly_block b t f h = record { typ = t; effect = f; formed = h; above = inl refl; within = w.allows f f (w.same f) }
 
   block_from : (d : BlockDerivation y.Kind) (b : Block) (u : y.Kind) (g : List ℕ) → DerivesBlock y s locals owner d b u g → BlockBare b u g
   block_from (Result d) (Last x) u g h = exactly_block (Last x) u g (record { derivation = d; derives = h })
@@ -161,7 +164,7 @@ module _ (y : Reading) (w : Lawful y) (s : Scope) (locals : List y.Kind) (owner 
       exactly_block (Val q n typ x b) u g (k, e, i, h.1, h.2, record { derivation = d; derives = h.3 }, record { derivation = ds; derives = h.4 }, h.5)
   block_from (Block-Sub p d k e) b u g h =
       let c = block_from d b k e h.1 in
-      record { typ = c.typ; effect = c.effect; formed = c.formed; above = above_sub c.typ k u c.above h.2; within = w.within c.effect e g c.within h.3 }
+      record { typ = c.typ; effect = c.effect; formed = c.formed; above = above_sub c.typ k u c.above h.2; within = w.onward c.effect e g c.within (w.allows e g h.3) }
   block_from d b u g h = absurd h
 
   pub block_bare : (b : Block) (u : y.Kind) (g : List ℕ) → BlockHas y s locals owner b u g → BlockBare b u g

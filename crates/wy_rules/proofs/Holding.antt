@@ -18,7 +18,7 @@ use Rattle.wy_types.specs.Types.{is_plain}
 use Rattle.wy_types.specs.Core.{ScopeFits, StartFits, BodyFits, CapturesBefore, literal_captures, body_parameters, start_vals, block_vals}
 use Rattle.wy_rules.specs.Derivations.{BodyDerivation, T-Body, T-Body-Init, effects_of}
 use Rattle.wy_rules.specs.Typing.{BlockHas, fields_of, field_types, DerivesStart, DerivesBodies, ScopeHolds}
-use Rattle.wy_rules.specs.Acceptance.{scope_reading, IsLine, PureHolds, SealHolds}
+use Rattle.wy_rules.specs.Acceptance.{scope_reading, IsLine, PureHolds, AscriptionHolds}
 use Rattle.wy_rules.specs.Nodes.{nothing, written, impure, Node, node, written_spots, values_nodes, block_nodes, start_nodes, body_nodes, bodies_nodes, var_nodes, impure_line, impure_lines, pure_nodes, seal_nodes}
 use Rattle.wy_rules.specs.Failing.{FirstFailing, AllPass, IsScopeFault}
 use Rattle.wy_rules.specs.Refusals.{AcceptedScopesHold}
@@ -75,7 +75,7 @@ module _ (p : Program) (k : ℕ) (s : Scope) (w : Lawful (scope_reading p k s)) 
   pure_stands Plain h fault g = g
   pure_stands Main h fault g = g
 
-  seal_stands : (o : Option ℕ) → SealHolds (scope_reading p k s) s s.ascribed → (fault : Fault) → FirstFailing p k s least (seal_nodes s o) fault → ⊥
+  seal_stands : (o : Option ℕ) → AscriptionHolds p k s → (fault : Fault) → FirstFailing p k s least (seal_nodes s o) fault → ⊥
   seal_stands None h fault g = g
   seal_stands (Some d) h fault (inl g) = g.stands_not h
   seal_stands (Some d) h fault (inr g) = g.1
@@ -93,7 +93,7 @@ module _ (p : Program) (k : ℕ) (s : Scope) (w : Lawful (scope_reading p k s)) 
             let n = narrow_values y w p s least given None values [] fit.1 nothing_seen (values_ready p k s w least given None values (written_spots (field_types s 0)) e.0) (map y.read (field_types s 0)) (effects_of ds)
             (record { derivations = ds; derives = h.1; effects = refl }) in
             elim e.1 [
-              | inl i ↦ i.stands_not (n.effect, n.have, w.within n.effect (effects_of ds) (y.effect s.start_effect) n.within h.2)
+              | inl i ↦ i.stands_not (n.effect, n.have, w.onward n.effect (effects_of ds) (y.effect s.start_effect) n.within h.2)
               | inr i ↦ i.1
             ]
             )
@@ -105,7 +105,7 @@ module _ (p : Program) (k : ℕ) (s : Scope) (w : Lawful (scope_reading p k s)) 
         | inr e ↦ (
             let n = narrow_block y w p s least given None block [] fit nothing_seen (block_ready p k s w least given None block (written Nothing) e.0) (y.read Nothing) f (record { derivation = d; derives = h.1 }) in
             elim e.1 [
-              | inl i ↦ i.stands_not (n.effect, n.has, w.within n.effect f (y.effect s.start_effect) n.within h.2)
+              | inl i ↦ i.stands_not (n.effect, n.has, w.onward n.effect f (y.effect s.start_effect) n.within h.2)
               | inr i ↦ i.1
             ]
             )
@@ -158,7 +158,7 @@ module _ (p : Program) (k : ℕ) (s : Scope) (w : Lawful (scope_reading p k s)) 
           | inr j ↦ (
               let n = narrow_block y w p s least given (Some b.owner) b.block seen scoped.0.1 sight (block_ready p k s w least given (Some b.owner) b.block (written b.signature.result) j.0) (y.read b.signature.result) f has in
               elim j.1 [
-                | inl l ↦ l.stands_not (n.effect, n.has, w.within n.effect f (y.effect b.signature.effect) n.within h.0.2)
+                | inl l ↦ l.stands_not (n.effect, n.has, w.onward n.effect f (y.effect b.signature.effect) n.within h.0.2)
                 | inr l ↦ l.1
               ]
               )
@@ -172,7 +172,7 @@ module _ (p : Program) (k : ℕ) (s : Scope) (w : Lawful (scope_reading p k s)) 
       ]
 
 -- what is asked of a scope but for its lines holds
-pub holding_scope_stands : (p : Program) (k : ℕ) (s : Scope) (fault : Fault) → ScopeFits p s → PureHolds s.kind s → ScopeHolds (scope_reading p k s) s → SealHolds (scope_reading p k s) s s.ascribed → IsScopeFault p k s fault → ⊥
+pub holding_scope_stands : (p : Program) (k : ℕ) (s : Scope) (fault : Fault) → ScopeFits p s → PureHolds s.kind s → ScopeHolds (scope_reading p k s) s → AscriptionHolds p k s → IsScopeFault p k s fault → ⊥
 holding_scope_stands p k s fault fits pure holds seal f =
     let scoped : BodiesScoped p s (start_vals s.start) 0 s.bodies = bodies_scoped p s (start_vals s.start) 0 s.bodies (λ j b e. (let same : j ≡ 0 + j = omega arith in subst (λ v. BodyFits p s v b) same (fits.bodies j b e))) fits.captured in
     let w = reading_lawful p k (is_plain s.kind) in

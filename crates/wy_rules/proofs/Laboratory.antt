@@ -16,6 +16,7 @@ use Rattle.std.proofs.Common.{◌≡◌, ℕ, pos, List, [], ◌∷◌, ◌++◌
 use Rattle.std.specs.Prelude.{codes}
 use Rattle.wy_text.specs.declared.fault.Fault.{Fault}
 use Rattle.wy_text.specs.declared.fault.RuleName.{RuleName}
+use Rattle.wy_effects.specs.Bounds.{by_member}
 use Rattle.wy_types.specs.declared.types.TypeRef.{TypeRef}
 use Rattle.wy_types.specs.declared.types.TypeRef.TheVariants.{Int, Bool, Text, Unit as Nothing, Named}
 use Rattle.wy_types.specs.declared.resolved.ScopeKind.TheVariants as kind
@@ -93,7 +94,7 @@ module _ (b : code.Block) (r : TypeRef) where
           derives = ((Int, refl, refl, refl, refl), ((Int, refl, refl, refl, refl), tt));
           effects = refl;
         } in
-        record { locals = locals; first = inr (record { expected = None; spot = refl; stands = ([], start, λ a j. j); settles = tt }, h) }
+        record { locals = locals; first = inr (record { expected = None; spot = refl; stands = ([], start, λ a j. by_member a j); settles = tt }, h) }
 
     pub x_least : (column : ℕ) → IsLeast (annotated_reading (lab_program b r) 0) (lab b r) locals (Some 0) (code.Plain (x column)) (Named 4 []) []
     x_least column =

@@ -30,13 +30,13 @@ module _ (y : Reading) (w : Lawful y) where
   -- a subtype's method of a name: its parameters are larger, its effect and result smaller
   pub record Under (m n : Signature y.Kind) : Type 0 where
     pub pairs : List (y.Kind × y.Kind)
-    pub closed : (q : y.Kind × y.Kind) → In q pairs → IsClosed y.Kind y.methods y.IsObject y.Includes pairs q
-    pub covers : Covers y.Kind y.methods y.IsObject y.Includes pairs m n
+    pub closed : (q : y.Kind × y.Kind) → In q pairs → IsClosed y.Kind y.methods y.IsObject y.Allows pairs q
+    pub covers : Covers y.Kind y.methods y.IsObject y.Allows pairs m n
 
   cover_of : (ps : List (y.Kind × y.Kind)) (o : Option (Signature y.Kind)) (m n : Signature y.Kind) → o ≡ Some m →
-      HasCover y.Kind y.methods y.IsObject y.Includes ps o n → Covers y.Kind y.methods y.IsObject y.Includes ps m n
+      HasCover y.Kind y.methods y.IsObject y.Allows ps o n → Covers y.Kind y.methods y.IsObject y.Allows ps m n
   cover_of ps None m n e h = absurd (cc)
-  cover_of ps (Some l) m n e h = let same : l ≡ m = cc in subst (λ v. Covers y.Kind y.methods y.IsObject y.Includes ps v n) same h
+  cover_of ps (Some l) m n e h = let same : l ≡ m = cc in subst (λ v. Covers y.Kind y.methods y.IsObject y.Allows ps v n) same h
 
   pub under : (t u : y.Kind) (name : List ℕ) (m n : Signature y.Kind) → IsBelow y t u → y.IsObject u → find_method name (y.methods t) ≡ Some m → find_method name (y.methods u) ≡ Some n → Under m n
   under t u name m n b o e f =
@@ -64,7 +64,7 @@ module _ (y : Reading) (w : Lawful y) where
     raise_block x t u e (inr b) h = record { derivation = Block-Sub (block_mark x) h.derivation t e; derives = (refl, h.derives, b, w.same e) }
 
     -- all values, at larger types
-    pub raise_all : (ps : List (y.Kind × y.Kind)) → ((q : y.Kind × y.Kind) → In q ps → IsClosed y.Kind y.methods y.IsObject y.Includes ps q) →
+    pub raise_all : (ps : List (y.Kind × y.Kind)) → ((q : y.Kind × y.Kind) → In q ps → IsClosed y.Kind y.methods y.IsObject y.Allows ps q) →
         (ds : Derivations y.Kind) (xs : Values) (ts us : List y.Kind) → ParamsIn ps us ts → DerivesAll y s locals owner ds xs ts →
         (es : Derivations y.Kind) × DerivesAll y s locals owner es xs us × (effects_of es ≡ effects_of ds)
     raise_all ps c no_derivations none [] [] i h = (no_derivations, tt, refl)
@@ -76,7 +76,7 @@ module _ (y : Reading) (w : Lawful y) where
     raise_all ps c (one_more d e ds) (more x xs) (t ∷ ts) [] i h = absurd i
     raise_all ps c ds xs ts us i h = absurd h
 
-    pub all_raised : (ps : List (y.Kind × y.Kind)) → ((q : y.Kind × y.Kind) → In q ps → IsClosed y.Kind y.methods y.IsObject y.Includes ps q) →
+    pub all_raised : (ps : List (y.Kind × y.Kind)) → ((q : y.Kind × y.Kind) → In q ps → IsClosed y.Kind y.methods y.IsObject y.Allows ps q) →
         (xs : Values) (ts us : List y.Kind) (f : List ℕ) → ParamsIn ps us ts → AllHave y s locals owner xs ts f → AllHave y s locals owner xs us f
     all_raised ps c xs ts us f i h =
         let r = raise_all ps c h.derivations xs ts us i h.derives in
@@ -87,7 +87,7 @@ module _ (y : Reading) (w : Lawful y) where
 
     pub record LeastAt (x : Value) (t : y.Kind) (f : List ℕ) : Type 0 where
       pub has : Has y s locals owner x t f
-      pub least : (g : List ℕ) → Has y s locals owner x t g → y.Includes f g
+      pub least : (g : List ℕ) → Has y s locals owner x t g → y.Allows f g
 
     pub at_type : (x : Value) (t u : y.Kind) (f : List ℕ) → IsLeast y s locals owner x t f → Above y t u → LeastAt x u f
     at_type x t u f l a = record { has = raise x t u f a l.has; least = λ g h. (l.least u g h).1 }
@@ -96,8 +96,8 @@ module _ (y : Reading) (w : Lawful y) where
     below_of t v u e r (inl same) = subst (λ z. IsBelow y t z) (e ∙ same) r
     below_of t v u e r (inr b) = subst (λ z. IsBelow y z u) (sym e) b
 
-    includes_of : (f e g : List ℕ) → f ≡ e → y.Includes e g → y.Includes f g
-    includes_of f e g s i = subst (λ v. y.Includes v g) (sym s) i
+    includes_of : (f e g : List ℕ) → f ≡ e → y.Allows e g → y.Allows f g
+    includes_of f e g s i = subst (λ v. y.Allows v g) (sym s) i
 
     ------------------------------------------------------------
     -- Literals and names
@@ -158,7 +158,7 @@ module _ (y : Reading) (w : Lawful y) where
     none_effect (one_more d e ds) h = absurd h
 
     pub no_values : AreLeastAt y s locals owner none [] []
-    no_values = record { have = record { derivations = no_derivations; derives = tt; effects = refl }; least = λ g h. includes_of [] g g (sym (h.effects ∙ none_effect h.derivations h.derives)) (w.same g) }
+    no_values = record { have = record { derivations = no_derivations; derives = tt; effects = refl }; least = λ g h. includes_of [] g g (sym (h.effects ∙ none_effect h.derivations h.derives)) (w.allows g g (w.same g)) }
 
     -- the first value and the others
     pub record Split (x : Value) (xs : Values) (t : y.Kind) (ts : List y.Kind) (f : List ℕ) : Type 0 where
@@ -184,7 +184,7 @@ module _ (y : Reading) (w : Lawful y) where
       have = joined x xs t ts e f l.has k.have;
       least = λ g h.
           let c = split x xs t ts g h in
-          subst (λ v. y.Includes (union e f) v) (sym c.whole) (w.unions e f c.effect c.effects (l.least c.effect c.first) (k.least c.effects c.others));
+          subst (λ v. y.Allows (union e f) v) (sym c.whole) (w.unite e f c.effect c.effects (l.least c.effect c.first) (k.least c.effects c.others));
     }
 
     ------------------------------------------------------------
@@ -206,8 +206,8 @@ module _ (y : Reading) (w : Lawful y) where
           let args = a.least c.3 (all_raised n.pairs n.closed xs c.2.params m.params c.3 n.covers.params c.7) in
           let result : IsBelow y m.result c.2.result = record { pairs = n.pairs; first = n.covers.result; closed = n.closed } in (
             above_result m.result c.2.result b.typ u result (sym c.8) b.above,
-            w.within (union e (union h m.effect)) b.effect g
-                (subst (λ v. y.Includes (union e (union h m.effect)) v) (sym c.9) (w.unions e (union h m.effect) c.1 (union c.3 c.2.effect) receiver.1 (w.unions h m.effect c.3 c.2.effect args n.covers.effect)))
+            w.onward (union e (union h m.effect)) b.effect g
+                (subst (λ v. y.Allows (union e (union h m.effect)) v) (sym c.9) (w.unite e (union h m.effect) c.1 (union c.3 c.2.effect) receiver.1 (w.unite h m.effect c.3 c.2.effect args n.covers.effect)))
                 b.within,
           );
     }
@@ -222,7 +222,7 @@ module _ (y : Reading) (w : Lawful y) where
     pub last_least : (x : Value) (t : y.Kind) (f : List ℕ) → LeastAt x t f → IsLeastAt y s locals owner (Last x) t f
     last_least x t f l = record {
       has = record { derivation = Result l.has.derivation; derives = l.has.derives };
-      least = λ g h. (let b = block_bare y w s locals owner (Last x) t g h in w.within f b.effect g (l.least b.effect (raise x b.typ t b.effect b.above b.formed)) b.within);
+      least = λ g h. (let b = block_bare y w s locals owner (Last x) t g h in w.onward f b.effect g (l.least b.effect (raise x b.typ t b.effect b.above b.formed)) b.within);
     }
 
     ------------------------------------------------------------
@@ -267,7 +267,7 @@ module _ (y : Reading) (w : Lawful y) where
       has = record { derivation = T-Asc q l.has.derivation; derives = (refl, l.has.derives, refl) };
       least = λ u g h.
           let b = bare y w s locals owner (Plain (Ascribe q x t)) u g h in
-          (below_of (y.read t) b.typ u (sym b.formed.1) r b.above, w.within f b.effect g (l.least b.effect b.formed.0) b.within);
+          (below_of (y.read t) b.typ u (sym b.formed.1) r b.above, w.onward f b.effect g (l.least b.effect b.formed.0) b.within);
     }
 
     pub assignment_least : (q : Place) (name : Binding) (x : Value) (v : Field) (f : List ℕ) → var_field s owner name ≡ Some v → LeastAt x (y.read v.typ) f → IsBelow y (y.read Nothing) (y.read Nothing) →
@@ -278,7 +278,7 @@ module _ (y : Reading) (w : Lawful y) where
           let b = bare y w s locals owner (Plain (Assign q name x)) u g h in
           let same = same_field v b.formed.0 (sym e ∙ b.formed.1) in (
             below_of (y.read Nothing) b.typ u (sym b.formed.3) r b.above,
-            w.within f b.effect g (l.least b.effect (subst (λ (k : Field). Has y s locals owner x (y.read k.typ) b.effect) (sym same) b.formed.2)) b.within,
+            w.onward f b.effect g (l.least b.effect (subst (λ (k : Field). Has y s locals owner x (y.read k.typ) b.effect) (sym same) b.formed.2)) b.within,
           );
     }
       where
@@ -291,7 +291,7 @@ module _ (y : Reading) (w : Lawful y) where
       has = record { derivation = T-New q a.have.derivations; derives = (refl, a.have.derives, refl, a.have.effects) };
       least = λ u g h.
           let b = bare y w s locals owner (Plain (New q l xs)) u g h in
-          (below_of (y.read (Own l)) b.typ u (sym b.formed.1) r b.above, w.within f b.effect g (a.least b.effect b.formed.0) b.within);
+          (below_of (y.read (Own l)) b.typ u (sym b.formed.1) r b.above, w.onward f b.effect g (a.least b.effect b.formed.0) b.within);
     }
 
     -- an operation whose operands fit one row of its table alone
@@ -308,7 +308,7 @@ module _ (y : Reading) (w : Lawful y) where
           let c = formed b.typ b.effect b.formed in
           let same = one.1 c.0 b.effect c.1 c.2 in (
             below_of (y.read k.result) b.typ u (ap (λ (v : Row). y.read v.result) same ∙ sym c.3) r b.above,
-            w.within f b.effect g (a.least b.effect (subst (λ (v : Row). AllHave y s locals owner o.operands (map y.read v.operands) b.effect) (sym same) c.2)) b.within,
+            w.onward f b.effect g (a.least b.effect (subst (λ (v : Row). AllHave y s locals owner o.operands (map y.read v.operands) b.effect) (sym same) c.2)) b.within,
           );
     }
 
@@ -336,10 +336,10 @@ module _ (y : Reading) (w : Lawful y) where
       least = λ h d.
           let b = bare y w s locals owner (If q test first second) t h d in
           let c = b.formed in
-          w.within (union e (union f g)) b.effect h
-          (subst (λ v. y.Includes (union e (union f g)) v) (sym c.6)
-          (w.unions e (union f g) c.0 (union c.1 c.2) (l.least c.0 c.3)
-          (w.unions f g c.1 c.2 (m.least c.1 (raise_block first b.typ t c.1 b.above c.4)) (n.least c.2 (raise_block second b.typ t c.2 b.above c.5)))))
+          w.onward (union e (union f g)) b.effect h
+          (subst (λ v. y.Allows (union e (union f g)) v) (sym c.6)
+          (w.unite e (union f g) c.0 (union c.1 c.2) (l.least c.0 c.3)
+          (w.unite f g c.1 c.2 (m.least c.1 (raise_block first b.typ t c.1 b.above c.4)) (n.least c.2 (raise_block second b.typ t c.2 b.above c.5)))))
           b.within;
     }
 
@@ -349,8 +349,8 @@ module _ (y : Reading) (w : Lawful y) where
       least = λ h d.
           let c = block_bare y w s locals owner (Then x b) t h d in
           let k = c.formed in
-          w.within (union e f) c.effect h
-          (subst (λ v. y.Includes (union e f) v) (sym k.4) (w.unions e f k.0 k.1 (l.least k.0 k.2) (m.least k.1 (raise_block b c.typ t k.1 c.above k.3))))
+          w.onward (union e f) c.effect h
+          (subst (λ v. y.Allows (union e f) v) (sym k.4) (w.unite e f k.0 k.1 (l.least k.0 k.2) (m.least k.1 (raise_block b c.typ t k.1 c.above k.3))))
           c.within;
     }
 
@@ -362,9 +362,9 @@ module _ (y : Reading) (w : Lawful y) where
           let c = block_bare y w s locals owner (Val q n typ x b) t h d in
           let j = c.formed in
           let same = same_kind k j.0 (sym i ∙ j.3) in
-          w.within (union e f) c.effect h
-          (subst (λ u. y.Includes (union e f) u) (sym j.7)
-          (w.unions e f j.1 j.2 (l.least j.1 (subst (λ u. Has y s locals owner x u j.1) (sym same) j.5)) (m.least j.2 (raise_block b c.typ t j.2 c.above j.6))))
+          w.onward (union e f) c.effect h
+          (subst (λ u. y.Allows (union e f) u) (sym j.7)
+          (w.unite e f j.1 j.2 (l.least j.1 (subst (λ u. Has y s locals owner x u j.1) (sym same) j.5)) (m.least j.2 (raise_block b c.typ t j.2 c.above j.6))))
           c.within;
     }
       where

@@ -18,6 +18,7 @@ mod ExamplesGround
 mod ExamplesLines
 mod ExamplesLogger
 mod ExamplesMaker
+mod ExamplesMembers
 mod ExamplesOperators
 mod ExamplesOrder
 mod ExamplesParts
@@ -38,6 +39,7 @@ pub mod Narrowing
 pub mod Needs
 pub mod OneEnd
 pub mod OwnTypes
+pub mod Outside
 pub mod Passing
 pub mod Reaching
 pub mod Rereadings

@@ -3,6 +3,7 @@
 use Rattle.std.proofs.Common.{◌≡◌, ℕ, List, [], ◌∷◌, inl, inr, refl, ◌∙◌, ap, ap₂, subst, Bool as Truth, true, false, not, ◌&&◌, ◌||◌}
 use Rattle.wy_effects.specs.Members.{In, Within}
 use Rattle.wy_effects.proofs.Lists.{In-slice_get}
+use Rattle.wy_effects.specs.Bounds.{Bounds, IsUnder, by_member}
 use Rattle.wy_types.specs.declared.types.TypeRef.{TypeRef}
 use Rattle.wy_types.specs.declared.path.Part.{Part}
 use Rattle.wy_types.specs.declared.path.Part.TheVariants.{Parameter, Result}
@@ -145,9 +146,9 @@ module _ (methods : TypeRef → List (Signature TypeRef)) where
       unlike false x h = h
 
   -- all effects at a polarity are in a set
-  pub effects_are_within : (ms : List Mark) (t : TypeRef) (b : Truth) (e : List ℕ) → has_mark ms t true ≡ true → all_marked ms ms ≡ true → effects_in ms b e ≡ true → EffectsWithin TypeRef methods t b e
-  effects_are_within ms t b e k h c a i =
-      let q = i.2 in effects_in_is ms b e c i.0 (reached_marked ms t k h b i.0 i.1) q.0 q.1 a q.2
+  pub effects_are_within : (bounds : Bounds) (ms : List Mark) (t : TypeRef) (b : Truth) (e : List ℕ) → has_mark ms t true ≡ true → all_marked ms ms ≡ true → effects_in ms b e ≡ true → EffectsWithin TypeRef methods (IsUnder bounds) t b e
+  effects_are_within bounds ms t b e k h c a i =
+      let q = i.2 in by_member a (effects_in_is ms b e c i.0 (reached_marked ms t k h b i.0 i.1) q.0 q.1 a q.2)
 
   -- a set is in each effect at a polarity
   abbrev pub all_around : List (Signature TypeRef) → List ℕ → Truth
@@ -181,5 +182,5 @@ module _ (methods : TypeRef → List (Signature TypeRef)) where
       unlike true x h = h
       unlike false x h = h
 
-  pub is_safe_for : (ms : List Mark) (t : TypeRef) (b : Truth) (e : List ℕ) → has_mark ms t true ≡ true → all_marked ms ms ≡ true → safe_in ms b e ≡ true → IsSafe TypeRef methods t b e
-  is_safe_for ms t b e k h c u r m i = safe_in_is ms b e c u (reached_marked ms t k h b u r) m i
+  pub is_safe_for : (bounds : Bounds) (ms : List Mark) (t : TypeRef) (b : Truth) (e : List ℕ) → has_mark ms t true ≡ true → all_marked ms ms ≡ true → safe_in ms b e ≡ true → IsSafe TypeRef methods (IsUnder bounds) t b e
+  is_safe_for bounds ms t b e k h c u r m i a j = by_member a (safe_in_is ms b e c u (reached_marked ms t k h b u r) m i a j)

@@ -62,32 +62,32 @@ module _ (y : Reading) (w : Lawful y) (p : Program) (s : Scope) (least given : L
     pub record Narrowed (x : Value) (vals : List ℕ) (t : y.Kind) (f : List ℕ) : Type 0 where
       pub effect : List ℕ
       pub has : Has y s least owner x t effect
-      pub within : y.Includes effect f
+      pub within : y.Allows effect f
       pub narrower : (n : ℕ) → In n vals → Narrower n
 
     pub record AllNarrowed (xs : Values) (vals : List ℕ) (ts : List y.Kind) (f : List ℕ) : Type 0 where
       pub effect : List ℕ
       pub have : AllHave y s least owner xs ts effect
-      pub within : y.Includes effect f
+      pub within : y.Allows effect f
       pub narrower : (n : ℕ) → In n vals → Narrower n
 
     pub record BlockNarrowed (b : Block) (vals : List ℕ) (t : y.Kind) (f : List ℕ) : Type 0 where
       pub effect : List ℕ
       pub has : BlockHas y s least owner b t effect
-      pub within : y.Includes effect f
+      pub within : y.Allows effect f
       pub narrower : (n : ℕ) → In n vals → Narrower n
 
     lift : (x : Value) (vals : List ℕ) (u : y.Kind) (g : List ℕ) (b : Bare y w s given owner x u g) → Narrowed x vals b.typ b.effect → Narrowed x vals u g
-    lift x vals u g b n = record { effect = n.effect; has = raise y w s least owner x b.typ u n.effect b.above n.has; within = w.within n.effect b.effect g n.within b.within; narrower = n.narrower }
+    lift x vals u g b n = record { effect = n.effect; has = raise y w s least owner x b.typ u n.effect b.above n.has; within = w.onward n.effect b.effect g n.within b.within; narrower = n.narrower }
 
     lift_block : (x : Block) (vals : List ℕ) (u : y.Kind) (g : List ℕ) (b : BlockBare y w s given owner x u g) → BlockNarrowed x vals b.typ b.effect → BlockNarrowed x vals u g
-    lift_block x vals u g b n = record { effect = n.effect; has = raise_block y w s least owner x b.typ u n.effect b.above n.has; within = w.within n.effect b.effect g n.within b.within; narrower = n.narrower }
+    lift_block x vals u g b n = record { effect = n.effect; has = raise_block y w s least owner x b.typ u n.effect b.above n.has; within = w.onward n.effect b.effect g n.within b.within; narrower = n.narrower }
 
     either_vals : (xs ys : List ℕ) → ((n : ℕ) → In n xs → Narrower n) → ((n : ℕ) → In n ys → Narrower n) → (n : ℕ) → In n (xs ++ ys) → Narrower n
     either_vals xs ys f g n i = elim (In-cases n xs ys i) [ inl j ↦ f n j | inr j ↦ g n j ]
 
     leaf : (x : Value) (t : y.Kind) (f : List ℕ) → f ≡ [] → Has y s least owner x t [] → Narrowed x [] t f
-    leaf x t f e h = record { effect = []; has = h; within = subst (λ v. y.Includes [] v) (sym e) (w.same []); narrower = λ n i. absurd i }
+    leaf x t f e h = record { effect = []; has = h; within = subst (λ v. y.Allows [] v) (sym e) (w.allows [] [] (w.same [])); narrower = λ n i. absurd i }
 
     literal : (x : Expr) (k : TypeRef) (t : y.Kind) (f : List ℕ) → literal_type x ≡ Some k → t ≡ y.read k → f ≡ [] → Narrowed (Plain x) [] t f
     literal x k t f e h g = leaf (Plain x) t f g (record { derivation = T-Lit (expr_mark x); derives = (k, refl, e, h, refl) })
@@ -108,7 +108,7 @@ module _ (y : Reading) (w : Lawful y) (p : Program) (s : Scope) (least given : L
     none_narrowed [] f h = record {
       effect = [];
       have = record { derivations = no_derivations; derives = tt; effects = refl };
-      within = subst (λ v. y.Includes [] v) (sym (h.effects ∙ no_effect h.derivations h.derives)) (w.same []);
+      within = subst (λ v. y.Allows [] v) (sym (h.effects ∙ no_effect h.derivations h.derives)) (w.allows [] [] (w.same []));
       narrower = λ n i. absurd i;
     }
     none_narrowed (t ∷ ts) f h = absurd (nothing_left h.derivations t ts h.derives)
@@ -123,7 +123,7 @@ module _ (y : Reading) (w : Lawful y) (p : Program) (s : Scope) (least given : L
         record {
           effect = union a.effect b.effect;
           have = joined y w s least owner x xs t ts a.effect b.effect a.has b.have;
-          within = subst (λ v. y.Includes (union a.effect b.effect) v) (sym c.whole) (w.unions a.effect b.effect c.effect c.effects a.within b.within);
+          within = subst (λ v. y.Allows (union a.effect b.effect) v) (sym c.whole) (w.unite a.effect b.effect c.effect c.effects a.within b.within);
           narrower = either_vals us vs a.narrower b.narrower;
         }
 
@@ -151,11 +151,11 @@ module _ (y : Reading) (w : Lawful y) (p : Program) (s : Scope) (least given : L
       pub there : slice_get least n ≡ Some kind
       pub is_type : IsValType y s least owner typ x kind
       pub has : Has y s least owner x kind effect
-      pub within : y.Includes effect e
+      pub within : y.Allows effect e
       pub narrower : Narrower n
 
     pub settled : (n : ℕ) (typ : Option TypeRef) (x : Value) (k : y.Kind) (e : List ℕ) → slice_get given n ≡ Some k → IsValType y s given owner typ x k → ValSettles y s least owner n typ x →
-        (g : List ℕ) → Has y s least owner x k g → y.Includes g e → Settled n typ x e
+        (g : List ℕ) → Has y s least owner x k g → y.Allows g e → Settled n typ x e
     settled n None (If q test first second) k e i v l g h j = absurd v
     settled n None (Plain x) k e i v l g h j =
         let b = l.2.least k g h in
@@ -165,7 +165,7 @@ module _ (y : Reading) (w : Lawful y) (p : Program) (s : Scope) (least given : L
           there = l.3;
           is_type = tt;
           has = l.2.has;
-          within = w.within l.1 g e b.1 j;
+          within = w.onward l.1 g e b.1 j;
           narrower = λ u f. (l.0, l.3, inr (subst (λ v. IsBelow y l.0 v) (same_kind k u (sym i ∙ f)) b.0));
         }
       where
@@ -244,8 +244,8 @@ module _ (y : Reading) (w : Lawful y) (p : Program) (s : Scope) (least given : L
               derivation = T-Call q r.has.derivation c.0 r.effect n.have.derivations;
               derives = (c.2, refl, r.has.derives, c.5, c.6, n.have.derives, c.8, ap (λ v. union r.effect (union v c.2.effect)) n.have.effects);
             };
-            within = subst (λ v. y.Includes (union r.effect (union n.effect c.2.effect)) v) (sym c.9)
-                (w.unions r.effect (union n.effect c.2.effect) c.1 (union c.3 c.2.effect) r.within (w.unions n.effect c.2.effect c.3 c.2.effect n.within (w.same c.2.effect)));
+            within = subst (λ v. y.Allows (union r.effect (union n.effect c.2.effect)) v) (sym c.9)
+                (w.unite r.effect (union n.effect c.2.effect) c.1 (union c.3 c.2.effect) r.within (w.unite n.effect c.2.effect c.3 c.2.effect n.within (w.allows c.2.effect c.2.effect (w.same c.2.effect))));
             narrower = either_vals (expr_vals x) (values_vals xs) r.narrower n.narrower;
           })
       narrow_expr (New q l xs) seen fit ok ready t f h =
@@ -291,8 +291,8 @@ module _ (y : Reading) (w : Lawful y) (p : Program) (s : Scope) (least given : L
               derivation = T-If q l.has.derivation l.effect m.has.derivation m.effect n.has.derivation n.effect;
               derives = (refl, l.has.derives, m.has.derives, n.has.derives, refl);
             };
-            within = subst (λ v. y.Includes (union l.effect (union m.effect n.effect)) v) (sym c.6)
-                (w.unions l.effect (union m.effect n.effect) c.0 (union c.1 c.2) l.within (w.unions m.effect n.effect c.1 c.2 m.within n.within));
+            within = subst (λ v. y.Allows (union l.effect (union m.effect n.effect)) v) (sym c.6)
+                (w.unite l.effect (union m.effect n.effect) c.0 (union c.1 c.2) l.within (w.unite m.effect n.effect c.1 c.2 m.within n.within));
             narrower = either_vals (expr_vals test) (block_vals first ++ block_vals second) l.narrower (either_vals (block_vals first) (block_vals second) m.narrower n.narrower);
           })
 
@@ -314,7 +314,7 @@ module _ (y : Reading) (w : Lawful y) (p : Program) (s : Scope) (least given : L
           lift_block (Then x rest) (value_vals x ++ block_vals rest) t f b (record {
             effect = union l.effect m.effect;
             has = record { derivation = T-Seq (mark x) l.has.derivation l.effect m.has.derivation m.effect; derives = (refl, l.has.derives, m.has.derives, refl) };
-            within = subst (λ v. y.Includes (union l.effect m.effect) v) (sym c.4) (w.unions l.effect m.effect c.0 c.1 l.within m.within);
+            within = subst (λ v. y.Allows (union l.effect m.effect) v) (sym c.4) (w.unite l.effect m.effect c.0 c.1 l.within m.within);
             narrower = either_vals (value_vals x) (block_vals rest) l.narrower m.narrower;
           })
       narrow_block (Val q n typ x rest) seen fit ok ready t f h =
@@ -326,6 +326,6 @@ module _ (y : Reading) (w : Lawful y) (p : Program) (s : Scope) (least given : L
           lift_block (Val q n typ x rest) (n ∷ (value_vals x ++ block_vals rest)) t f b (record {
             effect = union v.effect m.effect;
             has = record { derivation = T-Val q v.has.derivation v.kind v.effect m.has.derivation m.effect; derives = (refl, v.there, v.is_type, v.has.derives, m.has.derives, refl) };
-            within = subst (λ u. y.Includes (union v.effect m.effect) u) (sym c.7) (w.unions v.effect m.effect c.1 c.2 v.within m.within);
+            within = subst (λ u. y.Allows (union v.effect m.effect) u) (sym c.7) (w.unite v.effect m.effect c.1 c.2 v.within m.within);
             narrower = λ k i. elim i [ inl e ↦ subst Narrower e v.narrower | inr j ↦ either_vals (value_vals x) (block_vals rest) l.narrower m.narrower k j ];
           })

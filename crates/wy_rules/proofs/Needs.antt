@@ -29,7 +29,7 @@ module _ (y : Reading) (w : Lawful y) where
     pub found : find_method name (y.methods t) ≡ Some method
     pub under : Under y w method n
 
-  covered : (t u : y.Kind) (b : IsBelow y t u) (name : List ℕ) (n : Signature y.Kind) (o : Option (Signature y.Kind)) → y.IsObject t → find_method name (y.methods t) ≡ o → HasCover y.Kind y.methods y.IsObject y.Includes b.pairs o n → HasUnder t name n
+  covered : (t u : y.Kind) (b : IsBelow y t u) (name : List ℕ) (n : Signature y.Kind) (o : Option (Signature y.Kind)) → y.IsObject t → find_method name (y.methods t) ≡ o → HasCover y.Kind y.methods y.IsObject y.Allows b.pairs o n → HasUnder t name n
   covered t u b name n None o e h = absurd h
   covered t u b name n (Some m) o e h = record { object = o; method = m; found = e; under = record { pairs = b.pairs; closed = b.closed; covers = h } }
 

@@ -6,6 +6,8 @@ use Rattle.wy_effects.specs.Members.{In}
 use Rattle.wy_effects.proofs.Lists.{In-slice_get}
 use Rattle.wy_types.specs.Program.{Program, Scope}
 use Rattle.wy_types.specs.Core.{IsCore, ScopeFits}
+use Rattle.wy_types.proofs.Arities.{core_in_range}
+use Rattle.wy_types.proofs.Bounding.{go_down}
 use Rattle.wy_rules.specs.Acceptance.{ScopeAccepted}
 use Rattle.wy_rules.specs.Nodes.{scope_nodes, lines_nodes}
 use Rattle.wy_rules.specs.Failing.{IsScopeFault, IsLineFaultFrom}
@@ -19,11 +21,11 @@ use Rattle.wy_rules.proofs.AlikeScopes.{scope_alike}
 use Rattle.wy_rules.proofs.AlikeLines.{lines_alike}
 
 pub one_scope_fault : OneScopeFault
-one_scope_fault p k s a b core e f g = one_fault p k s f.locals g.locals (scope_nodes s) (scope_alike p k s f.locals g.locals (core.scopes s (In-slice_get p.scopes k s e))) a b f.first g.first
+one_scope_fault p k s a b core e f g = one_fault p k s f.locals g.locals (scope_nodes s) (scope_alike p k s f.locals g.locals (go_down p (core_in_range p core) k) (core.scopes s (In-slice_get p.scopes k s e))) a b f.first g.first
 
 -- a scope that passes has no fault
 passing_scope_has_no_fault : (p : Program) (k : ℕ) (s : Scope) (b : Fault) → IsCore p → slice_get p.scopes k ≡ Some s → ScopePasses p k s → IsScopeFault p k s b → ⊥
-passing_scope_has_no_fault p k s b core e h g = passing_has_no_fault p k s h.locals g.locals (scope_nodes s) (scope_alike p k s h.locals g.locals (core.scopes s (In-slice_get p.scopes k s e))) h.nodes b g.first
+passing_scope_has_no_fault p k s b core e h g = passing_has_no_fault p k s h.locals g.locals (scope_nodes s) (scope_alike p k s h.locals g.locals (go_down p (core_in_range p core) k) (core.scopes s (In-slice_get p.scopes k s e))) h.nodes b g.first
 
 ------------------------------------------------------------
 -- The passes over the scopes

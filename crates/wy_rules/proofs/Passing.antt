@@ -1,5 +1,5 @@
 -- Where every node passes the program is accepted; and where it is accepted no line fails.
-use Rattle.std.proofs.Common.{◌≡◌, ℕ, suc, ◌+◌, List, [], ◌∷◌, ◌++◌, inl, inr, refl, subst, Option, Some, None, true, false, arith}
+use Rattle.std.proofs.Common.{◌≡◌, ℕ, suc, ◌+◌, List, [], ◌∷◌, ◌++◌, inl, inr, refl, subst, Option, Some, None, Bool as Truth, true, false, arith}
 use Rattle.std.specs.Prelude.{slice_get, if◌then◌else◌}
 use Rattle.wy_text.specs.declared.fault.Fault.{Fault}
 use Rattle.wy_text.specs.declared.fault.RuleName.TheVariants.{MPure}
@@ -12,9 +12,10 @@ use Rattle.wy_types.specs.declared.resolved.Origin.TheVariants.{Parameter, Grant
 use Rattle.wy_types.specs.declared.resolved.ScopeKind.{ScopeKind}
 use Rattle.wy_types.specs.declared.resolved.ScopeKind.TheVariants.{Pure, Resource, Plain, Program as Main}
 use Rattle.wy_types.specs.Program.{Program, Scope, Body, Start, Init, Run}
+use Rattle.wy_types.specs.Types.{is_plain}
 use Rattle.wy_rules.specs.Derivations.{BodyDerivation, T-Body, T-Body-Init}
 use Rattle.wy_rules.specs.Typing.{fields_of, field_types, DerivesStart, DerivesBodies, ScopeHolds}
-use Rattle.wy_rules.specs.Acceptance.{scope_reading, IsLine, PureHolds, SealHolds, LineHolds, ScopeAccepted}
+use Rattle.wy_rules.specs.Acceptance.{scope_reading, IsLine, PureHolds, SealHolds, DefinitionsRespect, MembersHold, AscriptionHolds, LineHolds, ScopeAccepted}
 use Rattle.wy_rules.specs.Nodes.{nothing, written, impure, written_spots, values_nodes, block_nodes, Node, node, start_nodes, body_nodes, bodies_nodes, var_nodes, impure_line, impure_lines, pure_nodes, seal_nodes, scope_nodes, line_nodes, lines_nodes}
 use Rattle.wy_rules.specs.Failing.{FirstFailing, AllPass, IsLineFaultFrom}
 use Rattle.wy_rules.specs.Judging.{PassingIsAccepted, AcceptedLinesHold}
@@ -74,7 +75,7 @@ module _ (p : Program) (k : ℕ) (s : Scope) (locals : List (scope_reading p k s
   pub start_holds : (st : Start) → AllPass p k s locals (start_nodes s st) → (d : BodyDerivation (scope_reading p k s).Kind) × DerivesStart (scope_reading p k s) s locals d st
   start_holds (Init values) h =
       let b = (right (values_nodes s None (written_spots (field_types s 0)) values) _ h).0.stands in
-      (T-Body-Init s.start_place b.1.derivations, (refl, b.1.derives, subst (λ v. (scope_reading p k s).Includes v ((scope_reading p k s).effect s.start_effect)) b.1.effects b.2))
+      (T-Body-Init s.start_place b.1.derivations, (refl, b.1.derives, subst (λ v. (scope_reading p k s).Allows v ((scope_reading p k s).effect s.start_effect)) b.1.effects b.2))
   start_holds (Run block) h =
       let b = (right (block_nodes s None (written Nothing) block) _ h).0.stands in
       (T-Body s.start_place b.1.derivation b.0, (refl, b.1.derives, b.2))
@@ -86,12 +87,17 @@ module _ (p : Program) (k : ℕ) (s : Scope) (locals : List (scope_reading p k s
       let r = bodies_hold bs (right (body_nodes s b) (bodies_nodes s bs) h) in
       (T-Body b.place c.1.derivation c.0 ∷ r.0, ((refl, c.1.derives, c.2), r.1))
 
-  seal_holds : (o : Option ℕ) → o ≡ s.ascribed → AllPass p k s locals (seal_nodes s o) → SealHolds (scope_reading p k s) s s.ascribed
-  seal_holds None e h = subst (SealHolds (scope_reading p k s) s) e tt
+  -- what is sealed at no type has no members to define
+  unsealed : (plain : Truth) → None ≡ s.ascribed → MembersHold p k s plain
+  unsealed true e = tt
+  unsealed false e = subst (DefinitionsRespect p k s) e tt
+
+  seal_holds : (o : Option ℕ) → o ≡ s.ascribed → AllPass p k s locals (seal_nodes s o) → AscriptionHolds p k s
+  seal_holds None e h = (subst (SealHolds (scope_reading p k s) s) e tt, unsealed (is_plain s.kind) e)
   seal_holds (Some d) e h = h.0.stands
 
   -- what is asked of a scope but for its lines
-  pub scope_holds : AllPass p k s locals (scope_nodes s) → PureHolds s.kind s × ScopeHolds (scope_reading p k s) s × SealHolds (scope_reading p k s) s s.ascribed
+  pub scope_holds : AllPass p k s locals (scope_nodes s) → PureHolds s.kind s × ScopeHolds (scope_reading p k s) s × AscriptionHolds p k s
   scope_holds h =
       let rest = right (pure_nodes s s.kind) (start_nodes s s.start ++ (bodies_nodes s s.bodies ++ seal_nodes s s.ascribed)) h in
       let others = right (start_nodes s s.start) (bodies_nodes s s.bodies ++ seal_nodes s s.ascribed) rest in

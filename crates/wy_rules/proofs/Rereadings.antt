@@ -3,19 +3,23 @@ use Rattle.std.proofs.Common.{◌≡◌, ℕ, List, [], map, refl, sym, Bool as 
 use Rattle.std.specs.Prelude.{slice_get}
 use Rattle.wy_effects.specs.Members.{Within}
 use Rattle.wy_effects.specs.EffSet.{AreSets, union, replace}
+use Rattle.wy_effects.specs.Bounds.{Bounds, Respects}
 use Rattle.wy_effects.proofs.Replacing.{Within-replace}
-use Rattle.wy_effects.proofs.SetLaws.{In-union-left, In-union-right, Within-union}
+use Rattle.wy_effects.proofs.SetLaws.{In-union-left, In-union-right, Within-union, Within-unions}
+use Rattle.wy_effects.proofs.Ordering.{same_within, onward_within, unions_within, replaced_within}
 use Rattle.wy_types.specs.declared.types.TypeRef.{TypeRef}
 use Rattle.wy_types.specs.declared.types.TypeRef.TheVariants.{Int, Bool, Text, Unit as Nothing, Named, At, Own}
 use Rattle.wy_types.specs.Program.{Program}
 use Rattle.wy_types.specs.Signature.{Signature, mapped_signature}
 use Rattle.wy_types.specs.Types.{IsObject, substituted, annotated, erased, declared_methods, named_methods, bounded_methods, scope_is_plain, methods_of}
+use Rattle.wy_types.specs.Bounds.{bounds_of}
+use Rattle.wy_types.proofs.Composing.{transitive}
+use Rattle.wy_types.proofs.Deciding.{decide_type}
 use Rattle.wy_rules.specs.Tables.{replaced_methods, erased_methods, retyped_methods}
 use Rattle.wy_rules.specs.Readings.{annotated_reading, plain_reading, replaced_reading, erased_reading, retyped_reading}
 use Rattle.wy_rules.specs.Rereading.{Erasure, Substitution, Retyping}
 use Rattle.wy_rules.proofs.Agreeing.{map-after, mapped-after, object-substituted, substituted-object, replaced_tables_agree, transitive_over_tables}
 use Rattle.wy_rules.proofs.Carrying.{ReadsOn, scope_carried}
-use Rattle.wy_effects.proofs.SetLaws.{Within-unions}
 
 ------------------------------------------------------------
 -- Substitution
@@ -26,8 +30,8 @@ union-replace by e f =
     (Within-replace by e (union e f) (λ a i. In-union-left a e f i))
     (Within-replace by f (union e f) (λ a i. In-union-right a e f i))
 
-replaced_reads_on : (p : Program) (scope : ℕ) (by : List (List ℕ)) → AreSets 512 by → ReadsOn (annotated_reading p scope) (replaced_reading p scope by)
-replaced_reads_on p scope by w = record {
+replaced_reads_on : (p : Program) (scope : ℕ) (by : List (List ℕ)) (bounds : Bounds) → AreSets 512 by → Respects (bounds_of p scope) bounds by → ReadsOn (annotated_reading p scope) (replaced_reading p scope by bounds)
+replaced_reads_on p scope by bounds w r = record {
   kind = substituted by;
   effect = replace by;
   read = λ t. refl;
@@ -35,6 +39,7 @@ replaced_reads_on p scope by w = record {
   object = object-substituted by;
   object_before = substituted-object by;
   includes = Within-replace by;
+  allows = replaced_within (bounds_of p scope) bounds by r;
   nothing = λ e a i. absurd i;
   unions = union-replace by;
   declared = λ e a i. i;
@@ -42,12 +47,15 @@ replaced_reads_on p scope by w = record {
     same = λ e a i. i;
     within = λ e f g v u a i. u a (v a i);
     unions = λ e f g h i j. Within-unions e f g h i j;
-    below = λ a b c. (transitive_over_tables (replaced_methods p scope by) a b c).0;
+    allows = same_within bounds;
+    onward = onward_within bounds;
+    unite = unions_within bounds;
+    below = λ a b c. (transitive_over_tables bounds (replaced_methods p scope by) a b c).0;
   };
 }
 
 pub substitution : Substitution
-substitution p scope s by w h = scope_carried (annotated_reading p scope) (replaced_reading p scope by) (replaced_reads_on p scope by w) s h
+substitution p scope s by bounds w r h = scope_carried (annotated_reading p scope) (replaced_reading p scope by bounds) (replaced_reads_on p scope by bounds w r) s h
 
 ------------------------------------------------------------
 -- Erasure
@@ -124,10 +132,11 @@ erased_reads_on p scope = record {
   object = object-erased;
   object_before = erased-object;
   includes = λ e f h. tt;
+  allows = λ e f h. tt;
   nothing = λ e. tt;
   unions = λ e f. tt;
   declared = λ e. tt;
-  lawful = record { same = λ e. tt; within = λ e f g v u. tt; unions = λ e f g h i j. tt; below = λ a b c. (transitive_over_tables (erased_methods p scope) a b c).1 };
+  lawful = record { same = λ e. tt; within = λ e f g v u. tt; unions = λ e f g h i j. tt; allows = λ e f h. tt; onward = λ e f g v u. tt; unite = λ e f g h i j. tt; below = λ a b c. (transitive_over_tables [] (erased_methods p scope) a b c).1 };
 }
 
 pub erasure : Erasure
@@ -209,6 +218,7 @@ retyped_reads_on p scope e = record {
   object = object-annotated e;
   object_before = annotated-object e;
   includes = λ f g h a i. i;
+  allows = λ f g h a i. i;
   nothing = λ f a i. absurd i;
   unions = λ f g. Within-union e e e (λ a i. i) (λ a i. i);
   declared = λ f a i. i;
@@ -216,7 +226,10 @@ retyped_reads_on p scope e = record {
     same = λ f a i. i;
     within = λ f g h v u a i. u a (v a i);
     unions = λ f g h k i j. Within-unions f g h k i j;
-    below = λ a b c. (transitive_over_tables (retyped_methods p scope e) a b c).0;
+    allows = λ f g h. h;
+    onward = λ f g h v u a i. u a (v a i);
+    unite = λ f g h k i j. Within-unions f g h k i j;
+    below = transitive TypeRef decide_type (retyped_methods p scope e) IsObject Within (λ f g h v w x i. w x (v x i));
   };
 }
 

@@ -1,5 +1,5 @@
 -- Short forms of programs, for the worked examples.
-use Rattle.std.specs.Prelude.{codes, ℕ, List, [], ◌∷◌, ◌++◌, map, Some, None, true, false}
+use Rattle.std.specs.Prelude.{codes, ℕ, List, [], ◌∷◌, ◌++◌, map, length, replicate, Some, None, true, false}
 use Rattle.wy_text.specs.declared.fault.Place.{Place}
 use Rattle.wy_text.specs.declared.fault.AtomName.{AtomName}
 use Rattle.wy_effects.specs.AtomTable.{atom_name}
@@ -57,7 +57,7 @@ method name params effect result = record { name = name; params = params; effect
 
 -- a type that is declared: its abstract members, its methods
 abbrev pub declaration : List ℕ → List (List ℕ) → List Method → TypeDecl
-declaration name members methods = record { name = name; members = members; defined = []; methods = methods }
+declaration name members methods = record { name = name; members = members; bounds = replicate (length members) None; defined = []; methods = methods }
 
 abbrev pub own : Place → List ℕ → TypeRef → Origin → OwnName
 own place name typ origin = record { name = name; place = place; typ = typ; origin = origin }
@@ -106,6 +106,7 @@ module_of h literals start effect values bodies = record {
   name = h.name;
   place = h.place;
   atoms = h.atoms;
+  bounds = replicate (length h.atoms) None;
   names = h.names;
   ascribed = Some h.sealed;
   definitions = h.definitions;
@@ -123,6 +124,7 @@ main_of atoms names literals start effect block bodies = record {
   name = codes "main";
   place = at 1 1;
   atoms = atoms;
+  bounds = replicate (length atoms) None;
   names = names;
   ascribed = None;
   definitions = [];

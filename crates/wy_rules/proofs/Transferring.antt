@@ -3,6 +3,7 @@ use Rattle.std.proofs.Common.{◌≡◌, ℕ, ◌≤◌, List, [], ◌∷◌, �
 use Rattle.wy_effects.specs.Members.{In, Within, Apart}
 use Rattle.wy_effects.proofs.Lists.{In-left, In-right, In-cases, length-apart}
 use Rattle.wy_effects.proofs.Closure.{Closes, closure}
+use Rattle.wy_effects.specs.Bounds.{Bounds, IsUnder, IsWithin}
 use Rattle.wy_types.specs.declared.types.TypeRef.{TypeRef}
 use Rattle.wy_types.specs.declared.types.TypeRef.TheVariants.{Int, Bool, Text, Unit as Nothing, Named, At, Own}
 use Rattle.wy_types.specs.declared.resolved.Field.{Field}
@@ -30,6 +31,7 @@ use Rattle.wy_types.specs.declared.code.Binding.TheVariants as to
 use Rattle.std.specs.Prelude.{if◌then◌else◌}
 use Rattle.wy_rules.specs.Typing.{IsValType, binding_type, field_at, if_mutable, field_types, var_field, Derives, DerivesAll, DerivesBlock, DerivesStart, DerivesBodies, ScopeHolds}
 use Rattle.wy_types.specs.Core.{ScopeFits}
+use Rattle.wy_types.specs.Bounds.{bounds_of}
 use Rattle.wy_rules.specs.Acceptance.{reading_of}
 use Rattle.wy_rules.specs.Canonical.{same_type, canonical_locals, canonical_start, canonical_body}
 use Rattle.wy_rules.proofs.Forms.{Lawful}
@@ -82,22 +84,28 @@ in_zip ps qs [] (b ∷ zs) h f = absurd h
 in_zip ps qs (a ∷ xs) [] h f = absurd h
 in_zip ps qs (a ∷ xs) (b ∷ zs) h f = (f (b, a) (inl refl), in_zip ps qs xs zs h.1 (λ q i. f q (inr i)))
 
-abbrev over : (TypeRef → List (Signature TypeRef)) → (List ℕ → List ℕ → Type 0) → Reading
-over m Inc = record { Kind = TypeRef; read = λ t. t; effect = λ e. e; methods = m; IsObject = IsObject; Includes = Inc }
+-- the tests of effects of a reading
+pub record Tests : Type 1 where
+  pub Includes : List ℕ → List ℕ → Type 0
+  pub Allows : List ℕ → List ℕ → Type 0
+  pub Under : List ℕ → ℕ → Type 0
 
-module _ (m n : TypeRef → List (Signature TypeRef)) (Inc : List ℕ → List ℕ → Type 0) (s : Scope) (P : TypeRef → Type 0) (c : IsKept (over m Inc) s P)
+abbrev over : (TypeRef → List (Signature TypeRef)) → Tests → Reading
+over m Inc = record { Kind = TypeRef; read = λ t. t; effect = λ e. e; methods = m; IsObject = IsObject; Includes = Inc.Includes; Allows = Inc.Allows; Under = Inc.Under }
+
+module _ (m n : TypeRef → List (Signature TypeRef)) (Inc : Tests) (s : Scope) (P : TypeRef → Type 0) (c : IsKept (over m Inc) s P)
     (agree : (t : TypeRef) → P t → m t ≡ n t) (bases : (t : TypeRef) → (IsObject t → ⊥) → m t ≡ []) where
   ------------------------------------------------------------
   -- Subtyping
 
-  module _ (ps : List Two) (closed : (q : Two) → In {X = Two} q ps → IsClosed TypeRef m IsObject Inc ps q) where
+  module _ (ps : List Two) (closed : (q : Two) → In {X = Two} q ps → IsClosed TypeRef m IsObject Inc.Allows ps q) where
     abbrev Kept : Two → Type 0
     Kept q = In {X = Two} q ps × P q.0 × P q.1
 
     abbrev next : Two → List Two
     next q = asks (m q.0) (m q.1)
 
-    asked_kept : (q v : Two) → Kept q → (r : Signature TypeRef) → In r (m q.1) → (o : Option (Signature TypeRef)) → find_method r.name (m q.0) ≡ o → HasCover TypeRef m IsObject Inc ps o r → In {X = Two} v (ask_one o r) → Kept v
+    asked_kept : (q v : Two) → Kept q → (r : Signature TypeRef) → In r (m q.1) → (o : Option (Signature TypeRef)) → find_method r.name (m q.0) ≡ o → HasCover TypeRef m IsObject Inc.Allows ps o r → In {X = Two} v (ask_one o r) → Kept v
     asked_kept q v k r j None e h i = absurd h
     asked_kept q v k r j (Some l) e h (inl f) =
         let Q : Two → Type 0 = Kept in
@@ -118,11 +126,11 @@ module _ (m n : TypeRef → List (Signature TypeRef)) (Inc : List ℕ → List �
     all_of : (q : Two) → Kept q → Closes Two next Kept [] (q ∷ [])
     all_of q k = closure Two (decide_pair decide_type decide_type) next Kept goes_on (length ps) few q k
 
-    cover_over : (qs : List Two) (q : Two) (r : Signature TypeRef) (o : Option (Signature TypeRef)) → ((v : Two) → In {X = Two} v (ask_one o r) → In {X = Two} v qs) → HasCover TypeRef m IsObject Inc ps o r → HasCover TypeRef n IsObject Inc qs o r
+    cover_over : (qs : List Two) (q : Two) (r : Signature TypeRef) (o : Option (Signature TypeRef)) → ((v : Two) → In {X = Two} v (ask_one o r) → In {X = Two} v qs) → HasCover TypeRef m IsObject Inc.Allows ps o r → HasCover TypeRef n IsObject Inc.Allows qs o r
     cover_over qs q r None f h = absurd h
     cover_over qs q r (Some l) f h = record { params = in_zip ps qs l.params r.params h.params (λ v i. f v (inr i)); effect = h.effect; result = f (l.result, r.result) (inl refl) }
 
-    closed_over : (qs : List Two) → ((q : Two) → In {X = Two} q qs → Kept q) → ((q : Two) → In {X = Two} q qs → Within {X = Two} (next q) qs) → (q : Two) → In {X = Two} q qs → IsClosed TypeRef n IsObject Inc qs q
+    closed_over : (qs : List Two) → ((q : Two) → In {X = Two} q qs → Kept q) → ((q : Two) → In {X = Two} q qs → Within {X = Two} (next q) qs) → (q : Two) → In {X = Two} q qs → IsClosed TypeRef n IsObject Inc.Allows qs q
     closed_over qs each going q i =
         let k = each q i in
         elim (closed q k.0) [
@@ -132,7 +140,7 @@ module _ (m n : TypeRef → List (Signature TypeRef)) (Inc : List ℕ → List �
             object.1,
             λ r j.
                 let j2 = subst (λ rs. In r rs) (sym (agree q.1 k.2)) j in
-                subst (λ ls. HasCover TypeRef n IsObject Inc qs (find_method r.name ls) r) (agree q.0 k.1)
+                subst (λ ls. HasCover TypeRef n IsObject Inc.Allows qs (find_method r.name ls) r) (agree q.0 k.1)
                 (cover_over qs q r (find_method r.name (m q.0)) (λ v l. going q i v (of_asked (m q.0) (m q.1) r v j2 l)) (object.2 r j2)),
           )
         ]
@@ -316,7 +324,7 @@ each_kept : (P : TypeRef → Type 0) (ts : List TypeRef) → Each P (map (λ t. 
 each_kept P [] h = tt
 each_kept P (t ∷ ts) h = (h.0, each_kept P ts h.1)
 
-transferred : (m n : TypeRef → List (Signature TypeRef)) (Inc : List ℕ → List ℕ → Type 0) (w : Lawful (over m Inc)) (z : Exact (over m Inc) same_type) (p : Program) (s : Scope) → ScopeFits p s →
+transferred : (m n : TypeRef → List (Signature TypeRef)) (Inc : Tests) (w : Lawful (over m Inc)) (z : Exact (over m Inc) same_type) (p : Program) (s : Scope) → ScopeFits p s →
     ((t : TypeRef) → IsReached (over m Inc) s t → m t ≡ n t) → ((t : TypeRef) → (IsObject t → ⊥) → m t ≡ []) → ScopeHolds (over m Inc) s → ScopeHolds (over n Inc) s
 transferred m n Inc w z p s fits agree bases h =
     let y = over m Inc in
@@ -345,9 +353,17 @@ base_methods p k (Named d es) o = absurd (o tt)
 base_methods p k (At d e) o = absurd (o tt)
 base_methods p k (Own l) o = absurd (o tt)
 
-transferred_in : (p other : Program) (k : ℕ) (s : Scope) (plain : Truth) → ScopeFits p s → AgreesIn p other k s plain → ScopeHolds (reading_of p k plain) s → ScopeHolds (reading_of other k plain) s
-transferred_in p other k s true fits agree h = transferred (methods_of p k) (methods_of other k) AnyEffect (plain_lawful p k) (kinds_exact p k true) p s fits agree (base_methods p k) h
-transferred_in p other k s false fits agree h = transferred (methods_of p k) (methods_of other k) Within (annotated_lawful p k) (kinds_exact p k false) p s fits agree (base_methods p k) h
+abbrev plain_tests : Tests
+plain_tests = record { Includes = AnyEffect; Allows = AnyEffect; Under = λ f a. Unit {0} }
+
+abbrev tests_over : Bounds → Tests
+tests_over bounds = record { Includes = Within; Allows = IsWithin bounds; Under = IsUnder bounds }
+
+transferred_in : (p other : Program) (k : ℕ) (s : Scope) (plain : Truth) → ScopeFits p s → bounds_of p k ≡ bounds_of other k → AgreesIn p other k s plain → ScopeHolds (reading_of p k plain) s → ScopeHolds (reading_of other k plain) s
+transferred_in p other k s true fits same agree h = transferred (methods_of p k) (methods_of other k) plain_tests (plain_lawful p k) (kinds_exact p k true) p s fits agree (base_methods p k) h
+transferred_in p other k s false fits same agree h =
+    subst (λ b. ScopeHolds (over (methods_of other k) (tests_over b)) s) same
+    (transferred (methods_of p k) (methods_of other k) (tests_over (bounds_of p k)) (annotated_lawful p k) (kinds_exact p k false) p s fits agree (base_methods p k) h)
 
 pub scopes_hold_where_methods_agree : ScopesHoldWhereMethodsAgree
-scopes_hold_where_methods_agree p other k s fits agree h = transferred_in p other k s (is_plain s.kind) fits agree h
+scopes_hold_where_methods_agree p other k s fits same agree h = transferred_in p other k s (is_plain s.kind) fits same agree h

@@ -12,6 +12,7 @@ use Rattle.wy_types.specs.Signature.{Signature, mapped_signature}
 use Rattle.wy_types.specs.Types.{IsObject, is_plain, scope_is_plain, substituted, annotated, erased, signature, declared_methods, named_methods, methods_of_owner, scope_bodies, methods_of}
 use Rattle.wy_rules.specs.Readings.{Reading}
 use Rattle.wy_rules.specs.Reached.{IsReached, of_number, of_truth, of_text, of_nothing, of_own, of_field, of_parameter, of_answer, of_name, of_start, of_body, of_argument, of_result}
+use Rattle.wy_types.specs.Bounds.{scope_bounds}
 use Rattle.wy_rules.specs.Transfer.{AgreesIn, NamesNot, WritesNot, DiffersAt, ScopesHoldWithoutType}
 use Rattle.wy_rules.proofs.OwnTypes.{own_is}
 use Rattle.wy_rules.proofs.Transferring.{scopes_hold_where_methods_agree}
@@ -79,24 +80,24 @@ module _ (i : ℕ) (p other : Program) (k : ℕ) (s : Scope) (w : DiffersAt i p 
   methods_not (At d e) n m j = declared_not (annotated e) (λ f. e) (at_not e) d n (slice_get p.declarations d) refl m j
   methods_not (Own l) n m j = own_not l s.bodies (λ b z. (writes.params b z, writes.results b z)) m (subst (λ o. In m (methods_of_owner l (scope_bodies o))) at j)
 
-  abbrev over : (List ℕ → List ℕ → Type 0) → Reading
-  over Inc = record { Kind = TypeRef; read = λ t. t; effect = λ e. e; methods = methods_of p k; IsObject = IsObject; Includes = Inc }
+  abbrev over : (Includes Allows : List ℕ → List ℕ → Type 0) → (Under : List ℕ → ℕ → Type 0) → Reading
+  over Includes Allows Under = record { Kind = TypeRef; read = λ t. t; effect = λ e. e; methods = methods_of p k; IsObject = IsObject; Includes = Includes; Allows = Allows; Under = Under }
 
   -- no reached type is the one in which the programs differ
-  pub reached_not : (Inc : List ℕ → List ℕ → Type 0) (t : TypeRef) → IsReached (over Inc) s t → NamesNot i t
-  reached_not Inc t of_number = tt
-  reached_not Inc t of_truth = tt
-  reached_not Inc t of_text = tt
-  reached_not Inc t of_nothing = tt
-  reached_not Inc t (of_own u j) = (let r = own_is s.kind (length s.literals) u j in subst (NamesNot i) r.2 tt)
-  reached_not Inc t (of_field l u j) = writes.fields l u j
-  reached_not Inc t (of_parameter b j u l) = writes.params b j u l
-  reached_not Inc t (of_answer b j) = writes.results b j
-  reached_not Inc t (of_name n j) = writes.names n j
-  reached_not Inc t (of_start u j) = writes.start u j
-  reached_not Inc t (of_body b j u l) = writes.bodies b j u l
-  reached_not Inc t (of_argument u h m j v l) = (methods_not u (reached_not Inc u h) m j).0 v l
-  reached_not Inc t (of_result u h m j) = (methods_not u (reached_not Inc u h) m j).1
+  pub reached_not : (Includes Allows : List ℕ → List ℕ → Type 0) (Under : List ℕ → ℕ → Type 0) (t : TypeRef) → IsReached (over Includes Allows Under) s t → NamesNot i t
+  reached_not Includes Allows Under t of_number = tt
+  reached_not Includes Allows Under t of_truth = tt
+  reached_not Includes Allows Under t of_text = tt
+  reached_not Includes Allows Under t of_nothing = tt
+  reached_not Includes Allows Under t (of_own u j) = (let r = own_is s.kind (length s.literals) u j in subst (NamesNot i) r.2 tt)
+  reached_not Includes Allows Under t (of_field l u j) = writes.fields l u j
+  reached_not Includes Allows Under t (of_parameter b j u l) = writes.params b j u l
+  reached_not Includes Allows Under t (of_answer b j) = writes.results b j
+  reached_not Includes Allows Under t (of_name n j) = writes.names n j
+  reached_not Includes Allows Under t (of_start u j) = writes.start u j
+  reached_not Includes Allows Under t (of_body b j u l) = writes.bodies b j u l
+  reached_not Includes Allows Under t (of_argument u h m j v l) = (methods_not u (reached_not Includes Allows Under u h) m j).0 v l
+  reached_not Includes Allows Under t (of_result u h m j) = (methods_not u (reached_not Includes Allows Under u h) m j).1
 
   agree : (t : TypeRef) → NamesNot i t → methods_of p k t ≡ methods_of other k t
   agree Int n = refl
@@ -109,8 +110,8 @@ module _ (i : ℕ) (p other : Program) (k : ℕ) (s : Scope) (w : DiffersAt i p 
   agree (Own l) n = ap (λ ss. methods_of_owner l (scope_bodies (slice_get ss k))) w.scopes
 
   agrees_in : (plain : Truth) → AgreesIn p other k s plain
-  agrees_in true = λ t r. agree t (reached_not _ t r)
-  agrees_in false = λ t r. agree t (reached_not _ t r)
+  agrees_in true = λ t r. agree t (reached_not _ _ _ t r)
+  agrees_in false = λ t r. agree t (reached_not _ _ _ t r)
 
 pub scopes_hold_without_type : ScopesHoldWithoutType
-scopes_hold_without_type i p other k s w at fits writes h = scopes_hold_where_methods_agree p other k s fits (agrees_in i p other k s w at writes (is_plain s.kind)) h
+scopes_hold_without_type i p other k s w at fits writes h = scopes_hold_where_methods_agree p other k s fits (ap (λ l. scope_bounds (slice_get l k)) w.scopes) (agrees_in i p other k s w at writes (is_plain s.kind)) h

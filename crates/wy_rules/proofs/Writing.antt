@@ -160,7 +160,7 @@ module _ (y : Reading) (w : Lawful y) (same : y.Kind → y.Kind → Truth) (z : 
     pub object : y.IsObject k
     pub method : Signature y.Kind
     pub found : find_method name (y.methods k) ≡ Some method
-    pub effect : y.Includes method.effect m.effect
+    pub effect : y.Allows method.effect m.effect
     pub result : Above y method.result m.result
     pub arguments : (s : Scope) (locals : List y.Kind) (owner : Option ℕ) (xs : Values) (f : List ℕ) → AllHave y s locals owner xs m.params f → AllHave y s locals owner xs method.params f
 
@@ -169,7 +169,7 @@ module _ (y : Reading) (w : Lawful y) (same : y.Kind → y.Kind → Truth) (z : 
     object = subst y.IsObject (sym e) o;
     method = m;
     found = ap (λ v. find_method name (y.methods v)) e ∙ f;
-    effect = w.same m.effect;
+    effect = w.allows m.effect m.effect (w.same m.effect);
     result = inl refl;
     arguments = λ s locals owner xs g h. h;
   }
@@ -207,29 +207,29 @@ module _ (y : Reading) (w : Lawful y) (same : y.Kind → y.Kind → Truth) (z : 
       pub record Best (m : Typed y.Kind) (x : Value) (vals : List ℕ) (t : y.Kind) (f : List ℕ) : Type 0 where
         pub derives : Derives y s least owner m.derivation x m.typ m.effect
         pub above : Above y m.typ t
-        pub within : y.Includes m.effect f
+        pub within : y.Allows m.effect f
         pub narrower : (n : ℕ) → In n vals → Narrower y w p s least given n
 
       pub record BestBlock (m : TypedBlock y.Kind) (b : Block) (vals : List ℕ) (t : y.Kind) (f : List ℕ) : Type 0 where
         pub derives : DerivesBlock y s least owner m.derivation b m.typ m.effect
         pub above : Above y m.typ t
-        pub within : y.Includes m.effect f
+        pub within : y.Allows m.effect f
         pub narrower : (n : ℕ) → In n vals → Narrower y w p s least given n
 
       -- .. at a type
       pub record BestAt (d : Derivation y.Kind) (e : List ℕ) (x : Value) (vals : List ℕ) (t : y.Kind) (f : List ℕ) : Type 0 where
         pub derives : Derives y s least owner d x t e
-        pub within : y.Includes e f
+        pub within : y.Allows e f
         pub narrower : (n : ℕ) → In n vals → Narrower y w p s least given n
 
       pub record BestBlockAt (d : BlockDerivation y.Kind) (e : List ℕ) (b : Block) (vals : List ℕ) (t : y.Kind) (f : List ℕ) : Type 0 where
         pub derives : DerivesBlock y s least owner d b t e
-        pub within : y.Includes e f
+        pub within : y.Allows e f
         pub narrower : (n : ℕ) → In n vals → Narrower y w p s least given n
 
       pub record BestAll (ds : Derivations y.Kind) (xs : Values) (vals : List ℕ) (ts : List y.Kind) (f : List ℕ) : Type 0 where
         pub derives : DerivesAll y s least owner ds xs ts
-        pub within : y.Includes (effects_of ds) f
+        pub within : y.Allows (effects_of ds) f
         pub narrower : (n : ℕ) → In n vals → Narrower y w p s least given n
 
       either_vals : (xs ys : List ℕ) → ((n : ℕ) → In n xs → Narrower y w p s least given n) → ((n : ℕ) → In n ys → Narrower y w p s least given n) → (n : ℕ) → In n (xs ++ ys) → Narrower y w p s least given n
@@ -257,13 +257,13 @@ module _ (y : Reading) (w : Lawful y) (same : y.Kind → y.Kind → Truth) (z : 
 
       -- from what T-Sub was taken off
       finish : (m : Typed y.Kind) (x : Value) (vals : List ℕ) (t : y.Kind) (f : List ℕ) (b : Bare y w s given owner x t f) → Best m x vals b.typ b.effect → Best m x vals t f
-      finish m x vals t f b h = record { derives = h.derives; above = above_above m.typ b.typ t h.above b.above; within = w.within m.effect b.effect f h.within b.within; narrower = h.narrower }
+      finish m x vals t f b h = record { derives = h.derives; above = above_above m.typ b.typ t h.above b.above; within = w.onward m.effect b.effect f h.within b.within; narrower = h.narrower }
 
       finish_block : (m : TypedBlock y.Kind) (x : Block) (vals : List ℕ) (t : y.Kind) (f : List ℕ) (b : BlockBare y w s given owner x t f) → BestBlock m x vals t b.effect → BestBlock m x vals t f
-      finish_block m x vals t f b h = record { derives = h.derives; above = h.above; within = w.within m.effect b.effect f h.within b.within; narrower = h.narrower }
+      finish_block m x vals t f b h = record { derives = h.derives; above = h.above; within = w.onward m.effect b.effect f h.within b.within; narrower = h.narrower }
 
-      none_within : (f : List ℕ) → f ≡ [] → y.Includes [] f
-      none_within f e = subst (λ v. y.Includes [] v) (sym e) (w.same [])
+      none_within : (f : List ℕ) → f ≡ [] → y.Allows [] f
+      none_within f e = subst (λ v. y.Allows [] v) (sym e) (w.allows [] [] (w.same []))
 
       -- values in their order
       nothing_left : (ds : Derivations y.Kind) (t : y.Kind) (ts : List y.Kind) → DerivesAll y s given owner ds none (t ∷ ts) → ⊥
@@ -291,7 +291,7 @@ module _ (y : Reading) (w : Lawful y) (same : y.Kind → y.Kind → Truth) (z : 
           let b = all c.effects c.others in
           record {
             derives = (a.derives, b.derives);
-            within = subst (λ v. y.Includes (union e (effects_of ds)) v) (sym c.whole) (w.unions e (effects_of ds) c.effect c.effects a.within b.within);
+            within = subst (λ v. y.Allows (union e (effects_of ds)) v) (sym c.whole) (w.unite e (effects_of ds) c.effect c.effects a.within b.within);
             narrower = either_vals us vs a.narrower b.narrower;
           }
 
@@ -356,7 +356,7 @@ module _ (y : Reading) (w : Lawful y) (same : y.Kind → y.Kind → Truth) (z : 
 
       -- a leaf, which has no effect
       leaf : (x : Expr) (k t : y.Kind) (f : List ℕ) (m : Typed y.Kind) → m.effect ≡ [] → Derives y s least owner m.derivation (Plain x) m.typ m.effect → Above y m.typ t → f ≡ [] → Best m (Plain x) [] t f
-      leaf x k t f m n d a e = record { derives = d; above = a; within = subst (λ v. y.Includes v f) (sym n) (none_within f e); narrower = λ j i. absurd i }
+      leaf x k t f m n d a e = record { derives = d; above = a; within = subst (λ v. y.Allows v f) (sym n) (none_within f e); narrower = λ j i. absurd i }
 
       -- an operation, once its operands are written
       best_operation : (x : Expr) (vals : List ℕ) (t : y.Kind) (f : List ℕ) (rows : List Row) (xs : Values) (r a : Row) (ds : Derivations y.Kind) →
@@ -464,8 +464,8 @@ module _ (y : Reading) (w : Lawful y) (same : y.Kind → y.Kind → Truth) (z : 
             finish (canonical_expr y same s least owner (Call q x name xs)) (Plain (Call q x name xs)) (expr_vals x ++ values_vals xs) t f b (record {
               derives = (g.method, refl, r.derives, g.object, g.found, subst (λ us. DerivesAll y s least owner ds xs us) params n.derives, ap (method_result y) g.found, ap (λ v. union m.effect (union (effects_of ds) v)) e);
               above = subst (λ u. Above y u b.typ) (sym (ap (method_result y) g.found)) (subst (λ u. Above y g.method.result u) (sym c.8) g.result);
-              within = subst (λ v. y.Includes (union m.effect (union (effects_of ds) (method_effect y o))) v) (sym c.9)
-                  (w.unions m.effect (union (effects_of ds) (method_effect y o)) c.1 (union c.3 c.2.effect) r.within (w.unions (effects_of ds) (method_effect y o) c.3 c.2.effect n.within (subst (λ v. y.Includes v c.2.effect) (sym e) g.effect)));
+              within = subst (λ v. y.Allows (union m.effect (union (effects_of ds) (method_effect y o))) v) (sym c.9)
+                  (w.unite m.effect (union (effects_of ds) (method_effect y o)) c.1 (union c.3 c.2.effect) r.within (w.unite (effects_of ds) (method_effect y o) c.3 c.2.effect n.within (subst (λ v. y.Allows v c.2.effect) (sym e) g.effect)));
               narrower = either_vals (expr_vals x) (values_vals xs) r.narrower n.narrower;
             })
         best_expr (New q l xs) seen fit ok ready t f h =
@@ -507,8 +507,8 @@ module _ (y : Reading) (w : Lawful y) (same : y.Kind → y.Kind → Truth) (z : 
             record {
               derives = (refl, l.derives, l1.derives, l2.derives, refl);
               above = inl refl;
-              within = w.within (union m.effect (union m1.effect m2.effect)) b.effect f (subst (λ v. y.Includes (union m.effect (union m1.effect m2.effect)) v) (sym c.6)
-                  (w.unions m.effect (union m1.effect m2.effect) c.0 (union c.1 c.2) l.within (w.unions m1.effect m2.effect c.1 c.2 l1.within l2.within))) b.within;
+              within = w.onward (union m.effect (union m1.effect m2.effect)) b.effect f (subst (λ v. y.Allows (union m.effect (union m1.effect m2.effect)) v) (sym c.6)
+                  (w.unite m.effect (union m1.effect m2.effect) c.0 (union c.1 c.2) l.within (w.unite m1.effect m2.effect c.1 c.2 l1.within l2.within))) b.within;
               narrower = either_vals (expr_vals test) (block_vals first ++ block_vals second) l.narrower (either_vals (block_vals first) (block_vals second) l1.narrower l2.narrower);
             }
 
@@ -539,7 +539,7 @@ module _ (y : Reading) (w : Lawful y) (same : y.Kind → y.Kind → Truth) (z : 
             finish_block (canonical_block y same s least owner (Then x rest) t) (Then x rest) (value_vals x ++ block_vals rest) t f b (record {
               derives = (refl, l.derives, n.derives, refl);
               above = n.above;
-              within = subst (λ v. y.Includes (union m.effect r.effect) v) (sym c.4) (w.unions m.effect r.effect c.0 c.1 l.within n.within);
+              within = subst (λ v. y.Allows (union m.effect r.effect) v) (sym c.4) (w.unite m.effect r.effect c.0 c.1 l.within n.within);
               narrower = either_vals (value_vals x) (block_vals rest) l.narrower n.narrower;
             })
         best_block (Val q n typ x rest) seen fit ok ready t f h =
@@ -553,6 +553,6 @@ module _ (y : Reading) (w : Lawful y) (same : y.Kind → y.Kind → Truth) (z : 
             finish_block (canonical_block y same s least owner (Val q n typ x rest) t) (Val q n typ x rest) (n ∷ (value_vals x ++ block_vals rest)) t f b (record {
               derives = (refl, v.there, v.is_type, v.best.derives, i.derives, refl);
               above = i.above;
-              within = subst (λ u. y.Includes (union m.effect r.effect) u) (sym c.7) (w.unions m.effect r.effect c.1 c.2 v.best.within i.within);
+              within = subst (λ u. y.Allows (union m.effect r.effect) u) (sym c.7) (w.unite m.effect r.effect c.1 c.2 v.best.within i.within);
               narrower = λ j l. elim l [ inl e ↦ subst (Narrower y w p s least given) e v.narrower | inr g ↦ either_vals (value_vals x) (block_vals rest) v.best.narrower i.narrower j g ];
             })

@@ -39,12 +39,12 @@ module _ (y : Reading) (w : Lawful y) (same : y.Kind → y.Kind → Truth) (z : 
   start_written : (st : Start) (d : BodyDerivation y.Kind) → StartFits p s st → DerivesStart y s given d st → EachInStart (ValReady y w same z p s least given) st → StartWritten st
   start_written (Init values) (T-Body-Init place ds) fit h ready =
       let n = best_values y w same z p s least given None values [] fit.1 nothing_seen ready (map y.read (field_types s 0)) (effects_of ds) (record { derivations = ds; derives = h.1; effects = refl }) in
-      record { derives = (refl, n.derives, w.within (effects_of (canonical_values y same s least None values (map y.read (field_types s 0)))) (effects_of ds) (y.effect s.start_effect) n.within h.2); narrower = n.narrower }
+      record { derives = (refl, n.derives, w.onward (effects_of (canonical_values y same s least None values (map y.read (field_types s 0)))) (effects_of ds) (y.effect s.start_effect) n.within h.2); narrower = n.narrower }
   start_written (Run block) (T-Body place d f) fit h ready =
       let m = canonical_block y same s least None block (y.read Nothing) in
       let n = best_block y w same z p s least given None block [] fit nothing_seen ready (y.read Nothing) f (record { derivation = d; derives = h.1 }) in
       let a = best_block_at y w same z p s least given None m block (block_vals block) (y.read Nothing) f n in
-      record { derives = (refl, a.derives, w.within m.effect f (y.effect s.start_effect) a.within h.2); narrower = a.narrower }
+      record { derives = (refl, a.derives, w.onward m.effect f (y.effect s.start_effect) a.within h.2); narrower = a.narrower }
   start_written (Init values) (T-Body place d f) fit h ready = absurd h
   start_written (Run block) (T-Body-Init place ds) fit h ready = absurd h
 
@@ -78,7 +78,7 @@ module _ (y : Reading) (w : Lawful y) (same : y.Kind → y.Kind → Truth) (z : 
       let a = best_block_at y w same z p s least given (Some b.owner) m b.block (block_vals b.block) (y.read b.signature.result) f n in
       let rest = bodies_written bs ds (before ++ block_vals b.block) (i + 1) scoped.2 (λ v j. elim (In-cases v before (block_vals b.block) j) [ inl l ↦ ok v l | inr l ↦ a.narrower v l ]) h.1 ready.1 in
       record {
-        derives = ((refl, a.derives, w.within m.effect f (y.effect b.signature.effect) a.within h.0.2), rest.derives);
+        derives = ((refl, a.derives, w.onward m.effect f (y.effect b.signature.effect) a.within h.0.2), rest.derives);
         narrower = λ v j. elim (In-cases v (block_vals b.block) (bodies_vals bs) j) [ inl l ↦ a.narrower v l | inr l ↦ rest.narrower v l ];
       }
 

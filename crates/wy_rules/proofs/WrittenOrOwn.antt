@@ -100,9 +100,9 @@ module _ (p : Program) (core : IsCore p) (k : ℕ) (s : Scope) (at : slice_get p
   method_names t (inl f) m i = (let h = Fits-written p (core_signatures_fit p core) k t f m i in (h.params, h.result))
   method_names t (inr o) m i = (let r = own_is s.kind (length s.literals) t o in own_names r.0 m (subst (λ u. In m (methods_of p k u)) (sym r.2) i))
 
-  module _ (Includes : List ℕ → List ℕ → Type 0) where
+  module _ (Includes Allows : List ℕ → List ℕ → Type 0) (Under : List ℕ → ℕ → Type 0) where
     abbrev over : Reading
-    over = record { Kind = TypeRef; read = λ t. t; effect = λ e. e; methods = methods_of p k; IsObject = IsObject; Includes = Includes }
+    over = record { Kind = TypeRef; read = λ t. t; effect = λ e. e; methods = methods_of p k; IsObject = IsObject; Includes = Includes; Allows = Allows; Under = Under }
 
     reached_written : (t : TypeRef) → IsReached over s t → IsWrittenOrOwn p s t
     reached_written t of_number = inl tt
@@ -128,12 +128,12 @@ module _ (p : Program) (core : IsCore p) (k : ℕ) (s : Scope) (at : slice_get p
 
   -- a type that is reached is a subtype of itself
   pub reached_itself : (plain : Truth) (t : (reading_of p k plain).Kind) → IsReached (reading_of p k plain) s t → IsBelow (reading_of p k plain) t t
-  reached_itself true t h = (reflexivity p core k t (in_range t (reached_written _ t h))).1
-  reached_itself false t h = (reflexivity p core k t (in_range t (reached_written _ t h))).0
+  reached_itself true t h = (reflexivity p core k t (in_range t (reached_written _ _ _ t h))).1
+  reached_itself false t h = (reflexivity p core k t (in_range t (reached_written _ _ _ t h))).0
 
   each_written : (plain : Truth) → EachReached (IsWrittenOrOwn p s) p k s plain
-  each_written true = λ t h. reached_written _ t h
-  each_written false = λ t h. reached_written _ t h
+  each_written true = λ t h. reached_written _ _ _ t h
+  each_written false = λ t h. reached_written _ _ _ t h
 
 pub reached_types_are_written_or_own : ReachedTypesAreWrittenOrOwn
 reached_types_are_written_or_own p k s core at = each_written p core k s at (core.scopes s (In-slice_get p.scopes k s at)) (is_plain s.kind)

@@ -2,6 +2,7 @@
 -- and the program's body meet them (docs/LANGUAGE.md, "Modules and lines").
 use Rattle.std.specs.Prelude.{◌≡◌, ℕ, List, [], ◌∷◌, Option, Some, None, Bool as Truth, true, false, length, slice_get}
 use Rattle.wy_effects.specs.Members.{In}
+use Rattle.wy_effects.specs.Bounds.{Bounds, IsUnder, Respects}
 use Rattle.wy_types.specs.declared.types.TypeRef.{TypeRef}
 use Rattle.wy_types.specs.declared.types.TypeRef.TheVariants.{Named, Own}
 use Rattle.wy_types.specs.declared.resolved.Field.{Field}
@@ -14,7 +15,8 @@ use Rattle.wy_types.specs.Program.{Program, Scope}
 use Rattle.wy_types.specs.Types.{substituted, erased, is_plain, methods_of}
 use Rattle.wy_types.specs.Subtyping.{IsAnnotatedSubtype, IsPlainSubtype}
 use Rattle.wy_types.specs.Paths.{EffectsWithin, IsSafe}
-use Rattle.wy_types.specs.Ground.{member_set, members_of, type_of, names_of, arguments_sets}
+use Rattle.wy_types.specs.Bounds.{bounds_of, declared_bounds, type_bounds}
+use Rattle.wy_types.specs.Ground.{member_set, members_of, type_of, names_of, argument_sets, arguments_sets}
 use Rattle.wy_rules.specs.Readings.{Reading, IsBelow, annotated_reading, plain_reading}
 use Rattle.wy_rules.specs.Typing.{fields_of, ScopeHolds}
 
@@ -47,10 +49,23 @@ PureHolds Resource s = Unit {0}
 PureHolds Plain s = Unit {0}
 PureHolds Main s = Unit {0}
 
--- M-Ascribe: the module's own type is a subtype of the type that it is sealed at, with what it defines
+-- M-Ascribe, premise 1: the module's own type is a subtype of the type that it is sealed at, with what it defines
 abbrev pub SealHolds : (y : Reading) → Scope → Option ℕ → Type 0
 SealHolds y s None = Unit {0}
 SealHolds y s (Some d) = IsBelow y (y.read (Own 0)) (y.read (Named d s.definitions))
+
+-- M-Ascribe, premise 2: what an annotated module defines for the members of the type that it is sealed at respects their bounds
+abbrev pub DefinitionsRespect : Program → ℕ → Scope → Option ℕ → Type 0
+DefinitionsRespect p k s None = Unit {0}
+DefinitionsRespect p k s (Some d) = Respects (declared_bounds p d) (bounds_of p k) s.definitions
+
+abbrev pub MembersHold : Program → ℕ → Scope → Truth → Type 0
+MembersHold p k s true = Unit {0}
+MembersHold p k s false = DefinitionsRespect p k s s.ascribed
+
+-- M-Ascribe
+abbrev pub AscriptionHolds : Program → ℕ → Scope → Type 0
+AscriptionHolds p k s = SealHolds (scope_reading p k s) s s.ascribed × MembersHold p k s (is_plain s.kind)
 
 ------------------------------------------------------------
 -- Lines
@@ -91,6 +106,11 @@ abbrev pub opened : Program → OwnName → Origin → List (List ℕ)
 opened p n (Parameter true) = members_of p n.typ
 opened p n origin = []
 
+-- .. and their bounds
+abbrev pub opened_members : Program → OwnName → Origin → Bounds
+opened_members p n (Parameter true) = type_bounds p n.typ
+opened_members p n origin = []
+
 -- a line in the scope of this number, whose own names these are
 module _ (p : Program) (k : ℕ) (outer : List OwnName) where
   abbrev pub argument_type : Handed → TypeRef
@@ -104,12 +124,16 @@ module _ (p : Program) (k : ℕ) (outer : List OwnName) where
   abbrev pub IsArgument : List (List ℕ) → Handed → Type 0
   IsArgument sets h = IsAnnotatedSubtype p k (argument_type h) (substituted sets h.parameter.typ)
 
-  -- I-Import, premises 1 to 3: its effects are in the bound; the bound is higher-order safe for it; without effects it is a subtype of the parameter's type
+  -- M-Inst, premise 5: the argument's members respect the bounds of those that the parameter opens
+  abbrev pub RespectsBounds : Handed → Type 0
+  RespectsBounds h = Respects (opened_members p h.parameter h.parameter.origin) (bounds_of p k) (argument_sets p outer h.parameter.origin h.parameter h.argument)
+
+  -- I-Import, premises 1 to 3: its effects are within the bound; the bound is higher-order safe for it; without effects it is a subtype of the parameter's type
   abbrev pub EffectsBounded : List ℕ → Handed → Type 0
-  EffectsBounded bound h = EffectsWithin TypeRef (methods_of p k) (argument_type h) true bound
+  EffectsBounded bound h = EffectsWithin TypeRef (methods_of p k) (IsUnder (bounds_of p k)) (argument_type h) true bound
 
   abbrev pub IsHigherOrderSafe : List ℕ → Handed → Type 0
-  IsHigherOrderSafe bound h = IsSafe TypeRef (methods_of p k) (argument_type h) false bound
+  IsHigherOrderSafe bound h = IsSafe TypeRef (methods_of p k) (IsUnder (bounds_of p k)) (argument_type h) false bound
 
   abbrev pub IsPlainArgument : Handed → Type 0
   IsPlainArgument h = IsPlainSubtype p k (erased (argument_type h)) (erased h.parameter.typ)
@@ -126,6 +150,7 @@ module _ (p : Program) (k : ℕ) (outer : List OwnName) where
     pub numbers : NumbersAgree m arguments
     pub members : AllHanded HasMembers m arguments
     pub types : AllHanded (IsArgument (arguments_sets p outer (names_of (slice_get p.scopes m)) arguments)) m arguments
+    pub bounds : AllHanded RespectsBounds m arguments
 
   -- M-Import
   pub record ImportFits (m : ℕ) (arguments : List ℕ) : Type 0 where
@@ -158,7 +183,7 @@ module _ (p : Program) (k : ℕ) (outer : List OwnName) where
 pub record ScopeAccepted (p : Program) (k : ℕ) (s : Scope) : Type 0 where
   pub pure : PureHolds s.kind s
   pub bodies : ScopeHolds (scope_reading p k s) s
-  pub seal : SealHolds (scope_reading p k s) s s.ascribed
+  pub seal : AscriptionHolds p k s
   pub lines : (n : OwnName) → In n s.names → LineHolds p k s.names n.origin
 
 -- every module and the program

@@ -1,9 +1,11 @@
 -- The first failing node: the first in the list that has no derivation, an `if` at the type that its place expects. Its premise is the
 -- first false one, its parts being at their least types (docs/LANGUAGE.md, "First failing node").
-use Rattle.std.specs.Prelude.{◌≡◌, ℕ, zero, suc, ◌+◌, ◌≤◌, List, [], ◌∷◌, ◌⊎◌, Option, Some, None, map, take, slice_get, length, true, false}
+use Rattle.std.specs.Prelude.{◌≡◌, ℕ, zero, suc, ◌+◌, ◌<◌, ◌≤◌, List, [], ◌∷◌, ◌⊎◌, Option, Some, None, map, take, slice_get, slice_index_or, length, true, false}
 use Rattle.wy_text.specs.declared.fault.AtomName.{AtomName}
 use Rattle.wy_text.specs.declared.fault.Fault.{Fault}
 use Rattle.wy_effects.specs.Members.{In}
+use Rattle.wy_effects.specs.EffSet.{replace}
+use Rattle.wy_effects.specs.Bounds.{Bounds, IsUnder, IsWithin, IsLeastOutside, IsLeastMissing}
 use Rattle.wy_types.specs.declared.types.TypeRef.{TypeRef}
 use Rattle.wy_types.specs.declared.types.TypeRef.TheVariants.{Bool, Unit as Nothing}
 use Rattle.wy_types.specs.declared.code.Binding.{Binding}
@@ -13,23 +15,20 @@ use Rattle.wy_types.specs.declared.resolved.ScopeKind.TheVariants as kind
 use Rattle.wy_types.specs.Code.{Expr, Call, New, Ascribe, Assign, Value, Plain, If, Values, none, more, Block}
 use Rattle.wy_types.specs.Program.{Program, Scope}
 use Rattle.wy_types.specs.Signature.{Signature, find_method}
-use Rattle.wy_types.specs.Types.{methods_of}
+use Rattle.wy_types.specs.Types.{is_plain, methods_of}
+use Rattle.wy_types.specs.Bounds.{bounds_of, declared_bounds}
 use Rattle.wy_types.specs.Paths.{IsEffect, Reaches}
 use Rattle.wy_types.specs.Core.{value_count}
-use Rattle.wy_types.specs.Ground.{names_of, arguments_sets}
+use Rattle.wy_types.specs.Ground.{names_of, argument_sets, arguments_sets}
 use Rattle.wy_rules.specs.Readings.{Reading, IsBelow}
 use Rattle.wy_rules.specs.Operators.{Row, Operation, operation_of}
 use Rattle.wy_rules.specs.Typing.{field_types, var_field, Has, HasAt, HasSome, BlockHas, BlockHasAt, AllHave, AllHaveAt}
-use Rattle.wy_rules.specs.Acceptance.{Handed, argument_type, handed_to, parameters_of, scope_reading, IsOfKind, NumbersAgree, HasMembers, IsArgument, EffectsBounded, IsHigherOrderSafe, IsPlainArgument, AllHanded, PlainHolds, SealHolds, InstanceHolds, ImportFits, ImportHolds}
+use Rattle.wy_rules.specs.Acceptance.{Handed, opened_members, argument_type, handed_to, parameters_of, scope_reading, IsOfKind, NumbersAgree, HasMembers, IsArgument, RespectsBounds, EffectsBounded, IsHigherOrderSafe, IsPlainArgument, AllHanded, PlainHolds, SealHolds, AscriptionHolds, InstanceHolds, ImportFits, ImportHolds}
 use Rattle.wy_rules.specs.Nodes.{Spot, nothing, written, argument, Subject, part, statement, val, body, init, impure, seal, use_line, instance_line, import_line, bound_line, Node, scope_nodes, lines_nodes}
 
 -- the first premise of several that is false, by its number from k on
 abbrev pub FirstFalse : ℕ → Type 0 → Type 0 → ℕ → Type 0
 FirstFalse k holds later premise = ((holds → ⊥) × (premise ≡ k)) ⊎ (holds × later)
-
--- the least atom that is in the first effect and not in the second
-abbrev pub IsLeastMissing : ℕ → List ℕ → List ℕ → Type 0
-IsLeastMissing a e f = In a e × (In a f → ⊥) × ((b : ℕ) → In b e → (In b f → ⊥) → a ≤ b)
 
 ------------------------------------------------------------
 -- Nodes of bodies, over the types of the `val`s that stand before
@@ -38,15 +37,15 @@ module _ (y : Reading) (s : Scope) (locals : List y.Kind) (owner : Option ℕ) w
   -- a value's least type and effect, and the least effect of a block and of values at their types
   pub record IsLeast (x : Value) (t : y.Kind) (f : List ℕ) : Type 0 where
     pub has : Has y s locals owner x t f
-    pub least : (u : y.Kind) (g : List ℕ) → Has y s locals owner x u g → IsBelow y t u × y.Includes f g
+    pub least : (u : y.Kind) (g : List ℕ) → Has y s locals owner x u g → IsBelow y t u × y.Allows f g
 
   pub record IsLeastAt (b : Block) (t : y.Kind) (f : List ℕ) : Type 0 where
     pub has : BlockHas y s locals owner b t f
-    pub least : (g : List ℕ) → BlockHas y s locals owner b t g → y.Includes f g
+    pub least : (g : List ℕ) → BlockHas y s locals owner b t g → y.Allows f g
 
   pub record AreLeastAt (xs : Values) (ts : List y.Kind) (f : List ℕ) : Type 0 where
     pub have : AllHave y s locals owner xs ts f
-    pub least : (g : List ℕ) → AllHave y s locals owner xs ts g → y.Includes f g
+    pub least : (g : List ℕ) → AllHave y s locals owner xs ts g → y.Allows f g
 
   -- the method that a call names, where its first three premises are true
   pub record IsTarget (t : y.Kind) (name : List ℕ) (arity : ℕ) (m : Signature y.Kind) : Type 0 where
@@ -141,20 +140,45 @@ module _ (y : Reading) (s : Scope) (locals : List y.Kind) (owner : Option ℕ) w
 
   -- T-Body
   abbrev pub BodyStands : Block → TypeRef → List ℕ → Type 0
-  BodyStands b t e = (f : List ℕ) × BlockHas y s locals owner b (y.read t) f × y.Includes f (y.effect e)
+  BodyStands b t e = (f : List ℕ) × BlockHas y s locals owner b (y.read t) f × y.Allows f (y.effect e)
 
   abbrev pub BodyFails : Block → TypeRef → List ℕ → ℕ → Option ℕ → Type 0
   BodyFails b t e k atom =
       (FirstFalse 1 (BlockHasAt y s locals owner b (y.read t)) ⊥ k × (atom ≡ None)) ⊎
-      ((f : List ℕ) × (a : ℕ) × IsLeastAt b (y.read t) f × IsLeastMissing a f (y.effect e) × (k ≡ 2) × (atom ≡ Some a))
+      ((f : List ℕ) × (a : ℕ) × IsLeastAt b (y.read t) f × IsLeastMissing y.Under a f (y.effect e) × (k ≡ 2) × (atom ≡ Some a))
 
   abbrev pub InitStands : Values → List ℕ → Type 0
-  InitStands xs e = (f : List ℕ) × AllHave y s locals owner xs (map y.read (field_types s 0)) f × y.Includes f (y.effect e)
+  InitStands xs e = (f : List ℕ) × AllHave y s locals owner xs (map y.read (field_types s 0)) f × y.Allows f (y.effect e)
 
   abbrev pub InitFails : Values → List ℕ → ℕ → Option ℕ → Type 0
   InitFails xs e k atom =
       (FirstFalse 1 (AllHaveAt y s locals owner xs (map y.read (field_types s 0))) ⊥ k × (atom ≡ None)) ⊎
-      ((f : List ℕ) × (a : ℕ) × AreLeastAt xs (map y.read (field_types s 0)) f × IsLeastMissing a f (y.effect e) × (k ≡ 2) × (atom ≡ Some a))
+      ((f : List ℕ) × (a : ℕ) × AreLeastAt xs (map y.read (field_types s 0)) f × IsLeastMissing y.Under a f (y.effect e) × (k ≡ 2) × (atom ≡ Some a))
+
+------------------------------------------------------------
+-- Sets that are to respect bounds
+
+-- the first member whose set is not within the sets of its bound, and the least atom of its set that is not
+pub record FirstOutside (bounds there : Bounds) (by : List (List ℕ)) (a : ℕ) : Type 0 where
+  pub member : ℕ
+  pub bound : List ℕ
+  pub bounded : slice_get bounds member ≡ Some (Some bound)
+  pub lacks : IsLeastMissing (IsUnder there) a (slice_index_or by member []) (replace by bound)
+  pub first : (j : ℕ) (c : List ℕ) → j < member → slice_get bounds j ≡ Some (Some c) → IsWithin there (slice_index_or by j []) (replace by c)
+
+abbrev pub LacksOutside : Bounds → Bounds → List (List ℕ) → Option ℕ → Type 0
+LacksOutside bounds there by None = ⊥
+LacksOutside bounds there by (Some a) = FirstOutside bounds there by a
+
+-- M-Ascribe
+abbrev pub MembersFail : Program → ℕ → Scope → Option ℕ → Option ℕ → Type 0
+MembersFail p k s None atom = ⊥
+MembersFail p k s (Some d) atom = LacksOutside (declared_bounds p d) (bounds_of p k) s.definitions atom
+
+abbrev pub SealFails : Program → ℕ → Scope → ℕ → Option ℕ → Type 0
+SealFails p k s n atom =
+    ((SealHolds (scope_reading p k s) s s.ascribed → ⊥) × (n ≡ 1) × (atom ≡ None)) ⊎
+    (SealHolds (scope_reading p k s) s s.ascribed × (is_plain s.kind ≡ false) × (n ≡ 2) × MembersFail p k s s.ascribed atom)
 
 ------------------------------------------------------------
 -- Nodes of lines
@@ -165,17 +189,15 @@ FirstOf Holds Lacks [] atom = ⊥
 FirstOf Holds Lacks (x ∷ xs) atom = ((Holds x → ⊥) × Lacks x atom) ⊎ (Holds x × FirstOf Holds Lacks xs atom)
 
 module _ (p : Program) (k : ℕ) (outer : List OwnName) where
-  -- the least effect of a type that is not in the bound
+  -- the least effect of a type that is not within the bound
   abbrev pub LacksInBound : List ℕ → Handed → Option ℕ → Type 0
   LacksInBound bound h None = ⊥
-  LacksInBound bound h (Some a) =
-      IsEffect TypeRef (methods_of p k) (argument_type p k outer h) true a × (In a bound → ⊥) ×
-      ((b : ℕ) → IsEffect TypeRef (methods_of p k) (argument_type p k outer h) true b → (In b bound → ⊥) → a ≤ b)
+  LacksInBound bound h (Some a) = IsLeastOutside (IsUnder (bounds_of p k)) (IsEffect TypeRef (methods_of p k) (argument_type p k outer h) true) a bound
 
-  -- the atom is in the bound, and a method that the type reaches negatively lacks it
+  -- the atom is in the bound, and it is not within a method that the type reaches negatively
   abbrev pub LacksBelow : List ℕ → Handed → ℕ → Type 0
   LacksBelow bound h a =
-      In a bound × ((u : TypeRef) × Reaches TypeRef (methods_of p k) (argument_type p k outer h) false u × ((m : Signature TypeRef) × In m (methods_of p k u) × (In a m.effect → ⊥)))
+      In a bound × ((u : TypeRef) × Reaches TypeRef (methods_of p k) (argument_type p k outer h) false u × ((m : Signature TypeRef) × In m (methods_of p k u) × (IsUnder (bounds_of p k) m.effect a → ⊥)))
 
   abbrev pub LacksInMethod : List ℕ → Handed → Option ℕ → Type 0
   LacksInMethod bound h None = ⊥
@@ -184,12 +206,27 @@ module _ (p : Program) (k : ℕ) (outer : List OwnName) where
   abbrev pub Arguments : ℕ → List ℕ → List Handed
   Arguments m arguments = handed_to (parameters_of p m) arguments
 
-  -- each premise is tried for all arguments before the next one
-  abbrev pub InstanceFails : ℕ → List ℕ → ℕ → Option ℕ → Type 0
-  InstanceFails m arguments n atom =
-      (atom ≡ None) ×
+  -- an argument's set that is not within those of its member's bound
+  abbrev pub LacksInMember : Handed → Option ℕ → Type 0
+  LacksInMember h atom = LacksOutside (opened_members p h.parameter h.parameter.origin) (bounds_of p k) (argument_sets p outer h.parameter.origin h.parameter h.argument) atom
+
+  -- premises 1 to 4; each premise is tried for all arguments before the next one
+  abbrev pub InstanceMisfits : ℕ → List ℕ → ℕ → Type 0
+  InstanceMisfits m arguments n =
       FirstFalse 1 (IsOfKind p kind.Resource m) (FirstFalse 2 (NumbersAgree p k outer m arguments) (FirstFalse 3 (AllHanded p k outer (HasMembers p k outer) m arguments)
       (FirstFalse 4 (AllHanded p k outer (IsArgument p k outer (arguments_sets p outer (names_of (slice_get p.scopes m)) arguments)) m arguments) ⊥ n) n) n) n
+
+  -- .. which hold
+  pub record InstanceFits (m : ℕ) (arguments : List ℕ) : Type 0 where
+    pub resource : IsOfKind p kind.Resource m
+    pub numbers : NumbersAgree p k outer m arguments
+    pub members : AllHanded p k outer (HasMembers p k outer) m arguments
+    pub types : AllHanded p k outer (IsArgument p k outer (arguments_sets p outer (names_of (slice_get p.scopes m)) arguments)) m arguments
+
+  abbrev pub InstanceFails : ℕ → List ℕ → ℕ → Option ℕ → Type 0
+  InstanceFails m arguments n atom =
+      (InstanceMisfits m arguments n × (atom ≡ None)) ⊎
+      (InstanceFits m arguments × (n ≡ 5) × FirstOf (RespectsBounds p k outer) LacksInMember (Arguments m arguments) atom)
 
   abbrev pub ImportMisfits : ℕ → List ℕ → ℕ → Option ℕ → Type 0
   ImportMisfits m arguments n atom = (atom ≡ None) × FirstFalse 1 (IsOfKind p kind.Plain m) (FirstFalse 2 (NumbersAgree p k outer m arguments) ⊥ n) n
@@ -218,7 +255,7 @@ module _ (p : Program) (k : ℕ) (s : Scope) (locals : List (scope_reading p k s
   Stands owner o (body b t e) = BodyStands (scope_reading p k s) s locals owner b t e
   Stands owner o (init xs e) = InitStands (scope_reading p k s) s locals owner xs e
   Stands owner o (impure premise) = ⊥
-  Stands owner o seal = SealHolds (scope_reading p k s) s s.ascribed
+  Stands owner o seal = AscriptionHolds p k s
   Stands owner o (use_line m) = IsOfKind p kind.Pure m
   Stands owner o (instance_line m arguments) = InstanceHolds p k s.names m arguments
   Stands owner o (import_line m arguments) = ImportFits p k s.names m arguments
@@ -232,7 +269,7 @@ module _ (p : Program) (k : ℕ) (s : Scope) (locals : List (scope_reading p k s
   Fails owner o (body b t e) n atom = BodyFails (scope_reading p k s) s locals owner b t e n atom
   Fails owner o (init xs e) n atom = InitFails (scope_reading p k s) s locals owner xs e n atom
   Fails owner o (impure premise) n atom = (n ≡ premise) × (atom ≡ None)
-  Fails owner o seal n atom = (n ≡ 1) × (atom ≡ None)
+  Fails owner o seal n atom = SealFails p k s n atom
   Fails owner o (use_line m) n atom = (n ≡ 1) × (atom ≡ None)
   Fails owner o (instance_line m arguments) n atom = InstanceFails p k s.names m arguments n atom
   Fails owner o (import_line m arguments) n atom = ImportMisfits p k s.names m arguments n atom

@@ -4,6 +4,7 @@
 use Rattle.std.specs.Prelude.{codes, ℕ, List, [], ◌∷◌, ◌++◌, Option, Some, None, false, map, slice_get}
 use Rattle.wy_effects.specs.Members.{Within}
 use Rattle.wy_effects.specs.EffSet.{replace}
+use Rattle.wy_effects.specs.Bounds.{IsOneOf}
 use Rattle.wy_types.specs.declared.types.TypeRef.{TypeRef}
 use Rattle.wy_types.specs.declared.types.TypeRef.TheVariants as of
 use Rattle.wy_types.specs.declared.linked.Instance.{Instance}
@@ -79,4 +80,6 @@ ground_reading p x i = record {
   methods = ground_methods p;
   IsObject = IsGroundObject;
   Includes = Within;
+  Allows = Within;
+  Under = IsOneOf;
 }

@@ -2,6 +2,7 @@
 use Rattle.std.specs.Prelude.{◌≡◌, ℕ, List, [], map, slice_get, false}
 use Rattle.wy_effects.specs.Members.{In, Within, Apart}
 use Rattle.wy_effects.specs.EffSet.{AreSets, replace}
+use Rattle.wy_effects.specs.Bounds.{Bounds, IsWithin, Respects}
 use Rattle.wy_types.specs.declared.types.TypeRef.{TypeRef}
 use Rattle.wy_types.specs.declared.types.TypeRef.TheVariants.{Int, Bool, Text, Unit as Nothing, Named, At, Own}
 use Rattle.wy_types.specs.Program.{Program}
@@ -12,9 +13,9 @@ use Rattle.wy_types.specs.Subtyping.{IsSubtype, AnyEffect}
 abbrev pub Methods : Type 0
 Methods = TypeRef → List (Signature TypeRef)
 
--- subtyping over a table, with effects and without
-abbrev pub IsSubtypeOver : Methods → TypeRef → TypeRef → Type 0
-IsSubtypeOver methods s t = IsSubtype TypeRef methods IsObject Within s t
+-- subtyping over bounds and a table, with effects and without
+abbrev pub IsSubtypeOver : Bounds → Methods → TypeRef → TypeRef → Type 0
+IsSubtypeOver bounds methods s t = IsSubtype TypeRef methods IsObject (IsWithin bounds) s t
 
 abbrev pub IsPlainSubtypeOver : Methods → TypeRef → TypeRef → Type 0
 IsPlainSubtypeOver methods s t = IsSubtype TypeRef methods IsObject AnyEffect s t
@@ -28,24 +29,24 @@ pub record IsClosedUnder (methods : Methods) (ts : List TypeRef) : Type 0 where
 -- each type of a list that is closed so is a subtype of itself
 abbrev pub ReflexiveOverTables : Type 0
 ReflexiveOverTables =
-    (methods : Methods) (ts : List TypeRef) → IsClosedUnder methods ts → (t : TypeRef) → In t ts → IsSubtypeOver methods t t × IsPlainSubtypeOver methods t t
+    (bounds : Bounds) (methods : Methods) (ts : List TypeRef) → IsClosedUnder methods ts → (t : TypeRef) → In t ts → IsSubtypeOver bounds methods t t × IsPlainSubtypeOver methods t t
 
 -- a subtype of a subtype is a subtype
 abbrev pub TransitiveOverTables : Type 0
 TransitiveOverTables =
-    (methods : Methods) (a b c : TypeRef) →
-    (IsSubtypeOver methods a b → IsSubtypeOver methods b c → IsSubtypeOver methods a c) ×
+    (bounds : Bounds) (methods : Methods) (a b c : TypeRef) →
+    (IsSubtypeOver bounds methods a b → IsSubtypeOver bounds methods b c → IsSubtypeOver bounds methods a c) ×
     (IsPlainSubtypeOver methods a b → IsPlainSubtypeOver methods b c → IsPlainSubtypeOver methods a c)
 
 -- the methods of a type after the replacement are its methods with the sets put in
 abbrev pub Agree : List (List ℕ) → Methods → Methods → Type 0
 Agree by methods methods' = (t : TypeRef) → methods' (substituted by t) ≡ map (mapped_signature (substituted by) (replace by)) (methods t)
 
--- subtyping over one table is kept over another that agrees with it under the replacement
+-- subtyping over one table is kept over another that agrees with it under the replacement, where the sets respect the bounds
 abbrev pub KeptUnderReplacement : Type 0
 KeptUnderReplacement =
-    (by : List (List ℕ)) (methods methods' : Methods) → Agree by methods methods' → (s t : TypeRef) →
-    (IsSubtypeOver methods s t → IsSubtypeOver methods' (substituted by s) (substituted by t)) ×
+    (bounds bounds' : Bounds) (by : List (List ℕ)) → Respects bounds bounds' by → (methods methods' : Methods) → Agree by methods methods' → (s t : TypeRef) →
+    (IsSubtypeOver bounds methods s t → IsSubtypeOver bounds' methods' (substituted by s) (substituted by t)) ×
     (IsPlainSubtypeOver methods s t → IsPlainSubtypeOver methods' (substituted by s) (substituted by t))
 
 -- the methods of a scope's types after a replacement: those of an own type have the sets put in

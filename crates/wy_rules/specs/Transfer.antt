@@ -8,6 +8,7 @@ use Rattle.wy_types.specs.declared.resolved.TypeDecl.{TypeDecl}
 use Rattle.wy_types.specs.declared.resolved.OwnName.{OwnName}
 use Rattle.wy_types.specs.Program.{Program, Scope, Body}
 use Rattle.wy_types.specs.Types.{is_plain, signature, methods_of}
+use Rattle.wy_types.specs.Bounds.{bounds_of}
 use Rattle.wy_types.specs.Core.{ScopeFits}
 use Rattle.wy_types.specs.Written.{block_types}
 use Rattle.wy_types.specs.Reached.{start_types}
@@ -20,10 +21,11 @@ use Rattle.wy_rules.specs.Reached.{EachReached}
 abbrev pub AgreesIn : Program → Program → ℕ → Scope → Truth → Type 0
 AgreesIn p other k s plain = EachReached (λ t. methods_of p k t ≡ methods_of other k t) p k s plain
 
--- what holds of a scope in one program holds in another that agrees with it there
+-- what holds of a scope in one program holds in another that agrees with it there, and where its atoms have the same bounds
 abbrev pub ScopesHoldWhereMethodsAgree : Type 0
 ScopesHoldWhereMethodsAgree =
-    (p other : Program) (k : ℕ) (s : Scope) → ScopeFits p s → AgreesIn p other k s (is_plain s.kind) → ScopeHolds (scope_reading p k s) s → ScopeHolds (scope_reading other k s) s
+    (p other : Program) (k : ℕ) (s : Scope) → ScopeFits p s → bounds_of p k ≡ bounds_of other k → AgreesIn p other k s (is_plain s.kind) →
+    ScopeHolds (scope_reading p k s) s → ScopeHolds (scope_reading other k s) s
 
 ------------------------------------------------------------
 -- Programs that differ in one declared type, which the scope does not write

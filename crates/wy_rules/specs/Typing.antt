@@ -142,14 +142,14 @@ module _ (y : Reading) (s : Scope) (locals : List y.Kind) (owner : Option ℕ) w
 module _ (y : Reading) (s : Scope) (locals : List y.Kind) where
   abbrev pub DerivesStart : BodyDerivation y.Kind → Start → Type 0
   DerivesStart (T-Body-Init place ds) (Init values) =
-      (place ≡ s.start_place) × DerivesAll y s locals None ds values (map y.read (field_types s 0)) × y.Includes (effects_of ds) (y.effect s.start_effect)
+      (place ≡ s.start_place) × DerivesAll y s locals None ds values (map y.read (field_types s 0)) × y.Allows (effects_of ds) (y.effect s.start_effect)
   DerivesStart (T-Body place d f) (Run block) =
-      (place ≡ s.start_place) × DerivesBlock y s locals None d block (y.read Nothing) f × y.Includes f (y.effect s.start_effect)
+      (place ≡ s.start_place) × DerivesBlock y s locals None d block (y.read Nothing) f × y.Allows f (y.effect s.start_effect)
   DerivesStart d start = ⊥
 
   abbrev pub DerivesBody : BodyDerivation y.Kind → Body → Type 0
   DerivesBody (T-Body place d f) b =
-      (place ≡ b.place) × DerivesBlock y s locals (Some b.owner) d b.block (y.read b.signature.result) f × y.Includes f (y.effect b.signature.effect)
+      (place ≡ b.place) × DerivesBlock y s locals (Some b.owner) d b.block (y.read b.signature.result) f × y.Allows f (y.effect b.signature.effect)
   DerivesBody (T-Body-Init place ds) b = ⊥
 
   abbrev pub DerivesBodies : List (BodyDerivation y.Kind) → List Body → Type 0

@@ -24,19 +24,19 @@ pub fn subtyping_is_transitive()
     ensures { IsTransitive }
 {}
 
-/// Over any table of methods: each type of a list is a subtype of itself, where the list has what its
+/// Over any bounds and table of methods: each type of a list is a subtype of itself, where the list has what its
 /// types' methods name, and a type's methods have names that differ.
 pub fn subtyping_is_reflexive_over_tables()
     ensures { ReflexiveOverTables }
 {}
 
-/// Over any table of methods a subtype of a subtype is a subtype.
+/// Over any bounds and table of methods a subtype of a subtype is a subtype.
 pub fn subtyping_is_transitive_over_tables()
     ensures { TransitiveOverTables }
 {}
 
-/// Subtyping is kept when atoms are replaced by sets, over any two tables of methods that agree under
-/// the replacement.
+/// Subtyping is kept when atoms are replaced by sets that respect the bounds, over any two tables of
+/// methods that agree under the replacement.
 pub fn subtyping_is_kept_under_replacement()
     ensures { KeptUnderReplacement }
 {}
@@ -47,13 +47,13 @@ pub fn replaced_tables_agree()
     ensures { ReplacedTablesAgree }
 {}
 
-/// The law of annotation: a type's effects are in a set that is higher-order safe for it exactly where
+/// The law of annotation: a type's effects are within a set that is higher-order safe for it exactly where
 /// it is a subtype of its erasure annotated at the set.
 pub fn annotation()
     ensures { Annotation }
 {}
 
-/// The dual: a set is safe for a type and has its higher-order effects exactly where the type's erasure
+/// The dual: a set is safe for a type and has its higher-order effects within it exactly where the type's erasure
 /// annotated at the set is a subtype of it.
 pub fn dual_annotation()
     ensures { DualAnnotation }
@@ -65,8 +65,8 @@ pub fn erasure()
     ensures { Erasure }
 {}
 
-/// Substitution: derivations of a scope's bodies stay derivations when its atoms are replaced by sets, in
-/// types and effects alike.
+/// Substitution: derivations of a scope's bodies stay derivations when its atoms are replaced by sets that
+/// respect their bounds, in types, effects and bounds alike.
 pub fn substitution()
     ensures { Substitution }
 {}
