@@ -13,7 +13,7 @@ below_itself y t o = record {
   pairs = (t, t) ∷ [];
   first = inl refl;
   closed = λ q i. elim i [
-    | inl e ↦ subst (λ (v : y.Kind × y.Kind). IsClosed y.Kind y.methods y.IsObject y.Includes ((t, t) ∷ []) v) e (inl (refl, o))
+    | inl e ↦ subst (λ (v : y.Kind × y.Kind). IsClosed y.Kind y.methods y.IsObject y.Allows ((t, t) ∷ []) v) e (inl (refl, o))
     | inr z ↦ absurd z
   ];
 }

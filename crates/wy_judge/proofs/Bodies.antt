@@ -41,12 +41,12 @@ module _ (p : Program) (k : ℕ) (s : Scope) (w : Lawful (scope_reading p k s)) 
         pass_last p k s locals (block_nodes s owner (written t) x) (node place TBody owner nothing (body x t declared)) h.1
         (record { expected = None; spot = refl; stands = (f, h.0.has, l); settles = tt })
     whole_judged (fit.Has f) (Some a) h l =
-        fail_last p k s locals (block_nodes s owner (written t) x) (node place TBody owner nothing (body x t declared)) (lacking place (slice_get s.atoms a)) h.1
+        fail_last p k s locals (block_nodes s owner (written t) x) (node place TBody owner nothing (body x t declared)) (lacking place TBody (slice_get s.atoms a)) h.1
         (record {
           expected = None;
           atom = Some a;
           spot = refl;
-          stands_not = λ g. l.0 (w.within f g.0 ((scope_reading p k s).effect declared) (h.0.least g.0 g.1) g.2);
+          stands_not = λ g. l.0 (w.onward f g.0 ((scope_reading p k s).effect declared) (h.0.least g.0 g.1) g.2);
           premise = inr (f, a, h.0, l.1, refl, refl);
           place = refl;
           rule = refl;
@@ -83,12 +83,12 @@ module _ (p : Program) (k : ℕ) (s : Scope) (w : Lawful (scope_reading p k s)) 
       pass_last p k s locals (values_nodes s None (written_spots (field_types s 0)) xs) (node s.start_place TBody None nothing (init xs s.start_effect)) h.1
       (record { expected = None; spot = refl; stands = (f, h.0.have, l); settles = tt })
   init_judged xs (fits.Have f) (Some a) h l =
-      fail_last p k s locals (values_nodes s None (written_spots (field_types s 0)) xs) (node s.start_place TBody None nothing (init xs s.start_effect)) (lacking s.start_place (slice_get s.atoms a)) h.1
+      fail_last p k s locals (values_nodes s None (written_spots (field_types s 0)) xs) (node s.start_place TBody None nothing (init xs s.start_effect)) (lacking s.start_place TBody (slice_get s.atoms a)) h.1
       (record {
         expected = None;
         atom = Some a;
         spot = refl;
-        stands_not = λ g. l.0 (w.within f g.0 ((scope_reading p k s).effect s.start_effect) (h.0.least g.0 g.1) g.2);
+        stands_not = λ g. l.0 (w.onward f g.0 ((scope_reading p k s).effect s.start_effect) (h.0.least g.0 g.1) g.2);
         premise = inr (f, a, h.0, l.1, refl, refl);
         place = refl;
         rule = refl;

@@ -1,6 +1,6 @@
 -- What judging a whole scope comes to, from its four parts: it passes over the types that are known in the end, or the first part that
 -- has a fault gives the scope's.
-use Rattle.std.proofs.Common.{◌≡◌, ℕ, zero, suc, List, [], ◌∷◌, ◌++◌, length, take, ap, subst, Option, Some, None, map, Bool as Truth, arith}
+use Rattle.std.proofs.Common.{◌≡◌, ℕ, zero, suc, List, [], ◌∷◌, ◌++◌, length, take, ap, subst, Option, Some, None, map, arith}
 use Rattle.std.proofs.lemmas.List.{take_all}
 use Rattle.wy_text.specs.declared.fault.Fault.{Fault}
 use Rattle.wy_effects.specs.Members.{In}
@@ -9,14 +9,15 @@ use Rattle.wy_types.specs.Program.{Program, Scope, Body}
 use Rattle.wy_rules.specs.Readings.{Reading}
 use Rattle.wy_rules.specs.Typing.{fields_of}
 use Rattle.wy_rules.specs.Acceptance.{scope_reading}
-use Rattle.wy_rules.specs.Nodes.{start_nodes, pure_nodes, seal_nodes, scope_nodes}
+use Rattle.wy_rules.specs.Nodes.{start_nodes, pure_nodes, scope_nodes}
 use Rattle.wy_judge.specs.declared.scopes.Judged.TheVariants.{Passes, Fails}
-use Rattle.wy_judge.specs.Outcomes.{pure_fault, ascribed_fault}
-use Rattle.wy_judge.specs.Judged.{NodesJudged, IsSealed}
+use Rattle.wy_judge.specs.Outcomes.{pure_fault}
+use Rattle.wy_judge.specs.Judged.{NodesJudged}
 use Rattle.wy_judge.specs.Tables.{Table, IsKnown, Agrees}
-use Rattle.wy_judge.specs.Walking.{settled_types, StartsTo, BodiesTo, IsJudged}
+use Rattle.wy_judge.specs.Walking.{settled_types, StartsTo, BodiesTo, IsSealFault, IsJudged}
 use Rattle.wy_judge.proofs.Rooms.{known_room}
-use Rattle.wy_judge.proofs.Whole.{pure_judged, seal_judged, scope_judged, pure_fails, start_fails, body_fails, scope_fault}
+use Rattle.wy_judge.proofs.Seals.{seal_judged}
+use Rattle.wy_judge.proofs.Whole.{pure_judged, scope_judged, pure_fails, start_fails, body_fails, scope_fault}
 
 -- the types that are known, in a list of types for all `val`s
 pub settled_agrees : (y : Reading) (table : Table) → Agrees y (map y.read (settled_types table)) table
@@ -39,22 +40,18 @@ module _ (p : Program) (k : ℕ) (s : Scope) where
   start_part : (a b : Table) (o : Option Fault) → StartsTo p k s [] a None → BodiesTo p k s a b o → NodesJudged p k s (AllTypes b) (start_nodes s s.start) None
   start_part a b o h g = h.judged (AllTypes b) (agrees_still a b o (AllTypes b) g (settled_agrees (scope_reading p k s) b))
 
-  seal_part : (locals : List (scope_reading p k s).Kind) (below : Truth) (o : Option Fault) → IsSealed p k s s.ascribed below → ascribed_fault s.place s.ascribed below ≡ o → NodesJudged p k s locals (seal_nodes s s.ascribed) o
-  seal_part locals below o h e = subst (NodesJudged p k s locals (seal_nodes s s.ascribed)) e (seal_judged p k s locals below h)
-
-  all_parts : (a b : Table) (below : Truth) (o : Option Fault) → pure_fault s.kind (fields_of s 0) s.names ≡ None → StartsTo p k s [] a None → BodiesTo p k s a b None → IsSealed p k s s.ascribed below →
-      ascribed_fault s.place s.ascribed below ≡ o → NodesJudged p k s (AllTypes b) (scope_nodes s) o
-  all_parts a b below o pure starts bodies sealed e =
+  all_parts : (a b : Table) (o : Option Fault) → pure_fault s.kind (fields_of s 0) s.names ≡ None → StartsTo p k s [] a None → BodiesTo p k s a b None → IsSealFault p k s o → NodesJudged p k s (AllTypes b) (scope_nodes s) o
+  all_parts a b o pure starts bodies sealed =
       scope_judged p k s (AllTypes b) None None None o (pure_part (AllTypes b) None pure) (start_part a b None starts bodies) (bodies.judged (AllTypes b) (settled_agrees (scope_reading p k s) b))
-      (seal_part (AllTypes b) below o sealed e)
+      (seal_judged p k s (AllTypes b) o sealed)
 
   ------------------------------------------------------------
   -- The scope
 
-  pub judged_passes : (a b : Table) (below : Truth) → AreNumbered (scope_vals s) → pure_fault s.kind (fields_of s 0) s.names ≡ None → StartsTo p k s [] a None → BodiesTo p k s a b None → IsSealed p k s s.ascribed below →
-      ascribed_fault s.place s.ascribed below ≡ None → IsJudged p k s (Passes (settled_types b))
-  judged_passes a b below numbered pure starts bodies sealed e = record {
-    nodes = all_parts a b below None pure starts bodies sealed e;
+  pub judged_passes : (a b : Table) → AreNumbered (scope_vals s) → pure_fault s.kind (fields_of s 0) s.names ≡ None → StartsTo p k s [] a None → BodiesTo p k s a b None → IsSealFault p k s None →
+      IsJudged p k s (Passes (settled_types b))
+  judged_passes a b numbered pure starts bodies sealed = record {
+    nodes = all_parts a b None pure starts bodies sealed;
     size =
         let all : take (length s.bodies) s.bodies ≡ s.bodies = take_all (length s.bodies) s.bodies (omega arith) in
         let w = subst (λ (l : List Body). ((n : ℕ) → In n (start_vals s.start ++ bodies_vals l) → IsKnown b n) × ((n : ℕ) → IsKnown b n → In n (start_vals s.start ++ bodies_vals l))) all (bodies.walked.known, bodies.walked.only) in
@@ -73,6 +70,5 @@ module _ (p : Program) (k : ℕ) (s : Scope) where
       scope_fault p k s (AllTypes b) fault
       (body_fails p k s (AllTypes b) fault (pure_part (AllTypes b) None pure) (start_part a b (Some fault) starts bodies) (bodies.judged (AllTypes b) (settled_agrees (scope_reading p k s) b)))
 
-  pub judged_seal : (a b : Table) (below : Truth) (fault : Fault) → pure_fault s.kind (fields_of s 0) s.names ≡ None → StartsTo p k s [] a None → BodiesTo p k s a b None → IsSealed p k s s.ascribed below →
-      ascribed_fault s.place s.ascribed below ≡ Some fault → IsJudged p k s (Fails fault)
-  judged_seal a b below fault pure starts bodies sealed e = scope_fault p k s (AllTypes b) fault (all_parts a b below (Some fault) pure starts bodies sealed e)
+  pub judged_seal : (a b : Table) (fault : Fault) → pure_fault s.kind (fields_of s 0) s.names ≡ None → StartsTo p k s [] a None → BodiesTo p k s a b None → IsSealFault p k s (Some fault) → IsJudged p k s (Fails fault)
+  judged_seal a b fault pure starts bodies sealed = scope_fault p k s (AllTypes b) fault (all_parts a b (Some fault) pure starts bodies sealed)

@@ -2,11 +2,13 @@
 use Rattle.std.proofs.Common.{◌≡◌, ℕ, ◌+◌, ◌≤◌, List, [], ◌∷◌, ◌⊎◌, inl, inr, refl, sym, subst, Some, None, Bool as Truth, true, false, arith}
 use Rattle.wy_effects.specs.Members.{In, Within}
 use Rattle.wy_effects.specs.EffSet.{IsSet, IsSetFrom, without}
+use Rattle.wy_effects.specs.Bounds.{IsOneOf, IsLeastMissing, IsWidened}
 use Rattle.wy_effects.proofs.SetLaws.{cases_equal, IsSetFrom-without, at_least, without-from, In-without}
+use Rattle.wy_effects.proofs.Ordering.{missing_exactly, widened_exactly}
 use Rattle.wy_types.specs.Program.{Program, Scope}
 use Rattle.wy_types.specs.Types.{is_plain}
+use Rattle.wy_types.specs.Bounds.{bounds_of}
 use Rattle.wy_rules.specs.Acceptance.{reading_of}
-use Rattle.wy_rules.specs.Failing.{IsLeastMissing}
 use Rattle.wy_judge.specs.Judged.{IsLack}
 
 -- nothing is left where one effect is in the other, and else the first atom that is left is the least
@@ -28,7 +30,7 @@ nothing_left e f h a i =
           ]
         ]
 
-pub first_left : (n : ℕ) (e f : List ℕ) (a : ℕ) (rest : List ℕ) → IsSet n e → without e f ≡ a ∷ rest → IsLeastMissing a e f
+pub first_left : (n : ℕ) (e f : List ℕ) (a : ℕ) (rest : List ℕ) → IsSet n e → without e f ≡ a ∷ rest → IsLeastMissing IsOneOf a e f
 first_left n e f a rest set same =
     let here = without-from a e f (subst (λ l. In a l) (sym same) (inl refl)) in
     let left : IsSetFrom 0 n (a ∷ rest) = subst (λ l. IsSetFrom 0 n l) same (IsSetFrom-without 0 n e f set) in
@@ -39,28 +41,30 @@ first_left n e f a rest set same =
     at_first b s (inr j) = let l = at_least (a + 1) n rest b s.2 j in omega (arith, l)
 
 module _ (p : Program) (k : ℕ) where
-  plain_includes : (plain : Truth) (f e : List ℕ) → plain ≡ true → (reading_of p k plain).Includes f ((reading_of p k plain).effect e)
-  plain_includes true f e h = tt
-  plain_includes false f e h = absurd (cc)
+  plain_allows : (plain : Truth) (f e : List ℕ) → plain ≡ true → (reading_of p k plain).Allows f ((reading_of p k plain).effect e)
+  plain_allows true f e h = tt
+  plain_allows false f e h = absurd (cc)
 
-  within_includes : (plain : Truth) (f e : List ℕ) → Within f e → (reading_of p k plain).Includes f ((reading_of p k plain).effect e)
-  within_includes true f e h = tt
-  within_includes false f e h = h
+  module _ (e wide : List ℕ) (is : IsWidened (bounds_of p k) e wide) where
+    within_allows : (plain : Truth) (f : List ℕ) → Within f wide → (reading_of p k plain).Allows f ((reading_of p k plain).effect e)
+    within_allows true f h = tt
+    within_allows false f h = (widened_exactly (bounds_of p k) f e wide is).1 h
 
-  not_included : (plain : Truth) (f e : List ℕ) (a : ℕ) → plain ≡ false → IsLeastMissing a f e →
-      ((reading_of p k plain).Includes f ((reading_of p k plain).effect e) → ⊥) × IsLeastMissing a f ((reading_of p k plain).effect e)
-  not_included true f e a h m = absurd (cc)
-  not_included false f e a h m = (λ i. m.1 (i a m.0), m)
+    not_allowed : (plain : Truth) (f : List ℕ) (a : ℕ) → plain ≡ false → IsLeastMissing IsOneOf a f wide →
+        ((reading_of p k plain).Allows f ((reading_of p k plain).effect e) → ⊥) × IsLeastMissing (reading_of p k plain).Under a f ((reading_of p k plain).effect e)
+    not_allowed true f a h m = absurd (cc)
+    not_allowed false f a h m = (let over = (missing_exactly (bounds_of p k) f e wide a is).1 m in (λ i. over.1 (i a m.0), over))
 
   module _ (s : Scope) where
     -- effects are not looked at
     pub plain_lacks_none : (f e : List ℕ) → is_plain s.kind ≡ true → IsLack p k s f e None
-    plain_lacks_none f e h = plain_includes (is_plain s.kind) f e h
+    plain_lacks_none f e h = plain_allows (is_plain s.kind) f e h
 
-    -- the effect is in the declared one
-    pub within_lacks_none : (f e : List ℕ) → Within f e → IsLack p k s f e None
-    within_lacks_none f e h = within_includes (is_plain s.kind) f e h
+    module _ (e wide : List ℕ) (is : IsWidened (bounds_of p k) e wide) where
+      -- the effect is in the declared one, which is widened
+      pub within_lacks_none : (f : List ℕ) → Within f wide → IsLack p k s f e None
+      within_lacks_none f h = within_allows e wide is (is_plain s.kind) f h
 
-    -- an atom is missing
-    pub lacks_atom : (f e : List ℕ) (a : ℕ) → is_plain s.kind ≡ false → IsLeastMissing a f e → IsLack p k s f e (Some a)
-    lacks_atom f e a h m = not_included (is_plain s.kind) f e a h m
+      -- an atom is missing
+      pub lacks_atom : (f : List ℕ) (a : ℕ) → is_plain s.kind ≡ false → IsLeastMissing IsOneOf a f wide → IsLack p k s f e (Some a)
+      lacks_atom f a h m = not_allowed e wide is (is_plain s.kind) f a h m

@@ -15,6 +15,7 @@ pub mod BlockWalks
 pub mod Bodies
 pub mod BodyVals
 pub mod BodyWalks
+pub mod BoundsDecided
 pub mod Calling
 pub mod Carrying
 pub mod Checks
@@ -28,6 +29,7 @@ pub mod Expecting
 pub mod Fitting
 pub mod Judgings
 pub mod Lacking
+pub mod LacksDecided
 pub mod Lists
 pub mod ListsPut
 pub mod Making
@@ -41,9 +43,11 @@ pub mod Putting
 pub mod ReachDecided
 pub mod ReadTypes
 pub mod Refitting
+pub mod RespectedBounds
 pub mod Rooms
 pub mod ScopeParts
 pub mod ScopesDecided
+pub mod Seals
 pub mod Several
 pub mod Simple
 pub mod Statements

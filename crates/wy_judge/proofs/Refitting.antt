@@ -14,7 +14,7 @@ pub refit : (y : Reading) (w : Lawful y) (s : Scope) (locals : List y.Kind) (own
     IsBelow y t t → y.Includes f g → y.Includes g f → IsLeast y s locals owner x t f → IsLeast y s locals owner x t g
 refit y w s locals owner x t f g r i j l = record {
   has = record { derivation = T-Sub (mark x) l.has.derivation t f; derives = (refl, l.has.derives, r, i) };
-  least = λ u h d. let c = l.least u h d in (c.0, w.within g f h j c.1);
+  least = λ u h d. let c = l.least u h d in (c.0, w.onward g f h (w.allows g f j) c.1);
 }
 
 -- no atoms more

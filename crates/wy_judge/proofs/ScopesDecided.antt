@@ -1,83 +1,46 @@
 -- A scope passes or has a fault: its start, its bodies in their order and its seal are judged, with no table that may want memory.
-use Rattle.std.proofs.Common.{◌≡◌, ℕ, suc, ◌+◌, ◌≤◌, List, [], ◌∷◌, ◌⊎◌, inl, inr, length, refl, sym, subst, ◌∙◌, Option, Some, None, true, false, map, arith}
+use Rattle.std.proofs.Common.{◌≡◌, ℕ, suc, ◌+◌, List, [], ◌∷◌, ◌⊎◌, inl, inr, length, refl, sym, subst, ◌∙◌, Option, Some, None, Bool as Truth, true, false, map, arith}
 use Rattle.std.specs.Prelude.{slice_get}
-use Rattle.std.proofs.lemmas.Bool.{cases_lt}
 use Rattle.wy_text.specs.declared.fault.Fault.{Fault}
+use Rattle.wy_text.specs.declared.fault.RuleName.TheVariants.{MAscribe}
 use Rattle.wy_effects.specs.Members.{In}
-use Rattle.wy_effects.specs.EffSet.{without}
+use Rattle.wy_effects.specs.Widened.{widened_set}
 use Rattle.wy_effects.proofs.Lists.{In-slice_get}
-use Rattle.wy_effects.proofs.SetLaws.{without-from, In-without}
 use Rattle.wy_types.specs.declared.types.TypeRef.{TypeRef}
 use Rattle.wy_types.specs.declared.types.TypeRef.TheVariants.{Unit as Nothing, Named, Own}
 use Rattle.wy_types.specs.Code.{Values}
 use Rattle.wy_types.specs.Core.{IsCore, start_vals, values_vals}
 use Rattle.wy_types.specs.Program.{Program, Scope, Body, Start, Init, Run}
 use Rattle.wy_types.specs.Types.{is_plain}
+use Rattle.wy_types.specs.Bounds.{bounds_of, declared_bounds}
+use Rattle.wy_types.proofs.Bounding.{go_down}
 use Rattle.wy_rules.specs.Typing.{fields_of, field_types}
 use Rattle.wy_rules.specs.Acceptance.{scope_reading}
 use Rattle.wy_rules.specs.Nodes.{start_nodes, body_nodes, bodies_nodes, written_spots}
-use Rattle.wy_subtype.specs.declared.verdict.Mode.{Mode}
-use Rattle.wy_subtype.specs.declared.verdict.Mode.TheVariants.{Annotated, Plain}
 use Rattle.wy_judge.specs.Accepting.{IsScopeDecided}
-use Rattle.wy_judge.specs.Fit.{Fit}
-use Rattle.wy_judge.specs.Fit as fit
 use Rattle.wy_judge.specs.Fits.{Fits}
-use Rattle.wy_judge.specs.Fits as fits
 use Rattle.wy_judge.specs.declared.scopes.Judged.TheVariants.{Passes, Fails}
-use Rattle.wy_judge.specs.Outcomes.{pure_fault, seal_fault, body_fault, init_fault, NoneFails}
+use Rattle.wy_judge.specs.Outcomes.{fault_at, lack_fault, pure_fault, body_fault, init_fault, NoneFails}
 use Rattle.wy_judge.specs.Judged.{NodesJudged, FitsLack}
 use Rattle.wy_judge.specs.Judging.{NoFault}
-use Rattle.wy_judge.specs.Lacks.{LacksIn, FitLacksIn, FitsLackIn}
 use Rattle.wy_judge.specs.Tables.{Table, IsScopeOf, Agrees, Moves}
 use Rattle.wy_judge.specs.Targets.{mode_of}
-use Rattle.wy_judge.specs.Walking.{Walked, WalkedAll, StartsTo, BodyTo, BodiesTo, IsSealFault, SealAfter, settled_types, IsJudged}
+use Rattle.wy_judge.specs.Walking.{Walked, WalkedAll, StartsTo, BodyTo, BodiesTo, IsSealFault, IsMembersFault, SealAfter, settled_types, IsJudged}
 use Rattle.wy_judge.proofs.AtOnce.{ValuesFit}
 use Rattle.wy_judge.proofs.Bodies.{both_judged, init_judged}
 use Rattle.wy_judge.proofs.Contexts.{lawful, in_range, own_in_range, fields_in_range, result_in_range, sealed_in_range, scope_fits}
 use Rattle.wy_judge.proofs.Expecting.{written_expected}
 use Rattle.wy_judge.proofs.Judgings.{judged_pure, judged_start}
-use Rattle.wy_judge.proofs.Lacking.{nothing_left}
+use Rattle.wy_judge.proofs.LacksDecided.{fit_lack_decided, fits_lack_decided}
 use Rattle.wy_judge.proofs.Lists.{fail_left}
 use Rattle.wy_judge.proofs.Moving.{moves_under}
+use Rattle.wy_judge.proofs.BoundsDecided.{outside_decided}
 use Rattle.wy_judge.proofs.PartsDecided.{values_decided, block_decided}
-use Rattle.wy_judge.proofs.ScopeParts.{fit_lacks, fits_lack, owner_there, not_sealed, sealed_as, fails_after, passes_after}
+use Rattle.wy_judge.proofs.ScopeParts.{wide_is, fit_lacks, fits_lack, owner_there, fails_after, passes_after}
+use Rattle.wy_judge.proofs.Seals.{not_sealed, plain_members, members_respect, member_outside, seal_fails, seal_by_members}
 use Rattle.wy_judge.proofs.Starting.{values_start, values_as_many, block_start, init_stands, run_to, body_to}
 use Rattle.wy_judge.proofs.SubtypesDecided.{subtype_decided}
 use Rattle.wy_judge.proofs.Walks.{walked_start, body_ready, walked_more}
-
-------------------------------------------------------------
--- Effects that are lacking
-
-pub least_of : (x : ℕ) (xs : List ℕ) → (a : ℕ) × In a (x ∷ xs) × ((b : ℕ) → In b (x ∷ xs) → a ≤ b)
-least_of x [] = (x, inl refl, λ b i. elim i [ inl e ↦ omega (arith, e) | inr none ↦ absurd none ])
-least_of x (y ∷ ys) =
-    let r = least_of y ys in
-    let a : ℕ = r.0 in
-    elim (cases_lt x a) [
-      | inl lt ↦ (x, inl refl, λ b i. elim i [ inl e ↦ omega (arith, e) | inr j ↦ (let l : a ≤ b = r.2 b j in omega arith) ])
-      | inr ge ↦ (a, inr r.1, λ b i. elim i [ inl e ↦ omega (arith, e) | inr j ↦ r.2 b j ])
-    ]
-
-lack_by : (f declared left : List ℕ) → without f declared ≡ left → (lack : Option ℕ) × LacksIn Annotated f declared lack
-lack_by f declared [] e = (None, nothing_left f declared e)
-lack_by f declared (x ∷ xs) e =
-    let r = least_of x xs in
-    let from = without-from r.0 f declared (subst (λ l. In r.0 l) (sym e) r.1) in
-    (Some r.0, (from.0, from.1, λ b i absent. r.2 b (subst (λ l. In b l) e (In-without b f declared i absent))))
-
-pub lack_decided : (mode : Mode) (f declared : List ℕ) → (lack : Option ℕ) × LacksIn mode f declared lack
-lack_decided Plain f declared = (None, refl)
-lack_decided Annotated f declared = lack_by f declared (without f declared) refl
-
-fit_lack_decided : (mode : Mode) (u : Fit) (declared : List ℕ) → (lack : Option ℕ) × FitLacksIn mode u declared lack
-fit_lack_decided mode (fit.Has f) declared = lack_decided mode f declared
-fit_lack_decided mode fit.Misfit declared = (None, tt)
-fit_lack_decided mode (fit.Fails fault) declared = (None, tt)
-
-fits_lack_decided : (mode : Mode) (u : Fits) (declared : List ℕ) → (lack : Option ℕ) × FitsLackIn mode u declared lack
-fits_lack_decided mode (fits.Have f) declared = lack_decided mode f declared
-fits_lack_decided mode (fits.Misfit n) declared = (None, tt)
-fits_lack_decided mode (fits.Fails fault) declared = (None, tt)
 
 module _ (p : Program) (k : ℕ) (s : Scope) (c : IsScopeOf p k s) where
   ------------------------------------------------------------
@@ -106,21 +69,21 @@ module _ (p : Program) (k : ℕ) (s : Scope) (c : IsScopeOf p k s) where
   start_by (Init xs) e =
       let d = values_decided p k s c None tt xs in
       let a = d.fit_at [] (field_types s 0) (fields_in_range p k s c 0) (values_as_many p k s c xs e) (values_start p k s c xs e) in
-      let lack = fits_lack_decided (mode_of (is_plain s.kind)) a.1 s.start_effect in
-      (a.0, init_fault s.start_place s.atoms lack.0 a.1, starts_with xs a.0 a.1 lack.0 e a.2 (fits_lack p k s a.1 s.start_effect lack.0 lack.1))
+      let lack = fits_lack_decided (mode_of (is_plain s.kind)) a.1 (widened_set (bounds_of p k) s.start_effect) in
+      (a.0, init_fault s.start_place s.atoms lack.0 a.1, starts_with xs a.0 a.1 lack.0 e a.2 (fits_lack p k s s.start_effect _ (wide_is p k s c s.start_effect) a.1 lack.0 lack.1))
   start_by (Run x) e =
       let d = block_decided p k s c None tt x in
       let a = d.fits_at [] Nothing tt (block_start p k s c x e) in
-      let lack = fit_lack_decided (mode_of (is_plain s.kind)) a.1 s.start_effect in
-      (a.0, body_fault s.start_place s.atoms lack.0 a.1, run_to p k s x a.0 a.1 lack.0 e a.2 (fit_lacks p k s a.1 s.start_effect lack.0 lack.1))
+      let lack = fit_lack_decided (mode_of (is_plain s.kind)) a.1 (widened_set (bounds_of p k) s.start_effect) in
+      (a.0, body_fault s.start_place s.atoms lack.0 a.1, run_to p k s x a.0 a.1 lack.0 e a.2 (fit_lacks p k s s.start_effect _ (wide_is p k s c s.start_effect) a.1 lack.0 lack.1))
 
   body_decided : (old : Table) (b : Body) (i : ℕ) → Walked p k s old i → slice_get s.bodies i ≡ Some b → (new : Table) × (o : Option Fault) × BodyTo p k s old new b o
   body_decided old b i w e =
       let among : In b s.bodies = In-slice_get s.bodies i b e in
       let d = block_decided p k s c (Some b.owner) (owner_there p k s c b among) b.block in
       let a = d.fits_at old b.signature.result (result_in_range p k s c b among) (body_ready p k s c old i b w e) in
-      let lack = fit_lack_decided (mode_of (is_plain s.kind)) a.1 b.signature.effect in
-      (a.0, body_fault b.place s.atoms lack.0 a.1, body_to p k s b old a.0 a.1 lack.0 a.2 (fit_lacks p k s a.1 b.signature.effect lack.0 lack.1))
+      let lack = fit_lack_decided (mode_of (is_plain s.kind)) a.1 (widened_set (bounds_of p k) b.signature.effect) in
+      (a.0, body_fault b.place s.atoms lack.0 a.1, body_to p k s b old a.0 a.1 lack.0 a.2 (fit_lacks p k s b.signature.effect _ (wide_is p k s c b.signature.effect) a.1 lack.0 lack.1))
 
   ------------------------------------------------------------
   -- Bodies in their order
@@ -193,12 +156,20 @@ module _ (p : Program) (k : ℕ) (s : Scope) (c : IsScopeOf p k s) where
   ------------------------------------------------------------
   -- The seal, and the whole
 
+  members_decided : (d : ℕ) → s.ascribed ≡ Some d → (plain : Truth) → is_plain s.kind ≡ plain → (q : Option Fault) × IsMembersFault p k s q
+  members_decided d e true plain = (None, plain_members p k s d e plain)
+  members_decided d e false plain =
+      elim (outside_decided (declared_bounds p d) (bounds_of p k) (go_down p (in_range p k s c) k) s.definitions) [
+        | inl respect ↦ (None, members_respect p k s d e plain respect)
+        | inr one ↦ (lack_fault s.place MAscribe s.atoms (Some one.0), member_outside p k s d e plain one.0 one.1)
+      ]
+
   sealed_by : (o : Option ℕ) → s.ascribed ≡ o → (q : Option Fault) × IsSealFault p k s q
   sealed_by None e = (None, not_sealed p k s e)
   sealed_by (Some d) e =
       elim (subtype_decided p (in_range p k s c) k (mode_of (is_plain s.kind)) (Own 0) (Named d s.definitions) (own_in_range p k s c 0 (scope_fits p k s c).own_literal) (sealed_in_range p k s c d e)) [
-        | inl below ↦ (seal_fault s.place true, sealed_as p k s c d s.definitions true (seal_fault s.place true) e refl (λ q. below, λ q. refl) refl)
-        | inr not ↦ (seal_fault s.place false, sealed_as p k s c d s.definitions false (seal_fault s.place false) e refl (λ q. absurd (cc), λ q. absurd (not q)) refl)
+        | inl below ↦ (let m = members_decided d e (is_plain s.kind) refl in (m.0, seal_by_members p k s d e c below m.0 m.1))
+        | inr not ↦ (Some (fault_at s.place MAscribe 1), seal_fails p k s d e c not)
       ]
 
   abbrev Whole : Type 0

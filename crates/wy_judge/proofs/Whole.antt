@@ -1,5 +1,5 @@
--- A scope's nodes from its parts: what a pure module may not have, its start, its bodies and its seal.
-use Rattle.std.proofs.Common.{◌≡◌, ℕ, List, [], ◌∷◌, ◌++◌, inl, refl, sym, subst, Option, Some, None, Bool as Truth, true, false}
+-- A scope's nodes from its parts: what a pure module may not have, its start, its bodies and its seal, of which the first is judged here.
+use Rattle.std.proofs.Common.{ℕ, List, [], ◌∷◌, ◌++◌, inl, refl, Option, Some, None, true, false}
 use Rattle.std.specs.Prelude.{if◌then◌else◌}
 use Rattle.wy_text.specs.declared.fault.Place.{Place}
 use Rattle.wy_text.specs.declared.fault.Fault.{Fault}
@@ -12,11 +12,11 @@ use Rattle.wy_types.specs.declared.resolved.ScopeKind.{ScopeKind}
 use Rattle.wy_types.specs.declared.resolved.ScopeKind.TheVariants.{Pure, Resource, Plain, Program as Main}
 use Rattle.wy_types.specs.Program.{Program, Scope}
 use Rattle.wy_rules.specs.Typing.{fields_of}
-use Rattle.wy_rules.specs.Acceptance.{scope_reading, SealHolds}
+use Rattle.wy_rules.specs.Acceptance.{scope_reading}
 use Rattle.wy_rules.specs.Nodes.{nothing, impure, node, start_nodes, bodies_nodes, var_nodes, impure_line, impure_lines, pure_nodes, seal_nodes, scope_nodes}
 use Rattle.wy_rules.specs.Failing.{FailsBy, FirstFailing, AllPass, IsScopeFault}
-use Rattle.wy_judge.specs.Outcomes.{fault_at, fault_or, var_fault, is_line, line_fault, pure_fault, ascribed_fault}
-use Rattle.wy_judge.specs.Judged.{NodesJudged, IsSealed}
+use Rattle.wy_judge.specs.Outcomes.{fault_at, fault_or, var_fault, is_line, line_fault, pure_fault}
+use Rattle.wy_judge.specs.Judged.{NodesJudged}
 use Rattle.wy_judge.proofs.Bodies.{both_judged}
 use Rattle.wy_judge.proofs.Lists.{fail_left, fail_right}
 
@@ -52,30 +52,6 @@ module _ (p : Program) (k : ℕ) (s : Scope) (locals : List (scope_reading p k s
   pure_judged Resource = tt
   pure_judged Plain = tt
   pure_judged Main = tt
-
-  ------------------------------------------------------------
-  -- M-Ascribe
-
-  sealed_at : (o : Option ℕ) (below : Truth) → o ≡ s.ascribed → IsSealed p k s o below → NodesJudged p k s locals (seal_nodes s o) (ascribed_fault s.place o below)
-  sealed_at None below e h = tt
-  sealed_at (Some d) true e h = (record { expected = None; spot = refl; stands = subst (SealHolds (scope_reading p k s) s) e (h.0 refl); settles = tt }, tt)
-  sealed_at (Some d) false e h =
-      inl (record {
-        expected = None;
-        atom = None;
-        spot = refl;
-        stands_not = λ i. differ (h.1 (subst (SealHolds (scope_reading p k s) s) (sym e) i));
-        premise = (refl, refl);
-        place = refl;
-        rule = refl;
-        lacks = refl;
-      })
-    where
-      differ : ◌≡◌ {A = Truth} false true → ⊥
-      differ i = cc
-
-  pub seal_judged : (below : Truth) → IsSealed p k s s.ascribed below → NodesJudged p k s locals (seal_nodes s s.ascribed) (ascribed_fault s.place s.ascribed below)
-  seal_judged below h = sealed_at s.ascribed below refl h
 
   ------------------------------------------------------------
   -- All nodes

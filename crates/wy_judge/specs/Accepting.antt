@@ -5,7 +5,7 @@ use Rattle.wy_text.specs.declared.fault.Fault.{Fault}
 use Rattle.wy_types.specs.declared.types.TypeRef.{TypeRef}
 use Rattle.wy_types.specs.Program.{Program, Scope}
 use Rattle.wy_rules.specs.Typing.{ScopeHolds}
-use Rattle.wy_rules.specs.Acceptance.{scope_reading, PureHolds, SealHolds}
+use Rattle.wy_rules.specs.Acceptance.{scope_reading, PureHolds, AscriptionHolds}
 use Rattle.wy_rules.specs.Ends.{End, IsEnd}
 use Rattle.wy_rules.specs.Failing.{IsScopeFault, IsLineFault}
 use Rattle.wy_rules.specs.Refusals.{ScopePasses, LinesPassFrom}
@@ -16,7 +16,7 @@ use Rattle.wy_judge.specs.Walking.{IsJudged}
 
 -- the rules for a scope but for its lines
 abbrev pub KeepsRules : Program → ℕ → Scope → Type 0
-KeepsRules p k s = PureHolds s.kind s × ScopeHolds (scope_reading p k s) s × SealHolds (scope_reading p k s) s s.ascribed
+KeepsRules p k s = PureHolds s.kind s × ScopeHolds (scope_reading p k s) s × AscriptionHolds p k s
 
 abbrev pub PassingKeepsRules : Type 0
 PassingKeepsRules = (p : Program) (k : ℕ) (s : Scope) (types : List TypeRef) → IsJudged p k s (Passes types) → KeepsRules p k s

@@ -1,20 +1,20 @@
 -- What judging a part of a body says of its types and its nodes, over the types of the `val`s that stand before it
 -- (docs/LANGUAGE.md, "First failing node").
-use Rattle.std.specs.Prelude.{◌≡◌, ◌↔◌, ℕ, ◌+◌, List, Option, Some, None, map, take, drop, Bool as Truth, true}
+use Rattle.std.specs.Prelude.{ℕ, ◌+◌, List, Option, Some, None, map, take, drop}
 use Rattle.wy_text.specs.declared.fault.Fault.{Fault}
+use Rattle.wy_effects.specs.Bounds.{IsLeastMissing}
 use Rattle.wy_types.specs.declared.types.TypeRef.{TypeRef}
-use Rattle.wy_types.specs.declared.types.TypeRef.TheVariants.{Named, Own}
 use Rattle.wy_types.specs.declared.code.Value as v
 use Rattle.wy_types.specs.declared.code.Stmt as st
 use Rattle.wy_types.specs.declared.resolved.Body as b
 use Rattle.wy_types.specs.Code.{Expr, Value, Plain, Values, Block, Last}
 use Rattle.wy_types.specs.View.{values_of, stmts_block}
 use Rattle.wy_types.specs.Program.{Program, Scope, body_of}
-use Rattle.wy_rules.specs.Readings.{Reading, IsBelow}
+use Rattle.wy_rules.specs.Readings.{Reading}
 use Rattle.wy_rules.specs.Typing.{Has, HasAt, BlockHasAt, AllHaveAt}
 use Rattle.wy_rules.specs.Acceptance.{scope_reading}
 use Rattle.wy_rules.specs.Nodes.{Spot, Node, expr_nodes, value_nodes, values_nodes, block_nodes, bodies_nodes}
-use Rattle.wy_rules.specs.Failing.{IsLeast, IsLeastMissing, IsLeastAt, AreLeastAt, first_values, AllPass, FirstFailing}
+use Rattle.wy_rules.specs.Failing.{IsLeast, IsLeastAt, AreLeastAt, first_values, AllPass, FirstFailing}
 use Rattle.wy_judge.specs.Inference.{Inference}
 use Rattle.wy_judge.specs.Inference as inferred
 use Rattle.wy_judge.specs.Fit.{Fit}
@@ -26,7 +26,7 @@ use Rattle.wy_judge.specs.Outcomes.{then_fits, followed_fit}
 -- the least effect of a value at a type
 pub record IsLeastOf (y : Reading) (s : Scope) (locals : List y.Kind) (owner : Option ℕ) (x : Value) (t : y.Kind) (f : List ℕ) : Type 0 where
   pub has : Has y s locals owner x t f
-  pub least : (g : List ℕ) → Has y s locals owner x t g → y.Includes f g
+  pub least : (g : List ℕ) → Has y s locals owner x t g → y.Allows f g
 
 module _ (p : Program) (k : ℕ) (s : Scope) (locals : List (scope_reading p k s).Kind) (owner : Option ℕ) where
   -- an expression by itself
@@ -91,11 +91,11 @@ module _ (p : Program) (k : ℕ) (s : Scope) (locals : List (scope_reading p k s
   abbrev pub Steps : List st.Stmt → Value → ℕ → List ℕ → Type 0
   Steps statements last i effect = Follows (stmts_block (drop i statements) (Last last)) (stmts_block statements (Last last)) effect
 
--- the declared effect has the effect of a body, or this is the least atom that it lacks
+-- a body's effect is within the declared one, or this is its least atom that is not
 module _ (p : Program) (k : ℕ) (s : Scope) where
   abbrev pub IsLack : List ℕ → List ℕ → Option ℕ → Type 0
-  IsLack f declared None = (scope_reading p k s).Includes f ((scope_reading p k s).effect declared)
-  IsLack f declared (Some a) = ((scope_reading p k s).Includes f ((scope_reading p k s).effect declared) → ⊥) × IsLeastMissing a f ((scope_reading p k s).effect declared)
+  IsLack f declared None = (scope_reading p k s).Allows f ((scope_reading p k s).effect declared)
+  IsLack f declared (Some a) = ((scope_reading p k s).Allows f ((scope_reading p k s).effect declared) → ⊥) × IsLeastMissing (scope_reading p k s).Under a f ((scope_reading p k s).effect declared)
 
   -- .. where a block, or the initialisers of fields, have their types
   abbrev pub FitLacks : Fit → List ℕ → Option ℕ → Type 0
@@ -107,11 +107,6 @@ module _ (p : Program) (k : ℕ) (s : Scope) where
   FitsLack (fits.Have f) declared lack = IsLack f declared lack
   FitsLack (fits.Misfit n) declared lack = Unit {0}
   FitsLack (fits.Fails fault) declared lack = Unit {0}
-
-  -- whether the scope's own type is a subtype of the one that it is sealed at
-  abbrev pub IsSealed : Option ℕ → Truth → Type 0
-  IsSealed None below = Unit {0}
-  IsSealed (Some d) below = (below ≡ true) ↔ IsBelow (scope_reading p k s) ((scope_reading p k s).read (Own 0)) ((scope_reading p k s).read (Named d s.definitions))
 
 -- what judging some nodes comes to
 module _ (p : Program) (k : ℕ) (s : Scope) (locals : List (scope_reading p k s).Kind) where

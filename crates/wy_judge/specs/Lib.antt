@@ -8,6 +8,7 @@ pub mod Judged
 pub mod Judging
 pub mod Lacks
 pub mod Outcomes
+pub mod Outside
 pub mod Results
 pub mod Step
 pub mod Tables

@@ -316,24 +316,24 @@ untyped_fault place (Some fault) = fault
 ------------------------------------------------------------
 -- Bodies and scopes
 
--- an atom of the effect that the declared one lacks, with its name
-abbrev pub lacking : Place → Option AtomName → Fault
-lacking place atom = record { place = place; rule = TBody; premise = 2; atom = atom }
+-- the second premise of a rule is false, which is about effects, with the name of the atom that is missing
+abbrev pub lacking : Place → RuleName → Option AtomName → Fault
+lacking place rule atom = record { place = place; rule = rule; premise = 2; atom = atom }
 
--- .. where there is one
-abbrev pub lack_fault : Place → List AtomName → Option ℕ → Option Fault
-lack_fault place atoms None = None
-lack_fault place atoms (Some a) = Some (lacking place (slice_get atoms a))
+-- .. where one is
+abbrev pub lack_fault : Place → RuleName → List AtomName → Option ℕ → Option Fault
+lack_fault place rule atoms None = None
+lack_fault place rule atoms (Some a) = Some (lacking place rule (slice_get atoms a))
 
 -- what a body comes to, by what its block comes to at the result's type
 abbrev pub body_fault : Place → List AtomName → Option ℕ → Fit → Option Fault
-body_fault place atoms lack (fit.Has f) = lack_fault place atoms lack
+body_fault place atoms lack (fit.Has f) = lack_fault place TBody atoms lack
 body_fault place atoms lack fit.Misfit = Some (fault_at place TBody 1)
 body_fault place atoms lack (fit.Fails fault) = Some fault
 
 -- .. and the initialisers of a module's fields
 abbrev pub init_fault : Place → List AtomName → Option ℕ → Fits → Option Fault
-init_fault place atoms lack (fits.Have f) = lack_fault place atoms lack
+init_fault place atoms lack (fits.Have f) = lack_fault place TBody atoms lack
 init_fault place atoms lack (fits.Misfit n) = Some (fault_at place TBody 1)
 init_fault place atoms lack (fits.Fails fault) = Some fault
 
@@ -359,11 +359,6 @@ pure_fault Resource fields names = None
 pure_fault Plain fields names = None
 pure_fault Main fields names = None
 
--- whether the module's own type is a subtype of the one that it is sealed at is the truth value
-abbrev pub seal_fault : Place → Truth → Option Fault
-seal_fault place true = None
-seal_fault place false = Some (fault_at place MAscribe 1)
-
-abbrev pub ascribed_fault : Place → Option ℕ → Truth → Option Fault
-ascribed_fault place None below = None
-ascribed_fault place (Some d) below = seal_fault place below
+-- a premise of M-Ascribe, with the name of the atom that is missing
+abbrev pub seal_fault : Place → ℕ → Option AtomName → Fault
+seal_fault place premise atom = record { place = place; rule = MAscribe; premise = premise; atom = atom }

@@ -1,21 +1,22 @@
 -- Judging a scope: its start, its bodies in their order, and what is known after each; and what the whole comes to.
-use Rattle.std.specs.Prelude.{◌≡◌, ℕ, List, ◌++◌, map, take, length, slice_get, Option, Some, None, Bool as Truth}
+use Rattle.std.specs.Prelude.{◌≡◌, ℕ, List, ◌++◌, map, take, length, slice_get, Option, Some, None, false}
 use Rattle.wy_text.specs.declared.fault.Fault.{Fault}
 use Rattle.wy_effects.specs.Members.{In}
 use Rattle.wy_types.specs.declared.types.TypeRef.{TypeRef}
 use Rattle.wy_types.specs.declared.types.TypeRef.TheVariants.{Unit as Nothing}
 use Rattle.wy_types.specs.declared.resolved.Body as b
 use Rattle.wy_types.specs.Program.{Program, Scope, Body}
+use Rattle.wy_types.specs.Types.{is_plain}
 use Rattle.wy_types.specs.Core.{start_vals, bodies_vals, block_vals, scope_vals}
-use Rattle.wy_rules.specs.Acceptance.{scope_reading}
+use Rattle.wy_rules.specs.Acceptance.{scope_reading, MembersHold, AscriptionHolds}
 use Rattle.wy_rules.specs.Nodes.{start_nodes, body_nodes, bodies_nodes, scope_nodes}
-use Rattle.wy_rules.specs.Failing.{AllPass, IsScopeFault}
+use Rattle.wy_rules.specs.Failing.{MembersFail, SealFails, named_atom, AllPass, IsScopeFault}
 use Rattle.wy_judge.specs.declared.outcomes.Stop.{Stop}
 use Rattle.wy_judge.specs.declared.outcomes.Stop.TheVariants as stop
 use Rattle.wy_judge.specs.declared.scopes.Judged.{Judged}
 use Rattle.wy_judge.specs.declared.scopes.Judged.TheVariants.{Passes, Fails}
-use Rattle.wy_judge.specs.Judged.{NodesJudged, BodiesPassed, IsSealed}
-use Rattle.wy_judge.specs.Outcomes.{ascribed_fault}
+use Rattle.wy_judge.specs.Judged.{NodesJudged, BodiesPassed}
+use Rattle.wy_judge.specs.Outcomes.{seal_fault}
 use Rattle.wy_judge.specs.Judging.{NoFault}
 use Rattle.wy_judge.specs.Tables.{Table, EndsKnown, IsKnown, Agrees, AllInRange, Moves}
 
@@ -61,9 +62,15 @@ module _ (p : Program) (k : ℕ) (s : Scope) where
     pub walked : Walked new i
     pub judged : (locals : List (scope_reading p k s).Kind) → Agrees (scope_reading p k s) locals new → BodiesPassed p k s locals bodies i
 
-  -- the seal
+  -- the seal: M-Ascribe holds, or this is its first premise that is false
   abbrev pub IsSealFault : Option Fault → Type 0
-  IsSealFault o = (below : Truth) × IsSealed p k s s.ascribed below × (o ≡ ascribed_fault s.place s.ascribed below)
+  IsSealFault None = AscriptionHolds p k s
+  IsSealFault (Some fault) = (n : ℕ) × (atom : Option ℕ) × SealFails p k s n atom × (fault ≡ seal_fault s.place n (named_atom s atom))
+
+  -- .. its second premise, by itself
+  abbrev pub IsMembersFault : Option Fault → Type 0
+  IsMembersFault None = MembersHold p k s (is_plain s.kind)
+  IsMembersFault (Some fault) = (a : ℕ) × (is_plain s.kind ≡ false) × MembersFail p k s s.ascribed (Some a) × (fault ≡ seal_fault s.place 2 (slice_get s.atoms a))
 
   -- .. after the bodies, where no node of them fails
   abbrev pub SealAfter : Option Fault → Option Fault → Type 0

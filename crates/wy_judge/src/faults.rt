@@ -3,9 +3,9 @@
 ghost use Rattle.std.specs.Prelude.{◌≡◌, IfOk, IfSome, IfNone, slice_get};
 ghost use Rattle.std.specs.Option.{option_map};
 ghost use Rattle.wy_effects.specs.Members.{Within};
+ghost use Rattle.wy_effects.specs.Bounds.{IsOneOf, IsLeastMissing};
 ghost use Rattle.wy_types.specs.Program.{scope_of};
 ghost use Rattle.wy_rules.specs.Typing.{fields_of};
-ghost use Rattle.wy_subtype.specs.Verdict.{IsLeastMissing};
 ghost use Rattle.wy_judge.specs.Outcomes.{fault_or, lack_fault, var_fault, is_line, line_fault, pure_fault};
 ghost use Rattle.wy_judge.specs.Lacks.{LacksIn, IsBodyFault};
 ghost use Rattle.wy_judge.specs.Results.{fit_of};
@@ -22,7 +22,7 @@ use wy_types::resolved::{Field, Origin, OwnName, Scope, ScopeKind};
 /// The least atom of an effect that another lacks.
 pub fn least_missing(effect: &EffSet, declared: &EffSet) -> Result<Option<Atom>, Memory>
     ensures none { IfOk result (λ o. IfNone o (Within effect.now declared.now)) }
-    ensures some { IfOk result (λ o. IfSome o (λ a. IsLeastMissing a.0 effect.now declared.now)) }
+    ensures some { IfOk result (λ o. IfSome o (λ a. IsLeastMissing IsOneOf a.0 effect.now declared.now)) }
 {
     effect.is_set();
     if declared.includes(effect) {
@@ -55,26 +55,28 @@ pub fn atom_name(atoms: &AtomTable, atom: Atom) -> Result<Option<AtomName>, Memo
     }
 }
 
-/// The fault of an effect that lacks this atom, where it lacks one.
-fn lack_fault(
+/// The fault of the second premise of a rule, which is about effects, where this atom is missing.
+pub fn lack_fault(
     place: Place,
+    rule: RuleName,
     atoms: &AtomTable,
     missing: Option<Atom>,
 ) -> Result<Option<Fault>, Memory>
-    ensures { IfOk result (λ o. o ≡ lack_fault place atoms.now (option_map (λ a. a.0) missing)) }
+    ensures { IfOk result (λ o. o ≡ lack_fault place rule atoms.now (option_map (λ a. a.0) missing)) }
 {
     match missing {
         None => Ok(None),
         Some(atom) => Ok(Some(Fault {
             place,
-            rule: RuleName::TBody,
+            rule,
             premise: 2,
             atom: atom_name(atoms, atom)?,
         })),
     }
 }
 
-/// What a body comes to, by what its block comes to at the result's type.
+/// What a body comes to, by what its block comes to at the result's type. The declared effect is widened by the bounds of
+/// the scope's atoms.
 pub fn body_fault(
     mode: Mode,
     place: Place,
@@ -85,7 +87,10 @@ pub fn body_fault(
     ensures { IfOk result (λ o. IsBodyFault mode place atoms.now declared.now (fit_of block) o) }
 {
     match block {
-        Fit::Has(effect) => lack_fault(place, atoms, lack(mode, &effect, declared)?),
+        Fit::Has(effect) => {
+            let missing = lack(mode, &effect, declared)?;
+            lack_fault(place, RuleName::TBody, atoms, missing)
+        }
         Fit::Misfit => Ok(Some(fault_at(place, RuleName::TBody, 1))),
     }
 }

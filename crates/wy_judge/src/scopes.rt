@@ -3,26 +3,25 @@
 ghost use Rattle.std.specs.Prelude.{◌≡◌, ◌<◌, [], IfOk, None, Some, length};
 ghost use Rattle.wy_effects.specs.Members.{In};
 ghost use Rattle.wy_types.specs.Program.{program_of, scope_of, body_of};
-ghost use Rattle.wy_types.specs.Types.{is_plain};
 ghost use Rattle.wy_rules.specs.Resolved.{CoreKeeps};
-ghost use Rattle.wy_judge.specs.Lacks.{IsBodyFault};
-ghost use Rattle.wy_judge.specs.Outcomes.{seal_fault};
+ghost use Rattle.wy_judge.specs.Lacks.{IsBodyFaultOf};
 ghost use Rattle.wy_judge.specs.Results.{IfPassed, fit_of};
 ghost use Rattle.wy_judge.specs.Tables.{BlockReady};
-ghost use Rattle.wy_judge.specs.Targets.{mode_of};
 ghost use Rattle.wy_judge.specs.Walk.{IsWalk, Asks, Here};
-ghost use Rattle.wy_judge.specs.Walking.{Walked, StartsTo, BodyTo, BodiesTo, settled, settled_types, IsSealFault, judged_of, IsStopped, IsJudged, IsJudgedAt};
+ghost use Rattle.wy_judge.specs.Walking.{Walked, StartsTo, BodyTo, BodiesTo, settled, settled_types, IsSealFault, IsMembersFault, judged_of, IsStopped, IsJudged, IsJudgedAt};
 
-use crate::faults::{body_fault, pure_fault};
-use crate::outcomes::{Fit, Stop, fault_at, stop_at};
+use crate::faults::{body_fault, lack_fault, pure_fault};
+use crate::outcomes::{Fit, Stop, fails, stop_at};
+use crate::respecting::first_outside;
 use crate::targets::{field_types, mode_of};
 use crate::walk::{Known, Walk};
 use std::alloc::Global;
 use wy_effects::set::{EffSet, copy_sets};
-use wy_subtype::PairTable;
+use wy_subtype::{Mode, PairTable};
 use wy_text::fault::{Fault, Place, RuleName};
 use wy_text::list::Items;
 use wy_text::text::Memory;
+use wy_types::bounds::{declared_bounds, widened};
 use wy_types::resolved::{Body, Core, Start};
 use wy_types::types::{TypeList, TypeRef};
 
@@ -35,29 +34,15 @@ pub enum Judged {
     Fails(Fault),
 }
 
-/// M-Ascribe, unless the module's own type is a subtype of the one that it is sealed at.
-fn unless_below(place: Place, below: bool) -> Option<Fault>
-    ensures { result ≡ seal_fault place below }
-{
-    if below {
-        None
-    } else {
-        Some(fault_at(place, RuleName::MAscribe, 1))
-    }
-}
-
 impl<'a> Walk<'a> {
     /// A body whose block came to this at the result's type, and the start of a scope in the same way.
     fn judge_fit(&self, place: Place, declared: &EffSet, block: Fit) -> Result<(), Stop>
-        ensures { IfPassed result (λ o. IsBodyFault (mode_of (is_plain (scope_of self.now.scope.now).kind)) place (scope_of self.now.scope.now).atoms declared.now (fit_of block) o) }
+        requires walk { IsWalk self.now }
+        ensures { IfPassed result (λ o. Here self.now IsBodyFaultOf place declared.now (fit_of block) o) }
     {
-        let fault = body_fault(
-            mode_of(self.scope),
-            place,
-            &self.scope.atoms,
-            declared,
-            block,
-        )?;
+        let wide = widened(self.core, self.number, declared);
+        let mode = mode_of(self.scope);
+        let fault = body_fault(mode, place, &self.scope.atoms, &wide, block)?;
         stop_at(fault)
     }
 
@@ -120,7 +105,28 @@ impl<'a> Walk<'a> {
         Ok(())
     }
 
-    /// M-Ascribe: whether the module's own type is a subtype of the type that it is sealed at, with what it defines.
+    /// M-Ascribe, premise 2: whether what an annotated module defines for the members of the type that it is sealed at
+    /// respects their bounds.
+    fn judge_members(&self, decl: u16) -> Result<(), Stop>
+        requires walk { IsWalk self.now }
+        requires sealed { self.now.scope.now.ascribed ≡ Some decl }
+        ensures { IfPassed result (λ o. Here self.now IsMembersFault o) }
+    {
+        match mode_of(self.scope) {
+            Mode::Plain => Ok(()),
+            Mode::Annotated => {
+                let scope = self.scope;
+                let bounds = declared_bounds(self.core, decl);
+                let definitions = scope.definitions.as_slice();
+                let missing = first_outside(self.core, self.number, bounds, definitions)?;
+                let fault = lack_fault(scope.place, RuleName::MAscribe, &scope.atoms, missing)?;
+                stop_at(fault)
+            }
+        }
+    }
+
+    /// M-Ascribe: whether the module's own type is a subtype of the type that it is sealed at, with what it defines, and
+    /// whether that respects the bounds of the type's members.
     fn judge_seal(&self, pairs: &mut PairTable<'_>) -> Result<(), Stop>
         requires walk { IsWalk self.now }
         requires asks { Asks self.now pairs.old.about }
@@ -135,7 +141,10 @@ impl<'a> Walk<'a> {
             members: copy_sets(self.alloc, self.scope.definitions.as_slice())?,
         };
         let below = pairs.holds(&own, &sealed)?;
-        stop_at(unless_below(self.scope.place, below))
+        if !below {
+            return Err(fails(self.scope.place, RuleName::MAscribe, 1));
+        }
+        self.judge_members(decl)
     }
 
     /// A scope as a whole, but for its lines.

@@ -1,17 +1,21 @@
--- The effects of an argument's type against a bound, and the bound against the methods that the type reaches negatively.
+-- The effects of an argument's type against a bound, the bound against the methods that the type reaches negatively, and an argument's
+-- members against their bounds.
 use Rattle.std.proofs.Common.{◌≡◌, ◌↔◌, ℕ, List, ap, subst, ◌∙◌, Option, Some, None, Result, Ok, Err, true, false}
 use Rattle.std.specs.Prelude.{slice_get, IfOk, IfSome, IfNone}
 use Rattle.wy_text.specs.declared.text.Memory.{Memory}
 use Rattle.wy_effects.specs.Members.{In, Within}
 use Rattle.wy_effects.specs.declared.atom.Atom.{Atom}
+use Rattle.wy_effects.specs.Bounds.{Bounds, IsOneOf, IsLeastMissing, IsWidened, Respects}
 use Rattle.wy_types.specs.declared.types.TypeRef.{TypeRef}
 use Rattle.wy_types.specs.declared.path.Step.{Step}
 use Rattle.wy_types.specs.declared.resolved.OwnName.{OwnName}
 use Rattle.wy_types.specs.Program.{Program}
 use Rattle.wy_types.specs.Types.{methods_of}
+use Rattle.wy_types.specs.Bounds.{bounds_of}
 use Rattle.wy_types.specs.Paths.{IsEffect}
 use Rattle.wy_types.specs.Ground.{type_of}
-use Rattle.wy_subtype.specs.Verdict.{IsLeastMissing}
+use Rattle.wy_rules.specs.Failing.{FirstOutside, LacksOutside}
+use Rattle.wy_rules.proofs.Outside.{outside_disrespects}
 use Rattle.wy_bounds.specs.declared.safety.Safety.{Safety}
 use Rattle.wy_bounds.specs.declared.safety.Safety.TheVariants.{Yes, No}
 use Rattle.wy_bounds.specs.Safety.{IsAnswer}
@@ -21,13 +25,15 @@ module _ (p : Program) (k : ℕ) (bound : List ℕ) where
   ------------------------------------------------------------
   -- Effects
 
-  excess_at : (t : TypeRef) (found : List ℕ) (o : Option Atom) → ((a : ℕ) → In a found ↔ IsEffect TypeRef (methods_of p k) t true a) → IfNone o (Within found bound) → IfSome o (λ a. IsLeastMissing a.0 found bound) →
-      OrLacks (BoundedAt p k bound t) (ExceedsAt p k bound t) (missing_atom o)
-  excess_at t found None effect within least = λ a e. within a ((effect a).1 e)
-  excess_at t found (Some a) effect within least = (
-    λ all. least.1 (all a.0 ((effect a.0).0 least.0)),
-    ((effect a.0).0 least.0, least.1, λ b e n. least.2 b ((effect b).1 e) n),
-  )
+  -- .. against the widened bound
+  module _ (wide : List ℕ) (under : IsWidened (bounds_of p k) bound wide) where
+    pub excess_at : (t : TypeRef) (found : List ℕ) (o : Option Atom) → ((a : ℕ) → In a found ↔ IsEffect TypeRef (methods_of p k) t true a) → IfNone o (Within found wide) → IfSome o (λ a. IsLeastMissing IsOneOf a.0 found wide) →
+        OrLacks (BoundedAt p k bound t) (ExceedsAt p k bound t) (missing_atom o)
+    excess_at t found None effect within least = λ a e. (under a).0 (within a ((effect a).1 e))
+    excess_at t found (Some a) effect within least = (
+      λ all. least.1 ((under a.0).1 (all a.0 ((effect a.0).0 least.0))),
+      ((effect a.0).0 least.0, λ h. least.1 ((under a.0).1 h), λ b e n. least.2 b ((effect b).1 e) (λ i. n ((under b).0 i))),
+    )
 
   ------------------------------------------------------------
   -- Higher-order safety
@@ -49,15 +55,31 @@ module _ (p : Program) (k : ℕ) (bound : List ℕ) where
     type_as : t ≡ type_of (slice_get names a)
     type_as = is ∙ ap (λ (l : List OwnName). type_of (slice_get l a)) e
 
-    pub excess_as : (found : List ℕ) (r : Result (Option Atom) Memory) → ((x : ℕ) → In x found ↔ IsEffect TypeRef (methods_of p k) t true x) →
-        IfOk r (λ o. IfNone o (Within found bound)) → IfOk r (λ o. IfSome o (λ x. IsLeastMissing x.0 found bound)) →
+    pub excess_as : (wide found : List ℕ) (r : Result (Option Atom) Memory) → IsWidened (bounds_of p k) bound wide → ((x : ℕ) → In x found ↔ IsEffect TypeRef (methods_of p k) t true x) →
+        IfOk r (λ o. IfNone o (Within found wide)) → IfOk r (λ o. IfSome o (λ x. IsLeastMissing IsOneOf x.0 found wide)) →
         IfOk r (λ o. OrLacks (Bounded p k names bound a) (Exceeds p k names bound a) (missing_atom o))
-    excess_as found (Ok o) effect within least =
-        subst (λ v. OrLacks (BoundedAt p k bound v) (ExceedsAt p k bound v) (missing_atom o)) type_as (excess_at t found o effect within least)
-    excess_as found (Err m) effect within least = tt
+    excess_as wide found (Ok o) under effect within least =
+        subst (λ v. OrLacks (BoundedAt p k bound v) (ExceedsAt p k bound v) (missing_atom o)) type_as (excess_at wide under t found o effect within least)
+    excess_as wide found (Err m) under effect within least = tt
 
     pub safety_as : (v : Safety) → v ≡ Yes → IsAnswer p k t false bound v → Safe p k names bound a
     safety_as v safe h = subst (SafeAt p k bound) type_as (safety_at t v safe h)
 
     pub lack_as : (v : Safety) (path : List Step) (x : Atom) → v ≡ No path x → IsAnswer p k t false bound v → OrLacks (Safe p k names bound a) (Unsafe p k names bound a) (Some x.0)
     lack_as v path x n h = subst (λ u. OrLacks (SafeAt p k bound u) (UnsafeAt p k bound u) (Some x.0)) type_as (lack_at t v path x n h)
+
+------------------------------------------------------------
+-- The bounds of the members that a parameter opens
+
+module _ (bounds there : Bounds) (by : List (List ℕ)) where
+  outside_lacks : (o : Option Atom) → IfNone o (Respects bounds there by) → IfSome o (λ a. FirstOutside bounds there by a.0) → OrLacks (Respects bounds there by) (LacksOutside bounds there by) (missing_atom o)
+  outside_lacks None r f = r
+  outside_lacks (Some a) r f = (outside_disrespects bounds there by a.0 f, f)
+
+-- .. as code has them
+pub outside_as : (bounds opened there : Bounds) (sets by : List (List ℕ)) (r : Result (Option Atom) Memory) → bounds ≡ opened → sets ≡ by → IfOk r (λ o. IfNone o (Respects bounds there sets)) → IfOk r (λ o. IfSome o (λ a. FirstOutside bounds there sets a.0)) →
+    IfOk r (λ o. OrLacks (Respects opened there by) (LacksOutside opened there by) (missing_atom o))
+outside_as bounds opened there sets by (Ok o) e f none some =
+    subst (λ v. OrLacks (Respects v there by) (LacksOutside v there by) (missing_atom o)) e
+    (subst (λ v. OrLacks (Respects bounds there v) (LacksOutside bounds there v) (missing_atom o)) f (outside_lacks bounds there sets o none some))
+outside_as bounds opened there sets by (Err m) e f none some = tt

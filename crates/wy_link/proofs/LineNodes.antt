@@ -2,7 +2,7 @@
 use Rattle.std.proofs.Common.{◌≡◌, ℕ, ◌+◌, List, [], ◌∷◌, ◌++◌, inl, inr, refl, sym, ap, subst, map, Option, Some, None, true, false}
 use Rattle.std.specs.Option.{is_some}
 use Rattle.wy_text.specs.declared.fault.Fault.{Fault}
-use Rattle.wy_text.specs.declared.fault.RuleName.TheVariants.{MUse, MInst, MImport}
+use Rattle.wy_text.specs.declared.fault.RuleName.TheVariants.{MUse, MInst, MImport, IImport}
 use Rattle.wy_types.specs.declared.resolved.OwnName.{OwnName}
 use Rattle.wy_types.specs.declared.resolved.Scope as sc
 use Rattle.wy_types.specs.declared.resolved.ScopeKind.TheVariants.{Pure, Plain}
@@ -17,9 +17,9 @@ use Rattle.wy_rules.specs.Ends.{AllGoOn}
 use Rattle.wy_rules.proofs.Passing.{scope_holds}
 use Rattle.wy_judge.specs.Outcomes.{fault_at}
 use Rattle.wy_judge.proofs.Programs.{each_goes_on}
-use Rattle.wy_link.specs.declared.imports.Misfit.{Misfit}
+use Rattle.wy_link.specs.declared.misfit.Misfit.{Misfit}
 use Rattle.wy_link.specs.Tried.{OrFails, Agrees, Disagrees, InstanceComesTo, BoundComesTo, missing_atom}
-use Rattle.wy_link.specs.Lines.{missing_name, bound_fault, NodesComeTo, UseTo, InstanceTo, ImportTo, NameComesTo, ScopeComesTo, LinesFrom, LinesComeTo}
+use Rattle.wy_link.specs.Lines.{missing_name, misfit_fault, NodesComeTo, UseTo, InstanceTo, ImportTo, NameComesTo, ScopeComesTo, LinesFrom, LinesComeTo}
 
 ------------------------------------------------------------
 -- A plain module has a derivation, where all of them go on
@@ -49,16 +49,20 @@ module _ (p : Program) (k : ℕ) (s : Scope) where
   ------------------------------------------------------------
   -- Instances
 
-  pub instance_passes : (n : OwnName) (m : ℕ) (arguments : List ℕ) (o : Option ℕ) → o ≡ None → InstanceComesTo p k s.names m arguments o → InstanceTo p k s n m arguments None
+  named : (o : Option ℕ) → missing_name s.atoms o ≡ named_atom s o
+  named None = refl
+  named (Some a) = refl
+
+  pub instance_passes : (n : OwnName) (m : ℕ) (arguments : List ℕ) (o : Option Misfit) → o ≡ None → InstanceComesTo p k s.names m arguments o → InstanceTo p k s n m arguments None
   instance_passes n m arguments o e h =
       (record { expected = None; spot = refl; stands = subst (InstanceComesTo p k s.names m arguments) e h; settles = tt }, tt)
 
-  pub instance_fails : (n : OwnName) (m : ℕ) (arguments : List ℕ) (o : Option ℕ) (premise : ℕ) (f : Fault) → o ≡ Some premise → f ≡ fault_at n.place MInst premise →
+  pub instance_fails : (n : OwnName) (m : ℕ) (arguments : List ℕ) (o : Option Misfit) (x : Misfit) (f : Fault) → o ≡ Some x → f ≡ misfit_fault n.place MInst s.atoms x →
       InstanceComesTo p k s.names m arguments o → InstanceTo p k s n m arguments (Some f)
-  instance_fails n m arguments o premise f e is h =
+  instance_fails n m arguments o x f e is h =
       let h' = subst (InstanceComesTo p k s.names m arguments) e h in
       subst (λ v. InstanceTo p k s n m arguments (Some v)) (sym is)
-      (inl (record { expected = None; atom = None; spot = refl; stands_not = h'.0; premise = h'.1; place = refl; rule = refl; lacks = refl }))
+      (inl (record { expected = None; atom = missing_atom x.missing; spot = refl; stands_not = h'.0; premise = h'.1; place = refl; rule = refl; lacks = named (missing_atom x.missing) }))
 
   ------------------------------------------------------------
   -- Imports
@@ -81,11 +85,7 @@ module _ (p : Program) (k : ℕ) (s : Scope) where
     bound_passes o a e h =
         (import_fits a, (record { expected = None; spot = refl; stands = subst (BoundComesTo p k s.names m arguments bound) e h; settles = tt }, tt))
 
-    named : (o : Option ℕ) → missing_name s.atoms o ≡ named_atom s o
-    named None = refl
-    named (Some a) = refl
-
-    pub bound_fails : (o : Option Misfit) (x : Misfit) (f : Fault) → Agrees p Plain m arguments → o ≡ Some x → f ≡ bound_fault n.place s.atoms x →
+    pub bound_fails : (o : Option Misfit) (x : Misfit) (f : Fault) → Agrees p Plain m arguments → o ≡ Some x → f ≡ misfit_fault n.place IImport s.atoms x →
         BoundComesTo p k s.names m arguments bound o → ImportTo p k s n m arguments bound (Some f)
     bound_fails o x f a e is h =
         let h' = subst (BoundComesTo p k s.names m arguments bound) e h in

@@ -2,7 +2,7 @@
 use Rattle.std.proofs.Common.{◌≡◌, ℕ, suc, ◌+◌, List, [], ◌∷◌, ◌⊎◌, inl, inr, length, refl, sym, ap, subst, ◌∙◌, Option, Some, None, arith}
 use Rattle.std.specs.Prelude.{slice_get}
 use Rattle.wy_text.specs.declared.fault.Fault.{Fault}
-use Rattle.wy_text.specs.declared.fault.RuleName.TheVariants.{MUse, MInst, MImport}
+use Rattle.wy_text.specs.declared.fault.RuleName.TheVariants.{MUse, MInst, MImport, IImport}
 use Rattle.wy_effects.specs.Members.{In}
 use Rattle.wy_effects.specs.declared.atom.Atom.{Atom}
 use Rattle.wy_effects.proofs.Closure.{Decided}
@@ -17,26 +17,30 @@ use Rattle.wy_types.specs.Program.{Program, Scope}
 use Rattle.wy_types.specs.Core.{IsCore}
 use Rattle.wy_types.specs.Types.{substituted, erased}
 use Rattle.wy_types.specs.Fitting.{own_count}
-use Rattle.wy_types.specs.Ground.{member_set, type_of, names_of, arguments_sets}
+use Rattle.wy_types.specs.Bounds.{bounds_of}
+use Rattle.wy_types.specs.Ground.{member_set, type_of, names_of, argument_sets, arguments_sets}
 use Rattle.wy_types.proofs.Arities.{core_in_range}
+use Rattle.wy_types.proofs.Bounding.{go_down}
 use Rattle.wy_types.proofs.Finite.{read}
 use Rattle.wy_subtype.specs.declared.verdict.Mode.TheVariants as mode
-use Rattle.wy_rules.specs.Acceptance.{Handed, handed_to, parameters_of, opened, argument_type, IsOfKind, NumbersAgree, IsArgument, IsPlainArgument, PlainHolds}
+use Rattle.wy_rules.specs.Acceptance.{Handed, handed_to, parameters_of, opened, opened_members, argument_type, IsOfKind, NumbersAgree, IsArgument, RespectsBounds, IsPlainArgument, PlainHolds}
 use Rattle.wy_rules.specs.Nodes.{line_nodes, lines_nodes}
-use Rattle.wy_rules.specs.Failing.{IsLineFault}
+use Rattle.wy_rules.specs.Failing.{LacksInMember, InstanceFits, IsLineFault}
 use Rattle.wy_rules.specs.Refusals.{plain_modules, scopes_of, LinesPassFrom}
 use Rattle.wy_rules.specs.Ends.{End, IsEnd, AllGoOn}
+use Rattle.wy_rules.proofs.Outside.{outside_disrespects}
 use Rattle.wy_judge.specs.Checking.{IsAccepted}
 use Rattle.wy_judge.specs.Outcomes.{fault_at}
 use Rattle.wy_judge.specs.Tables.{IsScopeOf}
+use Rattle.wy_judge.proofs.BoundsDecided.{outside_decided}
 use Rattle.wy_judge.proofs.Deciding.{decided_by}
 use Rattle.wy_judge.proofs.ScopesDecided.{scope_decided}
 use Rattle.wy_judge.proofs.SubtypesDecided.{subtype_decided}
-use Rattle.wy_link.specs.declared.imports.Misfit.{Misfit}
-use Rattle.wy_link.specs.Lines.{bound_fault, NodesComeTo, LinesFrom}
+use Rattle.wy_link.specs.declared.misfit.Misfit.{Misfit}
+use Rattle.wy_link.specs.Lines.{misfit_fault, NodesComeTo, LinesFrom}
 use Rattle.wy_link.specs.Tried.{OfEach, HasOpened, OrFails, OrLacks, FirstLack, missing_atom, Bounded, Exceeds, Safe, Unsafe, Agrees, Disagrees, InstanceComesTo, BoundComesTo}
 use Rattle.wy_link.proofs.LineNodes.{plain_holds, use_passes, use_fails, instance_passes, instance_fails, import_misfits, bound_passes, bound_fails, all_then, fails_then}
-use Rattle.wy_link.proofs.Premises.{bounded, safe, exceeds, unsafe}
+use Rattle.wy_link.proofs.Premises.{disagrees, members_outside, instance_holds, bounded, safe, exceeds, unsafe}
 use Rattle.wy_link.proofs.Ranges.{substituted_fits, parameter_fits, erased_fits, argument_in_range, parameters_written, handed_are_sets}
 use Rattle.wy_link.proofs.ReachListed.{bounded_decided, safe_decided}
 
@@ -138,14 +142,29 @@ module _ (p : Program) (k : ℕ) (s : Scope) (c : IsScopeOf p k s) where
         (erased_fits p (own_count p k) (argument_type p k s.names h) (argument_in_range p k s c h.argument))
         (erased_fits p (own_count p k) h.parameter.typ (parameter_fits p (own_count p k) h.parameter.typ written))
 
-    instance_by : (o : Option ℕ) → OrFails (Agrees p Resource m arguments) (Disagrees p Resource m arguments) o → (q : Option ℕ) × InstanceComesTo p k s.names m arguments q
-    instance_by (Some n) a =
-        (Some n, ((λ i. a.0 (i.resource, i.numbers)), (refl, elim a.1 [ inl kind ↦ inl kind | inr rest ↦ inr (rest.0, elim rest.1 [ inl number ↦ inl number | inr none ↦ absurd none.1 ]) ])))
+    respects_decided : (h : Handed) → (o : Option Atom) × OrLacks (RespectsBounds p k s.names h) (LacksInMember p k s.names h) (missing_atom o)
+    respects_decided h =
+        let bounds = opened_members p h.parameter h.parameter.origin in
+        let sets = argument_sets p s.names h.parameter.origin h.parameter h.argument in
+        elim (outside_decided bounds (bounds_of p k) (go_down p (core_in_range p c.core) k) sets) [
+          | inl respect ↦ (None, respect)
+          | inr one ↦ (let atom : Atom = record { 0 = one.0 } in (Some atom, (outside_disrespects bounds (bounds_of p k) sets one.0 one.1, one.1)))
+        ]
+
+    abbrev InstanceSomehow : Type 0
+    InstanceSomehow = (o : Option Misfit) × InstanceComesTo p k s.names m arguments o
+
+    after_types : InstanceFits p k s.names m arguments → (o : Option Atom) → FirstLack (RespectsBounds p k s.names) (LacksInMember p k s.names) Handing (missing_atom o) → InstanceSomehow
+    after_types fits (Some a) f = (Some (record { premise = 5; missing = Some a }), members_outside p k s.names m arguments fits (Some a) f refl)
+    after_types fits None f = (None, instance_holds p k s.names m arguments fits None f refl)
+
+    instance_by : (o : Option ℕ) → OrFails (Agrees p Resource m arguments) (Disagrees p Resource m arguments) o → InstanceSomehow
+    instance_by (Some n) a = (Some (record { premise = n; missing = None }), disagrees p k s.names m arguments (Some n) n refl a)
     instance_by None a = elim (of_each_decided (HasOpened p s.names) Handing (λ h i. opened_decided h)) [
-      | inr wrong ↦ (Some 3, ((λ i. wrong i.members), (refl, inr (a.0, inr (a.1, inl (wrong, refl))))))
+      | inr wrong ↦ (let x : Misfit = record { premise = 3; missing = None } in (Some x, ((λ i. wrong i.members), inl (inr (a.0, inr (a.1, inl (wrong, refl))), refl))))
       | inl members ↦ elim (of_each_decided (IsArgument p k s.names Sets) Handing argument_decided) [
-        | inr wrong ↦ (Some 4, ((λ i. wrong i.types), (refl, inr (a.0, inr (a.1, inr (members, inl (wrong, refl)))))))
-        | inl types ↦ (None, record { resource = a.0; numbers = a.1; members = members; types = types })
+        | inr wrong ↦ (let x : Misfit = record { premise = 4; missing = None } in (Some x, ((λ i. wrong i.types), inl (inr (a.0, inr (a.1, inr (members, inl (wrong, refl)))), refl))))
+        | inl types ↦ (let lack = first_lack_decided (RespectsBounds p k s.names) (LacksInMember p k s.names) Handing respects_decided in after_types (record { resource = a.0; numbers = a.1; members = members; types = types }) lack.0 lack.1)
       ]
     ]
 
@@ -199,13 +218,13 @@ module _ (p : Program) (k : ℕ) (s : Scope) (c : IsScopeOf p k s) where
       | inr other ↦ (Some (fault_at n.place MUse 1), use_fails p n m (fault_at n.place MUse 1) refl other k s)
     ]
 
-    instance_line : (n : OwnName) (m : ℕ) (arguments : List ℕ) (o : Option ℕ) → InstanceComesTo p k s.names m arguments o → LineSomehow n (Instance m arguments)
+    instance_line : (n : OwnName) (m : ℕ) (arguments : List ℕ) (o : Option Misfit) → InstanceComesTo p k s.names m arguments o → LineSomehow n (Instance m arguments)
     instance_line n m arguments None h = (None, instance_passes p k s n m arguments None refl h)
-    instance_line n m arguments (Some x) h = (Some (fault_at n.place MInst x), instance_fails p k s n m arguments (Some x) x (fault_at n.place MInst x) refl refl h)
+    instance_line n m arguments (Some x) h = (Some (misfit_fault n.place MInst s.atoms x), instance_fails p k s n m arguments (Some x) x (misfit_fault n.place MInst s.atoms x) refl refl h)
 
     bound_line : (n : OwnName) (m : ℕ) (arguments bound : List ℕ) → Agrees p Plain m arguments → (o : Option Misfit) → BoundComesTo p k s.names m arguments bound o → LineSomehow n (Import m arguments bound)
     bound_line n m arguments bound a None h = (None, bound_passes p k s n m arguments bound None a refl h)
-    bound_line n m arguments bound a (Some x) h = (Some (bound_fault n.place s.atoms x), bound_fails p k s n m arguments bound (Some x) x (bound_fault n.place s.atoms x) a refl refl h)
+    bound_line n m arguments bound a (Some x) h = (Some (misfit_fault n.place IImport s.atoms x), bound_fails p k s n m arguments bound (Some x) x (misfit_fault n.place IImport s.atoms x) a refl refl h)
 
     import_line : (n : OwnName) (m : ℕ) (arguments bound : List ℕ) (o : Option ℕ) → OrFails (Agrees p Plain m arguments) (Disagrees p Plain m arguments) o → LineSomehow n (Import m arguments bound)
     import_line n m arguments bound (Some x) h = (Some (fault_at n.place MImport x), import_misfits p k s n m arguments bound (Some x) x (fault_at n.place MImport x) refl refl h)

@@ -7,8 +7,9 @@ use Rattle.wy_types.specs.declared.resolved.OwnName.{OwnName}
 use Rattle.wy_types.specs.declared.resolved.ScopeKind.TheVariants.{Resource}
 use Rattle.wy_types.specs.Program.{Program}
 use Rattle.wy_types.specs.Ground.{names_of, arguments_sets}
-use Rattle.wy_rules.specs.Acceptance.{Handed, handed_to, parameters_of, IsArgument, IsPlainArgument, NumbersAgree, PlainHolds, InstanceHolds, ImportHolds}
-use Rattle.wy_link.specs.Tried.{OfEach, HasOpened, OrFails, FirstLack, missing_atom, Bounded, Exceeds, Safe, Unsafe, Agrees, InstanceComesTo, BoundComesTo}
+use Rattle.wy_rules.specs.Acceptance.{Handed, handed_to, parameters_of, IsArgument, IsPlainArgument, RespectsBounds, NumbersAgree, PlainHolds, InstanceHolds, ImportHolds}
+use Rattle.wy_rules.specs.Failing.{LacksInMember, InstanceFits}
+use Rattle.wy_link.specs.Tried.{OfEach, HasOpened, OrFails, FirstLack, missing_atom, Bounded, Exceeds, Safe, Unsafe, Agrees, Disagrees, InstanceComesTo, BoundComesTo}
 use Rattle.wy_link.proofs.Trying.{handed_first, handed_each, first_breaks, false_tells}
 
 pub agreed : (A : Type 0) (D : ℕ → Type 0) (o : Option ℕ) → OrFails A D o → is_some o ≡ false → A
@@ -39,18 +40,39 @@ module _ (p : Program) (k : ℕ) (names : List OwnName) (m : ℕ) (arguments : L
   pub sets_as : (ns outer : List OwnName) (sets slice : List (List ℕ)) → ns ≡ names_of (slice_get p.scopes m) → outer ≡ names → sets ≡ arguments_sets p outer ns arguments → slice ≡ sets → slice ≡ Sets
   sets_as ns outer sets slice e f is same = same ∙ is ∙ ap (λ l. arguments_sets p outer l arguments) e ∙ ap (λ o. arguments_sets p o (names_of (slice_get p.scopes m)) arguments) f
 
-  pub lacks_members : (b : Bool) → Start → (b ≡ true) ↔ OfEach (HasOpened p names) Handing → b ≡ false → InstanceComesTo p k names m arguments (Some 3)
+  pub disagrees : (o : Option ℕ) (n : ℕ) → o ≡ Some n → OrFails Start (Disagrees p Resource m arguments) o → InstanceComesTo p k names m arguments (Some (record { premise = n; missing = None }))
+  disagrees o n e h =
+      let a = subst (OrFails Start (Disagrees p Resource m arguments)) e h in
+      ((λ i. a.0 (i.resource, i.numbers)), inl (elim a.1 [ inl kind ↦ inl kind | inr rest ↦ inr (rest.0, elim rest.1 [ inl number ↦ inl number | inr none ↦ absurd none.1 ]) ], refl))
+
+  pub lacks_members : (b : Bool) → Start → (b ≡ true) ↔ OfEach (HasOpened p names) Handing → b ≡ false → InstanceComesTo p k names m arguments (Some (record { premise = 3; missing = None }))
   lacks_members b a tells e =
       let wrong : OfEach (HasOpened p names) Handing → ⊥ = false_tells (OfEach (HasOpened p names) Handing) b tells e in
-      ((λ i. wrong i.members), (refl, inr (a.0, inr (a.1, inl (wrong, refl)))))
+      ((λ i. wrong i.members), inl (inr (a.0, inr (a.1, inl (wrong, refl))), refl))
 
-  pub other_types : (b c : Bool) → Start → (b ≡ true) ↔ OfEach (HasOpened p names) Handing → b ≡ true → (c ≡ true) ↔ OfEach (IsArgument p k names Sets) Handing → c ≡ false → InstanceComesTo p k names m arguments (Some 4)
+  pub other_types : (b c : Bool) → Start → (b ≡ true) ↔ OfEach (HasOpened p names) Handing → b ≡ true → (c ≡ true) ↔ OfEach (IsArgument p k names Sets) Handing → c ≡ false →
+      InstanceComesTo p k names m arguments (Some (record { premise = 4; missing = None }))
   other_types b c a tells e tells' e' =
       let wrong : OfEach (IsArgument p k names Sets) Handing → ⊥ = false_tells (OfEach (IsArgument p k names Sets) Handing) c tells' e' in
-      ((λ i. wrong i.types), (refl, inr (a.0, inr (a.1, inr (tells.0 e, inl (wrong, refl))))))
+      ((λ i. wrong i.types), inl (inr (a.0, inr (a.1, inr (tells.0 e, inl (wrong, refl)))), refl))
 
-  pub instance_holds : (b c : Bool) → Start → (b ≡ true) ↔ OfEach (HasOpened p names) Handing → b ≡ true → (c ≡ true) ↔ OfEach (IsArgument p k names Sets) Handing → c ≡ true → InstanceHolds p k names m arguments
-  instance_holds b c a tells e tells' e' = record { resource = a.0; numbers = a.1; members = tells.0 e; types = tells'.0 e' }
+  pub instance_fits : (b c : Bool) → Start → (b ≡ true) ↔ OfEach (HasOpened p names) Handing → b ≡ true → (c ≡ true) ↔ OfEach (IsArgument p k names Sets) Handing → c ≡ true → InstanceFits p k names m arguments
+  instance_fits b c a tells e tells' e' = record { resource = a.0; numbers = a.1; members = tells.0 e; types = tells'.0 e' }
+
+  -- the bounds of members, where the other premises are true
+  abbrev OutsideLack : List OwnName → List OwnName → Option ℕ → Type 0
+  OutsideLack outer ps o = FirstLack (RespectsBounds p k outer) (LacksInMember p k outer) (handed_to ps arguments) o
+
+  pub outside_as : (ps outer : List OwnName) (o : Option ℕ) → ps ≡ parameters_of p m → outer ≡ names → OutsideLack outer ps o → OutsideLack names (parameters_of p m) o
+  outside_as ps outer o e f h = subst (λ l. OutsideLack l (parameters_of p m) o) f (subst (λ l. OutsideLack outer l o) e h)
+
+  pub members_outside : InstanceFits p k names m arguments → (o : Option Atom) → OutsideLack names (parameters_of p m) (missing_atom o) → is_some o ≡ true → InstanceComesTo p k names m arguments (Some (record { premise = 5; missing = o }))
+  members_outside fits None f e = absurd (cc)
+  members_outside fits (Some a) f e = ((λ i. first_breaks (RespectsBounds p k names) (LacksInMember p k names) Handing (Some a.0) f i.bounds), inr (fits, refl, f))
+
+  pub instance_holds : InstanceFits p k names m arguments → (o : Option Atom) → OutsideLack names (parameters_of p m) (missing_atom o) → is_some o ≡ false → InstanceHolds p k names m arguments
+  instance_holds fits None f e = record { resource = fits.resource; numbers = fits.numbers; members = fits.members; types = fits.types; bounds = f }
+  instance_holds fits (Some a) f e = absurd (cc)
 
   ------------------------------------------------------------
   -- I-Import

@@ -9,14 +9,19 @@ use Rattle.wy_effects.specs.declared.atom.Atom.{Atom}
 use Rattle.wy_effects.proofs.Closure.{in_decided}
 use Rattle.wy_effects.proofs.Lists.{In-left, In-right, In-cases}
 use Rattle.wy_effects.proofs.SetLaws.{cases_equal, without-from, In-without}
+use Rattle.wy_effects.specs.Bounds.{IsWidened}
+use Rattle.wy_effects.specs.Widened.{widened_set}
+use Rattle.wy_effects.proofs.Widening.{widened_is}
 use Rattle.wy_types.specs.declared.types.TypeRef.{TypeRef}
 use Rattle.wy_types.specs.declared.path.Part.TheVariants.{Result}
 use Rattle.wy_types.specs.Program.{Program}
 use Rattle.wy_types.specs.Signature.{Signature}
 use Rattle.wy_types.specs.Types.{methods_of}
+use Rattle.wy_types.specs.Bounds.{bounds_of}
 use Rattle.wy_types.specs.Paths.{IsEffect}
 use Rattle.wy_types.specs.Fitting.{IsTypeOf}
 use Rattle.wy_types.specs.InRange.{IsInRange}
+use Rattle.wy_types.proofs.Bounding.{go_down}
 use Rattle.wy_types.proofs.Deciding.{decide_type, decide_truth, decide_pair}
 use Rattle.wy_types.proofs.Finite.{marked_bound}
 use Rattle.wy_bounds.specs.declared.entry.Entry.{Entry}
@@ -26,7 +31,7 @@ use Rattle.wy_bounds.specs.Worklist.{all_entries, IsWork, IsWhole}
 use Rattle.wy_bounds.proofs.Working.{advances, work_start, work_more, work_left, work_all}
 use Rattle.wy_subtype.specs.declared.verdict.Mode.TheVariants.{Annotated}
 use Rattle.wy_judge.specs.Lacks.{LacksIn}
-use Rattle.wy_judge.proofs.ScopesDecided.{least_of, lack_decided}
+use Rattle.wy_judge.proofs.LacksDecided.{least_of, lack_decided}
 use Rattle.wy_link.specs.Tried.{OrLacks, missing_atom, BoundedAt, ExceedsAt, SafeAt, UnsafeAt}
 
 ------------------------------------------------------------
@@ -128,9 +133,15 @@ atom_in f (n ∷ ms) a m i j = elim i [
   | inr later ↦ In-right a (f n) (atoms_by f ms) (atom_in f ms a m later j)
 ]
 
-module _ (p : Program) (k : ℕ) (bound : List ℕ) (t : TypeRef) (es : List Entry) (all : IsWhole p k t es) where
+module _ (p : Program) (core : IsInRange p) (k : ℕ) (bound : List ℕ) (t : TypeRef) (es : List Entry) (all : IsWhole p k t es) where
+  abbrev wide : List ℕ → List ℕ
+  wide effect = widened_set (bounds_of p k) effect
+
+  under_is : (effect : List ℕ) → IsWidened (bounds_of p k) effect (wide effect)
+  under_is effect = widened_is (bounds_of p k) (go_down p core k) effect
+
   ------------------------------------------------------------
-  -- Effects in a bound
+  -- Effects within a bound
 
   module _ (ways : Methods p k true es) where
     abbrev Effects : List ℕ
@@ -145,37 +156,42 @@ module _ (p : Program) (k : ℕ) (bound : List ℕ) (t : TypeRef) (es : List Ent
     its_effect : (a : ℕ) → IsEffect TypeRef (methods_of p k) t true a → In a Effects
     its_effect a e = atom_in (λ m. m.effect) ways.list a e.2.0 (ways.whole e.0 (all.whole true e.0 e.1) e.2.0 e.2.1) e.2.2
 
-    bounded_by : (lack : Option ℕ) → LacksIn Annotated Effects bound lack → (o : Option Atom) × OrLacks (BoundedAt p k bound t) (ExceedsAt p k bound t) (missing_atom o)
-    bounded_by None within = (None, λ a e. within a (its_effect a e))
+    bounded_by : (lack : Option ℕ) → LacksIn Annotated Effects (wide bound) lack → (o : Option Atom) × OrLacks (BoundedAt p k bound t) (ExceedsAt p k bound t) (missing_atom o)
+    bounded_by None within = (None, λ a e. (under_is bound a).0 (within a (its_effect a e)))
     bounded_by (Some a) least =
-        let atom : Atom = record { 0 = a } in
-        (Some atom, ((λ bounded. least.1 (bounded a (is_effect a least.0))), (is_effect a least.0, least.1, λ b e n. least.2 b (its_effect b e) n)))
+        let atom : Atom = record { 0 = a } in (
+          Some atom,
+          (
+            λ bounded. least.1 ((under_is bound a).1 (bounded a (is_effect a least.0))),
+            (is_effect a least.0, λ h. least.1 ((under_is bound a).1 h), λ b e n. least.2 b (its_effect b e) (λ i. n ((under_is bound b).0 i))),
+          ),
+        )
 
   ------------------------------------------------------------
   -- A bound that is higher-order safe
 
   module _ (ways : Methods p k false es) where
     abbrev Lacking : List ℕ
-    Lacking = atoms_by (λ m. without bound m.effect) ways.list
+    Lacking = atoms_by (λ m. without bound (wide m.effect)) ways.list
 
     is_missing : (a : ℕ) → In a Lacking → IsMissing p k t false bound a
     is_missing a i =
-        let r = atom_from (λ m. without bound m.effect) ways.list a i in
+        let r = atom_from (λ m. without bound (wide m.effect)) ways.list a i in
         let at = ways.sound r.0 r.1 in
-        let from = without-from a bound r.0.effect r.2 in
-        (from.0, (at.0, all.seen.reached (at.0, false) at.1, (r.0, at.2, from.1)))
+        let from = without-from a bound (wide r.0.effect) r.2 in
+        (from.0, (at.0, all.seen.reached (at.0, false) at.1, (r.0, at.2, λ h. from.1 ((under_is r.0.effect a).1 h))))
 
     its_missing : (a : ℕ) → IsMissing p k t false bound a → In a Lacking
     its_missing a h =
         let m = h.1.2.0 in
-        atom_in (λ n. without bound n.effect) ways.list a m (ways.whole h.1.0 (all.whole false h.1.0 h.1.1) m h.1.2.1) (In-without a bound m.effect h.0 h.1.2.2)
+        atom_in (λ n. without bound (wide n.effect)) ways.list a m (ways.whole h.1.0 (all.whole false h.1.0 h.1.1) m h.1.2.1) (In-without a bound (wide m.effect) h.0 (λ i. h.1.2.2 ((under_is m.effect a).0 i)))
 
     safe_by : (left : List ℕ) → Lacking ≡ left → (o : Option Atom) × OrLacks (SafeAt p k bound t) (UnsafeAt p k bound t) (missing_atom o)
     safe_by [] e = (
       None,
-      λ u r m i a j. elim (in_decided cases_equal a m.effect) [
-        | inl there ↦ there
-        | inr absent ↦ absurd (subst (λ l. In a l) e (its_missing a (j, (u, r, (m, i, absent)))))
+      λ u r m i a j. elim (in_decided cases_equal a (wide m.effect)) [
+        | inl there ↦ (under_is m.effect a).0 there
+        | inr absent ↦ absurd (subst (λ l. In a l) e (its_missing a (j, (u, r, (m, i, λ h. absent ((under_is m.effect a).1 h))))))
       ],
     )
     safe_by (x ∷ xs) e =
@@ -190,11 +206,11 @@ module _ (p : Program) (core : IsInRange p) (k : ℕ) (bound : List ℕ) (t : Ty
   bounded_decided =
       let all = listed p core k t fits in
       let ways = methods_in p k true all.0 in
-      let lack = lack_decided Annotated (atoms_by (λ m. m.effect) ways.list) bound in
-      bounded_by p k bound t all.0 all.1 ways lack.0 lack.1
+      let lack = lack_decided Annotated (atoms_by (λ m. m.effect) ways.list) (widened_set (bounds_of p k) bound) in
+      bounded_by p core k bound t all.0 all.1 ways lack.0 lack.1
 
   pub safe_decided : (o : Option Atom) × OrLacks (SafeAt p k bound t) (UnsafeAt p k bound t) (missing_atom o)
   safe_decided =
       let all = listed p core k t fits in
       let ways = methods_in p k false all.0 in
-      safe_by p k bound t all.0 all.1 ways (atoms_by (λ m. without bound m.effect) ways.list) refl
+      safe_by p core k bound t all.0 all.1 ways (atoms_by (λ m. without bound (widened_set (bounds_of p k) m.effect)) ways.list) refl

@@ -3,25 +3,25 @@ use Rattle.std.specs.Prelude.{ℕ, List, [], Option, Some, None, slice_get}
 use Rattle.wy_text.specs.declared.fault.AtomName.{AtomName}
 use Rattle.wy_text.specs.declared.fault.Place.{Place}
 use Rattle.wy_text.specs.declared.fault.Fault.{Fault}
-use Rattle.wy_text.specs.declared.fault.RuleName.TheVariants.{IImport}
+use Rattle.wy_text.specs.declared.fault.RuleName.{RuleName}
 use Rattle.wy_types.specs.declared.resolved.Origin.TheVariants.{Use, Instance, Import}
 use Rattle.wy_types.specs.declared.resolved.OwnName.{OwnName}
 use Rattle.wy_types.specs.Program.{Program, Scope}
 use Rattle.wy_rules.specs.Nodes.{Node, line_nodes, lines_nodes}
 use Rattle.wy_rules.specs.Failing.{AllPass, FirstFailing, IsLineFault, IsLineFaultFrom}
 use Rattle.wy_rules.specs.Refusals.{LinesPassFrom}
-use Rattle.wy_link.specs.declared.imports.Misfit.{Misfit}
+use Rattle.wy_link.specs.declared.misfit.Misfit.{Misfit}
 use Rattle.wy_link.specs.Tried.{missing_atom}
 
 ------------------------------------------------------------
--- Faults of bounds
+-- Faults of rules with several premises
 
 abbrev pub missing_name : List AtomName → Option ℕ → Option AtomName
 missing_name atoms None = None
 missing_name atoms (Some a) = slice_get atoms a
 
-abbrev pub bound_fault : Place → List AtomName → Misfit → Fault
-bound_fault place atoms x = record { place = place; rule = IImport; premise = x.premise; atom = missing_name atoms (missing_atom x.missing) }
+abbrev pub misfit_fault : Place → RuleName → List AtomName → Misfit → Fault
+misfit_fault place rule atoms x = record { place = place; rule = rule; premise = x.premise; atom = missing_name atoms (missing_atom x.missing) }
 
 ------------------------------------------------------------
 -- Nodes

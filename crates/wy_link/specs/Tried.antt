@@ -2,11 +2,13 @@
 use Rattle.std.specs.Prelude.{◌≡◌, ℕ, ◌≤◌, List, Option, Some, None, true, false, length, slice_get}
 use Rattle.std.specs.Option.{option_map}
 use Rattle.wy_effects.specs.Members.{In}
+use Rattle.wy_effects.specs.Bounds.{IsUnder, IsLeastOutside}
 use Rattle.wy_effects.specs.declared.atom.Atom.{Atom}
 use Rattle.wy_types.specs.declared.types.TypeRef.{TypeRef}
 use Rattle.wy_types.specs.declared.resolved.OwnName.{OwnName}
 use Rattle.wy_types.specs.declared.resolved.ScopeKind.{ScopeKind}
 use Rattle.wy_types.specs.Program.{Program}
+use Rattle.wy_types.specs.Bounds.{bounds_of}
 use Rattle.wy_types.specs.Types.{methods_of}
 use Rattle.wy_types.specs.Paths.{IsEffect, EffectsWithin, IsSafe}
 use Rattle.wy_types.specs.Fitting.{FitsType}
@@ -14,7 +16,7 @@ use Rattle.wy_types.specs.Ground.{member_set, type_of}
 use Rattle.wy_rules.specs.Acceptance.{Handed, opened, parameters_of, IsOfKind, InstanceHolds, ImportHolds}
 use Rattle.wy_rules.specs.Failing.{FirstFalse, FirstOf, InstanceFails, BoundFails}
 use Rattle.wy_bounds.specs.Safety.{IsMissing}
-use Rattle.wy_link.specs.declared.imports.Misfit.{Misfit}
+use Rattle.wy_link.specs.declared.misfit.Misfit.{Misfit}
 
 ------------------------------------------------------------
 -- Arguments
@@ -52,19 +54,18 @@ FirstLack Holds Lacks xs (Some a) = FirstOf Holds Lacks xs (Some a)
 abbrev pub missing_atom : Option Atom → Option ℕ
 missing_atom o = option_map (λ (a : Atom). a.0) o
 
--- in the scope of a number, for a bound: the effects of a type are in it, and else the least that is not
+-- in the scope of a number, for a bound: the effects of a type are within it, and else the least that is not
 module _ (p : Program) (k : ℕ) (bound : List ℕ) where
   abbrev pub BoundedAt : TypeRef → Type 0
-  BoundedAt t = EffectsWithin TypeRef (methods_of p k) t true bound
+  BoundedAt t = EffectsWithin TypeRef (methods_of p k) (IsUnder (bounds_of p k)) t true bound
 
   abbrev pub ExceedsAt : TypeRef → Option ℕ → Type 0
   ExceedsAt t None = ⊥
-  ExceedsAt t (Some a) =
-      IsEffect TypeRef (methods_of p k) t true a × (In a bound → ⊥) × ((b : ℕ) → IsEffect TypeRef (methods_of p k) t true b → (In b bound → ⊥) → a ≤ b)
+  ExceedsAt t (Some a) = IsLeastOutside (IsUnder (bounds_of p k)) (IsEffect TypeRef (methods_of p k) t true) a bound
 
   -- the bound is higher-order safe for it, and else the least atom that a method lacks
   abbrev pub SafeAt : TypeRef → Type 0
-  SafeAt t = IsSafe TypeRef (methods_of p k) t false bound
+  SafeAt t = IsSafe TypeRef (methods_of p k) (IsUnder (bounds_of p k)) t false bound
 
   abbrev pub UnsafeAt : TypeRef → Option ℕ → Type 0
   UnsafeAt t None = ⊥
@@ -102,8 +103,9 @@ module _ (p : Program) (kind : ScopeKind) (m : ℕ) (arguments : List ℕ) where
 
 -- what M-Inst and I-Import come to in the scope of a number, whose own names these are
 module _ (p : Program) (k : ℕ) (outer : List OwnName) where
-  abbrev pub InstanceComesTo : ℕ → List ℕ → Option ℕ → Type 0
-  InstanceComesTo m arguments o = OrFails (InstanceHolds p k outer m arguments) (λ n. InstanceFails p k outer m arguments n None) o
+  abbrev pub InstanceComesTo : ℕ → List ℕ → Option Misfit → Type 0
+  InstanceComesTo m arguments None = InstanceHolds p k outer m arguments
+  InstanceComesTo m arguments (Some x) = (InstanceHolds p k outer m arguments → ⊥) × InstanceFails p k outer m arguments x.premise (missing_atom x.missing)
 
   abbrev pub BoundComesTo : ℕ → List ℕ → List ℕ → Option Misfit → Type 0
   BoundComesTo m arguments bound None = ImportHolds p k outer m arguments bound

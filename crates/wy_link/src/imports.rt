@@ -10,6 +10,7 @@ ghost use Rattle.wy_judge.specs.Targets.{about_in};
 ghost use Rattle.wy_link.specs.Tried.{handed_pair, OfEach, AreWritten, OrLacks, FirstLack, missing_atom, Bounded, Exceeds, Safe, Unsafe, BoundComesTo};
 
 use crate::members::{argument_type, parameters_of};
+use crate::misfit::Misfit;
 use std::alloc::Global;
 use wy_bounds::{Safety, effects, ho_safe};
 use wy_effects::atom::Atom;
@@ -17,20 +18,14 @@ use wy_effects::set::EffSet;
 use wy_judge::least_missing;
 use wy_subtype::PairTable;
 use wy_text::text::Memory;
+use wy_types::bounds::widened;
 use wy_types::reading::erase;
 use wy_types::resolved::{Core, OwnName, Scope};
-
-/// A premise that is false, with the atom that is missing where it is about effects.
-#[derive(Clone, Copy)]
-pub struct Misfit {
-    pub premise: u8,
-    pub missing: Option<Atom>,
-}
 
 // ----------------------------------------------------------------------------
 // Effects
 
-/// The least effect of an argument's type that is not in the bound.
+/// The least effect of an argument's type that is not within the bound.
 fn excess(
     alloc: Global,
     core: &Core,
@@ -44,7 +39,8 @@ fn excess(
 {
     let typ = argument_type(alloc, scope.names.as_slice(), argument)?;
     let found = effects(alloc, core, number, &typ)?;
-    least_missing(&found, bound)
+    let wide = widened(core, number, bound);
+    least_missing(&found, &wide)
 }
 
 /// .. of the first argument that has one.

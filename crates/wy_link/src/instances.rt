@@ -2,18 +2,28 @@
 
 ghost use Rattle.std.specs.Prelude.{◌≡◌, ◌↔◌, IfOk, true, length};
 ghost use Rattle.wy_effects.specs.EffSet.{AreSets};
+ghost use Rattle.wy_effects.specs.Bounds.{AreNone};
 ghost use Rattle.wy_types.specs.Program.{program_of, scope_of};
 ghost use Rattle.wy_types.specs.Fitting.{FitsType};
-ghost use Rattle.wy_rules.specs.Acceptance.{handed_to, IsOfKind, IsArgument};
+ghost use Rattle.wy_types.specs.InRange.{IsInRange};
+ghost use Rattle.wy_rules.specs.Acceptance.{handed_to, IsOfKind, IsArgument, RespectsBounds};
+ghost use Rattle.wy_rules.specs.Failing.{LacksInMember};
 ghost use Rattle.wy_subtype.specs.declared.verdict.Mode.{Mode};
 ghost use Rattle.wy_judge.specs.Tables.{IsScopeOf};
 ghost use Rattle.wy_judge.specs.Targets.{about_in};
-ghost use Rattle.wy_link.specs.Tried.{handed_pair, OfEach, AreWritten, HasAll, HasOpened, OrFails, Agrees, Disagrees, InstanceComesTo};
+ghost use Rattle.wy_link.specs.Tried.{handed_pair, OfEach, AreWritten, HasAll, HasOpened, OrFails, OrLacks, FirstLack, missing_atom, Agrees, Disagrees, InstanceComesTo};
 
-use crate::members::{argument_type, arguments_sets, member_set, names_of, opened, parameters_of};
+use crate::members::{
+    add_argument_sets, argument_type, arguments_sets, member_set, names_of, opened, opened_members,
+    parameters_of,
+};
+use crate::misfit::Misfit;
 use std::alloc::Global;
+use wy_effects::atom::Atom;
 use wy_effects::set::EffSet;
+use wy_judge::first_outside;
 use wy_subtype::PairTable;
+use wy_text::list::Items;
 use wy_text::text::{Memory, Text};
 use wy_types::reading::substitute;
 use wy_types::resolved::{Core, OwnName, Scope, ScopeKind};
@@ -143,33 +153,108 @@ fn all_are_arguments(
     Ok(true)
 }
 
-/// The first premise of M-Inst that is false; each is tried for all arguments before the next one.
-pub fn instance_premise(
+// ----------------------------------------------------------------------------
+// Upper bounds of members
+
+/// Whether no member has an upper bound.
+fn are_none(bounds: &[Option<EffSet>]) -> bool
+    ensures { (result ≡ true) ↔ AreNone bounds.now }
+{
+    for bound in bounds {
+        if bound.is_some() {
+            return false;
+        }
+    }
+    true
+}
+
+/// The least atom of an argument's member that is not within the argument's members of its bound, at the first such member
+/// that the parameter opens.
+fn outside_member(
     alloc: Global,
     core: &Core,
+    number: u16,
+    outer: &[OwnName],
+    parameter: &OwnName,
+    argument: u32,
+) -> Result<Option<Atom>, Memory>
+    requires core { IsInRange (program_of core.now) }
+    ensures { IfOk result (λ o. OrLacks (RespectsBounds (program_of core.now) number outer.now (handed_pair parameter.now argument)) (LacksInMember (program_of core.now) number outer.now (handed_pair parameter.now argument)) (missing_atom o)) }
+{
+    let bounds = opened_members(core, parameter);
+    if are_none(bounds) {
+        return Ok(None);
+    }
+    let mut sets = Items::new(alloc);
+    add_argument_sets(alloc, core, outer, parameter, argument, &mut sets)?;
+    first_outside(core, number, bounds, sets.as_slice())
+}
+
+/// .. of the first argument that has one.
+fn first_outside_member(
+    alloc: Global,
+    core: &Core,
+    number: u16,
+    outer: &[OwnName],
+    parameters: &[OwnName],
+    arguments: &[u32],
+) -> Result<Option<Atom>, Memory>
+    requires core { IsInRange (program_of core.now) }
+    requires numbers { length arguments.now ≡ length parameters.now }
+    ensures { IfOk result (λ o. FirstLack (RespectsBounds (program_of core.now) number outer.now) (LacksInMember (program_of core.now) number outer.now) (handed_to parameters.now arguments.now) (missing_atom o)) }
+{
+    for (i, parameter) in parameters.iter().enumerate() {
+        let missing = outside_member(alloc, core, number, outer, parameter, arguments[i])?;
+        if missing.is_some() {
+            return Ok(missing);
+        }
+    }
+    Ok(None)
+}
+
+/// The first premise of M-Inst that is false; each is tried for all arguments before the next one.
+pub fn instance_misfit(
+    alloc: Global,
+    core: &Core,
+    number: u16,
     scope: &Scope,
     pairs: &mut PairTable<'_>,
     target: u16,
     arguments: &[u32],
-) -> Result<Option<u8>, Memory>
-    requires context { IsScopeOf (program_of core.now) pairs.old.about.scope (scope_of scope.now) }
-    requires pairs { pairs.old.about ≡ about_in (program_of core.now) pairs.old.about.scope Mode.Annotated }
-    ensures outcome { IfOk result (λ o. InstanceComesTo (program_of core.now) pairs.old.about.scope scope.now.names target arguments.now o) }
+) -> Result<Option<Misfit>, Memory>
+    requires context { IsScopeOf (program_of core.now) number (scope_of scope.now) }
+    requires pairs { pairs.old.about ≡ about_in (program_of core.now) number Mode.Annotated }
+    ensures outcome { IfOk result (λ o. InstanceComesTo (program_of core.now) number scope.now.names target arguments.now o) }
     ensures same { pairs.new.about ≡ pairs.old.about }
 {
-    let start = disagreement(core, ScopeKind::Resource, target, arguments);
-    if start.is_some() {
-        return Ok(start);
+    if let Some(premise) = disagreement(core, ScopeKind::Resource, target, arguments) {
+        return Ok(Some(Misfit {
+            premise,
+            missing: None,
+        }));
     }
     let outer = scope.names.as_slice();
     let parameters = parameters_of(core, target);
     if !all_have_opened(alloc, core, outer, parameters, arguments)? {
-        return Ok(Some(3));
+        return Ok(Some(Misfit {
+            premise: 3,
+            missing: None,
+        }));
     }
     let sets = arguments_sets(alloc, core, outer, names_of(core, target), arguments)?;
     let below = all_are_arguments(alloc, scope, pairs, sets.as_slice(), parameters, arguments)?;
     if !below {
-        return Ok(Some(4));
+        return Ok(Some(Misfit {
+            premise: 4,
+            missing: None,
+        }));
+    }
+    let outside = first_outside_member(alloc, core, number, outer, parameters, arguments)?;
+    if outside.is_some() {
+        return Ok(Some(Misfit {
+            premise: 5,
+            missing: outside,
+        }));
     }
     Ok(None)
 }

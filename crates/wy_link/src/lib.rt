@@ -10,6 +10,7 @@ mod lines;
 mod linking;
 mod lists;
 mod members;
+mod misfit;
 mod started;
 
 pub use checking::{CheckedProgram, check};

@@ -8,10 +8,11 @@ ghost use Rattle.wy_rules.specs.Resolved.{CoreKeeps};
 ghost use Rattle.wy_judge.specs.Tables.{IsScopeOf};
 ghost use Rattle.wy_judge.specs.Targets.{about_in};
 ghost use Rattle.wy_link.specs.Tried.{missing_atom};
-ghost use Rattle.wy_link.specs.Lines.{missing_name, bound_fault, UseTo, InstanceTo, ImportTo, NameComesTo, ScopeComesTo, LinesComeTo};
+ghost use Rattle.wy_link.specs.Lines.{missing_name, misfit_fault, UseTo, InstanceTo, ImportTo, NameComesTo, ScopeComesTo, LinesComeTo};
 
-use crate::imports::{Misfit, bound_misfit};
-use crate::instances::{disagreement, instance_premise, is_of_kind};
+use crate::imports::bound_misfit;
+use crate::instances::{disagreement, instance_misfit, is_of_kind};
+use crate::misfit::Misfit;
 use std::alloc::Global;
 use wy_effects::atom::{Atom, AtomTable};
 use wy_effects::set::EffSet;
@@ -34,13 +35,18 @@ fn missing_name(atoms: &AtomTable, missing: Option<Atom>) -> Result<Option<AtomN
     atom_name(atoms, atom)
 }
 
-/// The fault of a bound.
-fn bound_fault(place: Place, atoms: &AtomTable, misfit: Misfit) -> Result<Fault, Memory>
-    ensures { IfOk result (λ f. f ≡ bound_fault place atoms.now misfit) }
+/// The fault of a rule of which a premise is false.
+fn misfit_fault(
+    place: Place,
+    rule: RuleName,
+    atoms: &AtomTable,
+    misfit: Misfit,
+) -> Result<Fault, Memory>
+    ensures { IfOk result (λ f. f ≡ misfit_fault place rule atoms.now misfit) }
 {
     Ok(Fault {
         place,
-        rule: RuleName::IImport,
+        rule,
         premise: misfit.premise,
         atom: missing_name(atoms, misfit.missing)?,
     })
@@ -63,20 +69,24 @@ fn use_fault(core: &Core, name: &OwnName, target: u16) -> Option<Fault>
 fn instance_fault(
     alloc: Global,
     core: &Core,
+    number: u16,
     scope: &Scope,
     annotated: &mut PairTable<'_>,
     name: &OwnName,
     target: u16,
     arguments: &[u32],
 ) -> Result<Option<Fault>, Memory>
-    requires context { IsScopeOf (program_of core.now) annotated.old.about.scope (scope_of scope.now) }
-    requires pairs { annotated.old.about ≡ about_in (program_of core.now) annotated.old.about.scope Mode.Annotated }
-    ensures outcome { IfOk result (λ o. InstanceTo (program_of core.now) annotated.old.about.scope (scope_of scope.now) name.now target arguments.now o) }
+    requires context { IsScopeOf (program_of core.now) number (scope_of scope.now) }
+    requires pairs { annotated.old.about ≡ about_in (program_of core.now) number Mode.Annotated }
+    ensures outcome { IfOk result (λ o. InstanceTo (program_of core.now) number (scope_of scope.now) name.now target arguments.now o) }
     ensures same { annotated.new.about ≡ annotated.old.about }
 {
-    match instance_premise(alloc, core, scope, annotated, target, arguments)? {
+    match instance_misfit(alloc, core, number, scope, annotated, target, arguments)? {
         None => Ok(None),
-        Some(premise) => Ok(Some(fault_at(name.place, RuleName::MInst, premise))),
+        Some(misfit) => {
+            let fault = misfit_fault(name.place, RuleName::MInst, &scope.atoms, misfit)?;
+            Ok(Some(fault))
+        }
     }
 }
 
@@ -103,7 +113,10 @@ fn import_fault(
     }
     match bound_misfit(alloc, core, number, scope, plain, target, arguments, bound)? {
         None => Ok(None),
-        Some(misfit) => Ok(Some(bound_fault(name.place, &scope.atoms, misfit)?)),
+        Some(misfit) => {
+            let fault = misfit_fault(name.place, RuleName::IImport, &scope.atoms, misfit)?;
+            Ok(Some(fault))
+        }
     }
 }
 
@@ -131,6 +144,7 @@ fn name_fault(
         Origin::Instance { module, arguments } => instance_fault(
             alloc,
             core,
+            number,
             scope,
             annotated,
             name,

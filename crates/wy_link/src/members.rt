@@ -4,13 +4,14 @@ ghost use Rattle.std.specs.Prelude.{◌≡◌, ◌++◌, IfOk, OnOk, slice_get};
 ghost use Rattle.std.specs.Option.{option_copied};
 ghost use Rattle.wy_types.specs.Program.{program_of};
 ghost use Rattle.wy_types.specs.Ground.{abstract_set, defined_set, declared_set, member_set, members_of, type_of, names_of, set_or_empty, argument_sets, arguments_sets, abstract_names};
-ghost use Rattle.wy_rules.specs.Acceptance.{is_parameter, parameters_among, parameters_of, opened};
+ghost use Rattle.wy_rules.specs.Acceptance.{is_parameter, parameters_among, parameters_of, opened, opened_members};
 ghost use Rattle.wy_link.specs.Sets.{sets_of_members};
 
 use std::alloc::Global;
 use wy_effects::set::{EffSet, SetList};
 use wy_text::list::Items;
 use wy_text::text::{Memory, Text};
+use wy_types::bounds::type_bounds;
 use wy_types::resolved::{Core, DefinedMember, Origin, OwnName};
 use wy_types::types::TypeRef;
 
@@ -154,6 +155,20 @@ pub fn opened<'a>(core: &'a Core, name: &OwnName) -> &'a [Text]
     }
 }
 
+/// The upper bounds of the members that a parameter opens.
+pub fn opened_members<'a>(core: &'a Core, name: &OwnName) -> &'a [Option<EffSet>]
+    ensures { result.now ≡ opened_members (program_of core.now) name.now name.now.origin }
+{
+    match name.origin {
+        Origin::Parameter { bare: true } => type_bounds(core, &name.typ),
+        Origin::Parameter { bare: false }
+        | Origin::Grant
+        | Origin::Use { .. }
+        | Origin::Instance { .. }
+        | Origin::Import { .. } => &[],
+    }
+}
+
 // ----------------------------------------------------------------------------
 // Sets of arguments
 
@@ -194,7 +209,7 @@ fn add_sets(
 }
 
 /// Adds the sets that a parameter's atoms stand for: those of its argument.
-fn add_argument_sets(
+pub fn add_argument_sets(
     alloc: Global,
     core: &Core,
     outer: &[OwnName],

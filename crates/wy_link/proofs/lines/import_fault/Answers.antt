@@ -30,9 +30,9 @@ returns-in-None-clause-outcome c =
     let a = subst (OrFails (Agrees p Plain c.args.target c.args.arguments.now) (Disagrees p Plain c.args.target c.args.arguments.now)) c.in_default.is c.disagreement.ensures in
     bound_passes p c.args.number (scope_of c.args.scope.now) c.args.name.now c.args.target c.args.arguments.now c.args.bound.now c.in_ok-bound_misfit.field-0 a c.in-None.is c.in_ok-bound_misfit.ensures.outcome
 
-pub returns-in_ok-bound_fault-in-Some-2-clause-outcome : goal.returns-in_ok-bound_fault-in-Some-2-clause-outcome
-returns-in_ok-bound_fault-in-Some-2-clause-outcome c =
+pub returns-in_ok-fault-in-Some-2-clause-outcome : goal.returns-in_ok-fault-in-Some-2-clause-outcome
+returns-in_ok-fault-in-Some-2-clause-outcome c =
     let p = program_of c.args.core.now in
     let names = c.args.scope.now.names in
     let a = subst (OrFails (Agrees p Plain c.args.target c.args.arguments.now) (Disagrees p Plain c.args.target c.args.arguments.now)) c.in_default.is c.disagreement.ensures in
-    bound_fails p c.args.number (scope_of c.args.scope.now) c.args.name.now c.args.target c.args.arguments.now c.args.bound.now c.in_ok-bound_misfit.field-0 c.in-Some-2.misfit c.in_ok-bound_fault-in-Some-2.field-0 a c.in-Some-2.is c.in_ok-bound_fault-in-Some-2.ensures c.in_ok-bound_misfit.ensures.outcome
+    bound_fails p c.args.number (scope_of c.args.scope.now) c.args.name.now c.args.target c.args.arguments.now c.args.bound.now c.in_ok-bound_misfit.field-0 c.in-Some-2.misfit c.in_ok-fault-in-Some-2.fault a c.in-Some-2.is c.in_ok-fault-in-Some-2.ensures c.in_ok-bound_misfit.ensures.outcome

@@ -1,11 +1,9 @@
-use Rattle.std.proofs.Common.{◌≡◌, Err, Some, refl, rules}
+use Rattle.std.proofs.Common.{◌≡◌, Err, Some, rules}
 use Rattle.wy_types.specs.Program.{program_of, scope_of, body_of}
-use Rattle.wy_types.specs.Types.{is_plain}
 use Rattle.wy_judge.specs.Fit as fit
 use Rattle.wy_judge.specs.Judging.{BlockFitsTo}
-use Rattle.wy_judge.specs.Lacks.{IsBodyFault}
+use Rattle.wy_judge.specs.Lacks.{IsBodyFaultOf}
 use Rattle.wy_judge.specs.Results.{fit_of}
-use Rattle.wy_judge.specs.Targets.{mode_of}
 use Rattle.wy_judge.specs.Walking.{BodyTo}
 use Rattle.wy_judge.proofs.Contexts.{result_in_range}
 use Rattle.wy_judge.proofs.Results.{fault_weaker, passed_weaker}
@@ -32,7 +30,7 @@ returns-in_err-block-clause-outcome c =
     let new = c.fit_block.new.known.vals.items in
     let r = c.in_err-block.field-0.0 in
     let e : c.from_residual.result ≡ Err r = search rules in
-    rw e (fault_weaker r (λ f. BlockFitsTo p k s (Some x.owner) old new x.block x.signature.result (fit.Fails f)) (λ f. BodyTo p k s old new x (Some f)) (λ f h. body_fails p k s x old new f h) c.in_err-block.ensures.outcome)
+    rw e (fault_weaker r (λ f. BlockFitsTo p k s (Some x.owner) old new x.block x.signature.result (fit.Fails f)) (λ f. BodyTo p k s old new x (Some f)) (λ f h. body_fails p k s c.requires.walk.context x old new f h) c.in_err-block.ensures.outcome)
 
 pub returns-clause-outcome : goal.returns-clause-outcome
 returns-clause-outcome c =
@@ -43,7 +41,6 @@ returns-clause-outcome c =
     let x = body_of c.args.body.now in
     let new = c.fit_block.new.known.vals.items in
     let u = fit_of c.in_ok-block.block in
-    let m = mode_of (is_plain s.kind) in
-    passed_weaker c.judge_fit.result (λ o. IsBodyFault m x.place s.atoms x.signature.effect u o) (λ o. BodyTo p k s old new x o)
-    (λ o r. body_by_block p k s x old new u m o refl c.in_ok-block.ensures.outcome r)
+    passed_weaker c.judge_fit.result (λ o. IsBodyFaultOf p k s x.place x.signature.effect u o) (λ o. BodyTo p k s old new x o)
+    (λ o r. body_by_block p k s c.requires.walk.context x old new u o c.in_ok-block.ensures.outcome r)
     c.judge_fit.ensures

@@ -1,15 +1,13 @@
-use Rattle.std.proofs.Common.{◌≡◌, ◌↔◌, sym, subst, ◌∙◌, true}
+use Rattle.std.proofs.Common.{sym, subst, ◌∙◌, Some}
 use Rattle.wy_types.specs.declared.types.TypeRef.TheVariants.{Named, Own}
 use Rattle.wy_types.specs.Fitting.{IsTypeOf}
 use Rattle.wy_types.specs.Program.{program_of, scope_of}
-use Rattle.wy_subtype.specs.Decided.{About}
-use Rattle.wy_subtype.specs.Verdict.{IsSubtypeIn}
-use Rattle.wy_judge.specs.Targets.{about_of}
-use Rattle.wy_judge.specs.Walking.{IsSealFault}
+use Rattle.wy_judge.specs.Walking.{IsSealFault, IsMembersFault}
 use Rattle.wy_judge.proofs.Asked.{asked_type}
 use Rattle.wy_judge.proofs.Contexts.{own_in_range, sealed_in_range, scope_fits}
+use Rattle.wy_judge.specs.Results.{IfFault}
 use Rattle.wy_judge.proofs.Results.{passed_weaker}
-use Rattle.wy_judge.proofs.ScopeParts.{never_sealed, sealed_as}
+use Rattle.wy_judge.proofs.Seals.{never_sealed, sealed_below, seal_fails, seal_by_members}
 use Rattle.wy_judge.proofs.walk.Walk.judge_seal.Goals as goal
 
 pub holds-requires-clause-left : goal.holds-requires-clause-left
@@ -31,15 +29,25 @@ holds-requires-clause-right c =
 pub returns-in_default : goal.returns-in_default
 returns-in_default c = never_sealed (program_of c.args.self.now.core.now) c.args.self.now.number (scope_of c.args.self.now.scope.now) c.in_default.not-Some
 
+pub returns-then-not-below : goal.returns-then-not-below
+returns-then-not-below c =
+    let p = program_of c.args.self.now.core.now in
+    let k = c.args.self.now.number in
+    let s = scope_of c.args.self.now.scope.now in
+    let d = c.in-Some.decl in
+    let below = c.in_ok-below.below in
+    let exact = sealed_below p k s d c.in-Some.is c.args.pairs.now.about c.in_ok-copy_sets.field-0 below c.requires.asks (c.in_ok-copy_sets.ensures ∙ c.as_slice.ensures) c.in_ok-below.ensures.exact in
+    let fault = seal_fails p k s d c.in-Some.is c.requires.walk.context (λ q. let yes = exact.1 q in cc) in
+    subst (λ e. IfFault e (λ f. IsSealFault p k s (Some f))) (sym c.fails.ensures) fault
+
 pub returns : goal.returns
 returns c =
     let p = program_of c.args.self.now.core.now in
     let k = c.args.self.now.number in
     let s = scope_of c.args.self.now.scope.now in
-    let members = c.in_ok-copy_sets.field-0 in
+    let d = c.in-Some.decl in
     let below = c.in_ok-below.below in
-    let same : (below ≡ true) ↔ IsSubtypeIn p k (about_of p k s).mode (Own 0) (Named c.in-Some.decl members) =
-    subst (λ (a : About). (below ≡ true) ↔ IsSubtypeIn a.program a.scope a.mode (Own 0) (Named c.in-Some.decl members)) c.requires.asks c.in_ok-below.ensures.exact in
-    passed_weaker c.stop_at.result (λ o. o ≡ c.unless_below.result) (λ o. IsSealFault p k s o)
-    (λ o e. sealed_as p k s c.requires.walk.context c.in-Some.decl members below o c.in-Some.is (c.in_ok-copy_sets.ensures ∙ c.as_slice.ensures) same (e ∙ c.unless_below.ensures))
-    c.stop_at.ensures
+    let exact = sealed_below p k s d c.in-Some.is c.args.pairs.now.about c.in_ok-copy_sets.field-0 below c.requires.asks (c.in_ok-copy_sets.ensures ∙ c.as_slice.ensures) c.in_ok-below.ensures.exact in
+    passed_weaker c.judge_members.result (λ o. IsMembersFault p k s o) (λ o. IsSealFault p k s o)
+    (λ o h. seal_by_members p k s d c.in-Some.is c.requires.walk.context (exact.0 c.if-not-below.false) o h)
+    c.judge_members.ensures

@@ -1,4 +1,4 @@
-use Rattle.std.proofs.Common.{◌≡◌, [], Err, Some, None, length, refl, sym, ap, subst, ◌∙◌, rules}
+use Rattle.std.proofs.Common.{◌≡◌, [], Err, Some, None, length, sym, ap, subst, ◌∙◌, rules}
 use Rattle.wy_types.specs.Program.{program_of, scope_of, start_of}
 use Rattle.wy_types.specs.View.{values_of, block_of}
 use Rattle.wy_types.specs.declared.types.TypeRef.TheVariants.{Unit as Nothing}
@@ -7,10 +7,8 @@ use Rattle.wy_judge.specs.Fit as fit
 use Rattle.wy_judge.specs.Fits as fits
 use Rattle.wy_judge.specs.Results.{fit_of, fits_of}
 use Rattle.wy_judge.specs.Judging.{TypesInRange, AllFitTo, BlockFitsTo}
-use Rattle.wy_judge.specs.Lacks.{IsBodyFault}
+use Rattle.wy_judge.specs.Lacks.{IsBodyFaultOf}
 use Rattle.wy_judge.specs.Tables.{ValuesReady, BlockReady}
-use Rattle.wy_judge.specs.Targets.{mode_of}
-use Rattle.wy_types.specs.Types.{is_plain}
 use Rattle.wy_judge.proofs.Results.{fault_weaker, passed_weaker}
 use Rattle.wy_judge.specs.Walking.{StartsTo}
 use Rattle.wy_judge.proofs.ArmsOfObjects.{new_types}
@@ -67,7 +65,7 @@ returns-in_err-initialisers-in-Init-clause-outcome c =
     let xs = c.in-Init.values.items in
     let o = c.args.self.now.owner in
     rw e (fault_weaker r (λ f. AllFitTo p k s o old new xs c.as_slice.result.now (fits.Fails f)) (λ f. StartsTo p k s [] new (Some f))
-    (λ f h. starts_fail_in_fields p k s xs old new f (ap start_of c.in-Init.is) c.requires.empty (subst (λ w. AllFitTo p k s w old new xs (field_types s 0) (fits.Fails f)) c.requires.owner (subst (λ ts. AllFitTo p k s o old new xs ts (fits.Fails f)) types h)))
+    (λ f h. starts_fail_in_fields p k s c.requires.walk.context xs old new f (ap start_of c.in-Init.is) c.requires.empty (subst (λ w. AllFitTo p k s w old new xs (field_types s 0) (fits.Fails f)) c.requires.owner (subst (λ ts. AllFitTo p k s o old new xs ts (fits.Fails f)) types h)))
     c.in_err-initialisers-in-Init.ensures.outcome)
 
 pub returns-in_err-at_unit-in-Run-clause-outcome : goal.returns-in_err-at_unit-in-Run-clause-outcome
@@ -82,7 +80,7 @@ returns-in_err-at_unit-in-Run-clause-outcome c =
     let e : c.from_residual-in_err-at_unit-in-Run.result ≡ Err r = search rules in
     let o = c.args.self.now.owner in
     rw e (fault_weaker r (λ f. BlockFitsTo p k s o old new b Nothing (fit.Fails f)) (λ f. StartsTo p k s [] new (Some f))
-    (λ f h. starts_fail_in_block p k s b old new f (ap start_of c.in-Run.is) c.requires.empty (subst (λ w. BlockFitsTo p k s w old new b Nothing (fit.Fails f)) c.requires.owner h))
+    (λ f h. starts_fail_in_block p k s c.requires.walk.context b old new f (ap start_of c.in-Run.is) c.requires.empty (subst (λ w. BlockFitsTo p k s w old new b Nothing (fit.Fails f)) c.requires.owner h))
     c.in_err-at_unit-in-Run.ensures.outcome)
 
 pub returns-in_ok-initialisers-in-Init-clause-outcome : goal.returns-in_ok-initialisers-in-Init-clause-outcome
@@ -93,13 +91,12 @@ returns-in_ok-initialisers-in-Init-clause-outcome c =
     let old = c.args.known.now.vals.items in
     let new = c.fit_all.new.known.vals.items in
     let u = fits_of c.in_ok-initialisers-in-Init.initialisers in
-    let m = mode_of (is_plain s.kind) in
     let types = c.as_slice.ensures ∙ c.in_ok-types-in-Init.ensures in
     let at = subst (λ w. AllFitTo p k s w old new c.in-Init.values.items c.as_slice.result.now u) c.requires.owner c.in_ok-initialisers-in-Init.ensures.outcome in
     let all = subst (λ ts. AllFitTo p k s None old new c.in-Init.values.items ts u) types at in
-    passed_weaker c.judge_fit.result (λ o. IsBodyFault m s.start_place s.atoms s.start_effect (fit_of c.as_fit.result) o) (λ o. StartsTo p k s [] new o)
-    (λ o r. starts_by_fields p k s c.in-Init.values.items old new u m o (ap start_of c.in-Init.is) c.requires.empty refl all
-    (init_as_body p k s m s.start_place s.atoms s.start_effect u o (subst (λ w. IsBodyFault m s.start_place s.atoms s.start_effect w o) c.as_fit.ensures r)))
+    passed_weaker c.judge_fit.result (λ o. IsBodyFaultOf p k s s.start_place s.start_effect (fit_of c.as_fit.result) o) (λ o. StartsTo p k s [] new o)
+    (λ o r. starts_by_fields p k s c.requires.walk.context c.in-Init.values.items old new u o (ap start_of c.in-Init.is) c.requires.empty all
+    (init_as_body p k s s.start_place s.start_effect u o (subst (λ w. IsBodyFaultOf p k s s.start_place s.start_effect w o) c.as_fit.ensures r)))
     c.judge_fit.ensures
 
 pub returns-in_ok-at_unit-in-Run-clause-outcome : goal.returns-in_ok-at_unit-in-Run-clause-outcome
@@ -110,8 +107,7 @@ returns-in_ok-at_unit-in-Run-clause-outcome c =
     let old = c.args.known.now.vals.items in
     let new = c.fit_block.new.known.vals.items in
     let u = fit_of c.in_ok-at_unit-in-Run.at_unit in
-    let m = mode_of (is_plain s.kind) in
     let ran = subst (λ w. BlockFitsTo p k s w old new (block_of c.in-Run.block) Nothing u) c.requires.owner c.in_ok-at_unit-in-Run.ensures.outcome in
-    passed_weaker c.judge_fit-in-Run.result (λ o. IsBodyFault m s.start_place s.atoms s.start_effect u o) (λ o. StartsTo p k s [] new o)
-    (λ o r. starts_by_block p k s (block_of c.in-Run.block) old new u m o (ap start_of c.in-Run.is) c.requires.empty refl ran r)
+    passed_weaker c.judge_fit-in-Run.result (λ o. IsBodyFaultOf p k s s.start_place s.start_effect u o) (λ o. StartsTo p k s [] new o)
+    (λ o r. starts_by_block p k s c.requires.walk.context (block_of c.in-Run.block) old new u o (ap start_of c.in-Run.is) c.requires.empty ran r)
     c.judge_fit-in-Run.ensures
