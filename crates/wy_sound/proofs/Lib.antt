@@ -14,6 +14,7 @@ pub mod Heaps
 pub mod Linked
 mod LinkingAdded
 mod LinkingApart
+mod LinkingBounds
 mod LinkingEnds
 mod LinkingExamples
 mod LinkingGrants

@@ -9,8 +9,9 @@ use Rattle.wy_types.specs.declared.resolved.Origin.TheVariants.{Parameter, Grant
 use Rattle.wy_types.specs.declared.resolved.OwnName.{OwnName}
 use Rattle.wy_types.specs.declared.resolved.ScopeKind.TheVariants.{Program as Main}
 use Rattle.wy_types.specs.Program.{Program, Scope}
-use Rattle.wy_types.specs.Types.{is_plain}
-use Rattle.wy_types.specs.Core.{OriginFits, IsCore}
+use Rattle.wy_types.specs.Types.{scope_is_plain, is_plain}
+use Rattle.wy_types.specs.Bounds.{bounds_of}
+use Rattle.wy_types.specs.Core.{IsPrimitive, OriginFits, IsCore}
 use Rattle.wy_types.specs.Ground.{Visited, instance_of, visit_name, visit_names, visit, program_number, program_visited, program_sets, start_list}
 use Rattle.wy_rules.specs.Acceptance.{LineHolds, Accepted}
 use Rattle.wy_rules.specs.GroundTypes.{read_by, run_instances}
@@ -21,12 +22,13 @@ use Rattle.wy_sound.specs.Programs.{IsResolved}
 use Rattle.wy_sound.specs.Linking.{AcceptedInstancesFit, AcceptedArgumentsFit}
 use Rattle.wy_sound.specs.Grounds.{GroundSetsAre}
 use Rattle.wy_sound.proofs.LinkingLists.{GoesOn, goes_on_same, goes_on_further, read_next, read_last, read_within}
+use Rattle.wy_sound.proofs.LinkingBounds.{none_respect}
 use Rattle.wy_sound.proofs.LinkingStates.{count_more, AreActuals, actual_at, actuals_length, AreGround, ground_at, Stands}
 use Rattle.wy_sound.proofs.LinkingTables.{no_own, no_own_read, same_at}
 use Rattle.wy_sound.proofs.LinkingVisits.{later_names_grow}
 use Rattle.wy_sound.proofs.LinkingPrograms.{last_scope, main_is_last, one_scope}
 use Rattle.wy_sound.proofs.LinkingWays.{Way, way_ends, way_begins}
-use Rattle.wy_sound.proofs.LinkingScopes.{names_at, Facts, facts_at, program_typed}
+use Rattle.wy_sound.proofs.LinkingScopes.{names_at, Facts, facts_at, name_bounds, program_typed}
 use Rattle.wy_sound.proofs.LinkingNames.{grant_stands}
 use Rattle.wy_sound.proofs.LinkingLines.{Visiting, VisitStands, instance_stands, import_stands, use_stands}
 
@@ -38,7 +40,7 @@ module _ (p : Program) (c : IsCore p) (t : LinesAreTyped p) (words : HavePlainNa
   module _ (k : ℕ) (inside : VisitStands p k) (m : ℕ) (s : Scope) (path prefix : List ℕ) (top : List (List ℕ)) (at : Visiting p m s prefix top)
       (way : Way p path m (suc k)) where
     module _ (done : List OwnName) (n : OwnName) (rest : List OwnName) (v : Visited) (names : names_at p m ≡ done ++ n ∷ rest)
-        (stands : Stands p (names_at p m) None top done v) where
+        (stands : Stands p m None top done v) where
       place : slice_get (names_at p m) (length done) ≡ Some n
       place = ap (λ l. slice_get l (length done)) names ∙ read_next done rest n
 
@@ -49,12 +51,13 @@ module _ (p : Program) (c : IsCore p) (t : LinesAreTyped p) (words : HavePlainNa
       name_stands : (o : Origin) → n.origin ≡ o → HasItsType p (opened_count p done) n o →
           GoesOn (visit_name p (visit p k) (names_at p m) prefix n o v).started (start_list p) →
           GoesOn (visit_name p (visit p k) (names_at p m) prefix n o v).sets top →
-          Stands p (names_at p m) None top (done ++ n ∷ []) (visit_name p (visit p k) (names_at p m) prefix n o v)
+          Stands p m None top (done ++ n ∷ []) (visit_name p (visit p k) (names_at p m) prefix n o v)
       name_stands (Parameter bare) e typed goes further = absurd typed
       name_stands Grant e typed goes further =
-          let main : s.kind ≡ Main = (subst (OriginFits p s (length done) n) e (at.facts.written (length done) n place).1).0 in
-          grant_stands p c (names_at p m) top done v n stands (length s.atoms) (at.facts.written (length done) n place).0.0 m typed.0 rest names
-          (main_is_last p.scopes c.program m s at.facts.there main) (at.main main) e
+          let is : (s.kind ≡ Main) × IsPrimitive n.typ = subst (OriginFits p s (length done) n) e (at.facts.written (length done) n place).1 in
+          grant_stands p c m top done v n stands (length s.atoms) (at.facts.written (length done) n place).0.0
+          (name_bounds p c m s at.facts done n rest names) typed.0 rest names
+          (main_is_last p.scopes c.program m s at.facts.there is.0) (at.main is.0) e is.1
           at.facts.fits.atoms typed.1 further
       name_stands (Use j) e typed goes further =
           use_stands p c t words a k inside m s path prefix top at way done n rest v names stands j e (line (Use j) e) typed.0 typed.1 goes further
@@ -66,9 +69,9 @@ module _ (p : Program) (c : IsCore p) (t : LinesAreTyped p) (words : HavePlainNa
     -- the own names that are left
     names_stand : (done rest : List OwnName) (v : Visited) → names_at p m ≡ done ++ rest → HaveTheirTypes p (opened_count p done) rest →
         top ≡ (visit_names p (visit p k) (names_at p m) prefix rest v).sets →
-        GoesOn (visit_names p (visit p k) (names_at p m) prefix rest v).started (start_list p) → Stands p (names_at p m) None top done v →
-        Stands p (names_at p m) None top (names_at p m) (visit_names p (visit p k) (names_at p m) prefix rest v)
-    names_stand done [] v names typed ends goes stands = subst (λ l. Stands p (names_at p m) None top l v) (sym (names ∙ append-nil done)) stands
+        GoesOn (visit_names p (visit p k) (names_at p m) prefix rest v).started (start_list p) → Stands p m None top done v →
+        Stands p m None top (names_at p m) (visit_names p (visit p k) (names_at p m) prefix rest v)
+    names_stand done [] v names typed ends goes stands = subst (λ l. Stands p m None top l v) (sym (names ∙ append-nil done)) stands
     names_stand done (n ∷ rest) v names typed ends goes stands =
         let w = visit_name p (visit p k) (names_at p m) prefix n n.origin v in
         let grows = later_names_grow p k (names_at p m) prefix rest w in
@@ -92,11 +95,11 @@ module _ (p : Program) (c : IsCore p) (t : LinesAreTyped p) (words : HavePlainNa
   main_facts : Facts p (program_number p) main.0
   main_facts = facts_at p c t words a (program_number p) main.0 main.1
 
-  program_stands : Stands p (names_at p (program_number p)) None (program_sets p) (names_at p (program_number p)) (program_visited p)
+  program_stands : Stands p (program_number p) None (program_sets p) (names_at p (program_number p)) (program_visited p)
   program_stands =
       let empty : Visited = record { started = []; actuals = []; sets = [] } in
-      let stands : Stands p (names_at p (program_number p)) None (program_sets p) [] empty =
-      record { actuals = tt; grounds = tt; count = refl; types = λ x i. absurd i; sets = λ x i. absurd i; started = λ y i e. absurd (cc) } in
+      let stands : Stands p (program_number p) None (program_sets p) [] empty =
+      record { actuals = tt; grounds = tt; count = refl; types = λ x i. absurd i; sets = λ x i. absurd i; respects = λ e. none_respect (bounds_of p (program_number p)) []; started = λ y i e. absurd (cc) } in
       visit_stands (length p.scopes) (program_number p) main.0 [] [] [] (names_at p (program_number p)) empty (program_sets p)
       (record { facts = main_facts; plain = ap is_plain main.2; words = λ i. absurd i; main = λ e. refl })
       (way_begins p (program_number p)) refl (program_typed p c t) refl (goes_on_same (start_list p)) stands
@@ -127,7 +130,7 @@ module _ (p : Program) (c : IsCore p) (t : LinesAreTyped p) (words : HavePlainNa
             let le = read_within (start_list p) x i there in
             record {
               scope = fit.scope;
-              is = record { there = e; scope = fit.there; bound = fit.bound; sets = fit.sets };
+              is = record { there = e; scope = fit.there; bound = fit.bound; sets = fit.sets; respects = fit.respects };
               kind = (λ k. absurd (fit.is_module k), λ k. absurd (omega (arith, le, k)));
             }
         | inr last ↦
@@ -138,6 +141,7 @@ module _ (p : Program) (c : IsCore p) (t : LinesAreTyped p) (words : HavePlainNa
                 scope = main.1;
                 bound = subst (λ k. BoundFits (is_plain k) None) (sym main.2) tt;
                 sets = program_stands.sets;
+                respects = λ e. program_stands.respects (ap scope_is_plain main.1 ∙ e);
               };
               kind = (λ k. refl, λ k. main.2);
             } in

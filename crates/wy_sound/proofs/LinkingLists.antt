@@ -1,5 +1,5 @@
 -- Lists that go on: what is read of the first part stays, and one more element.
-use Rattle.std.proofs.Common.{◌≡◌, ℕ, zero, suc, ◌<◌, ◌≤◌, List, [], ◌∷◌, ◌++◌, ◌⊎◌, inl, inr, length, refl, sym, ap, ◌∙◌, arith, Some, append_assoc, append-nil, length-append}
+use Rattle.std.proofs.Common.{◌≡◌, ℕ, zero, suc, ◌+◌, ◌<◌, ◌≤◌, List, [], ◌∷◌, ◌++◌, ◌⊎◌, inl, inr, length, refl, sym, ap, ◌∙◌, arith, Some, append_assoc, append-nil, length-append}
 use Rattle.std.specs.Prelude.{slice_get, slice_index_or}
 use Rattle.wy_effects.specs.Members.{In, Apart}
 use Rattle.wy_effects.proofs.Lists.{length-apart}
@@ -54,6 +54,28 @@ pub or_first : {X : Type 0} (xs ys : List X) (k : ℕ) (d : X) → k < length xs
 or_first [] ys k d h = absurd (omega arith)
 or_first (x ∷ xs) ys zero d h = refl
 or_first (x ∷ xs) ys (suc k) d h = or_first xs ys k d (omega arith)
+
+-- what is read before the end of the first list, and behind it
+pub read_before : {X : Type 0} (xs ys : List X) (k : ℕ) → k < length xs → slice_get (xs ++ ys) k ≡ slice_get xs k
+read_before [] ys k h = absurd (omega arith)
+read_before (x ∷ xs) ys zero h = refl
+read_before (x ∷ xs) ys (suc k) h = read_before xs ys k (omega arith)
+
+pub read_behind : {X : Type 0} (xs ys : List X) (k j : ℕ) → k ≡ length xs + j → slice_get (xs ++ ys) k ≡ slice_get ys j
+read_behind [] ys k j e = ap (slice_get ys) (omega (arith, e))
+read_behind (x ∷ xs) ys zero j e = absurd (omega (arith, e))
+read_behind (x ∷ xs) ys (suc k) j e = read_behind xs ys k j (omega (arith, e))
+
+pub or_behind : {X : Type 0} (xs ys : List X) (k j : ℕ) (d : X) → k ≡ length xs + j → slice_index_or (xs ++ ys) k d ≡ slice_index_or ys j d
+or_behind [] ys k j d e = ap (λ i. slice_index_or ys i d) (omega (arith, e))
+or_behind (x ∷ xs) ys zero j d e = absurd (omega (arith, e))
+or_behind (x ∷ xs) ys (suc k) j d e = or_behind xs ys k j d (omega (arith, e))
+
+-- a number is below another or at or behind it
+pub before_or_behind : (k n : ℕ) → (k < n) ⊎ ((j : ℕ) × (k ≡ n + j))
+before_or_behind k zero = inr (k, omega arith)
+before_or_behind zero (suc n) = inl (omega arith)
+before_or_behind (suc k) (suc n) = elim (before_or_behind k n) [ inl h ↦ inl (omega (arith, h)) | inr h ↦ inr (h.0, omega (arith, h.1)) ]
 
 -- numbers below n that differ are at most n
 numbers : ℕ → List ℕ

@@ -1,9 +1,10 @@
 -- What holds of a scope of an accepted program and of its own names; and what its parameters are handed.
-use Rattle.std.proofs.Common.{◌≡◌, ℕ, zero, suc, ◌+◌, ◌<◌, List, [], ◌∷◌, ◌++◌, map, inl, inr, length, refl, sym, ap, ◌∙◌, subst, arith, Option, Some, Bool as Truth, true, false}
+use Rattle.std.proofs.Common.{◌≡◌, ℕ, zero, suc, ◌+◌, ◌<◌, List, [], ◌∷◌, ◌++◌, map, inl, inr, length, refl, sym, ap, ◌∙◌, subst, arith, Option, Some, Bool as Truth, true, false, append_assoc, append-nil, length-append}
 use Rattle.std.specs.Prelude.{slice_get, slice_index_or}
 use Rattle.std.proofs.Math.ListN.{length-map}
 use Rattle.wy_effects.specs.Members.{In}
 use Rattle.wy_effects.specs.EffSet.{AreSets, replace}
+use Rattle.wy_effects.specs.Bounds.{Respects}
 use Rattle.wy_effects.proofs.Lists.{In-slice_get, In-at, In-right}
 use Rattle.wy_effects.proofs.Replacing.{AreSets-map}
 use Rattle.wy_types.specs.declared.linked.Actual.TheVariants as actual
@@ -13,14 +14,18 @@ use Rattle.wy_types.specs.declared.resolved.OwnName.{OwnName}
 use Rattle.wy_types.specs.declared.resolved.ScopeKind.{ScopeKind}
 use Rattle.wy_types.specs.declared.resolved.ScopeKind.TheVariants.{Pure, Resource, Plain, Program as Main}
 use Rattle.wy_types.specs.Program.{Program, Scope}
-use Rattle.wy_types.specs.Types.{is_plain}
+use Rattle.wy_types.specs.Types.{scope_is_plain, is_plain}
+use Rattle.wy_types.specs.Bounds.{bounds_of}
 use Rattle.wy_types.specs.Fitting.{FitsType, member_count}
 use Rattle.wy_types.specs.Core.{IsWritten, OriginFits, IsAscribed, origin_modules, LeadsTo, ScopeFits, IsCore}
-use Rattle.wy_types.specs.Ground.{Visited, names_of, is_use, uses_among, arguments_sets, handed, visit, program_number}
-use Rattle.wy_rules.specs.Acceptance.{IsLine, PureHolds, LineHolds, ScopeAccepted, Accepted, parameters_among, Handed, handed_to}
-use Rattle.wy_rules.specs.OwnNames.{opens, opened_count, after_parameters, HasItsType, HaveTheirTypes, MayHave, LinesAreTyped, HavePlainNames}
+use Rattle.wy_types.specs.Ground.{Visited, names_of, members_of, is_use, uses_among, argument_sets, arguments_sets, handed, visit, program_number}
+use Rattle.wy_types.proofs.Bounding.{bounds_at}
+use Rattle.wy_rules.specs.Acceptance.{IsLine, PureHolds, LineHolds, ScopeAccepted, Accepted, is_parameter, parameters_until, parameters_among, Handed, handed_to, opened_members}
+use Rattle.wy_rules.specs.OwnNames.{opens, opened_bounds, names_bounds, opened_count, after_parameters, HasItsType, HaveTheirTypes, MayHave, LinesAreTyped, HavePlainNames}
+use Rattle.wy_sound.proofs.Lists.{map_append}
 use Rattle.wy_sound.proofs.LinkingSets.{arguments_count}
-use Rattle.wy_sound.proofs.LinkingStates.{read_type, IsActual, AreActuals, parameters_ground, AllFit, Stands}
+use Rattle.wy_sound.proofs.LinkingBounds.{none_respect, names_read, NameBounds, respects_name}
+use Rattle.wy_sound.proofs.LinkingStates.{count_more, read_type, IsActual, AreActuals, parameters_ground, AllFit, Stands}
 use Rattle.wy_sound.proofs.LinkingVisits.{parameters_are, first_and_after, all_uses}
 use Rattle.wy_sound.proofs.LinkingPrograms.{NoSpace, last_scope}
 use Rattle.wy_sound.proofs.LinkingWays.{names_lead}
@@ -39,6 +44,7 @@ pub record Facts (p : Program) (m : ℕ) (s : Scope) : Type 0 where
   pub may_have : MayHave s.kind (parameters_among (names_at p m))
   pub parameters : (n : OwnName) → In n (parameters_among (names_at p m)) → FitsType p (opened_count p (parameters_among (names_at p m))) 0 n.typ
   pub others : HaveTheirTypes p (opened_count p (parameters_among (names_at p m))) (after_parameters (names_at p m))
+  pub bounds : bounds_of p m ≡ names_bounds p 0 (names_at p m)
   pub words : (n : OwnName) → In n (names_at p m) → NoSpace n.name
 
 pub facts_at : (p : Program) → IsCore p → LinesAreTyped p → HavePlainNames p → Accepted p → (m : ℕ) (s : Scope) → slice_get p.scopes m ≡ Some s → Facts p m s
@@ -57,8 +63,19 @@ facts_at p c t words a m s e =
       may_have = rw names typed.may_have;
       parameters = rw names typed.parameters;
       others = rw names typed.others;
+      bounds = bounds_at p m s e ∙ typed.bounds ∙ ap (names_bounds p 0) (sym names);
       words = λ n i. (words s (In-slice_get p.scopes m s e) n (subst (λ l. In n l) names i)).0;
     }
+
+-- the bounds of the atoms that an own name opens
+pub name_bounds : (p : Program) → IsCore p → (m : ℕ) (s : Scope) → Facts p m s → (done : List OwnName) (n : OwnName) (rest : List OwnName) →
+    names_at p m ≡ done ++ n ∷ rest → NameBounds p m done n
+name_bounds p c m s f done n rest names = record {
+  sets = λ a b e. f.fits.bounds.1 a b (ap (λ l. slice_get l a) (sym (bounds_at p m s f.there)) ∙ e);
+  own =
+      λ j b lt e. names_read p c done n rest j b lt
+      (ap (λ l. slice_get l (opened_count p done + j)) (sym (f.bounds ∙ ap (names_bounds p 0) names)) ∙ e);
+}
 
 module _ (p : Program) (m : ℕ) (s : Scope) (f : Facts p m s) where
   pub leads : (n : OwnName) (j : ℕ) → In n (names_at p m) → In j (origin_modules n.origin) → LeadsTo p m j
@@ -137,12 +154,63 @@ module _ (p : Program) (z : ℕ) (outer : List OwnName) (v : Visited) (o : Optio
   taken (n ∷ ns) [] e h = absurd (omega arith)
   taken (n ∷ ns) (a ∷ arguments) e h = (h (record { parameter = n; argument = a }) (inl refl), taken ns arguments (omega (arith, e)) (λ g i. h g (inr i)))
 
+  -- what a parameter is handed respects the bounds of the members that it opens
+  abbrev pub AllRespect : List OwnName → List ℕ → Type 0
+  AllRespect ns arguments =
+      (h : Handed) → In h (handed_to ns arguments) →
+      Respects (opened_members p h.parameter h.parameter.origin) [] (map (replace v.sets) (argument_sets p outer h.parameter.origin h.parameter h.argument))
+
+  opened_by_parameter : (n : OwnName) (o : Origin) → is_parameter o ≡ true → opened_members p n o ≡ opened_bounds p n o
+  opened_by_parameter n (Parameter true) e = refl
+  opened_by_parameter n (Parameter false) e = refl
+  opened_by_parameter n Grant e = absurd (cc)
+  opened_by_parameter n (Use m) e = absurd (cc)
+  opened_by_parameter n (Instance m arguments) e = absurd (cc)
+  opened_by_parameter n (Import m arguments bound) e = absurd (cc)
+
+  argument_count : (n : OwnName) (origin : Origin) (a : ℕ) → is_parameter origin ≡ true → length (argument_sets p outer origin n a) ≡ length (opens p n origin)
+  argument_count n (Parameter true) a e = length-map (members_of p n.typ) _
+  argument_count n (Parameter false) a e = refl
+  argument_count n Grant a e = absurd (cc)
+  argument_count n (Use m) a e = absurd (cc)
+  argument_count n (Instance m arguments) a e = absurd (cc)
+  argument_count n (Import m arguments bound) a e = absurd (cc)
+
+  -- sets of parameters' atoms, one parameter's after another's
+  handed_respect : (c : IsCore p) (s : Scope) (f : Facts p z s) (done ns : List OwnName) (arguments : List ℕ) (sets : List (List ℕ)) → names_at p z ≡ done ++ ns →
+      length arguments ≡ length (parameters_among ns) → length sets ≡ opened_count p done → AllRespect (parameters_among ns) arguments →
+      Respects (bounds_of p z) [] sets → Respects (bounds_of p z) [] (sets ++ map (replace v.sets) (arguments_sets p outer ns arguments))
+  handed_respect c s f done [] arguments sets names many count h r = subst (Respects (bounds_of p z) []) (sym (append-nil sets)) r
+  handed_respect c s f done (n ∷ ns) [] sets names many count h r = subst (Respects (bounds_of p z) []) (sym (append-nil sets)) r
+  handed_respect c s f done (n ∷ ns) (a ∷ arguments) sets names many count h r =
+      let first = argument_sets p outer n.origin n a in
+      let others = arguments_sets p outer ns arguments in
+      let own = map (replace v.sets) first in
+      let all : (sets ++ own) ++ map (replace v.sets) others ≡ sets ++ map (replace v.sets) (first ++ others) =
+      append_assoc sets own (map (replace v.sets) others) ∙ ap (λ l. sets ++ l) (sym (map_append (replace v.sets) first others)) in
+      subst (Respects (bounds_of p z) []) all
+      (elim (is_parameter n.origin) as (
+      λ b. is_parameter n.origin ≡ b → suc (length arguments) ≡ length (parameters_until b n (parameters_among ns)) →
+      AllRespect (parameters_until b n (parameters_among ns)) (a ∷ arguments) →
+      Respects (bounds_of p z) [] ((sets ++ own) ++ map (replace v.sets) others)
+      ) [
+        | true ↦ λ e same each.
+            let long : length own ≡ length (opens p n n.origin) = length-map first (replace v.sets) ∙ argument_count n n.origin a e in
+            let own_respect : Respects (opened_bounds p n n.origin) [] own =
+            subst (λ l. Respects l [] own) (opened_by_parameter n n.origin e) (each (record { parameter = n; argument = a }) (inl refl)) in
+            let longer : length (sets ++ own) ≡ opened_count p (done ++ n ∷ []) = omega (arith, length-append sets own, count, long, count_more p done n) in
+            handed_respect c s f (done ++ n ∷ []) ns arguments (sets ++ own) (names ∙ sym (append_assoc done (n ∷ []) ns)) (omega (arith, same)) longer
+            (λ g i. each g (inr i)) (respects_name p z done n (name_bounds p c z s f done n ns names) sets own count long r own_respect)
+        | false ↦ λ e same each. absurd (omega (arith, same))
+      ] refl many h)
+
   -- the parameters of a module are handed what they ask for
-  pub handed_stands : (s : Scope) (f : Facts p z s) (arguments : List ℕ) → length arguments ≡ length (parameters_among (names_at p z)) →
+  pub handed_stands : IsCore p → (s : Scope) (f : Facts p z s) (arguments : List ℕ) → length arguments ≡ length (parameters_among (names_at p z)) →
       TakesAll (parameters_among (names_at p z)) arguments →
+      (scope_is_plain (slice_get p.scopes z) ≡ false → AllRespect (parameters_among (names_at p z)) arguments) →
       AreSets 512 v.sets → AllFit p v.started →
-      Stands p (names_at p z) o top (parameters_among (names_at p z)) (handed p outer v z arguments)
-  handed_stands s f arguments many takes sets started =
+      Stands p z o top (parameters_among (names_at p z)) (handed p outer v z arguments)
+  handed_stands c s f arguments many takes respect sets started =
       let ns = names_at p z in
       let given = arguments_sets p outer ns arguments in
       let count : length (map (replace v.sets) given) ≡ opened_count p (parameters_among ns) =
@@ -155,6 +223,7 @@ module _ (p : Program) (z : ℕ) (outer : List OwnName) (v : Visited) (o : Optio
         count = count;
         types = λ n i. subst (λ k. FitsType p k 0 n.typ) (sym count) (f.parameters n i);
         sets = AreSets-map 512 v.sets given sets;
+        respects = λ e. handed_respect c s f [] ns arguments [] refl many refl (respect e) (none_respect (bounds_of p z) []);
         started = started;
       }
 

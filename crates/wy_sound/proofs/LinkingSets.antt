@@ -22,7 +22,7 @@ use Rattle.wy_sound.proofs.LinkingLists.{GoesOn, or_first}
 ------------------------------------------------------------
 -- Sets of more atoms
 
-IsSetFrom-wider : (k m n : ℕ) (xs : List ℕ) → m ≤ n → IsSetFrom k m xs → IsSetFrom k n xs
+pub IsSetFrom-wider : (k m n : ℕ) (xs : List ℕ) → m ≤ n → IsSetFrom k m xs → IsSetFrom k n xs
 IsSetFrom-wider k m n [] le s = tt
 IsSetFrom-wider k m n (x ∷ xs) le s = (s.0, omega (arith, s.1), IsSetFrom-wider (x + 1) m n xs le s.2)
 

@@ -1,8 +1,10 @@
--- What stands while a scope is visited: what is handed on has the types of the own names so far, and each instance so far is one of its scope.
-use Rattle.std.proofs.Common.{◌≡◌, ℕ, zero, suc, ◌+◌, ◌≤◌, List, [], ◌∷◌, ◌++◌, inl, inr, length, refl, sym, ap, ◌∙◌, subst, arith, Option, Some, true, length-append}
+-- What stands while a scope is visited: what is handed on has the types of the own names so far, the sets so far respect the bounds of their atoms where
+-- the scope is annotated, and each instance so far is one of its scope.
+use Rattle.std.proofs.Common.{◌≡◌, ℕ, zero, suc, ◌+◌, ◌≤◌, List, [], ◌∷◌, ◌++◌, inl, inr, length, refl, sym, ap, ◌∙◌, subst, arith, Option, Some, true, false, length-append}
 use Rattle.std.specs.Prelude.{codes, slice_get, slice_index_or}
 use Rattle.wy_effects.specs.Members.{In}
 use Rattle.wy_effects.specs.EffSet.{IsSet, AreSets}
+use Rattle.wy_effects.specs.Bounds.{Respects}
 use Rattle.wy_effects.proofs.Lists.{In-cases, In-slice_get}
 use Rattle.wy_types.specs.declared.types.TypeRef.{TypeRef}
 use Rattle.wy_types.specs.declared.linked.Actual.{Actual}
@@ -13,17 +15,19 @@ use Rattle.wy_types.specs.declared.resolved.Origin.TheVariants.{Parameter, Grant
 use Rattle.wy_types.specs.declared.resolved.OwnName.{OwnName}
 use Rattle.wy_types.specs.declared.resolved.ScopeKind.TheVariants.{Program as Main}
 use Rattle.wy_types.specs.Program.{Program, Scope}
-use Rattle.wy_types.specs.Types.{is_plain}
+use Rattle.wy_types.specs.Types.{scope_is_plain, is_plain}
+use Rattle.wy_types.specs.Bounds.{bounds_of}
 use Rattle.wy_types.specs.Fitting.{FitsType}
-use Rattle.wy_types.specs.Ground.{Visited, settled, type_of}
+use Rattle.wy_types.specs.Ground.{Visited, names_of, settled, type_of}
 use Rattle.wy_rules.specs.Acceptance.{is_parameter}
 use Rattle.wy_rules.specs.GroundTypes.{GroundType, type_at, read_by}
 use Rattle.wy_rules.specs.GroundTyping.{BoundFits}
 use Rattle.wy_sound.specs.Arguments.{ground_below, actual_type, IsThere}
-use Rattle.wy_rules.specs.OwnNames.{opens, opened_count}
+use Rattle.wy_rules.specs.OwnNames.{opens, opened_bounds, opened_count}
 use Rattle.wy_sound.specs.Grounds.{IsGround}
 use Rattle.wy_sound.proofs.LinkingLists.{read_first, read_last}
 use Rattle.wy_sound.proofs.LinkingSets.{AreSets-both, Fits-wider}
+use Rattle.wy_sound.proofs.LinkingBounds.{NameBounds, respects_name}
 
 -- a name's type as it is read; it names no own type, so it is the same for every instance
 abbrev pub read_type : Option (List ℕ) → List (List ℕ) → TypeRef → GroundType
@@ -131,6 +135,7 @@ module _ (p : Program) where
     pub bound : BoundFits (is_plain scope.kind) i.bound
     pub bound_set : (bound : List ℕ) → i.bound ≡ Some bound → IsSet 512 bound
     pub sets : AreSets 512 i.ground
+    pub respects : is_plain scope.kind ≡ false → Respects (bounds_of p i.scope) [] i.ground
     pub actuals : AreActuals y i.bound i.ground scope.names i.arguments
     pub grounds : AreGround i.ground scope.names scope.names i.arguments
     pub called : (word : List ℕ) → i.name ≡ codes "pure " ++ word → scope.name ≡ word
@@ -145,37 +150,41 @@ module _ (p : Program) where
         | inr g ↦ subst (λ z. Fits z j) (sym g.0) (subst (Fits (length xs)) g.1 f)
       ]
 
-  -- so far in a visit of a scope, of whose own names, the outer ones, these are done; the last sets are those at its end
-  pub record Stands (outer : List OwnName) (o : Option (List ℕ)) (top : List (List ℕ)) (done : List OwnName) (v : Visited) : Type 0 where
+  -- so far in a visit of the scope of this number, of whose own names these are done; the last sets are those at its end
+  pub record Stands (m : ℕ) (o : Option (List ℕ)) (top : List (List ℕ)) (done : List OwnName) (v : Visited) : Type 0 where
     pub actuals : AreActuals (length v.started) o top done v.actuals
-    pub grounds : AreGround top outer done v.actuals
+    pub grounds : AreGround top (names_of (slice_get p.scopes m)) done v.actuals
     pub count : length v.sets ≡ opened_count p done
     pub types : (n : OwnName) → In n done → FitsType p (length v.sets) 0 n.typ
     pub sets : AreSets 512 v.sets
+    pub respects : scope_is_plain (slice_get p.scopes m) ≡ false → Respects (bounds_of p m) [] v.sets
     pub started : AllFit v.started
 
   -- one more own name
-  pub stands_more : (outer : List OwnName) (o : Option (List ℕ)) (top : List (List ℕ)) (done : List OwnName) (v : Visited) (n : OwnName) (started : List Started) (a : Actual) (sets : List (List ℕ)) →
-      Stands outer o top done v →
-      length v.started ≤ length started → AllFit started → IsActual (length started) (read_type o top n.typ) a → IsGround p top outer n n.origin a →
+  pub stands_more : (m : ℕ) (o : Option (List ℕ)) (top : List (List ℕ)) (done : List OwnName) (v : Visited) (n : OwnName) (started : List Started) (a : Actual) (sets : List (List ℕ)) →
+      Stands m o top done v →
+      length v.started ≤ length started → AllFit started → IsActual (length started) (read_type o top n.typ) a →
+      IsGround p top (names_of (slice_get p.scopes m)) n n.origin a →
       length sets ≡ length (opens p n n.origin) →
-      FitsType p (length v.sets + length sets) 0 n.typ → AreSets 512 sets → Stands outer o top (done ++ n ∷ []) (settled v started a sets)
-  stands_more outer o top done v n started a sets s le all is ground many fits are =
+      FitsType p (length v.sets + length sets) 0 n.typ → AreSets 512 sets → NameBounds p m done n → Respects (opened_bounds p n n.origin) [] sets →
+      Stands m o top (done ++ n ∷ []) (settled v started a sets)
+  stands_more m o top done v n started a sets s le all is ground many fits are bounds respects =
       let long : length (v.sets ++ sets) ≡ length v.sets + length sets = length-append v.sets sets in
       record {
         actuals =
             actuals_more (length started) o top done v.actuals n a
             (actuals_later (length v.started) (length started) o top done v.actuals le s.actuals) is;
-        grounds = ground_more top outer done v.actuals n a s.grounds ground;
+        grounds = ground_more top (names_of (slice_get p.scopes m)) done v.actuals n a s.grounds ground;
         count = omega (arith, long, many, s.count, count_more p done n);
-        types = λ m i. elim (In-cases m done (n ∷ []) i) [
-          | inl j ↦ Fits-wider p (length v.sets) (length (v.sets ++ sets)) m.typ (omega (arith, long)) (s.types m j)
+        types = λ x i. elim (In-cases x done (n ∷ []) i) [
+          | inl j ↦ Fits-wider p (length v.sets) (length (v.sets ++ sets)) x.typ (omega (arith, long)) (s.types x j)
           | inr j ↦ elim j [
             | inl e ↦ subst (λ (w : OwnName). FitsType p (length (v.sets ++ sets)) 0 w.typ) e (subst (λ k. FitsType p k 0 n.typ) (sym long) fits)
             | inr f ↦ absurd f
           ]
         ];
         sets = AreSets-both 512 v.sets sets s.sets are;
+        respects = λ e. respects_name p m done n bounds v.sets sets s.count many (s.respects e) respects;
         started = all;
       }
 
@@ -189,9 +198,10 @@ module _ (p : Program) where
   or_read (x ∷ xs) zero a d e = cc
   or_read (x ∷ xs) (suc k) a d e = or_read xs k a d e
 
-  pub given : (o : Option (List ℕ)) (top : List (List ℕ)) (outer done rest : List OwnName) (v : Visited) (a : ℕ) (n : OwnName) →
-      outer ≡ done ++ rest → Stands outer o top done v → slice_get done a ≡ Some n → Given o top outer v a
-  given o top outer done rest v a n e s at =
+  pub given : (m : ℕ) (o : Option (List ℕ)) (top : List (List ℕ)) (done rest : List OwnName) (v : Visited) (a : ℕ) (n : OwnName) →
+      names_of (slice_get p.scopes m) ≡ done ++ rest → Stands m o top done v → slice_get done a ≡ Some n → Given o top (names_of (slice_get p.scopes m)) v a
+  given m o top done rest v a n e s at =
+      let outer = names_of (slice_get p.scopes m) in
       let r = actual_at (length v.started) o top done v.actuals a n s.actuals at in
       let typ : type_of (slice_get outer a) ≡ n.typ = ap type_of (ap (λ l. slice_get l a) e ∙ read_first done rest a n at) in
       record {

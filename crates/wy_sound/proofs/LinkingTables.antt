@@ -4,17 +4,20 @@ use Rattle.std.proofs.Common.{◌≡◌, ℕ, List, [], ◌∷◌, map, inl, inr
 use Rattle.std.specs.Prelude.{slice_get, IsTrue}
 use Rattle.wy_effects.specs.Members.{In, Within}
 use Rattle.wy_effects.specs.EffSet.{AreSets, replace}
+use Rattle.wy_effects.specs.Bounds.{IsWithin, Respects}
 use Rattle.wy_effects.proofs.Closure.{Decided}
 use Rattle.wy_effects.proofs.Lists.{In-slice_get, In-unmap}
-use Rattle.wy_effects.proofs.Replacing.{Within-replace, replace-replace}
+use Rattle.wy_effects.proofs.Replacing.{replace-replace}
 use Rattle.wy_effects.proofs.SetLaws.{cases_equal}
+use Rattle.wy_effects.proofs.Ordering.{replaced_within, none_within}
 use Rattle.wy_types.specs.declared.types.TypeRef.{TypeRef}
 use Rattle.wy_types.specs.declared.types.TypeRef.TheVariants as of
 use Rattle.wy_types.specs.declared.resolved.TypeDecl.{TypeDecl}
 use Rattle.wy_types.specs.Program.{Program}
 use Rattle.wy_types.specs.Signature.{Signature, mapped_signature}
 use Rattle.wy_types.specs.Types.{IsObject, substituted, annotated, erased, declared_methods, named_methods, bounded_methods, scope_is_plain, methods_of}
-use Rattle.wy_types.specs.Subtyping.{IsSubtype}
+use Rattle.wy_types.specs.Bounds.{bounds_of}
+use Rattle.wy_types.specs.Subtyping.{IsSubtype, IsAnnotatedSubtype}
 use Rattle.wy_types.specs.Fitting.{FitsType}
 use Rattle.wy_types.specs.Core.{IsCore}
 use Rattle.wy_types.proofs.Composing.{transitive}
@@ -303,14 +306,15 @@ module _ (p : Program) (c : IsCore p) (x k : ℕ) (sets : List (List ℕ)) (are_
   bounded_agrees bound true own (of.Own l) h = own refl l
   bounded_agrees bound false own (of.Own l) h = absurd h
 
-  -- subtyping of an annotated scope, with the ground sets put in
-  pub carried : scope_is_plain (slice_get p.scopes k) ≡ false → (owns : Truth) → (IsTrue owns → (l : ℕ) → Agrees None (of.Own l)) → (s t : TypeRef) →
-      Counts owns s → Counts owns t →
-      IsSubtype TypeRef (methods_of p k) IsObject Within s t → IsBelow p (type_at x (substituted sets s)) (type_at x (substituted sets t))
-  carried e owns own =
-      subtype_kept TypeRef GroundType (methods_of p k) (ground_methods p) IsObject IsGroundObject Within Within (λ t. type_at x (substituted sets t))
-      (replace sets) (Counts owns) (decide_counts owns)
-      (annotated_agrees e owns own) (parts_count owns) (object-at x None sets) (at-object x None sets) (Within-replace sets)
+  -- subtyping of an annotated scope, with ground sets put in that respect the bounds of its atoms
+  pub carried : Respects (bounds_of p k) [] sets → scope_is_plain (slice_get p.scopes k) ≡ false → (owns : Truth) →
+      (IsTrue owns → (l : ℕ) → Agrees None (of.Own l)) → (s t : TypeRef) → Counts owns s → Counts owns t →
+      IsAnnotatedSubtype p k s t → IsBelow p (type_at x (substituted sets s)) (type_at x (substituted sets t))
+  carried respects e owns own =
+      subtype_kept TypeRef GroundType (methods_of p k) (ground_methods p) IsObject IsGroundObject (IsWithin (bounds_of p k)) Within
+      (λ t. type_at x (substituted sets t)) (replace sets) (Counts owns) (decide_counts owns)
+      (annotated_agrees e owns own) (parts_count owns) (object-at x None sets) (at-object x None sets)
+      (λ f g h. none_within (replace sets f) (replace sets g) (replaced_within (bounds_of p k) [] sets respects f g h))
 
   -- subtyping without effects, at a bound
   pub bounded : (Includes : List ℕ → List ℕ → Type 0) (bound : List ℕ) (owns : Truth) → (IsTrue owns → (l : ℕ) → Agrees (Some bound) (of.Own l)) →

@@ -1,5 +1,5 @@
 -- Reading lists by number: lists in which an element is set, and mapped ones.
-use Rattle.std.proofs.Common.{Option, None, ◌≡◌, ◌≢◌, ℕ, zero, suc, ◌<◌, Bool, true, false, List, [], ◌∷◌, ◌++◌, length, map, refl, ap, ◌∙◌, Some, arith}
+use Rattle.std.proofs.Common.{Option, None, ◌≡◌, ◌≢◌, ℕ, zero, suc, ◌<◌, Bool, true, false, List, [], ◌∷◌, ◌++◌, length, map, take, refl, ap, ◌∙◌, Some, arith}
 use Rattle.std.specs.Prelude.{slice_get, slice_set, if◌then◌else◌}
 use Rattle.std.specs.Option.{option_map}
 
@@ -54,3 +54,12 @@ length_more (x ∷ xs) y = ap suc (length_more xs y)
 pub some_mapped : {X Y : Type 0} (f : X → Y) (o : Option X) (y : Y) → option_map f o ≡ Some y → (x : X) × (o ≡ Some x) × (f x ≡ y)
 some_mapped f None y e = absurd cc
 some_mapped f (Some x) y e = (x, refl, some_same e)
+
+-- what is read of the first elements
+pub taken_get : {X : Type 0} (k n : ℕ) (xs ys : List X) → k < n → take n xs ≡ ys → slice_get xs k ≡ slice_get ys k
+taken_get k zero xs ys lt e = absurd (omega arith)
+taken_get zero (suc n) [] ys lt e = ap (λ l. slice_get l 0) e
+taken_get zero (suc n) (x ∷ xs) ys lt e = ap (λ l. slice_get l 0) e
+taken_get (suc k) (suc n) [] ys lt e = ap (λ l. slice_get l (suc k)) e
+taken_get (suc k) (suc n) (x ∷ xs) [] lt e = absurd cc
+taken_get (suc k) (suc n) (x ∷ xs) (y ∷ ys) lt e = taken_get k n xs ys (omega arith) (cc)

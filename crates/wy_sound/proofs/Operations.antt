@@ -1,6 +1,6 @@
 -- Operations on grants: a method of a grant's own type is an operation of its kind, which takes texts, gives what it answers, and has the
 -- atom of the grant with the operation's member as its effect.
-use Rattle.std.proofs.Common.{◌≡◌, codes, ℕ, zero, suc, ◌<◌, Bool, true, false, List, [], ◌∷◌, length, map, replicate, take, inl, inr, refl, sym, ap, ◌∙◌, subst, Option, Some, arith}
+use Rattle.std.proofs.Common.{◌≡◌, codes, ℕ, zero, suc, ◌<◌, Bool, true, false, List, [], ◌∷◌, length, map, replicate, inl, inr, refl, sym, ap, ◌∙◌, subst, Option, Some, arith}
 use Rattle.std.specs.Prelude.{slice_get, slice_index_or, bytes_eq, if◌then◌else◌}
 use Rattle.wy_effects.specs.Members.{In}
 use Rattle.wy_effects.specs.EffSet.{replace}
@@ -25,7 +25,7 @@ use Rattle.wy_device.specs.declared.operation.OpName.TheVariants as name
 use Rattle.wy_device.specs.Operation.{name_of, method_text, member_named}
 use Rattle.wy_device.specs.Requests.{operations_of, operation_called, operation_on}
 use Rattle.wy_sound.proofs.Linked.{GrantsFit, sets_of}
-use Rattle.wy_sound.proofs.Lists.{some_same}
+use Rattle.wy_sound.proofs.Lists.{some_same, taken_get}
 use Rattle.wy_sound.proofs.BaseTypes.{IsGrant, sets_put, grant_kind}
 use Rattle.wy_sound.proofs.Effects.{atom_named}
 
@@ -82,14 +82,6 @@ kind_of_number zero = Console
 kind_of_number (suc zero) = Folder
 kind_of_number (suc (suc zero)) = Clock
 kind_of_number (suc (suc (suc d))) = Random
-
-taken_get : (d : ℕ) (n : ℕ) (xs ys : List TypeDecl) → d < n → take n xs ≡ ys → slice_get xs d ≡ slice_get ys d
-taken_get d zero xs ys lt e = absurd (omega arith)
-taken_get zero (suc n) [] ys lt e = ap (λ l. slice_get l 0) e
-taken_get zero (suc n) (x ∷ xs) ys lt e = ap (λ l. slice_get l 0) e
-taken_get (suc d) (suc n) [] ys lt e = ap (λ l. slice_get l (suc d)) e
-taken_get (suc d) (suc n) (x ∷ xs) [] lt e = absurd cc
-taken_get (suc d) (suc n) (x ∷ xs) (y ∷ ys) lt e = taken_get d n xs ys (omega arith) (cc)
 
 -- the methods of a primitive type are its operations
 pub primitive_methods : (p : Program) → IsCore p → (d : ℕ) (sets : List (List ℕ)) → d < 4 →
