@@ -1,4 +1,5 @@
 use crate::authority_table::{REFUSED, REPORTS};
+use crate::members_table;
 use crate::support::judged_so;
 use std::alloc::Global;
 use std::test::Fail;
@@ -16,6 +17,12 @@ fn first_otherwise(alloc: Global, cases: &[(&str, &str)]) -> Result<Option<usize
 #[test]
 fn what_is_accepted_has_its_report_written(rt: HostRuntime) -> Result<(), Fail> {
     assert_eq!(rt; first_otherwise(rt.alloc(), &REPORTS)?, None);
+    Ok(())
+}
+
+#[test]
+fn bounds_of_members_change_no_authority(rt: HostRuntime) -> Result<(), Fail> {
+    assert_eq!(rt; first_otherwise(rt.alloc(), &members_table::REPORTS)?, None);
     Ok(())
 }
 

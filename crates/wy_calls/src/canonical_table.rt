@@ -1,5 +1,5 @@
 /// Files with the text that prints their tree.
-pub static ACCEPTED: [(&str, &str); 85] = [
+pub static ACCEPTED: [(&str, &str); 86] = [
     ("", ""),
     ("type T\n", "type T\n"),
     ("type T", "type T\n"),
@@ -12,6 +12,10 @@ pub static ACCEPTED: [(&str, &str); 85] = [
     (
         "type T\n effect E\n effect F={E ,x.G}\n effect G = { }\n def m():{}Unit\n def n( a:Int,b :Bool ):{E,x.F}String\n",
         "type T\n  effect E\n  effect F = {E, x.G}\n  effect G = {}\n  def m(): {} Unit\n  def n(a: Int, b: Bool): {E, x.F} String\n",
+    ),
+    (
+        "type T\n  effect A\n  effect  B\n  effect E<={ A,B }\n  effect F  <=  {}\n",
+        "type T\n  effect A\n  effect B\n  effect E <= {A, B}\n  effect F <= {}\n",
     ),
     (
         "type T\n  def m(a: N, b: N[E = {x.F}], c: N[E = {}, F = {G}], d: N at {x.E}): {} N at {}\n",

@@ -1,6 +1,6 @@
 use crate::checking_table::{ACCEPTED, BODIES, HEAD, REFUSED};
-use crate::lines_table;
 use crate::support::{judged_so, outcome_of};
+use crate::{lines_table, members_table};
 use std::alloc::Global;
 use std::test::Fail;
 
@@ -78,6 +78,21 @@ fn lines_are_judged_by_their_rules(rt: HostRuntime) -> Result<(), Fail> {
         None
     );
     assert_eq!(rt; first_not_refused(alloc, "", &lines_table::REFUSED)?, None);
+    Ok(())
+}
+
+#[test]
+fn members_keep_to_their_bounds(rt: HostRuntime) -> Result<(), Fail> {
+    let alloc = rt.alloc();
+    let accepted = &members_table::ACCEPTED;
+    assert_eq!(rt;
+        first_otherwise(alloc, accepted, 0, "accepted\n", "")?,
+        None
+    );
+    assert_eq!(rt;
+        first_not_refused(alloc, "", &members_table::REFUSED)?,
+        None
+    );
     Ok(())
 }
 

@@ -27,6 +27,8 @@ mod limits;
 #[cfg(test)]
 mod lines_table;
 #[cfg(test)]
+mod members_table;
+#[cfg(test)]
 mod names;
 #[cfg(test)]
 mod names_table;
