@@ -48,6 +48,17 @@ def atoms(n: int) -> str:
     return program(lines, "{}", ["()"])
 
 
+def bounds(n: int) -> str:
+    """A type of n members, each bounded by the one before it; a module that is handed one and calls it 2,000 times for the effect of the first
+    member, and two that are sealed at the type."""
+    lines = ["type T", "  effect E0", *[f"  effect E{e} <= {{E{e - 1}}}" for e in range(1, n)], f"  def f(): {{E{n - 1}}} Int"]
+    lines += ["type U", "  effect E", "  def g(): {E} Int", "resource module made(c: Clock): T", "  effect E0 = {c.Tick}"]
+    lines += [f"  effect E{e} = {{c.Tick}}" for e in range(1, n)] + [f"  def f(): {{E{n - 1}}} Int = c.now()"]
+    lines += ["resource module same(t: T): T", *[f"  effect E{e} = {{t.E{e}}}" for e in range(n)], f"  def f(): {{E{n - 1}}} Int = t.f()"]
+    lines += ["resource module m(t: T): U", "  effect E = {t.E0}", "  def g(): {E} Int", *[f"    val v{call} = t.f()" for call in range(2000)], "    0"]
+    return program(lines, "{}", ["()"])
+
+
 def literals(n: int) -> str:
     """n object literals of 16 methods, each of which is called 8 times."""
     lines = ["type T", *[f"  def m{m}(): {{}} Int" for m in range(16)], "type U", "  def go(): {} Int", "plain module p(): U", "  def go(): Int"]
@@ -141,6 +152,7 @@ KINDS = {
     "types_reached": (types_reached, ["check"], (255, 510, 1020)),
     "rings": (rings, ["check"], (100, 200, 400)),
     "atoms": (atoms, ["check"], (125, 250, 500)),
+    "bounds": (bounds, ["check"], (128, 256, 511)),
     "literals": (literals, ["check"], (250, 500, 1000)),
     "uses": (uses, ["check"], (64, 128, 255)),
     "instances": (instances, ["check"], (127, 255, 511)),
