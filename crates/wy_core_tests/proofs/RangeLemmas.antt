@@ -1,4 +1,4 @@
--- What the checks of tests show of a core's signatures.
+-- What the checks of tests show of a core's signatures and bounds.
 use Rattle.std.proofs.Common.{◌≡◌, ℕ, ◌+◌, ◌<◌, ◌≤◌, List, [], ◌∷◌, map, inl, inr, length, refl, sym, ap, ◌∙◌, subst, arith, Option, Some}
 use Rattle.std.specs.Prelude.{slice_get}
 use Rattle.std.specs.Option.{option_map}
@@ -6,6 +6,7 @@ use Rattle.std.proofs.lemmas.Option.{slice_get-map}
 use Rattle.wy_effects.specs.declared.atom.Atom.{Atom}
 use Rattle.wy_effects.specs.Members.{In}
 use Rattle.wy_effects.specs.EffSet.{IsSetFrom, IsSet}
+use Rattle.wy_effects.specs.Bounds.{GoDown}
 use Rattle.wy_effects.proofs.Lists.{In-unmap, In-slice_get}
 use Rattle.wy_types.specs.declared.types.TypeRef.{TypeRef}
 use Rattle.wy_types.specs.declared.types.Method.{Method}
@@ -66,7 +67,11 @@ BodyFits p x = MethodFits p 512 x.signature
 abbrev pub ScopeFits : Program → s.Scope → Type 0
 ScopeFits p x = (y : b.Body) → In y x.bodies → BodyFits p y
 
-module _ (core : Core) (fits : (x : s.Scope) → In x core.scopes → ScopeFits (program_of core) x) where
+-- the bounds of a scope's atoms
+abbrev pub AtomsFit : s.Scope → Type 0
+AtomsFit x = GoDown x.bounds × (length x.bounds ≤ 512)
+
+module _ (core : Core) (fits : (x : s.Scope) → In x core.scopes → ScopeFits (program_of core) x) (bounded : (x : s.Scope) → In x core.scopes → AtomsFit x) where
   body_fits : (y : Scope) → In y (map scope_of core.scopes) → (c : Body) → In c y.bodies → MethodFits (program_of core) 512 c.signature
   body_fits y i c j =
       let r = In-unmap scope_of y core.scopes i in
@@ -87,6 +92,10 @@ module _ (core : Core) (fits : (x : s.Scope) → In x core.scopes → ScopeFits 
     };
     declared = λ d i. all_few (program_of core) d (fit d i);
     written = λ y i c j. (body_fits y i c j).1;
+    bounds = λ y i.
+        let r = In-unmap scope_of y core.scopes i in
+        let P : Scope → Type 0 = λ v. GoDown v.bounds × (length v.bounds ≤ 512) in
+        subst P r.2 (bounded r.0 r.1);
   }
 
 -- an own type of a scope of the code

@@ -1,8 +1,9 @@
-//! Whether a core's signatures are in range, for the cores that tests build.
+//! Whether a core's signatures and bounds are in range, for the cores that tests build.
 
-ghost use Rattle.std.specs.Prelude.{◌≤◌, IfOk, IsTrue, length};
+ghost use Rattle.std.specs.Prelude.{◌≡◌, ◌≤◌, ℕ, List, Some, IfOk, IsTrue, length};
 ghost use Rattle.wy_effects.specs.Members.{In as IsIn};
 ghost use Rattle.wy_effects.specs.EffSet.{IsSet, AreSets};
+ghost use Rattle.wy_effects.specs.Bounds.{GoDown};
 ghost use Rattle.wy_types.specs.Program.{program_of};
 ghost use Rattle.wy_types.specs.Types.{signature};
 ghost use Rattle.wy_types.specs.Fitting.{FitsType, FitsSignature, IsTypeOf};
@@ -135,11 +136,48 @@ fn scopes_fit(core: &Core) -> Result<bool, Memory>
     Ok(true)
 }
 
-/// Whether a core's signatures are in range, and none names an own type.
+/// Whether a bound's atoms are below the number.
+fn bound_fits(bound: &Option<EffSet>, number: usize) -> Result<bool, Memory>
+    ensures { IfOk result (λ b. IsTrue b → (s : List ℕ) → bound.now ≡ Some s → IsSet number s) }
+{
+    match bound {
+        None => Ok(true),
+        Some(set) => set_fits(set, number),
+    }
+}
+
+/// Whether bounds are those of at most 512 atoms, and each names atoms before its own.
+fn bounds_fit(bounds: &[Option<EffSet>]) -> Result<bool, Memory>
+    ensures { IfOk result (λ b. IsTrue b → GoDown bounds.now × (length bounds.now ≤ 512)) }
+{
+    if bounds.len() > 512 {
+        return Ok(false);
+    }
+    for number in 0..bounds.len() {
+        if !bound_fits(&bounds[number], number)? {
+            return Ok(false);
+        }
+    }
+    Ok(true)
+}
+
+fn atoms_fit(core: &Core) -> Result<bool, Memory>
+    ensures { IfOk result (λ b. IsTrue b → (s : Scope) → IsIn s core.now.scopes → GoDown s.bounds × (length s.bounds ≤ 512)) }
+{
+    let scopes = core.scopes.as_slice();
+    for one in scopes {
+        if !bounds_fit(one.bounds.as_slice())? {
+            return Ok(false);
+        }
+    }
+    Ok(true)
+}
+
+/// Whether a core's signatures and bounds are in range, and no signature names an own type.
 pub fn is_in_range(core: &Core) -> Result<bool, Memory>
     ensures { IfOk result (λ b. IsTrue b → IsInRange (program_of core.now)) }
 {
-    if !scopes_fit(core)? {
+    if !scopes_fit(core)? || !atoms_fit(core)? {
         return Ok(false);
     }
     declarations_fit(core)
