@@ -1,0 +1,6 @@
+pub mod Fronts
+pub mod Lists
+pub mod Numbers
+pub mod Pairs
+pub mod Shapes
+pub mod Wholes

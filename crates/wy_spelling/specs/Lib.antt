@@ -1,0 +1,6 @@
+pub mod Spelling
+pub mod Reading
+pub mod NumberLaws
+pub mod PairLaws
+pub mod ListLaws
+pub mod ShapeLaws

@@ -1,0 +1,11 @@
+//! Values as bytes: numbers and lists, and where bytes that spell nothing go wrong (docs/LANGUAGE.md, "Certificates").
+#![tactic(auto)]
+
+mod list;
+mod number;
+mod pair;
+mod spelled;
+mod whole;
+
+pub use spelled::{ReadError, Spelled};
+pub use whole::{WholeError, read_whole};
