@@ -1,0 +1,5 @@
+pub mod Certificates
+mod Examples
+pub mod RuleFronts
+pub mod TypeFronts
+pub mod Written

@@ -1,0 +1,28 @@
+-- What stands at the end after several parts were added.
+use Rattle.std.proofs.Common.{◌≡◌, ℕ, suc, ◌-◌, ◌<◌, List, [], ◌∷◌, ◌++◌, length, get_or, take, drop, sym, ap, ◌∙◌, append_assoc, arith}
+use Rattle.std.proofs.lemmas.List.{take_all}
+
+three_regrouped : (out a b c : List ℕ) → ((out ++ a) ++ b) ++ c ≡ out ++ ((a ++ b) ++ c)
+three_regrouped out a b c = simp append_assoc
+
+pub three_written : (out out1 out2 out3 a b c : List ℕ) → out1 ≡ out ++ a → out2 ≡ out1 ++ b → out3 ≡ out2 ++ c → out3 ≡ out ++ ((a ++ b) ++ c)
+three_written out out1 out2 out3 a b c e1 e2 e3 =
+    let all : out3 ≡ ((out ++ a) ++ b) ++ c = cc in
+    all ∙ three_regrouped out a b c
+
+seven_regrouped : (out a b c d e f g : List ℕ) → ((((((out ++ a) ++ b) ++ c) ++ d) ++ e) ++ f) ++ g ≡ out ++ ((((((a ++ b) ++ c) ++ d) ++ e) ++ f) ++ g)
+seven_regrouped out a b c d e f g = simp append_assoc
+
+pub seven_written : (out out1 out2 out3 out4 out5 out6 a b c d e f g : List ℕ) → out1 ≡ out ++ a → out2 ≡ out1 ++ b → out3 ≡ out2 ++ c → out4 ≡ out3 ++ d → out5 ≡ out4 ++ e → out6 ≡ out5 ++ f
+    → out6 ++ g ≡ out ++ ((((((a ++ b) ++ c) ++ d) ++ e) ++ f) ++ g)
+seven_written out out1 out2 out3 out4 out5 out6 a b c d e f g e1 e2 e3 e4 e5 e6 =
+    let all : out6 ≡ (((((out ++ a) ++ b) ++ c) ++ d) ++ e) ++ f = cc in
+    ap (λ (t : List ℕ). t ++ g) all ∙ seven_regrouped out a b c d e f g
+
+-- bytes are their first, and those behind it
+abbrev pub behind_first : List ℕ → List ℕ
+behind_first bytes = take (length bytes - 1) (drop 1 bytes)
+
+pub first_is : (bytes : List ℕ) (first : ℕ) → 0 < length bytes → get_or bytes 0 0 ≡ first → bytes ≡ first ∷ behind_first bytes
+first_is [] first some e = absurd (omega arith)
+first_is (b ∷ bytes) first some e = ap (λ (n : ℕ). n ∷ bytes) e ∙ ap (λ (t : List ℕ). first ∷ t) (sym (take_all (suc (length bytes) - 1) bytes (omega arith)))

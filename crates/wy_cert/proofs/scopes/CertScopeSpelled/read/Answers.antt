@@ -1,0 +1,10 @@
+use Rattle.std.proofs.lemmas.Result.{err_from_is_err_and}
+use Rattle.wy_spelling.proofs.Shapes.{refused_in_shape}
+use Rattle.wy_cert.specs.ScopeLaws.{AreScopeParts, scope_of, scope_parts, scope_parts_apart, scope_parts_bytes, scope_shape}
+use Rattle.wy_cert.specs.Spelled.{IsScopeSpelled, scope_bytes}
+use Rattle.wy_cert.proofs.scopes.CertScopeSpelled.read.Goals as goal
+
+pub returns-in_err-types-clause-bad : goal.returns-in_err-types-clause-bad
+returns-in_err-types-clause-bad c =
+    let p = err_from_is_err_and c.from_residual.result c.from_residual.ensures.1 in
+    rw (p.1, p.2) (refused_in_shape AreScopeParts scope_parts_bytes IsScopeSpelled scope_bytes scope_of scope_parts scope_shape c.args.bytes.now c.in_err-types.field-0.0 scope_parts_apart c.in_err-types.ensures.bad)

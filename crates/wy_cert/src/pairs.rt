@@ -1,0 +1,29 @@
+//! Pairs of types as bytes.
+
+ghost use Rattle.wy_cert.specs.PairLaws.{pairs_apart, some_pair};
+ghost use Rattle.wy_cert.specs.Spelled.{IsPairSpelled, pair_bytes};
+
+use crate::certificate::CertPair;
+use std::alloc::Global;
+use wy_spelling::{ReadError, Spelled};
+use wy_text::text::Memory;
+
+impl Spelled for CertPair {
+    ghost IsSpelled = { IsPairSpelled };
+
+    ghost bytes_of = { pair_bytes };
+
+    fn read(alloc: Global, bytes: &[u8]) -> Result<(CertPair, &[u8]), ReadError> {
+        let ((left, right), rest) = <(u32, u32)>::read(alloc, bytes)?;
+        Ok((CertPair { left, right }, rest))
+    }
+
+    fn write(&self, out: &mut Vec<u8>) -> Result<(), Memory> {
+        self.left.write(out)?;
+        self.right.write(out)
+    }
+
+    ghost some = { some_pair };
+
+    ghost apart = { pairs_apart };
+}
