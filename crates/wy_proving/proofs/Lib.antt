@@ -1,0 +1,34 @@
+mod AcceptedCertified
+mod BareStand
+mod CertifiedNodes
+mod ClosedPairs
+mod ClosedTypes
+mod EffectsKept
+pub mod Erasing
+mod ExactLists
+mod Examples
+mod ExamplesForms
+mod ExamplesLogger
+mod ExamplesPlain
+mod FirstFailures
+mod LinesAsked
+mod Listed
+mod ListedClosed
+mod LocalsCounted
+mod MethodEffects
+mod NodeSteps
+mod NodesRead
+mod OperatorRows
+pub mod PlainPairs
+mod ProvedAccepted
+mod ReachedStand
+mod ReadNodes
+mod ReadParts
+mod ScopesRead
+mod StandingDecided
+mod StandingKept
+mod StepsGood
+mod StepsListed
+mod Tests
+mod WrittenOut
+mod WrittenTypes

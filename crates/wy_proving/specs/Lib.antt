@@ -1,0 +1,5 @@
+pub mod Certified
+pub mod Steps
+pub mod Reading
+pub mod Proving
+pub mod Unproved
