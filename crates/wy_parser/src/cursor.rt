@@ -1,6 +1,6 @@
 //! The smallest readers: one token of some kinds.
 ghost use Rattle.std.specs.Prelude.{◌≡◌, [], ◌∷◌, IfOk};
-ghost use Rattle.wy_syntax.specs.Tokens.{code, member, tok_of, toks};
+ghost use Rattle.wy_syntax.specs.Tokens.{code, code_of, member, tok_of, toks};
 ghost use Rattle.wy_parser.specs.Reading.{starts, starts2};
 ghost use Rattle.wy_parser.specs.Kinds as kinds;
 ghost use Rattle.wy_parser.specs.Parsing.{tok, mark, word, name_at, text_of_kind};
@@ -14,9 +14,11 @@ use wy_text::fault::Place;
 use wy_text::text::{Memory, Text, from_bytes};
 use wy_text::token::{Token, TokenKind};
 
-fn has(set: &[Sort], number: u8) -> bool
-    ensures { result ≡ member number (numbers set.now) }
+/// Whether a token's kind is in the set.
+fn is_of(token: &Token, set: &[Sort]) -> bool
+    ensures { result ≡ member (code_of token.now.kind) (numbers set.now) }
 {
+    let number = sort_of(&token.kind).number();
     for sort in set {
         if sort.number() == number {
             return true;
@@ -31,7 +33,7 @@ pub fn begins(tokens: &[Token], set: &[Sort]) -> bool
 {
     match tokens {
         [] => false,
-        [first, ..] => has(set, sort_of(&first.kind).number()),
+        [first, ..] => is_of(first, set),
     }
 }
 
@@ -42,7 +44,7 @@ pub fn take<'a>(tokens: &'a [Token], set: &[Sort]) -> Result<(&'a Token, &'a [To
     match tokens {
         [] => Err(Stop::At(tokens)),
         [first, rest @ ..] => {
-            if has(set, sort_of(&first.kind).number()) {
+            if is_of(first, set) {
                 Ok((first, rest))
             } else {
                 Err(Stop::At(tokens))
@@ -101,9 +103,7 @@ pub fn begins_two(tokens: &[Token], first: &[Sort], second: &[Sort]) -> bool
     ensures { result ≡ starts2 code (numbers first.now) (numbers second.now) (toks tokens.now) }
 {
     match tokens {
-        [one, two, ..] => {
-            has(first, sort_of(&one.kind).number()) && has(second, sort_of(&two.kind).number())
-        }
+        [one, two, ..] => is_of(one, first) && is_of(two, second),
         _ => false,
     }
 }

@@ -5,7 +5,7 @@ ghost use Rattle.wy_parser.specs.Sorts.{number_of};
 
 use wy_text::token::TokenKind;
 
-/// The kind of a token, without the text or value that it carries.
+/// The kind of a token, without the text or value that it carries. The kinds stand in the order of their numbers.
 #[derive(Clone, Copy)]
 pub enum Sort {
     /// What fits nowhere: a Number below 0, which no file has.
@@ -83,75 +83,7 @@ impl Sort {
     pub fn number(self) -> u8
         ensures { result ≡ number_of self }
     {
-        match self {
-            Sort::Nothing => 0,
-            Sort::Name => 1,
-            Sort::Number => 2,
-            Sort::Edge => 3,
-            Sort::Text => 4,
-            Sort::KwType => 5,
-            Sort::KwEffect => 6,
-            Sort::KwDef => 7,
-            Sort::KwModule => 8,
-            Sort::KwResource => 9,
-            Sort::KwPlain => 10,
-            Sort::KwProgram => 11,
-            Sort::KwGrant => 12,
-            Sort::KwUse => 13,
-            Sort::KwInstance => 14,
-            Sort::KwImport => 15,
-            Sort::KwAt => 16,
-            Sort::KwInit => 17,
-            Sort::KwVal => 18,
-            Sort::KwVar => 19,
-            Sort::KwRun => 20,
-            Sort::KwNew => 21,
-            Sort::KwIf => 22,
-            Sort::KwThen => 23,
-            Sort::KwElse => 24,
-            Sort::KwThis => 25,
-            Sort::KwTrue => 26,
-            Sort::KwFalse => 27,
-            Sort::KwMain => 28,
-            Sort::KwInt => 29,
-            Sort::KwBool => 30,
-            Sort::KwString => 31,
-            Sort::KwUnit => 32,
-            Sort::KwTextSize => 33,
-            Sort::KwTextPart => 34,
-            Sort::KwTextCode => 35,
-            Sort::KwTextByte => 36,
-            Sort::KwTextShow => 37,
-            Sort::SymOpenParen => 38,
-            Sort::SymCloseParen => 39,
-            Sort::SymOpenBracket => 40,
-            Sort::SymCloseBracket => 41,
-            Sort::SymOpenBrace => 42,
-            Sort::SymCloseBrace => 43,
-            Sort::SymComma => 44,
-            Sort::SymColon => 45,
-            Sort::SymDot => 46,
-            Sort::SymEqual => 47,
-            Sort::SymEqualEqual => 48,
-            Sort::SymNotEqual => 49,
-            Sort::SymLess => 50,
-            Sort::SymLessEqual => 51,
-            Sort::SymGreater => 52,
-            Sort::SymGreaterEqual => 53,
-            Sort::SymPlus => 54,
-            Sort::SymMinus => 55,
-            Sort::SymStar => 56,
-            Sort::SymSlash => 57,
-            Sort::SymPercent => 58,
-            Sort::SymPlusPlus => 59,
-            Sort::SymAndAnd => 60,
-            Sort::SymOrOr => 61,
-            Sort::SymNot => 62,
-            Sort::Nl => 63,
-            Sort::In => 64,
-            Sort::Out => 65,
-            Sort::End => 66,
-        }
+        self as u8
     }
 }
 
