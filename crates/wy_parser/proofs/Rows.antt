@@ -1,9 +1,11 @@
 -- One turn of a loop over parts the last of which must not go on, and how such a loop ends.
-use Rattle.std.proofs.Common.{◌≡◌, ℕ, zero, suc, ◌<◌, Bool, true, false, cond, ◌||◌, List, [], ◌∷◌, ◌++◌, refl, sym, ap, ◌∙◌, arith, append_assoc}
-use Rattle.wy_syntax.specs.Tokens.{Tok, code}
+use Rattle.std.proofs.Common.{◌≡◌, ℕ, zero, suc, ◌<◌, ◌==◌, Bool, true, false, cond, ◌||◌, List, [], ◌∷◌, ◌++◌, refl, sym, ap, ◌∙◌, arith, append_assoc}
+use Rattle.wy_syntax.specs.Tokens.{Tok, code, member}
 use Rattle.wy_parser.specs.declared.stop.Stop.{Stop}
 use Rattle.wy_parser.specs.declared.stop.Stop.TheVariants as stops
 use Rattle.wy_parser.specs.Reading.{Out, Yes, No, Deep, Reader, and_then, ret, ◌>>=◌, starts, choose, next, blocks}
+use Rattle.wy_parser.specs.ExprParsing.{arg_first}
+use Rattle.wy_parser.specs.StmtParsing.{stmt_first}
 use Rattle.wy_parser.specs.Sorts.{Halts}
 
 -- what was read before, and what is read now
@@ -67,3 +69,13 @@ row_halts (suc j) F goes p before ts out stops.Memory hk h1 h = tt
 
 pub row_starts : {A : Type 0} (k : ℕ) (F : List ℕ) (goes : A → Bool) (p : Reader Tok A) (ts : List Tok) → behind_all [] (blocks code k F goes p ts) ≡ blocks code k F goes p ts
 row_starts k F goes p ts = behind_none (blocks code k F goes p ts)
+
+-- a statement begins with `val`, with `new`, or as an argument does
+pub statement_starts : (ts : List Tok) → starts code stmt_first ts ≡ (starts code (18 ∷ 21 ∷ []) ts || starts code arg_first ts)
+statement_starts [] = refl
+statement_starts (x ∷ ts) = go (code x == 18) (code x == 21) (member (code x) arg_first)
+  where
+    go : (a b c : Bool) → (a || (b || c)) ≡ ((a || (b || false)) || c)
+    go true b c = refl
+    go false true c = refl
+    go false false c = refl

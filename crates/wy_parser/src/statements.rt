@@ -13,7 +13,7 @@ ghost use Rattle.wy_parser.specs.StmtParsing.{stmt_first, typed_val, untyped_val
 ghost use Rattle.wy_parser.specs.Sorts.{number_of, Gives};
 
 use crate::cursor::{begins, begins_two, mark, name_of, name_token};
-use crate::expressions::{choice_rest, expr};
+use crate::expressions::{ARG_FIRST, choice_rest, expr};
 use crate::sort::Sort;
 use crate::stop::Stop;
 use crate::types::{signature, type_use};
@@ -24,27 +24,6 @@ use wy_syntax::types::{Signature, TypeUse};
 use wy_text::fault::Place;
 use wy_text::text::Memory;
 use wy_text::token::Token;
-
-/// What a statement begins with.
-const STMT_FIRST: [Sort; 17] = [
-    Sort::KwVal,
-    Sort::KwNew,
-    Sort::KwIf,
-    Sort::Name,
-    Sort::Number,
-    Sort::Text,
-    Sort::KwThis,
-    Sort::KwTrue,
-    Sort::KwFalse,
-    Sort::KwTextSize,
-    Sort::KwTextPart,
-    Sort::KwTextCode,
-    Sort::KwTextByte,
-    Sort::KwTextShow,
-    Sort::SymOpenParen,
-    Sort::SymMinus,
-    Sort::SymNot,
-];
 
 const PART_FIRST: [Sort; 3] = [Sort::KwDef, Sort::KwVal, Sort::KwVar];
 
@@ -59,10 +38,11 @@ fn is_val(stmt: &Stmt) -> bool
 }
 
 /// Whether a statement is not a block's last one: a `val`, or one that another statement follows.
+#[tactic(auto, using(crate::proofs::Rows::statement_starts))]
 fn must_go_on(stmt: &Stmt, after: &[Token]) -> bool
     ensures { result ≡ (is_val (stmt_tree stmt.now) || starts code stmt_first (toks after.now)) }
 {
-    is_val(stmt) || begins(after, &STMT_FIRST)
+    is_val(stmt) || begins(after, &[Sort::KwVal, Sort::KwNew]) || begins(after, &ARG_FIRST)
 }
 
 fn value_node(alloc: Global, e: Box<Expr>) -> Result<Box<Rhs>, AllocError>
