@@ -14,11 +14,11 @@ use Rattle.wy_syntax.specs.TypeGrammar.{SpellsType}
 use Rattle.wy_syntax.specs.ExprGrammar.{level_of_op, edge, SpellsNumber, Wrapped, Bare, Arguments, MoreArguments, SpellsExpr}
 use Rattle.wy_parser.specs.Reading.{choose, starts}
 use Rattle.wy_parser.specs.Parsing.{R, text_of_kind, value_of_kind}
-use Rattle.wy_parser.specs.ExprParsing.{expr_first, arg_first, minus_of, argument_at, one_argument, built1, built2, built3, is_choice, ascription, closing_expr, parens, built, atomic, call_part, add_call, post, minus, bang, unary, operator_part, add_binary, product, sum, compare_set, compare, conj, disj, chain, choice_rest, choice_of, p_unary, p_expr, p_arg}
-use Rattle.wy_parser.proofs.KindNumbers.{number_is, text_is}
+use Rattle.wy_parser.specs.ExprParsing.{expr_first, arg_first, minus_of, argument_at, one_argument, built1, several_arguments, is_choice, ascription, closing_expr, parens, built, atomic, call_part, add_call, post, minus, bang, unary, operator_part, add_binary, product, sum, compare_set, compare, conj, disj, chain, choice_rest, choice_of, p_unary, p_expr, p_arg}
+use Rattle.wy_parser.proofs.KindNumbers.{kind_at, number_is, text_is}
 use Rattle.wy_parser.proofs.Exact.{Last, Spelled}
 use Rattle.wy_parser.proofs.Else.{Other}
-use Rattle.wy_parser.proofs.Made.{Made, SeqOf, MapOf, OneOf, Or, Elsewhere, LeftOf, seq, behind, map_to, give, alt, otherwise, made_never, become, less, here, token_at, made_tok, made_mark, made_word, made_commas, made_left, is_member, member_is, pass, unpass, unpass_as, all_of, alone_of, map_of, sign, unsign}
+use Rattle.wy_parser.proofs.Made.{Made, SeqOf, MapOf, OneOf, Or, Elsewhere, LeftOf, seq, behind, map_to, give, alt, otherwise, made_never, become, less, here, token_at, made_tok, marks, made_mark, self_true, made_word, made_commas, made_left, is_member, member_is, pass, unpass, unpass_as, all_of, alone_of, map_of, sign, unsign}
 use Rattle.wy_parser.proofs.Levels.{bare, lower_wrapped, lower_placed, no_choice, raise_arg, IsLevel, level1, level2, level3, level4, level5, Tail, join, split}
 use Rattle.wy_parser.proofs.TypeReaders.{made_type}
 
@@ -95,24 +95,25 @@ made_parens : (plain : Bool) (arg arg' : R ExprTree) (n n' m : ℕ) → n ≤ n'
 unfolding parens
 made_parens plain arg arg' n n' m h k A = behind (made_mark 38 m refl) (λ p. alt (39 ∷ []) (map_to (λ c. unit p) (made_mark 39 (m - 1) refl)) (seq A (λ e. made_after plain p e n n' (m - 1) h (omega arith) (is_choice e) refl) refl) refl) refl
 
-abbrev IsSize : Bool → ExprTree → List Tok → Type 0
-IsSize plain = SeqOf (λ q. Mark kind.KwTextSize q) (λ p. SeqOf (λ q. Mark kind.SymOpenParen q) (λ k1. SeqOf (λ e u. SpellsExpr plain 0 e u) (λ e. MapOf (λ k3. size e p) (λ q. Mark kind.SymCloseParen q))))
+-- a word and one argument
+abbrev IsOne : ℕ → (ExprTree → Place → ExprTree) → Bool → ExprTree → List Tok → Type 0
+IsOne k f plain = SeqOf (λ q. Mark (kind_at k) q) (λ p. SeqOf (λ q. Mark kind.SymOpenParen q) (λ k1. SeqOf (λ e u. SpellsExpr plain 0 e u) (λ e. MapOf (λ k3. f e p) (λ q. Mark kind.SymCloseParen q))))
 
-made_size : (plain : Bool) (arg arg' : R ExprTree) (m : ℕ) → Made arg arg' (λ e u. SpellsExpr plain 0 e u) arg_first arg_behind false (m - 1) → Made (built1 33 size arg) (built1 33 size arg') (IsSize plain) (33 ∷ []) [] false m
+made_one : (k : ℕ) (f : ExprTree → Place → ExprTree) (plain : Bool) (arg arg' : R ExprTree) (m : ℕ) → marks k ≡ true → Made arg arg' (λ e u. SpellsExpr plain 0 e u) arg_first arg_behind false (m - 1) → Made (built1 k f arg) (built1 k f arg') (IsOne k f plain) (k ∷ []) [] false m
 unfolding built1 one_argument
-made_size plain arg arg' m A = become (map_to (λ x. size x.0 x.1) (
-    behind (made_mark 33 m refl) (λ p.
+made_one k f plain arg arg' m e A = become (map_to (λ x. f x.0 x.1) (
+    behind (made_mark k m e) (λ p.
     seq (made_mark 38 (m - 1) refl) (λ k1.
     seq (A) (λ e.
     map_to (λ k3. argument_at e p) (made_mark 39 (m - 1) refl)) refl) refl) refl))
-    (λ z u s. let w = s.spelled in unpass_as w w.value w.first (unpass_as w.second w.second.value w.second.first (unpass_as w.second.second w.second.second.value w.second.second.first (map_of w.second.second.second.value (s.is ∙ ap (λ (y : ExprTree × Place). size y.0 y.1) w.second.second.second.is) w.second.second.second.spelled))))
-    (λ z u s. map_of (argument_at s.second.second.value s.value) s.second.second.second.is (unpass_as s s.value s.first (unpass_as s.second s.second.value s.second.first (unpass_as s.second.second s.second.second.value s.second.second.first (map_of s.second.second.second.value refl s.second.second.second.spelled))))) refl
+    (λ z u s. let w = s.spelled in unpass_as w w.value w.first (unpass_as w.second w.second.value w.second.first (unpass_as w.second.second w.second.second.value w.second.second.first (map_of w.second.second.second.value (s.is ∙ ap (λ (y : ExprTree × Place). f y.0 y.1) w.second.second.second.is) w.second.second.second.spelled))))
+    (λ z u s. map_of (argument_at s.second.second.value s.value) s.second.second.second.is (unpass_as s s.value s.first (unpass_as s.second s.second.value s.second.first (unpass_as s.second.second s.second.second.value s.second.second.first (map_of s.second.second.second.value refl s.second.second.second.spelled))))) (self_true (k ∷ []) [])
 
 abbrev IsPart : Bool → ExprTree → List Tok → Type 0
 IsPart plain = SeqOf (λ q. Mark kind.KwTextPart q) (λ p. SeqOf (λ q. Mark kind.SymOpenParen q) (λ k1. SeqOf (λ e u. SpellsExpr plain 0 e u) (λ e. SeqOf (λ q. Mark kind.SymComma q) (λ k3. SeqOf (λ e u. SpellsExpr plain 0 e u) (λ a. SeqOf (λ q. Mark kind.SymComma q) (λ k5. SeqOf (λ e u. SpellsExpr plain 0 e u) (λ b. MapOf (λ k7. part e a b p) (λ q. Mark kind.SymCloseParen q))))))))
 
-made_part : (plain : Bool) (arg arg' : R ExprTree) (m : ℕ) → Made arg arg' (λ e u. SpellsExpr plain 0 e u) arg_first arg_behind false (m - 1) → Made (built3 arg) (built3 arg') (IsPart plain) (34 ∷ []) [] false m
-unfolding built3
+made_part : (plain : Bool) (arg arg' : R ExprTree) (m : ℕ) → Made arg arg' (λ e u. SpellsExpr plain 0 e u) arg_first arg_behind false (m - 1) → Made (several_arguments 34 true arg) (several_arguments 34 true arg') (IsPart plain) (34 ∷ []) [] false m
+unfolding several_arguments
 made_part plain arg arg' m A =
     behind (made_mark 34 m refl) (λ p.
     seq (made_mark 38 (m - 1) refl) (λ k1.
@@ -126,8 +127,8 @@ made_part plain arg arg' m A =
 abbrev IsByteat : Bool → ExprTree → List Tok → Type 0
 IsByteat plain = SeqOf (λ q. Mark kind.KwTextCode q) (λ p. SeqOf (λ q. Mark kind.SymOpenParen q) (λ k1. SeqOf (λ e u. SpellsExpr plain 0 e u) (λ e. SeqOf (λ q. Mark kind.SymComma q) (λ k3. SeqOf (λ e u. SpellsExpr plain 0 e u) (λ i. MapOf (λ k5. byte_at e i p) (λ q. Mark kind.SymCloseParen q))))))
 
-made_byte_at : (plain : Bool) (arg arg' : R ExprTree) (m : ℕ) → Made arg arg' (λ e u. SpellsExpr plain 0 e u) arg_first arg_behind false (m - 1) → Made (built2 arg) (built2 arg') (IsByteat plain) (35 ∷ []) [] false m
-unfolding built2
+made_byte_at : (plain : Bool) (arg arg' : R ExprTree) (m : ℕ) → Made arg arg' (λ e u. SpellsExpr plain 0 e u) arg_first arg_behind false (m - 1) → Made (several_arguments 35 false arg) (several_arguments 35 false arg') (IsByteat plain) (35 ∷ []) [] false m
+unfolding several_arguments
 made_byte_at plain arg arg' m A =
     behind (made_mark 35 m refl) (λ p.
     seq (made_mark 38 (m - 1) refl) (λ k1.
@@ -136,42 +137,16 @@ made_byte_at plain arg arg' m A =
     seq (A) (λ i.
     map_to (λ k5. byte_at e i p) (made_mark 39 (m - 1) refl)) refl) refl) refl) refl) refl
 
-abbrev IsByte : Bool → ExprTree → List Tok → Type 0
-IsByte plain = SeqOf (λ q. Mark kind.KwTextByte q) (λ p. SeqOf (λ q. Mark kind.SymOpenParen q) (λ k1. SeqOf (λ e u. SpellsExpr plain 0 e u) (λ e. MapOf (λ k3. byte e p) (λ q. Mark kind.SymCloseParen q))))
-
-made_byte : (plain : Bool) (arg arg' : R ExprTree) (m : ℕ) → Made arg arg' (λ e u. SpellsExpr plain 0 e u) arg_first arg_behind false (m - 1) → Made (built1 36 byte arg) (built1 36 byte arg') (IsByte plain) (36 ∷ []) [] false m
-unfolding built1 one_argument
-made_byte plain arg arg' m A = become (map_to (λ x. byte x.0 x.1) (
-    behind (made_mark 36 m refl) (λ p.
-    seq (made_mark 38 (m - 1) refl) (λ k1.
-    seq (A) (λ e.
-    map_to (λ k3. argument_at e p) (made_mark 39 (m - 1) refl)) refl) refl) refl))
-    (λ z u s. let w = s.spelled in unpass_as w w.value w.first (unpass_as w.second w.second.value w.second.first (unpass_as w.second.second w.second.second.value w.second.second.first (map_of w.second.second.second.value (s.is ∙ ap (λ (y : ExprTree × Place). byte y.0 y.1) w.second.second.second.is) w.second.second.second.spelled))))
-    (λ z u s. map_of (argument_at s.second.second.value s.value) s.second.second.second.is (unpass_as s s.value s.first (unpass_as s.second s.second.value s.second.first (unpass_as s.second.second s.second.second.value s.second.second.first (map_of s.second.second.second.value refl s.second.second.second.spelled))))) refl
-
-abbrev IsShow : Bool → ExprTree → List Tok → Type 0
-IsShow plain = SeqOf (λ q. Mark kind.KwTextShow q) (λ p. SeqOf (λ q. Mark kind.SymOpenParen q) (λ k1. SeqOf (λ e u. SpellsExpr plain 0 e u) (λ e. MapOf (λ k3. show e p) (λ q. Mark kind.SymCloseParen q))))
-
-made_show : (plain : Bool) (arg arg' : R ExprTree) (m : ℕ) → Made arg arg' (λ e u. SpellsExpr plain 0 e u) arg_first arg_behind false (m - 1) → Made (built1 37 show arg) (built1 37 show arg') (IsShow plain) (37 ∷ []) [] false m
-unfolding built1 one_argument
-made_show plain arg arg' m A = become (map_to (λ x. show x.0 x.1) (
-    behind (made_mark 37 m refl) (λ p.
-    seq (made_mark 38 (m - 1) refl) (λ k1.
-    seq (A) (λ e.
-    map_to (λ k3. argument_at e p) (made_mark 39 (m - 1) refl)) refl) refl) refl))
-    (λ z u s. let w = s.spelled in unpass_as w w.value w.first (unpass_as w.second w.second.value w.second.first (unpass_as w.second.second w.second.second.value w.second.second.first (map_of w.second.second.second.value (s.is ∙ ap (λ (y : ExprTree × Place). show y.0 y.1) w.second.second.second.is) w.second.second.second.spelled))))
-    (λ z u s. map_of (argument_at s.second.second.value s.value) s.second.second.second.is (unpass_as s s.value s.first (unpass_as s.second s.second.value s.second.first (unpass_as s.second.second s.second.second.value s.second.second.first (map_of s.second.second.second.value refl s.second.second.second.spelled))))) refl
-
 abbrev Builts : Bool → ExprTree → List Tok → Type 0
-Builts plain = (Or (IsSize plain) (Or (IsPart plain) (Or (IsByteat plain) (Or (IsByte plain) (IsShow plain)))))
+Builts plain = Or (IsOne 33 size plain) (Or (IsPart plain) (Or (IsByteat plain) (Or (IsOne 36 byte plain) (IsOne 37 show plain))))
 
 made_built : (plain : Bool) (arg arg' : R ExprTree) (m : ℕ) → Made arg arg' (λ e u. SpellsExpr plain 0 e u) arg_first arg_behind false (m - 1) → Made (built arg) (built arg') (Builts plain) (33 ∷ 34 ∷ 35 ∷ 36 ∷ 37 ∷ []) [] false m
 unfolding built
 made_built plain arg arg' m A =
-    alt (33 ∷ []) (made_size plain arg arg' m A)
+    alt (33 ∷ []) (made_one 33 size plain arg arg' m refl A)
     (alt (34 ∷ []) (made_part plain arg arg' m A)
     (alt (35 ∷ []) (made_byte_at plain arg arg' m A)
-    (alt (36 ∷ []) (made_byte plain arg arg' m A) (made_show plain arg arg' m A) refl) refl) refl) refl
+    (alt (36 ∷ []) (made_one 36 byte plain arg arg' m refl A) (made_one 37 show plain arg arg' m refl A) refl) refl) refl) refl
 
 abbrev Alone : Bool → ExprTree → List Tok → Type 0
 Alone plain = (Or (MapOf digit_node (OneOf (2 ∷ []))) (Or (MapOf text_node (OneOf (4 ∷ []))) (Or (MapOf (λ p. yes p) (λ q. Mark kind.KwTrue q)) (Or (MapOf (λ p. no p) (λ q. Mark kind.KwFalse q)) (Or (MapOf (λ p. this p) (λ q. Mark kind.KwThis q)) (Or (MapOf (λ w. name w) (λ w. Word w)) (Or (Builts plain) (Parens plain))))))))

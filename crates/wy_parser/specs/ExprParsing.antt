@@ -88,27 +88,26 @@ built1 k f arg = do
   x ← one_argument k arg
   ret (f x.0 x.1)
 
-unfoldable pub built2 : R ExprTree → R ExprTree
-built2 arg = do
-  p ← mark kinds.KwTextCode
-  opening ← mark kinds.SymOpenParen
-  e ← arg
-  comma ← mark kinds.SymComma
-  i ← arg
+-- what stands behind two arguments: nothing, or a third one
+abbrev pub third_argument : Bool → R ExprTree → ExprTree → ExprTree → Place → R ExprTree
+third_argument false arg e a p = do
   closing ← mark kinds.SymCloseParen
-  ret (byte_at e i p)
+  ret (byte_at e a p)
+third_argument true arg e a p = do
+  comma ← mark kinds.SymComma
+  b ← arg
+  closing ← mark kinds.SymCloseParen
+  ret (part e a b p)
 
-unfoldable pub built3 : R ExprTree → R ExprTree
-built3 arg = do
-  p ← mark kinds.KwTextPart
+-- a word and two arguments, or three
+unfoldable pub several_arguments : ℕ → Bool → R ExprTree → R ExprTree
+several_arguments k three arg = do
+  p ← mark k
   opening ← mark kinds.SymOpenParen
   e ← arg
   comma ← mark kinds.SymComma
   a ← arg
-  comma2 ← mark kinds.SymComma
-  b ← arg
-  closing ← mark kinds.SymCloseParen
-  ret (part e a b p)
+  third_argument three arg e a p
 
 -- ---- parentheses
 
@@ -152,8 +151,8 @@ parens plain arg n = do
 unfoldable pub built : R ExprTree → R ExprTree
 built arg =
     choose code (kinds.KwTextSize ∷ []) (built1 kinds.KwTextSize size arg)
-    (choose code (kinds.KwTextPart ∷ []) (built3 arg)
-    (choose code (kinds.KwTextCode ∷ []) (built2 arg)
+    (choose code (kinds.KwTextPart ∷ []) (several_arguments kinds.KwTextPart true arg)
+    (choose code (kinds.KwTextCode ∷ []) (several_arguments kinds.KwTextCode false arg)
     (choose code (kinds.KwTextByte ∷ []) (built1 kinds.KwTextByte byte arg) (built1 kinds.KwTextShow show arg))))
 
 unfoldable pub atomic : Bool → R ExprTree → ℕ → R ExprTree

@@ -6,7 +6,7 @@ ghost use Rattle.wy_syntax.specs.Trees.{byte_at, choice, part};
 ghost use Rattle.wy_syntax.specs.Views.{expr_tree};
 ghost use Rattle.wy_parser.specs.Kinds as kinds;
 ghost use Rattle.wy_parser.specs.Parsing.{commas, comma_part, value_of_int, value_of_kind};
-ghost use Rattle.wy_parser.specs.ExprParsing.{arg_first, add_binary, minus_of, minus_digits, minus_edge, is_choice, number_alone, text_alone, one_argument, built, built2, built3, parens, ascription, after_arg, atomic, call_part, add_call, post, minus, unary_at, compare_at, level_at, operand_at, choice_rest, choice_of, p_unary, p_expr, p_arg};
+ghost use Rattle.wy_parser.specs.ExprParsing.{arg_first, add_binary, minus_of, minus_digits, minus_edge, is_choice, number_alone, text_alone, one_argument, several_arguments, built, parens, ascription, after_arg, atomic, call_part, add_call, post, minus, unary_at, compare_at, level_at, operand_at, choice_rest, choice_of, p_unary, p_expr, p_arg};
 ghost use Rattle.wy_parser.specs.Reading.{choose};
 ghost use Rattle.wy_parser.specs.Sorts.{number_of, Gives};
 
@@ -541,10 +541,10 @@ fn built<'a>(
         return Ok((Box::new(alloc, Expr::TextSize(e, place))?, rest));
     }
     if begins(tokens, &[Sort::KwTextPart]) {
-        return three_arguments(alloc, tokens, plain, inner);
+        return several_arguments(alloc, tokens, Sort::KwTextPart, true, plain, inner);
     }
     if begins(tokens, &[Sort::KwTextCode]) {
-        return two_arguments(alloc, tokens, plain, inner);
+        return several_arguments(alloc, tokens, Sort::KwTextCode, false, plain, inner);
     }
     if begins(tokens, &[Sort::KwTextByte]) {
         let ((e, place), rest) = one_argument(alloc, tokens, Sort::KwTextByte, plain, inner)?;
@@ -573,46 +573,32 @@ fn one_argument<'a>(
     Ok(((e, place), rest))
 }
 
-/// `text_code` and its arguments.
+/// A word and two arguments in parentheses, or three: `text_code`, or `text_part`.
 #[cycle(expressions)]
-#[tactic(auto, unfolding(crate::specs::ExprParsing::built2))]
-fn two_arguments<'a>(
+#[tactic(auto, unfolding(crate::specs::ExprParsing::several_arguments))]
+fn several_arguments<'a>(
     alloc: Global,
     tokens: &'a [Token],
+    sort: Sort,
+    three: bool,
     plain: bool,
     inner: usize,
 ) -> Result<(Box<Expr>, &'a [Token]), Stop<'a>>
-    ensures { Gives (λ b. expr_tree b.value) result (built2 (p_arg plain inner) (toks tokens.now)) }
+    ensures { Gives (λ b. expr_tree b.value) result (several_arguments (number_of sort) three (p_arg plain inner) (toks tokens.now)) }
 {
-    let (place, rest) = mark(tokens, Sort::KwTextCode)?;
-    let (_, rest) = mark(rest, Sort::SymOpenParen)?;
-    let (text, rest) = arg(alloc, rest, plain, inner)?;
-    let (_, rest) = mark(rest, Sort::SymComma)?;
-    let (at, rest) = arg(alloc, rest, plain, inner)?;
-    let (_, rest) = mark(rest, Sort::SymCloseParen)?;
-    Ok((code_node(alloc, text, at, place)?, rest))
-}
-
-/// `text_part` and its arguments.
-#[cycle(expressions)]
-#[tactic(auto, unfolding(crate::specs::ExprParsing::built3))]
-fn three_arguments<'a>(
-    alloc: Global,
-    tokens: &'a [Token],
-    plain: bool,
-    inner: usize,
-) -> Result<(Box<Expr>, &'a [Token]), Stop<'a>>
-    ensures { Gives (λ b. expr_tree b.value) result (built3 (p_arg plain inner) (toks tokens.now)) }
-{
-    let (place, rest) = mark(tokens, Sort::KwTextPart)?;
+    let (place, rest) = mark(tokens, sort)?;
     let (_, rest) = mark(rest, Sort::SymOpenParen)?;
     let (text, rest) = arg(alloc, rest, plain, inner)?;
     let (_, rest) = mark(rest, Sort::SymComma)?;
     let (from, rest) = arg(alloc, rest, plain, inner)?;
-    let (_, rest) = mark(rest, Sort::SymComma)?;
-    let (to, rest) = arg(alloc, rest, plain, inner)?;
+    if three {
+        let (_, rest) = mark(rest, Sort::SymComma)?;
+        let (to, rest) = arg(alloc, rest, plain, inner)?;
+        let (_, rest) = mark(rest, Sort::SymCloseParen)?;
+        return Ok((part_node(alloc, text, from, to, place)?, rest));
+    }
     let (_, rest) = mark(rest, Sort::SymCloseParen)?;
-    Ok((part_node(alloc, text, from, to, place)?, rest))
+    Ok((code_node(alloc, text, from, place)?, rest))
 }
 
 /// `: T)` behind an expression in parentheses.

@@ -61,11 +61,8 @@ decreases-prefix l = 20 * l.depth + 0
 abbrev pub decreases-prefix_in : goal.decreases-prefix_in
 decreases-prefix_in l = 20 * l.inner + 7
 
-abbrev pub decreases-three_arguments : goal.decreases-three_arguments
-decreases-three_arguments l = 20 * l.inner + 1
-
-abbrev pub decreases-two_arguments : goal.decreases-two_arguments
-decreases-two_arguments l = 20 * l.inner + 1
+abbrev pub decreases-several_arguments : goal.decreases-several_arguments
+decreases-several_arguments l = 20 * l.inner + 1
 
 abbrev pub invariant-operation-loop : goal.invariant-operation-loop
 invariant-operation-loop l = fold_many code (l.inner - l.counter) (symbols_of l.level) (operator_part (symbols_of l.level) (operand_at l.plain l.inner l.level)) add_binary (expr_tree l.left.value) (toks l.rest) ≡ level_at l.plain l.inner l.level (toks l.tokens)
