@@ -20,10 +20,10 @@ use Rattle.wy_syntax.specs.Grammar.{Spells}
 use Rattle.wy_syntax.specs.Canonical.{canonical_form, expr_text}
 use Rattle.wy_syntax.specs.Nodes.{count_before}
 use Rattle.wy_parser.specs.Reading.{Out, Yes, No}
-use Rattle.wy_parser.specs.Parsing.{atom, set, member_set, object_rest, object, type_use, param, module_param, effect, signature}
+use Rattle.wy_parser.specs.Parsing.{atom, set, member_set, object_rest, object, type_use, param, effect, signature}
 use Rattle.wy_parser.specs.ExprParsing.{atomic, built, built1, several_arguments, one_argument, parens, ascription, call_part, post, minus, bang, unary, product, sum, compare, conj, disj, choice_rest, choice_of, p_unary}
 use Rattle.wy_parser.specs.StmtParsing.{part, method_of, field_of, tail, block_of, stmt, assign_of, val_of, untyped_val, typed_val, untyped_rhs, rhs, expr_line, if_of, branch_rest, indented_block, literal_of, parts_inside, p_rhs}
-use Rattle.wy_parser.specs.ItemParsing.{items, item, type_of, pure_of, resource_of, plain_of, program_of, p_file, inside_lines, inside_of, grant_of, init_of, define_of, line_of, import_of, instance_of, use_of, members_inside, member_of, method_member, effect_member}
+use Rattle.wy_parser.specs.ItemParsing.{items, item, type_of, pure_of, with_params, program_of, p_file, inside_lines, inside_of, grant_of, init_of, define_of, line_of, line_with, use_of, members_inside, member_of, method_member, effect_member}
 use Rattle.wy_parser.proofs.OneEnd.{NoEnd, OneEnd}
 use Rattle.wy_parser.proofs.FileReader.{Result', whole_is}
 
@@ -70,7 +70,7 @@ hello_tree = program_item (at 1 1) (grant (named (codes "console") 2 9) (named (
     (long (more_stmts (run (value (call (name (named (codes "console") 4 5)) (named (codes "write") 4 13) (more (text (codes "hello\n") (at 4 19)) none)))) no_stmts)) ∷ []
 
 hello_read : p_file (length hello_tokens + 2) hello_tokens ≡ Yes hello_tree []
-unfolding items item type_of pure_of resource_of plain_of program_of p_file inside_lines inside_of grant_of init_of define_of line_of import_of instance_of use_of members_inside member_of method_member effect_member part method_of field_of tail block_of stmt assign_of val_of untyped_val typed_val untyped_rhs rhs expr_line if_of branch_rest indented_block literal_of parts_inside p_rhs atomic built built1 several_arguments one_argument parens ascription call_part post minus bang unary product sum compare conj disj choice_rest choice_of p_unary atom set member_set object_rest object type_use param module_param effect signature
+unfolding items item type_of pure_of with_params program_of p_file inside_lines inside_of grant_of init_of define_of line_of line_with use_of members_inside member_of method_member effect_member part method_of field_of tail block_of stmt assign_of val_of untyped_val typed_val untyped_rhs rhs expr_line if_of branch_rest indented_block literal_of parts_inside p_rhs atomic built built1 several_arguments one_argument parens ascription call_part post minus bang unary product sum compare conj disj choice_rest choice_of p_unary atom set member_set object_rest object type_use param effect signature
 hello_read = refl
 
 pub hello_spelled : Spells hello_tokens hello_tree
@@ -104,7 +104,7 @@ logger_tree = type_item (record { place = at 1 1; name = named (codes "Logger") 
     }) ∷ []
 
 logger_read : p_file (length logger_tokens + 2) logger_tokens ≡ Yes logger_tree []
-unfolding items item type_of pure_of resource_of plain_of program_of p_file inside_lines inside_of grant_of init_of define_of line_of import_of instance_of use_of members_inside member_of method_member effect_member part method_of field_of tail block_of stmt assign_of val_of untyped_val typed_val untyped_rhs rhs expr_line if_of branch_rest indented_block literal_of parts_inside p_rhs atomic built built1 several_arguments one_argument parens ascription call_part post minus bang unary product sum compare conj disj choice_rest choice_of p_unary atom set member_set object_rest object type_use param module_param effect signature
+unfolding items item type_of pure_of with_params program_of p_file inside_lines inside_of grant_of init_of define_of line_of line_with use_of members_inside member_of method_member effect_member part method_of field_of tail block_of stmt assign_of val_of untyped_val typed_val untyped_rhs rhs expr_line if_of branch_rest indented_block literal_of parts_inside p_rhs atomic built built1 several_arguments one_argument parens ascription call_part post minus bang unary product sum compare conj disj choice_rest choice_of p_unary atom set member_set object_rest object type_use param effect signature
 logger_read = refl
 
 pub logger_spelled : Spells logger_tokens logger_tree
@@ -127,7 +127,7 @@ abbrev pub quiet_tree : List ItemTree
 quiet_tree = type_item (record { place = at 1 1; name = named (codes "Quiet") 1 6; members = members.Abstract (named (codes "Log") 2 10) ∷ members.Bounded (named (codes "Tick") 3 10) (alone (codes "Log") 3 19 ∷ []) ∷ members.Bounded (named (codes "Idle") 4 10) [] ∷ [] }) ∷ []
 
 quiet_read : p_file (length quiet_tokens + 2) quiet_tokens ≡ Yes quiet_tree []
-unfolding items item type_of pure_of resource_of plain_of program_of p_file inside_lines inside_of grant_of init_of define_of line_of import_of instance_of use_of members_inside member_of method_member effect_member part method_of field_of tail block_of stmt assign_of val_of untyped_val typed_val untyped_rhs rhs expr_line if_of branch_rest indented_block literal_of parts_inside p_rhs atomic built built1 several_arguments one_argument parens ascription call_part post minus bang unary product sum compare conj disj choice_rest choice_of p_unary atom set member_set object_rest object type_use param module_param effect signature
+unfolding items item type_of pure_of with_params program_of p_file inside_lines inside_of grant_of init_of define_of line_of line_with use_of members_inside member_of method_member effect_member part method_of field_of tail block_of stmt assign_of val_of untyped_val typed_val untyped_rhs rhs expr_line if_of branch_rest indented_block literal_of parts_inside p_rhs atomic built built1 several_arguments one_argument parens ascription call_part post minus bang unary product sum compare conj disj choice_rest choice_of p_unary atom set member_set object_rest object type_use param effect signature
 quiet_read = refl
 
 pub quiet_spelled : Spells quiet_tokens quiet_tree
@@ -156,7 +156,7 @@ pick_tree = resource_item (at 1 1) (named (codes "pick") 1 17) [] (named (codes 
     }) ∷ []
 
 pick_read : p_file (length pick_tokens + 2) pick_tokens ≡ Yes pick_tree []
-unfolding items item type_of pure_of resource_of plain_of program_of p_file inside_lines inside_of grant_of init_of define_of line_of import_of instance_of use_of members_inside member_of method_member effect_member part method_of field_of tail block_of stmt assign_of val_of untyped_val typed_val untyped_rhs rhs expr_line if_of branch_rest indented_block literal_of parts_inside p_rhs atomic built built1 several_arguments one_argument parens ascription call_part post minus bang unary product sum compare conj disj choice_rest choice_of p_unary atom set member_set object_rest object type_use param module_param effect signature
+unfolding items item type_of pure_of with_params program_of p_file inside_lines inside_of grant_of init_of define_of line_of line_with use_of members_inside member_of method_member effect_member part method_of field_of tail block_of stmt assign_of val_of untyped_val typed_val untyped_rhs rhs expr_line if_of branch_rest indented_block literal_of parts_inside p_rhs atomic built built1 several_arguments one_argument parens ascription call_part post minus bang unary product sum compare conj disj choice_rest choice_of p_unary atom set member_set object_rest object type_use param effect signature
 pick_read = refl
 
 pub pick_spelled : Spells pick_tokens pick_tree
@@ -178,7 +178,7 @@ abbrev pub format_tree : List ItemTree
 format_tree = program_item (at 1 1) [] [] [] (at 2 6) [] (long (more_stmts (run (value (ascribe (binary op.Plus (number (pos 1) (at 3 14)) (number (pos 2) (at 3 18)) (at 3 16)) (types.Int (at 3 24)) (at 3 10)))) no_stmts)) ∷ []
 
 format_read : p_file (length format_tokens + 2) format_tokens ≡ Yes format_tree []
-unfolding items item type_of pure_of resource_of plain_of program_of p_file inside_lines inside_of grant_of init_of define_of line_of import_of instance_of use_of members_inside member_of method_member effect_member part method_of field_of tail block_of stmt assign_of val_of untyped_val typed_val untyped_rhs rhs expr_line if_of branch_rest indented_block literal_of parts_inside p_rhs atomic built built1 several_arguments one_argument parens ascription call_part post minus bang unary product sum compare conj disj choice_rest choice_of p_unary atom set member_set object_rest object type_use param module_param effect signature
+unfolding items item type_of pure_of with_params program_of p_file inside_lines inside_of grant_of init_of define_of line_of line_with use_of members_inside member_of method_member effect_member part method_of field_of tail block_of stmt assign_of val_of untyped_val typed_val untyped_rhs rhs expr_line if_of branch_rest indented_block literal_of parts_inside p_rhs atomic built built1 several_arguments one_argument parens ascription call_part post minus bang unary product sum compare conj disj choice_rest choice_of p_unary atom set member_set object_rest object type_use param effect signature
 format_read = refl
 
 pub format_spelled : Spells format_tokens format_tree
@@ -244,7 +244,7 @@ abbrev open_set : List Tok
 open_set = tok kind.KwProgram 1 1 ∷ tok kind.Nl 1 8 ∷ tok kind.In 2 3 ∷ tok kind.KwRun 2 3 ∷ tok kind.SymColon 2 6 ∷ tok kind.SymOpenBrace 2 8 ∷ tok kind.Nl 2 9 ∷ tok kind.Out 3 1 ∷ tok kind.End 3 1 ∷ []
 
 open_set_stops : p_file (length open_set + 2) open_set ≡ No (tok kind.Nl 2 9 ∷ tok kind.Out 3 1 ∷ tok kind.End 3 1 ∷ [])
-unfolding items item type_of pure_of resource_of plain_of program_of p_file inside_lines inside_of grant_of init_of define_of line_of import_of instance_of use_of members_inside member_of method_member effect_member part method_of field_of tail block_of stmt assign_of val_of untyped_val typed_val untyped_rhs rhs expr_line if_of branch_rest indented_block literal_of parts_inside p_rhs atomic built built1 several_arguments one_argument parens ascription call_part post minus bang unary product sum compare conj disj choice_rest choice_of p_unary atom set member_set object_rest object type_use param module_param effect signature
+unfolding items item type_of pure_of with_params program_of p_file inside_lines inside_of grant_of init_of define_of line_of line_with use_of members_inside member_of method_member effect_member part method_of field_of tail block_of stmt assign_of val_of untyped_val typed_val untyped_rhs rhs expr_line if_of branch_rest indented_block literal_of parts_inside p_rhs atomic built built1 several_arguments one_argument parens ascription call_part post minus bang unary product sum compare conj disj choice_rest choice_of p_unary atom set member_set object_rest object type_use param effect signature
 open_set_stops = refl
 
 -- a type whose one member goes on by these tokens behind its name
@@ -259,7 +259,7 @@ abbrev no_bound_tokens : List Tok
 no_bound_tokens = of_member (tok kind.SymLessEqual 2 15 ∷ no_bound)
 
 no_bound_stops : p_file (length no_bound_tokens + 2) no_bound_tokens ≡ No no_bound
-unfolding items item type_of pure_of resource_of plain_of program_of p_file inside_lines inside_of grant_of init_of define_of line_of import_of instance_of use_of members_inside member_of method_member effect_member part method_of field_of tail block_of stmt assign_of val_of untyped_val typed_val untyped_rhs rhs expr_line if_of branch_rest indented_block literal_of parts_inside p_rhs atomic built built1 several_arguments one_argument parens ascription call_part post minus bang unary product sum compare conj disj choice_rest choice_of p_unary atom set member_set object_rest object type_use param module_param effect signature
+unfolding items item type_of pure_of with_params program_of p_file inside_lines inside_of grant_of init_of define_of line_of line_with use_of members_inside member_of method_member effect_member part method_of field_of tail block_of stmt assign_of val_of untyped_val typed_val untyped_rhs rhs expr_line if_of branch_rest indented_block literal_of parts_inside p_rhs atomic built built1 several_arguments one_argument parens ascription call_part post minus bang unary product sum compare conj disj choice_rest choice_of p_unary atom set member_set object_rest object type_use param effect signature
 no_bound_stops = refl
 
 --       effect Tick < {}
@@ -270,5 +270,5 @@ abbrev less_alone_tokens : List Tok
 less_alone_tokens = of_member less_alone
 
 less_alone_stops : p_file (length less_alone_tokens + 2) less_alone_tokens ≡ No less_alone
-unfolding items item type_of pure_of resource_of plain_of program_of p_file inside_lines inside_of grant_of init_of define_of line_of import_of instance_of use_of members_inside member_of method_member effect_member part method_of field_of tail block_of stmt assign_of val_of untyped_val typed_val untyped_rhs rhs expr_line if_of branch_rest indented_block literal_of parts_inside p_rhs atomic built built1 several_arguments one_argument parens ascription call_part post minus bang unary product sum compare conj disj choice_rest choice_of p_unary atom set member_set object_rest object type_use param module_param effect signature
+unfolding items item type_of pure_of with_params program_of p_file inside_lines inside_of grant_of init_of define_of line_of line_with use_of members_inside member_of method_member effect_member part method_of field_of tail block_of stmt assign_of val_of untyped_val typed_val untyped_rhs rhs expr_line if_of branch_rest indented_block literal_of parts_inside p_rhs atomic built built1 several_arguments one_argument parens ascription call_part post minus bang unary product sum compare conj disj choice_rest choice_of p_unary atom set member_set object_rest object type_use param effect signature
 less_alone_stops = refl

@@ -21,7 +21,7 @@ use Rattle.wy_syntax.specs.Grammar.{SpellsMember, SpellsUse, SpellsLine, SpellsD
 use Rattle.wy_parser.specs.Reading.{◌>>=◌, ret}
 use Rattle.wy_parser.specs.Parsing.{mark, each}
 use Rattle.wy_parser.specs.StmtParsing.{part_first, part_at}
-use Rattle.wy_parser.specs.ItemParsing.{set_line, effect_member, method_member, member_of, member_first, members_inside, use_of, arguments, instance_of, import_of, line_of, line_first, define_of, init_of, grant_of, inside_lines, inside_of, type_of, pure_of, params_of, resource_of, plain_of, program_of, item_first, item, items}
+use Rattle.wy_parser.specs.ItemParsing.{set_line, effect_member, method_member, member_of, member_first, members_inside, use_of, arguments, line_with, line_of, line_first, define_of, init_of, grant_of, inside_lines, inside_of, type_of, pure_of, params_of, with_params, program_of, item_first, item, items}
 use Rattle.wy_parser.proofs.KindNumbers.{kind_at}
 use Rattle.wy_parser.proofs.Made.{Made, SeqOf, MapOf, IsOf, Or, seq, map_to, give, alt, become, marks, made_mark, made_word, self_true, made_each, made_commas, pass, unpass, map_of, sign, unsign}
 use Rattle.wy_parser.proofs.TypeReaders.{made_set, made_signature, made_module_param}
@@ -126,10 +126,10 @@ abbrev Instances : Line → List Tok → Type 0
 Instances = SeqOf (λ q. Mark kind.KwInstance q) (λ k0. SeqOf (λ w. Word w) (λ x. SeqOf (λ q. Mark kind.SymEqual q) (λ k2. SeqOf (λ w. Word w) (λ y. SeqOf (λ ns u. InParens (Commas Word ns) u) (λ ns. MapOf (λ k5. lines.Instance x y ns) (λ q. Mark kind.Nl q))))))
 
 abbrev Imports : Line → List Tok → Type 0
-Imports = SeqOf (λ q. Mark kind.KwImport q) (λ k0. SeqOf (λ w. Word w) (λ x. SeqOf (λ q. Mark kind.SymEqual q) (λ k2. SeqOf (λ w. Word w) (λ y. SeqOf (λ ns u. InParens (Commas Word ns) u) (λ ns. SeqOf (λ q. Mark kind.KwAt q) (λ k5. SeqOf (λ s u. SpellsSet s u) (λ s. MapOf (λ k7. lines.Import x y ns s) (λ q. Mark kind.Nl q))))))))
+Imports = SeqOf (λ q. Mark kind.KwImport q) (λ k0. SeqOf (λ w. Word w) (λ x. SeqOf (λ q. Mark kind.SymEqual q) (λ k2. SeqOf (λ w. Word w) (λ y. SeqOf (λ ns u. InParens (Commas Word ns) u) (λ ns. MapOf (λ s. lines.Import x y ns s) (λ s u. SetLine 16 s u))))))
 
-made_instance : (n n' m : ℕ) → n ≤ n' → m ≤ n → Made (instance_of n) (instance_of n') Instances (14 ∷ []) [] false m
-unfolding instance_of
+made_instance : (n n' m : ℕ) → n ≤ n' → m ≤ n → Made (line_with 14 false n) (line_with 14 false n') Instances (14 ∷ []) [] false m
+unfolding line_with
 made_instance n n' m h k =
     seq (made_mark 14 m refl) (λ k0.
     seq (made_word m) (λ x.
@@ -138,30 +138,28 @@ made_instance n n' m h k =
     seq (made_arguments n n' m h k) (λ ns.
     map_to (λ k5. lines.Instance x y ns) (made_mark 63 m refl)) refl) refl) refl) refl) refl
 
-made_import : (n n' m : ℕ) → n ≤ n' → m ≤ n → Made (import_of n) (import_of n') Imports (15 ∷ []) [] false m
-unfolding import_of
+made_import : (n n' m : ℕ) → n ≤ n' → m ≤ n → Made (line_with 15 true n) (line_with 15 true n') Imports (15 ∷ []) [] false m
+unfolding line_with
 made_import n n' m h k =
     seq (made_mark 15 m refl) (λ k0.
     seq (made_word m) (λ x.
     seq (made_mark 47 m refl) (λ k2.
     seq (made_word m) (λ y.
     seq (made_arguments n n' m h k) (λ ns.
-    seq (made_mark 16 m refl) (λ k5.
-    seq (made_set n n' m h k) (λ s.
-    map_to (λ k7. lines.Import x y ns s) (made_mark 63 m refl)) refl) refl) refl) refl) refl) refl) refl
+    map_to (λ s. lines.Import x y ns s) (made_set_line 16 n n' m refl h k)) refl) refl) refl) refl) refl
 
 made_line : (n n' m : ℕ) → n ≤ n' → m ≤ n → Made (line_of n) (line_of n') (λ z u. SpellsLine z u) line_first [] false m
 unfolding line_of
 made_line n n' m h k = become (alt (14 ∷ []) (made_instance n n' m h k) (made_import n n' m h k) refl)
     (λ z u s. elim s [
       | inl t ↦ subst (λ y. SpellsLine y u) (sym t.second.second.second.second.second.is) (pass t (sign t.first) (pass t.second t.second.first (pass t.second.second (sign t.second.second.first) (pass t.second.second.second t.second.second.second.first (pass t.second.second.second.second t.second.second.second.second.first (sign t.second.second.second.second.second.spelled))))))
-      | inr t ↦ subst (λ y. SpellsLine y u) (sym t.second.second.second.second.second.second.second.is) (pass t (sign t.first) (pass t.second t.second.first (pass t.second.second (sign t.second.second.first) (pass t.second.second.second t.second.second.second.first (pass t.second.second.second.second t.second.second.second.second.first (pass t.second.second.second.second.second (sign t.second.second.second.second.second.first) (pass t.second.second.second.second.second.second t.second.second.second.second.second.second.first (sign t.second.second.second.second.second.second.second.spelled))))))))
+      | inr t ↦ subst (λ y. SpellsLine y u) (sym t.second.second.second.second.second.is) (pass t (sign t.first) (pass t.second t.second.first (pass t.second.second (sign t.second.second.first) (pass t.second.second.second t.second.second.second.first (pass t.second.second.second.second t.second.second.second.second.first t.second.second.second.second.second.spelled)))))
     ])
     (λ z u s. from z u s) refl
   where
     from : (z : Line) (u : List Tok) → SpellsLine z u → Or Instances Imports z u
     from (lines.Instance x y ns) u s = inl (unpass s s.first.token.place (unsign s.first) (unpass s.second x s.second.first (unpass s.second.second s.second.second.first.token.place (unsign s.second.second.first) (unpass s.second.second.second y s.second.second.second.first (unpass s.second.second.second.second ns s.second.second.second.second.first (map_of s.second.second.second.second.second.token.place refl (unsign s.second.second.second.second.second)))))))
-    from (lines.Import x y ns b) u s = inr (unpass s s.first.token.place (unsign s.first) (unpass s.second x s.second.first (unpass s.second.second s.second.second.first.token.place (unsign s.second.second.first) (unpass s.second.second.second y s.second.second.second.first (unpass s.second.second.second.second ns s.second.second.second.second.first (unpass s.second.second.second.second.second s.second.second.second.second.second.first.token.place (unsign s.second.second.second.second.second.first) (unpass s.second.second.second.second.second.second b s.second.second.second.second.second.second.first (map_of s.second.second.second.second.second.second.second.token.place refl (unsign s.second.second.second.second.second.second.second)))))))))
+    from (lines.Import x y ns b) u s = inr (unpass s s.first.token.place (unsign s.first) (unpass s.second x s.second.first (unpass s.second.second s.second.second.first.token.place (unsign s.second.second.first) (unpass s.second.second.second y s.second.second.second.first (unpass s.second.second.second.second ns s.second.second.second.second.first (map_of b refl s.second.second.second.second.second))))))
 
 abbrev define_with : Name → List AtomUse → Define
 define_with w s = record { name = w; effect = s }
@@ -362,8 +360,8 @@ made_pure n n' h = become (
 abbrev Resources : ItemTree → List Tok → Type 0
 Resources = SeqOf (λ q. Mark kind.KwResource q) (λ p. SeqOf (λ q. Mark kind.KwModule q) (λ k1. SeqOf (λ w. Word w) (λ w. SeqOf (λ ps u. InParens (Commas (SpellsModuleParam false) ps) u) (λ ps. SeqOf (λ q. Mark kind.SymColon q) (λ k4. SeqOf (λ w. Word w) (λ t. SeqOf (λ q. Mark kind.Nl q) (λ k6. MapOf (λ i. resource_item p w ps t i) (λ i u. SpellsInside i u))))))))
 
-made_resource : (n n' : ℕ) → n ≤ n' → Made (resource_of n) (resource_of n') Resources (9 ∷ []) (64 ∷ []) false (n - 1)
-unfolding resource_of
+made_resource : (n n' : ℕ) → n ≤ n' → Made (with_params 9 false n) (with_params 9 false n') Resources (9 ∷ []) (64 ∷ []) false (n - 1)
+unfolding with_params
 made_resource n n' h = become (
     seq (made_mark 9 (n - 1) refl) (λ p.
     seq (made_mark 8 ((n - 1)) refl) (λ k1.
@@ -377,8 +375,8 @@ made_resource n n' h = become (
 abbrev Plains : ItemTree → List Tok → Type 0
 Plains = SeqOf (λ q. Mark kind.KwPlain q) (λ p. SeqOf (λ q. Mark kind.KwModule q) (λ k1. SeqOf (λ w. Word w) (λ w. SeqOf (λ ps u. InParens (Commas (SpellsModuleParam true) ps) u) (λ ps. SeqOf (λ q. Mark kind.SymColon q) (λ k4. SeqOf (λ w. Word w) (λ t. SeqOf (λ q. Mark kind.Nl q) (λ k6. MapOf (λ i. plain_item p w ps t i) (λ i u. Indented (i ≡ no_parts) (SpellsParts true i) u))))))))
 
-made_plain : (n n' : ℕ) → n ≤ n' → Made (plain_of n) (plain_of n') Plains (10 ∷ []) (64 ∷ []) false (n - 1)
-unfolding plain_of
+made_plain : (n n' : ℕ) → n ≤ n' → Made (with_params 10 true n) (with_params 10 true n') Plains (10 ∷ []) (64 ∷ []) false (n - 1)
+unfolding with_params
 made_plain n n' h = become (
     seq (made_mark 10 (n - 1) refl) (λ p.
     seq (made_mark 8 ((n - 1)) refl) (λ k1.

@@ -13,7 +13,7 @@ use Rattle.wy_syntax.specs.declared.types.Signature.{Signature}
 use Rattle.wy_syntax.specs.Tokens.{Tok}
 use Rattle.wy_syntax.specs.Languages.{Mark, Word, Commas1}
 use Rattle.wy_syntax.specs.TypeGrammar.{OwnedName, SpellsAtom, SpellsSet, SpellsMemberSet, SpellsObject, SpellsType, SpellsParam, SpellsModuleParam, SpellsEffect, SpellsSignature}
-use Rattle.wy_parser.specs.Parsing.{member_alone, atom, set, member_set, object_rest, object, type_use, param, module_param, effect, signature}
+use Rattle.wy_parser.specs.Parsing.{member_alone, atom, set, member_set, object_rest, object, type_use, param, effect, signature}
 use Rattle.wy_parser.proofs.Made.{Made, SeqOf, MapOf, IsOf, Or, seq, map_to, give, alt, become, nullable, made_mark, made_word, made_commas, made_commas1, pass, unpass, all_of, alone_of, map_of, sign, unsign}
 
 abbrev owned_by : Name → Name → AtomUse
@@ -125,7 +125,7 @@ made_type plain n n' m h k = become
 abbrev param_of : Name → TypeUse → Param
 param_of w t = record { name = w; type_use = t }
 
-pub made_param : (plain : Bool) → (n n' m : ℕ) → n ≤ n' → m ≤ n → Made (param plain n) (param plain n') (λ x u. SpellsParam plain x u) (1 ∷ []) (40 ∷ 16 ∷ []) false m
+pub made_param : (plain : Bool) → (n n' m : ℕ) → n ≤ n' → m ≤ n → Made (param false plain n) (param false plain n') (λ x u. SpellsParam plain x u) (1 ∷ []) (40 ∷ 16 ∷ []) false m
 unfolding param
 made_param plain n n' m h k = become (
     seq (made_word m) (λ w.
@@ -134,8 +134,8 @@ made_param plain n n' m h k = become (
     (λ z u s. subst (λ y. SpellsParam plain y u) (sym s.second.second.is) (pass s s.first (pass s.second (sign s.second.first) s.second.second.spelled)))
     (λ z u s. (unpass s z.name s.first (unpass s.second s.second.first.token.place (unsign s.second.first) (map_of z.type_use refl s.second.second)))) refl
 
-pub made_module_param : (plain : Bool) → (n n' m : ℕ) → n ≤ n' → m ≤ n → Made (module_param plain n) (module_param plain n') (λ x u. SpellsModuleParam plain x u) (1 ∷ []) (40 ∷ 16 ∷ []) false m
-unfolding module_param
+pub made_module_param : (plain : Bool) → (n n' m : ℕ) → n ≤ n' → m ≤ n → Made (param true plain n) (param true plain n') (λ x u. SpellsModuleParam plain x u) (1 ∷ []) (40 ∷ 16 ∷ []) false m
+unfolding param
 made_module_param plain n n' m h k = become (
     seq (made_word m) (λ w.
     seq (made_mark 45 m refl) (λ k1.

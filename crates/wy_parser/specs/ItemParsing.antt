@@ -1,5 +1,6 @@
 -- Items and files, read from left to right.
 use Rattle.std.specs.Prelude.{ℕ, Bool, true, false, List, [], ◌∷◌, Option, None, Some}
+use Rattle.wy_text.specs.declared.fault.Place.{Place}
 use Rattle.wy_syntax.specs.declared.types.Name.{Name}
 use Rattle.wy_syntax.specs.declared.types.AtomUse.{AtomUse}
 use Rattle.wy_syntax.specs.declared.types.Param.{Param}
@@ -15,7 +16,7 @@ use Rattle.wy_syntax.specs.Trees.{parts_of, InsideTree, ItemTree, type_item, pur
 use Rattle.wy_syntax.specs.Grammar.{nothing_inside}
 use Rattle.wy_parser.specs.Kinds as kinds
 use Rattle.wy_parser.specs.Reading.{◌>>=◌, ret, choose}
-use Rattle.wy_parser.specs.Parsing.{R, mark, word, each, commas, set, signature, module_param}
+use Rattle.wy_parser.specs.Parsing.{R, mark, word, each, between, set, signature, param}
 use Rattle.wy_parser.specs.StmtParsing.{part_first, part_at, tail_at, parts_inside}
 
 -- ---- a sign, a set and the end of the line
@@ -29,15 +30,14 @@ set_line k n = do
 
 -- ---- members of a type
 
-abbrev pub defined_member : Name → ℕ → R Member
-defined_member w n = do
-  s ← set_line kinds.SymEqual n
-  ret (members.Defined w s)
+abbrev pub member_with : Bool → Name → List AtomUse → Member
+member_with false w s = members.Defined w s
+member_with true w s = members.Bounded w s
 
-abbrev pub bounded_member : Name → ℕ → R Member
-bounded_member w n = do
-  s ← set_line kinds.SymLessEqual n
-  ret (members.Bounded w s)
+abbrev pub set_member : ℕ → Bool → Name → ℕ → R Member
+set_member k bounded w n = do
+  s ← set_line k n
+  ret (member_with bounded w s)
 
 abbrev pub abstract_member : Name → R Member
 abstract_member w = do
@@ -48,8 +48,8 @@ unfoldable pub effect_member : ℕ → R Member
 effect_member n = do
   word' ← mark kinds.KwEffect
   w ← word
-  choose code (kinds.SymEqual ∷ []) (defined_member w n)
-      (choose code (kinds.SymLessEqual ∷ []) (bounded_member w n) (abstract_member w))
+  choose code (kinds.SymEqual ∷ []) (set_member kinds.SymEqual false w n)
+      (choose code (kinds.SymLessEqual ∷ []) (set_member kinds.SymLessEqual true w n) (abstract_member w))
 
 unfoldable pub method_member : ℕ → R Member
 method_member n = do
@@ -80,36 +80,28 @@ use_of = do
   ret w
 
 abbrev pub arguments : ℕ → R (List Name)
-arguments n = do
-  opening ← mark kinds.SymOpenParen
-  ns ← commas (kinds.Name ∷ []) word n
-  closing ← mark kinds.SymCloseParen
-  ret ns
+arguments n = between kinds.SymOpenParen kinds.SymCloseParen word n
 
-unfoldable pub instance_of : ℕ → R Line
-instance_of n = do
-  word' ← mark kinds.KwInstance
-  x ← word
-  equal ← mark kinds.SymEqual
-  m ← word
-  ns ← arguments n
+-- what stands behind the arguments: an import has a bound
+abbrev pub behind_arguments : Bool → Name → Name → List Name → ℕ → R Line
+behind_arguments false x m ns n = do
   line ← mark kinds.Nl
   ret (lines.Instance x m ns)
+behind_arguments true x m ns n = do
+  s ← set_line kinds.KwAt n
+  ret (lines.Import x m ns s)
 
-unfoldable pub import_of : ℕ → R Line
-import_of n = do
-  word' ← mark kinds.KwImport
+unfoldable pub line_with : ℕ → Bool → ℕ → R Line
+line_with k bounded n = do
+  word' ← mark k
   x ← word
   equal ← mark kinds.SymEqual
   m ← word
   ns ← arguments n
-  at' ← mark kinds.KwAt
-  s ← set n
-  line ← mark kinds.Nl
-  ret (lines.Import x m ns s)
+  behind_arguments bounded x m ns n
 
 unfoldable pub line_of : ℕ → R Line
-line_of n = choose code (kinds.KwInstance ∷ []) (instance_of n) (import_of n)
+line_of n = choose code (kinds.KwInstance ∷ []) (line_with kinds.KwInstance false n) (line_with kinds.KwImport true n)
 
 abbrev pub line_first : List ℕ
 line_first = kinds.KwInstance ∷ kinds.KwImport ∷ []
@@ -174,35 +166,27 @@ pure_of n = do
   ret (pure_item p w t i)
 
 abbrev pub params_of : Bool → ℕ → R (List Param)
-params_of plain n = do
-  opening ← mark kinds.SymOpenParen
-  ps ← commas (kinds.Name ∷ []) (module_param plain n) n
-  closing ← mark kinds.SymCloseParen
-  ret ps
+params_of plain n = between kinds.SymOpenParen kinds.SymCloseParen (param true plain n) n
 
-unfoldable pub resource_of : ℕ → R ItemTree
-resource_of n = do
-  p ← mark kinds.KwResource
-  word' ← mark kinds.KwModule
-  w ← word
-  ps ← params_of false n
-  colon ← mark kinds.SymColon
-  t ← word
-  line ← mark kinds.Nl
+-- what stands behind the first line of a module with parameters
+abbrev pub behind_params : Bool → Place → Name → List Param → Name → ℕ → R ItemTree
+behind_params false p w ps t n = do
   i ← inside_of n
   ret (resource_item p w ps t i)
+behind_params true p w ps t n = do
+  ms ← parts_inside (part_at true n) n
+  ret (plain_item p w ps t ms)
 
-unfoldable pub plain_of : ℕ → R ItemTree
-plain_of n = do
-  p ← mark kinds.KwPlain
+unfoldable pub with_params : ℕ → Bool → ℕ → R ItemTree
+with_params k plain n = do
+  p ← mark k
   word' ← mark kinds.KwModule
   w ← word
-  ps ← params_of true n
+  ps ← params_of plain n
   colon ← mark kinds.SymColon
   t ← word
   line ← mark kinds.Nl
-  ms ← parts_inside (part_at true n) n
-  ret (plain_item p w ps t ms)
+  behind_params plain p w ps t n
 
 unfoldable pub program_of : ℕ → R ItemTree
 program_of n = do
@@ -226,8 +210,8 @@ unfoldable pub item : ℕ → R ItemTree
 item n =
     choose code (kinds.KwType ∷ []) (type_of n)
     (choose code (kinds.KwModule ∷ []) (pure_of n)
-    (choose code (kinds.KwResource ∷ []) (resource_of n)
-    (choose code (kinds.KwPlain ∷ []) (plain_of n) (program_of n))))
+    (choose code (kinds.KwResource ∷ []) (with_params kinds.KwResource false n)
+    (choose code (kinds.KwPlain ∷ []) (with_params kinds.KwPlain true n) (program_of n))))
 
 unfoldable pub items : ℕ → R (List ItemTree)
 items n = each item_first (item n) n

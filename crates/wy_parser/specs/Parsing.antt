@@ -70,6 +70,14 @@ commas1 item n = do
 abbrev pub commas : {A : Type 0} → List ℕ → R A → ℕ → R (List A)
 commas F item n = choose code F (commas1 item n) (ret [])
 
+-- what begins with a name, with commas between, or none, between two signs
+abbrev pub between : {A : Type 0} → ℕ → ℕ → R A → ℕ → R (List A)
+between first last item n = do
+  opening ← mark first
+  items ← commas (kinds.Name ∷ []) item n
+  closing ← mark last
+  ret items
+
 -- ---- sets and types; n turns of a loop at most
 
 abbrev pub member_of : Name → Name → AtomUse
@@ -90,11 +98,7 @@ atom = do
   choose code (kinds.SymDot ∷ []) (owned n) (ret (member_alone n))
 
 unfoldable pub set : ℕ → R (List AtomUse)
-set n = do
-  opening ← mark kinds.SymOpenBrace
-  atoms ← commas (kinds.Name ∷ []) atom n
-  closing ← mark kinds.SymCloseBrace
-  ret atoms
+set n = between kinds.SymOpenBrace kinds.SymCloseBrace atom n
 
 unfoldable pub member_set : ℕ → R MemberSet
 member_set n = do
@@ -141,18 +145,16 @@ type_use plain n =
 abbrev pub param_of : Name → TypeUse → Param
 param_of w t = record { name = w; type_use = t }
 
-unfoldable pub param : Bool → ℕ → R Param
-param plain n = do
-  w ← word
-  colon ← mark kinds.SymColon
-  t ← type_use plain n
-  ret (param_of w t)
+-- the type of a method's parameter, or of a module's, which is a declared one
+abbrev pub param_type : Bool → Bool → ℕ → R TypeUse
+param_type true plain n = object plain n
+param_type false plain n = type_use plain n
 
-unfoldable pub module_param : Bool → ℕ → R Param
-module_param plain n = do
+unfoldable pub param : Bool → Bool → ℕ → R Param
+param declared plain n = do
   w ← word
   colon ← mark kinds.SymColon
-  t ← object plain n
+  t ← param_type declared plain n
   ret (param_of w t)
 
 unfoldable pub effect : Bool → ℕ → R (Option (List AtomUse))
@@ -169,7 +171,7 @@ signature plain n = do
   p ← mark kinds.KwDef
   w ← word
   opening ← mark kinds.SymOpenParen
-  ps ← commas (kinds.Name ∷ []) (param plain n) n
+  ps ← commas (kinds.Name ∷ []) (param false plain n) n
   closing ← mark kinds.SymCloseParen
   colon ← mark kinds.SymColon
   e ← effect plain n

@@ -4,16 +4,16 @@ ghost use Rattle.wy_syntax.specs.Tokens.{tok_of, toks};
 ghost use Rattle.wy_syntax.specs.Trees.{type_item, pure_item, resource_item, plain_item};
 ghost use Rattle.wy_syntax.specs.Views.{inside_tree, item_tree, part_trees};
 ghost use Rattle.wy_parser.specs.Parsing.{name_at};
-ghost use Rattle.wy_parser.specs.ItemParsing.{inside_lines, inside_of, type_of, pure_of, params_of, resource_of, plain_of, program_of, item, items, p_file};
-ghost use Rattle.wy_parser.specs.Sorts.{Gives};
+ghost use Rattle.wy_parser.specs.ItemParsing.{inside_lines, inside_of, type_of, pure_of, with_params, program_of, item, items, p_file};
+ghost use Rattle.wy_parser.specs.Sorts.{number_of, Gives};
 
 use crate::cursor::{begins, mark, name_of, name_token};
-use crate::lines::{defines, grants, init, lines, members_inside, uses};
-use crate::lists::named;
+use crate::lines::{DefineEntry, GrantEntry, init, lines, members_inside, uses};
+use crate::lists::{PARENTHESES, between, row};
 use crate::sort::Sort;
 use crate::statements::{parts, parts_inside, tail};
 use crate::stop::Stop;
-use crate::types::{ModuleParamEntry, set};
+use crate::types::{ParamEntry, set};
 use std::alloc::Global;
 use wy_syntax::items::{
     Inside, Item, Member, PlainModule, Program, PureModule, ResourceModule, TypeDecl,
@@ -44,7 +44,13 @@ fn inside_lines<'a>(
     let (_, rest) = mark(tokens, Sort::In)?;
     let (uses, rest) = uses(alloc, rest, turns)?;
     let (lines, rest) = lines(alloc, rest, turns)?;
-    let (defines, rest) = defines(alloc, rest, turns)?;
+    let (defines, rest) = row(
+        alloc,
+        rest,
+        turns,
+        &[Sort::KwEffect],
+        &DefineEntry { turns },
+    )?;
     let (init, rest) = init(alloc, rest, turns)?;
     let (parts, rest) = parts(alloc, rest, false, turns)?;
     let (_, rest) = mark(rest, Sort::Out)?;
@@ -147,21 +153,6 @@ fn pure_module<'a>(
     Ok((pure_node(alloc, place, name, sealed, inside)?, rest))
 }
 
-/// A module's parameters in parentheses.
-fn params<'a>(
-    alloc: Global,
-    tokens: &'a [Token],
-    plain: bool,
-    turns: usize,
-) -> Result<(ParamList, &'a [Token]), Stop<'a>>
-    ensures { Gives (λ x. x) result (params_of plain turns (toks tokens.now)) }
-{
-    let (_, rest) = mark(tokens, Sort::SymOpenParen)?;
-    let (params, rest) = named(alloc, rest, turns, &ModuleParamEntry { plain, turns })?;
-    let (_, rest) = mark(rest, Sort::SymCloseParen)?;
-    Ok((params, rest))
-}
-
 fn resource_node(
     alloc: Global,
     place: Place,
@@ -180,28 +171,6 @@ fn resource_node(
         inside: Box::into_inner(inside),
     });
     Ok(Box::new(alloc, item)?)
-}
-
-#[tactic(auto, unfolding(crate::specs::ItemParsing::resource_of))]
-fn resource_module<'a>(
-    alloc: Global,
-    tokens: &'a [Token],
-    turns: usize,
-) -> Result<(Box<Item>, &'a [Token]), Stop<'a>>
-    ensures { Gives (λ b. item_tree b.value) result (resource_of turns (toks tokens.now)) }
-{
-    let (place, rest) = mark(tokens, Sort::KwResource)?;
-    let (_, rest) = mark(rest, Sort::KwModule)?;
-    let (name, rest) = name_token(rest)?;
-    let (params, rest) = params(alloc, rest, false, turns)?;
-    let (_, rest) = mark(rest, Sort::SymColon)?;
-    let (sealed, rest) = name_token(rest)?;
-    let (_, rest) = mark(rest, Sort::Nl)?;
-    let (inside, rest) = inside(alloc, rest, turns)?;
-    Ok((
-        resource_node(alloc, place, name, params, sealed, inside)?,
-        rest,
-    ))
 }
 
 fn plain_node(
@@ -224,23 +193,36 @@ fn plain_node(
     Ok(Box::new(alloc, item)?)
 }
 
-#[tactic(auto, unfolding(crate::specs::ItemParsing::plain_of))]
-fn plain_module<'a>(
+/// A module with parameters, which begins with the word: a resource module, or a plain one.
+#[tactic(auto, unfolding(crate::specs::ItemParsing::with_params))]
+fn module_with_params<'a>(
     alloc: Global,
     tokens: &'a [Token],
+    sort: Sort,
+    plain: bool,
     turns: usize,
 ) -> Result<(Box<Item>, &'a [Token]), Stop<'a>>
-    ensures { Gives (λ b. item_tree b.value) result (plain_of turns (toks tokens.now)) }
+    ensures { Gives (λ b. item_tree b.value) result (with_params (number_of sort) plain turns (toks tokens.now)) }
 {
-    let (place, rest) = mark(tokens, Sort::KwPlain)?;
+    let (place, rest) = mark(tokens, sort)?;
     let (_, rest) = mark(rest, Sort::KwModule)?;
     let (name, rest) = name_token(rest)?;
-    let (params, rest) = params(alloc, rest, true, turns)?;
+    let entry = ParamEntry {
+        declared: true,
+        plain,
+        turns,
+    };
+    let (params, rest) = between(alloc, rest, turns, PARENTHESES, &entry)?;
     let (_, rest) = mark(rest, Sort::SymColon)?;
     let (sealed, rest) = name_token(rest)?;
     let (_, rest) = mark(rest, Sort::Nl)?;
-    let (parts, rest) = parts_inside(alloc, rest, true, turns)?;
-    Ok((plain_node(alloc, place, name, params, sealed, parts)?, rest))
+    if plain {
+        let (parts, rest) = parts_inside(alloc, rest, true, turns)?;
+        return Ok((plain_node(alloc, place, name, params, sealed, parts)?, rest));
+    }
+    let (inside, rest) = inside(alloc, rest, turns)?;
+    let module = resource_node(alloc, place, name, params, sealed, inside)?;
+    Ok((module, rest))
 }
 
 #[tactic(auto, unfolding(crate::specs::ItemParsing::program_of))]
@@ -254,7 +236,7 @@ fn program<'a>(
     let (place, rest) = mark(tokens, Sort::KwProgram)?;
     let (_, rest) = mark(rest, Sort::Nl)?;
     let (_, rest) = mark(rest, Sort::In)?;
-    let (grants, rest) = grants(alloc, rest, turns)?;
+    let (grants, rest) = row(alloc, rest, turns, &[Sort::KwGrant], &GrantEntry)?;
     let (uses, rest) = uses(alloc, rest, turns)?;
     let (lines, rest) = lines(alloc, rest, turns)?;
     let (run, rest) = mark(rest, Sort::KwRun)?;
@@ -290,10 +272,10 @@ fn item<'a>(
         return pure_module(alloc, tokens, turns);
     }
     if begins(tokens, &[Sort::KwResource]) {
-        return resource_module(alloc, tokens, turns);
+        return module_with_params(alloc, tokens, Sort::KwResource, false, turns);
     }
     if begins(tokens, &[Sort::KwPlain]) {
-        return plain_module(alloc, tokens, turns);
+        return module_with_params(alloc, tokens, Sort::KwPlain, true, turns);
     }
     program(alloc, tokens, turns)
 }

@@ -5,11 +5,11 @@ ghost use Rattle.wy_syntax.specs.declared.items.Member.TheVariants as members;
 ghost use Rattle.wy_syntax.specs.Tokens.{tok_of, toks};
 ghost use Rattle.wy_parser.specs.Kinds as kinds;
 ghost use Rattle.wy_parser.specs.Parsing.{each, name_at, word};
-ghost use Rattle.wy_parser.specs.ItemParsing.{set_line, defined_member, bounded_member, abstract_member, effect_member, method_member, member_of, members_inside, use_of, arguments, instance_of, import_of, line_of, line_first, define_of, init_of, grant_of};
+ghost use Rattle.wy_parser.specs.ItemParsing.{set_line, member_with, set_member, abstract_member, effect_member, method_member, member_of, members_inside, use_of, line_with, line_of, line_first, define_of, init_of, grant_of};
 ghost use Rattle.wy_parser.specs.Sorts.{number_of, Gives};
 
 use crate::cursor::{begins, mark, name_of, name_token, word};
-use crate::lists::{Entry, named, row};
+use crate::lists::{Entry, PARENTHESES, between, row};
 use crate::sort::Sort;
 use crate::stop::Stop;
 use crate::types::{set, signature};
@@ -35,18 +35,14 @@ fn set_line<'a>(
     Ok((set, rest))
 }
 
-fn defined_node(alloc: Global, name: &Token, effect: SetUse) -> Result<Box<Member>, Memory>
-    ensures { IfOk result (λ b. b.value ≡ members.Defined (name_at (tok_of name.now)) effect) }
+fn set_node(alloc: Global, name: &Token, bounded: bool, set: SetUse) -> Result<Box<Member>, Memory>
+    ensures { IfOk result (λ b. b.value ≡ member_with bounded (name_at (tok_of name.now)) set) }
 {
     let name = name_of(alloc, name)?;
-    Ok(Box::new(alloc, Member::Defined(name, effect))?)
-}
-
-fn bounded_node(alloc: Global, name: &Token, bound: SetUse) -> Result<Box<Member>, Memory>
-    ensures { IfOk result (λ b. b.value ≡ members.Bounded (name_at (tok_of name.now)) bound) }
-{
-    let name = name_of(alloc, name)?;
-    Ok(Box::new(alloc, Member::Bounded(name, bound))?)
+    if bounded {
+        return Ok(Box::new(alloc, Member::Bounded(name, set))?);
+    }
+    Ok(Box::new(alloc, Member::Defined(name, set))?)
 }
 
 fn abstract_node(alloc: Global, name: &Token) -> Result<Box<Member>, Memory>
@@ -56,30 +52,19 @@ fn abstract_node(alloc: Global, name: &Token) -> Result<Box<Member>, Memory>
     Ok(Box::new(alloc, Member::Abstract(name))?)
 }
 
-/// The set of a defined member.
-fn defined_member<'a>(
+/// The set of a defined member, or the upper bound of an abstract one, behind the sign.
+fn set_member<'a>(
     alloc: Global,
     tokens: &'a [Token],
     name: &Token,
+    sign: Sort,
+    bounded: bool,
     turns: usize,
 ) -> Result<(Box<Member>, &'a [Token]), Stop<'a>>
-    ensures { Gives (λ x. x.value) result (defined_member (name_at (tok_of name.now)) turns (toks tokens.now)) }
+    ensures { Gives (λ x. x.value) result (set_member (number_of sign) bounded (name_at (tok_of name.now)) turns (toks tokens.now)) }
 {
-    let (effect, rest) = set_line(alloc, tokens, Sort::SymEqual, turns)?;
-    Ok((defined_node(alloc, name, effect)?, rest))
-}
-
-/// The upper bound of an abstract member.
-fn bounded_member<'a>(
-    alloc: Global,
-    tokens: &'a [Token],
-    name: &Token,
-    turns: usize,
-) -> Result<(Box<Member>, &'a [Token]), Stop<'a>>
-    ensures { Gives (λ x. x.value) result (bounded_member (name_at (tok_of name.now)) turns (toks tokens.now)) }
-{
-    let (bound, rest) = set_line(alloc, tokens, Sort::SymLessEqual, turns)?;
-    Ok((bounded_node(alloc, name, bound)?, rest))
+    let (set, rest) = set_line(alloc, tokens, sign, turns)?;
+    Ok((set_node(alloc, name, bounded, set)?, rest))
 }
 
 /// The end of the line of an abstract member without a bound.
@@ -106,10 +91,10 @@ fn effect_member<'a>(
     let (_, rest) = mark(tokens, Sort::KwEffect)?;
     let (name, rest) = name_token(rest)?;
     if begins(rest, &[Sort::SymEqual]) {
-        return defined_member(alloc, rest, name, turns);
+        return set_member(alloc, rest, name, Sort::SymEqual, false, turns);
     }
     if begins(rest, &[Sort::SymLessEqual]) {
-        return bounded_member(alloc, rest, name, turns);
+        return set_member(alloc, rest, name, Sort::SymLessEqual, true, turns);
     }
     abstract_member(alloc, rest, name)
 }
@@ -186,16 +171,6 @@ pub fn members_inside<'a>(
     Ok((members, rest))
 }
 
-#[tactic(auto, unfolding(crate::specs::ItemParsing::use_of))]
-fn use_line<'a>(alloc: Global, tokens: &'a [Token]) -> Result<(Name, &'a [Token]), Stop<'a>>
-    ensures { Gives (λ x. x) result (use_of (toks tokens.now)) }
-{
-    let (_, rest) = mark(tokens, Sort::KwUse)?;
-    let (name, rest) = name_token(rest)?;
-    let (_, rest) = mark(rest, Sort::Nl)?;
-    Ok((name_of(alloc, name)?, rest))
-}
-
 /// The `use` lines.
 struct UseEntry;
 
@@ -204,12 +179,16 @@ impl Entry for UseEntry {
 
     ghost reads = { λ _. use_of };
 
+    #[tactic(auto, unfolding(crate::specs::ItemParsing::use_of))]
     fn read<'a>(
         &self,
         alloc: Global,
         tokens: &'a [Token],
     ) -> Result<(Name, &'a [Token]), Stop<'a>> {
-        use_line(alloc, tokens)
+        let (_, rest) = mark(tokens, Sort::KwUse)?;
+        let (name, rest) = name_token(rest)?;
+        let (_, rest) = mark(rest, Sort::Nl)?;
+        Ok((name_of(alloc, name)?, rest))
     }
 }
 
@@ -240,20 +219,6 @@ impl Entry for NameEntry {
     }
 }
 
-/// Names in parentheses.
-fn arguments<'a>(
-    alloc: Global,
-    tokens: &'a [Token],
-    turns: usize,
-) -> Result<(NameList, &'a [Token]), Stop<'a>>
-    ensures { Gives (λ x. x) result (arguments turns (toks tokens.now)) }
-{
-    let (_, rest) = mark(tokens, Sort::SymOpenParen)?;
-    let (names, rest) = named(alloc, rest, turns, &NameEntry)?;
-    let (_, rest) = mark(rest, Sort::SymCloseParen)?;
-    Ok((names, rest))
-}
-
 fn instance_node(
     alloc: Global,
     name: &Token,
@@ -265,23 +230,6 @@ fn instance_node(
     let name = name_of(alloc, name)?;
     let module = name_of(alloc, module_name)?;
     Ok(Box::new(alloc, Line::Instance(name, module, names))?)
-}
-
-#[tactic(auto, unfolding(crate::specs::ItemParsing::instance_of))]
-fn instance<'a>(
-    alloc: Global,
-    tokens: &'a [Token],
-    turns: usize,
-) -> Result<(Box<Line>, &'a [Token]), Stop<'a>>
-    ensures { Gives (λ x. x.value) result (instance_of turns (toks tokens.now)) }
-{
-    let (_, rest) = mark(tokens, Sort::KwInstance)?;
-    let (name, rest) = name_token(rest)?;
-    let (_, rest) = mark(rest, Sort::SymEqual)?;
-    let (module, rest) = name_token(rest)?;
-    let (names, rest) = arguments(alloc, rest, turns)?;
-    let (_, rest) = mark(rest, Sort::Nl)?;
-    Ok((instance_node(alloc, name, module, names)?, rest))
 }
 
 fn import_node(
@@ -298,23 +246,28 @@ fn import_node(
     Ok(Box::new(alloc, Line::Import(name, module, names, bound))?)
 }
 
-#[tactic(auto, unfolding(crate::specs::ItemParsing::import_of))]
-fn import<'a>(
+/// A line that begins with the word: an `instance`, or an `import`, which has a bound.
+#[tactic(auto, unfolding(crate::specs::ItemParsing::line_with))]
+fn line_with<'a>(
     alloc: Global,
     tokens: &'a [Token],
+    sort: Sort,
+    bounded: bool,
     turns: usize,
 ) -> Result<(Box<Line>, &'a [Token]), Stop<'a>>
-    ensures { Gives (λ x. x.value) result (import_of turns (toks tokens.now)) }
+    ensures { Gives (λ x. x.value) result (line_with (number_of sort) bounded turns (toks tokens.now)) }
 {
-    let (_, rest) = mark(tokens, Sort::KwImport)?;
+    let (_, rest) = mark(tokens, sort)?;
     let (name, rest) = name_token(rest)?;
     let (_, rest) = mark(rest, Sort::SymEqual)?;
     let (module, rest) = name_token(rest)?;
-    let (names, rest) = arguments(alloc, rest, turns)?;
-    let (_, rest) = mark(rest, Sort::KwAt)?;
-    let (bound, rest) = set(alloc, rest, turns)?;
+    let (names, rest) = between(alloc, rest, turns, PARENTHESES, &NameEntry)?;
+    if bounded {
+        let (bound, rest) = set_line(alloc, rest, Sort::KwAt, turns)?;
+        return Ok((import_node(alloc, name, module, names, bound)?, rest));
+    }
     let (_, rest) = mark(rest, Sort::Nl)?;
-    Ok((import_node(alloc, name, module, names, bound)?, rest))
+    Ok((instance_node(alloc, name, module, names)?, rest))
 }
 
 /// An `instance` or `import` line.
@@ -327,9 +280,9 @@ fn line<'a>(
     ensures { Gives (λ x. x.value) result (line_of turns (toks tokens.now)) }
 {
     if begins(tokens, &[Sort::KwInstance]) {
-        instance(alloc, tokens, turns)
+        line_with(alloc, tokens, Sort::KwInstance, false, turns)
     } else {
-        import(alloc, tokens, turns)
+        line_with(alloc, tokens, Sort::KwImport, true, turns)
     }
 }
 
@@ -370,25 +323,10 @@ pub fn lines<'a>(
     )
 }
 
-#[tactic(auto, unfolding(crate::specs::ItemParsing::define_of))]
-fn define<'a>(
-    alloc: Global,
-    tokens: &'a [Token],
-    turns: usize,
-) -> Result<(Define, &'a [Token]), Stop<'a>>
-    ensures { Gives (λ x. x) result (define_of turns (toks tokens.now)) }
-{
-    let (_, rest) = mark(tokens, Sort::KwEffect)?;
-    let (name, rest) = name_token(rest)?;
-    let (effect, rest) = set_line(alloc, rest, Sort::SymEqual, turns)?;
-    let name = name_of(alloc, name)?;
-    Ok((Define { name, effect }, rest))
-}
-
 /// The lines that define effects.
 #[derive(Drop)]
-struct DefineEntry {
-    turns: usize,
+pub struct DefineEntry {
+    pub turns: usize,
 }
 
 impl Entry for DefineEntry {
@@ -396,29 +334,18 @@ impl Entry for DefineEntry {
 
     ghost reads = { λ e. define_of e.turns };
 
+    #[tactic(auto, unfolding(crate::specs::ItemParsing::define_of))]
     fn read<'a>(
         &self,
         alloc: Global,
         tokens: &'a [Token],
     ) -> Result<(Define, &'a [Token]), Stop<'a>> {
-        define(alloc, tokens, self.turns)
+        let (_, rest) = mark(tokens, Sort::KwEffect)?;
+        let (name, rest) = name_token(rest)?;
+        let (effect, rest) = set_line(alloc, rest, Sort::SymEqual, self.turns)?;
+        let name = name_of(alloc, name)?;
+        Ok((Define { name, effect }, rest))
     }
-}
-
-pub fn defines<'a>(
-    alloc: Global,
-    tokens: &'a [Token],
-    turns: usize,
-) -> Result<(Items<Define>, &'a [Token]), Stop<'a>>
-    ensures { Gives (λ l. l) result (each (kinds.KwEffect ∷ []) (define_of turns) turns (toks tokens.now)) }
-{
-    row(
-        alloc,
-        tokens,
-        turns,
-        &[Sort::KwEffect],
-        &DefineEntry { turns },
-    )
 }
 
 /// The line that declares the effect of the field initialisers, where there is one.
@@ -438,43 +365,27 @@ pub fn init<'a>(
     Ok((Some(Init { place, effect }), rest))
 }
 
-#[tactic(auto, unfolding(crate::specs::ItemParsing::grant_of))]
-fn grant<'a>(alloc: Global, tokens: &'a [Token]) -> Result<(Grant, &'a [Token]), Stop<'a>>
-    ensures { Gives (λ x. x) result (grant_of (toks tokens.now)) }
-{
-    let (_, rest) = mark(tokens, Sort::KwGrant)?;
-    let (name, rest) = name_token(rest)?;
-    let (_, rest) = mark(rest, Sort::SymColon)?;
-    let (kind, rest) = name_token(rest)?;
-    let (_, rest) = mark(rest, Sort::Nl)?;
-    let name = name_of(alloc, name)?;
-    let kind = name_of(alloc, kind)?;
-    Ok((Grant { name, kind }, rest))
-}
-
 /// The `grant` lines.
-struct GrantEntry;
+pub struct GrantEntry;
 
 impl Entry for GrantEntry {
     type Value = Grant;
 
     ghost reads = { λ _. grant_of };
 
+    #[tactic(auto, unfolding(crate::specs::ItemParsing::grant_of))]
     fn read<'a>(
         &self,
         alloc: Global,
         tokens: &'a [Token],
     ) -> Result<(Grant, &'a [Token]), Stop<'a>> {
-        grant(alloc, tokens)
+        let (_, rest) = mark(tokens, Sort::KwGrant)?;
+        let (name, rest) = name_token(rest)?;
+        let (_, rest) = mark(rest, Sort::SymColon)?;
+        let (kind, rest) = name_token(rest)?;
+        let (_, rest) = mark(rest, Sort::Nl)?;
+        let name = name_of(alloc, name)?;
+        let kind = name_of(alloc, kind)?;
+        Ok((Grant { name, kind }, rest))
     }
-}
-
-pub fn grants<'a>(
-    alloc: Global,
-    tokens: &'a [Token],
-    turns: usize,
-) -> Result<(Items<Grant>, &'a [Token]), Stop<'a>>
-    ensures { Gives (λ l. l) result (each (kinds.KwGrant ∷ []) (grant_of) turns (toks tokens.now)) }
-{
-    row(alloc, tokens, turns, &[Sort::KwGrant], &GrantEntry)
 }

@@ -3,11 +3,11 @@
 ghost use Rattle.std.specs.Prelude.{◌≡◌, IfOk};
 ghost use Rattle.wy_syntax.specs.declared.types.TypeUse.TheVariants as types;
 ghost use Rattle.wy_syntax.specs.Tokens.{tok_of, toks};
-ghost use Rattle.wy_parser.specs.Parsing.{name_at, member_alone, member_of, owned, atom, set, member_set, with_sets, at_set, object_rest, object, type_use, param_of, param, module_param, effect, signature_of, signature};
+ghost use Rattle.wy_parser.specs.Parsing.{name_at, member_alone, member_of, owned, atom, set, member_set, with_sets, at_set, object_rest, object, type_use, param_of, param_type, param, effect, signature_of, signature};
 ghost use Rattle.wy_parser.specs.Sorts.{Gives};
 
 use crate::cursor::{begins, mark, name_of, name_token};
-use crate::lists::{Entry, named, separated};
+use crate::lists::{BRACES, Entry, between, named, separated};
 use crate::sort::Sort;
 use crate::stop::Stop;
 use std::alloc::Global;
@@ -48,19 +48,7 @@ fn owned<'a>(
     Ok((member_of(alloc, owner, member)?, rest))
 }
 
-/// A member, or an owner and its member.
-#[tactic(auto, unfolding(crate::specs::Parsing::atom))]
-fn atom<'a>(alloc: Global, tokens: &'a [Token]) -> Result<(AtomUse, &'a [Token]), Stop<'a>>
-    ensures { Gives (λ a. a) result (atom (toks tokens.now)) }
-{
-    let (name, rest) = name_token(tokens)?;
-    if begins(rest, &[Sort::SymDot]) {
-        return owned(alloc, rest, name);
-    }
-    Ok((member_alone(alloc, name)?, rest))
-}
-
-/// What stands between the commas of a set.
+/// What stands between the commas of a set: a member, or an owner and its member.
 struct AtomEntry;
 
 impl Entry for AtomEntry {
@@ -68,12 +56,17 @@ impl Entry for AtomEntry {
 
     ghost reads = { λ _. atom };
 
+    #[tactic(auto, unfolding(crate::specs::Parsing::atom))]
     fn read<'a>(
         &self,
         alloc: Global,
         tokens: &'a [Token],
     ) -> Result<(AtomUse, &'a [Token]), Stop<'a>> {
-        atom(alloc, tokens)
+        let (name, rest) = name_token(tokens)?;
+        if begins(rest, &[Sort::SymDot]) {
+            return owned(alloc, rest, name);
+        }
+        Ok((member_alone(alloc, name)?, rest))
     }
 }
 
@@ -86,25 +79,7 @@ pub fn set<'a>(
 ) -> Result<(SetUse, &'a [Token]), Stop<'a>>
     ensures { Gives (λ l. l) result (set turns (toks tokens.now)) }
 {
-    let (_, rest) = mark(tokens, Sort::SymOpenBrace)?;
-    let (atoms, rest) = named(alloc, rest, turns, &AtomEntry)?;
-    let (_, rest) = mark(rest, Sort::SymCloseBrace)?;
-    Ok((atoms, rest))
-}
-
-#[tactic(auto, unfolding(crate::specs::Parsing::member_set))]
-fn member_set<'a>(
-    alloc: Global,
-    tokens: &'a [Token],
-    turns: usize,
-) -> Result<(MemberSet, &'a [Token]), Stop<'a>>
-    ensures { Gives (λ m. m) result (member_set turns (toks tokens.now)) }
-{
-    let (name, rest) = name_token(tokens)?;
-    let (_, rest) = mark(rest, Sort::SymEqual)?;
-    let (effect, rest) = set(alloc, rest, turns)?;
-    let name = name_of(alloc, name)?;
-    Ok((MemberSet { name, effect }, rest))
+    between(alloc, tokens, turns, BRACES, &AtomEntry)
 }
 
 /// What stands between the commas of a declared type's members.
@@ -118,12 +93,17 @@ impl Entry for MemberSetEntry {
 
     ghost reads = { λ e. member_set e.turns };
 
+    #[tactic(auto, unfolding(crate::specs::Parsing::member_set))]
     fn read<'a>(
         &self,
         alloc: Global,
         tokens: &'a [Token],
     ) -> Result<(MemberSet, &'a [Token]), Stop<'a>> {
-        member_set(alloc, tokens, self.turns)
+        let (name, rest) = name_token(tokens)?;
+        let (_, rest) = mark(rest, Sort::SymEqual)?;
+        let (effect, rest) = set(alloc, rest, self.turns)?;
+        let name = name_of(alloc, name)?;
+        Ok((MemberSet { name, effect }, rest))
     }
 }
 
@@ -251,76 +231,46 @@ fn param_node(alloc: Global, name: &Token, type_use: Box<TypeUse>) -> Result<Box
     Ok(Box::new(alloc, Param { name, type_use })?)
 }
 
-#[tactic(auto, unfolding(crate::specs::Parsing::param))]
-fn param<'a>(
+/// The type of a method's parameter, or of a module's, which is a declared one.
+fn param_type<'a>(
     alloc: Global,
     tokens: &'a [Token],
+    declared: bool,
     plain: bool,
     turns: usize,
-) -> Result<(Box<Param>, &'a [Token]), Stop<'a>>
-    ensures { Gives (λ x. x.value) result (param plain turns (toks tokens.now)) }
+) -> Result<(Box<TypeUse>, &'a [Token]), Stop<'a>>
+    ensures { Gives (λ t. t.value) result (param_type declared plain turns (toks tokens.now)) }
 {
-    let (name, rest) = name_token(tokens)?;
-    let (_, rest) = mark(rest, Sort::SymColon)?;
-    let (type_use, rest) = type_use(alloc, rest, plain, turns)?;
-    Ok((param_node(alloc, name, type_use)?, rest))
+    if declared {
+        object(alloc, tokens, plain, turns)
+    } else {
+        type_use(alloc, tokens, plain, turns)
+    }
 }
 
-/// What stands between the commas of a method's parameters.
+/// What stands between the commas of a method's parameters, or of a module's, whose types are declared ones.
 #[derive(Drop)]
-struct ParamEntry {
-    plain: bool,
-    turns: usize,
+pub struct ParamEntry {
+    pub declared: bool,
+    pub plain: bool,
+    pub turns: usize,
 }
 
 impl Entry for ParamEntry {
     type Value = Param;
 
-    ghost reads = { λ e. param e.plain e.turns };
+    ghost reads = { λ e. param e.declared e.plain e.turns };
 
+    #[tactic(auto, unfolding(crate::specs::Parsing::param))]
     fn read<'a>(
         &self,
         alloc: Global,
         tokens: &'a [Token],
     ) -> Result<(Param, &'a [Token]), Stop<'a>> {
-        let (item, rest) = param(alloc, tokens, self.plain, self.turns)?;
-        Ok((Box::into_inner(item), rest))
-    }
-}
-
-#[tactic(auto, unfolding(crate::specs::Parsing::module_param))]
-fn module_param<'a>(
-    alloc: Global,
-    tokens: &'a [Token],
-    plain: bool,
-    turns: usize,
-) -> Result<(Box<Param>, &'a [Token]), Stop<'a>>
-    ensures { Gives (λ x. x.value) result (module_param plain turns (toks tokens.now)) }
-{
-    let (name, rest) = name_token(tokens)?;
-    let (_, rest) = mark(rest, Sort::SymColon)?;
-    let (type_use, rest) = object(alloc, rest, plain, turns)?;
-    Ok((param_node(alloc, name, type_use)?, rest))
-}
-
-/// What stands between the commas of a module's parameters.
-#[derive(Drop)]
-pub struct ModuleParamEntry {
-    pub plain: bool,
-    pub turns: usize,
-}
-
-impl Entry for ModuleParamEntry {
-    type Value = Param;
-
-    ghost reads = { λ e. module_param e.plain e.turns };
-
-    fn read<'a>(
-        &self,
-        alloc: Global,
-        tokens: &'a [Token],
-    ) -> Result<(Param, &'a [Token]), Stop<'a>> {
-        let (item, rest) = module_param(alloc, tokens, self.plain, self.turns)?;
+        let (name, rest) = name_token(tokens)?;
+        let (_, rest) = mark(rest, Sort::SymColon)?;
+        let (type_use, rest) = param_type(alloc, rest, self.declared, self.plain, self.turns)?;
+        let item = param_node(alloc, name, type_use)?;
         Ok((Box::into_inner(item), rest))
     }
 }
@@ -375,7 +325,12 @@ pub fn signature<'a>(
     let (place, rest) = mark(tokens, Sort::KwDef)?;
     let (name, rest) = name_token(rest)?;
     let (_, rest) = mark(rest, Sort::SymOpenParen)?;
-    let (params, rest) = named(alloc, rest, turns, &ParamEntry { plain, turns })?;
+    let entry = ParamEntry {
+        declared: false,
+        plain,
+        turns,
+    };
+    let (params, rest) = named(alloc, rest, turns, &entry)?;
     let (_, rest) = mark(rest, Sort::SymCloseParen)?;
     let (_, rest) = mark(rest, Sort::SymColon)?;
     let (effect, rest) = effect(alloc, rest, plain, turns)?;
