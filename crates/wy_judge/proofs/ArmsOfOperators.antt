@@ -14,7 +14,8 @@ use Rattle.wy_rules.specs.Acceptance.{scope_reading}
 use Rattle.wy_rules.specs.Nodes.{expr_nodes}
 use Rattle.wy_judge.specs.Inference.{Inference}
 use Rattle.wy_judge.specs.Inference as inferred
-use Rattle.wy_judge.specs.Outcomes.{unary_result, binary_result, operation_outcome, unary_outcome, second_outcome, both_outcome, IsBoth}
+use Rattle.wy_premises.specs.Operators.{unary_result, binary_result}
+use Rattle.wy_judge.specs.Outcomes.{operation_outcome, unary_outcome, second_outcome, both_outcome, IsBoth}
 use Rattle.wy_judge.specs.Tables.{Table, IsScopeOf, ExprReady}
 use Rattle.wy_judge.specs.Targets.{IsInRangeOf}
 use Rattle.wy_judge.specs.Judging.{InferenceStands, InfersTo}

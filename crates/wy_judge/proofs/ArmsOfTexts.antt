@@ -20,7 +20,8 @@ use Rattle.wy_rules.specs.Nodes.{row_types, written_spots}
 use Rattle.wy_rules.specs.Failing.{first_values}
 use Rattle.wy_judge.specs.Fits.{Fits}
 use Rattle.wy_judge.specs.Fits as fits
-use Rattle.wy_judge.specs.Outcomes.{text_operands, text_result, text_outcome, FewOperands, NoneFails}
+use Rattle.wy_premises.specs.Operators.{text_operands, text_result}
+use Rattle.wy_judge.specs.Outcomes.{text_outcome, FewOperands, NoneFails}
 use Rattle.wy_judge.specs.Judged.{HaveFirst}
 use Rattle.wy_judge.specs.Tables.{Table, IsScopeOf, ExprReady, ValuesReady}
 use Rattle.wy_judge.specs.Targets.{IsInRangeOf}

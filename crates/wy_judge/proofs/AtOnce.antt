@@ -28,7 +28,8 @@ use Rattle.wy_judge.specs.Fit as fit
 use Rattle.wy_judge.specs.Fits.{Fits}
 use Rattle.wy_judge.specs.Fits as fits
 use Rattle.wy_judge.specs.declared.targets.Target.TheVariants.{Without}
-use Rattle.wy_judge.specs.Outcomes.{text_operands, text_outcome, new_outcome, call_outcome, uncalled_outcome, more_fits, fault_or, NoneFails}
+use Rattle.wy_premises.specs.Operators.{text_operands}
+use Rattle.wy_judge.specs.Outcomes.{text_outcome, new_outcome, call_outcome, uncalled_outcome, more_fits, fault_or, NoneFails}
 use Rattle.wy_judge.specs.Judged.{Fitted, Probed, AllFitted, AllProbed}
 use Rattle.wy_judge.specs.Tables.{Table, Agrees, IsScopeOf, Moves, ExprReady, ValuesReady}
 use Rattle.wy_judge.specs.Targets.{IsTargetOf}

@@ -5,9 +5,9 @@ use Rattle.wy_effects.specs.EffSet.{replace}
 use Rattle.wy_effects.specs.Bounds.{Bounds, IsWithin, Respects, GoDown}
 use Rattle.wy_effects.proofs.SetLaws.{cases_equal}
 use Rattle.wy_rules.specs.Failing.{FirstOutside}
-use Rattle.wy_judge.specs.Outside.{RespectsOne, OutsideOne, RespectsBefore}
+use Rattle.wy_premises.specs.Outside.{RespectsOne, OutsideOne, RespectsBefore}
 use Rattle.wy_judge.proofs.LacksDecided.{within_or_missing}
-use Rattle.wy_judge.proofs.RespectedBounds.{none_before, one_more, respects_all, first_is_outside}
+use Rattle.wy_premises.proofs.RespectedBounds.{none_before, one_more, respects_all, first_is_outside}
 
 module _ (bounds there : Bounds) (down : GoDown there) (by : List (List ℕ)) where
   abbrev AnyOutside : Type 0

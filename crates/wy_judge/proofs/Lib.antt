@@ -43,7 +43,6 @@ pub mod Putting
 pub mod ReachDecided
 pub mod ReadTypes
 pub mod Refitting
-pub mod RespectedBounds
 pub mod Rooms
 pub mod ScopeParts
 pub mod ScopesDecided

@@ -23,7 +23,8 @@ use Rattle.wy_rules.proofs.Least.{at_type, no_values, more_values, has_at, OneRo
 use Rattle.wy_rules.proofs.Needs.{not_below, first_has, others_have, all_at, none_at, unary_needs, binary_needs}
 use Rattle.wy_judge.specs.Inference.{Inference}
 use Rattle.wy_judge.specs.Inference as inferred
-use Rattle.wy_judge.specs.Outcomes.{IsSame, fault_at, unary_result, binary_result, operation_outcome, unary_outcome, second_outcome, both_outcome}
+use Rattle.wy_premises.specs.Operators.{unary_result, binary_result}
+use Rattle.wy_judge.specs.Outcomes.{IsSame, fault_at, operation_outcome, unary_outcome, second_outcome, both_outcome}
 use Rattle.wy_judge.specs.Judged.{Inferred}
 use Rattle.wy_judge.proofs.ReadTypes.{read_object, read_loses_nothing}
 use Rattle.wy_judge.proofs.Bases.{base_below}

@@ -35,7 +35,8 @@ use Rattle.wy_judge.specs.Fits as fits
 use Rattle.wy_judge.specs.Step.{Step}
 use Rattle.wy_judge.specs.Step as step
 use Rattle.wy_judge.specs.declared.targets.Target.TheVariants.{Without}
-use Rattle.wy_judge.specs.Outcomes.{fault_at, IsSame, unary_outcome, both_outcome, text_operands, text_outcome, new_outcome, call_outcome, uncalled_outcome, ascribed_outcome, assigned_outcome, unassigned_outcome, fitted_outcome, probed_outcome, chosen_fit, chosen_fault, more_fits, fault_or, followed_fit, stated_step, untyped_fault}
+use Rattle.wy_premises.specs.Operators.{text_operands}
+use Rattle.wy_judge.specs.Outcomes.{fault_at, IsSame, unary_outcome, both_outcome, text_outcome, new_outcome, call_outcome, uncalled_outcome, ascribed_outcome, assigned_outcome, unassigned_outcome, fitted_outcome, probed_outcome, chosen_fit, chosen_fault, more_fits, fault_or, followed_fit, stated_step, untyped_fault}
 use Rattle.wy_judge.specs.Tables.{Table, IsKnown, IsScopeOf, HasOwner, IsKept, IsPut, Moves, ExprReady, ValueReady, ValuesReady, BlockReady}
 use Rattle.wy_judge.specs.Targets.{mode_of, IsTargetOf, IsInRangeOf, IsFittedIn}
 use Rattle.wy_judge.specs.Judging.{NoFault, FitStands, StepStands, TypesInRange, InfersTo, FitsTo, ProbesTo, BlockFitsTo, BlockProbesTo}

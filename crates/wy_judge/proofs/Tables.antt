@@ -10,7 +10,7 @@ use Rattle.wy_types.specs.declared.code.BinaryOperator.{BinaryOperator}
 use Rattle.wy_types.specs.declared.code.BinaryOperator.TheVariants.{Add, Subtract, Multiply, Divide, Remainder, Join, Less, LessOrEqual, Greater, GreaterOrEqual, Equal, NotEqual, And, Or}
 use Rattle.wy_types.specs.Types.{IsObject}
 use Rattle.wy_rules.specs.Operators.{Row, row, unary_rows, equality_rows, binary_rows}
-use Rattle.wy_judge.specs.Outcomes.{if_int, if_bool, if_text, if_equated, unary_result, binary_result}
+use Rattle.wy_premises.specs.Operators.{result_in, unary_result, binary_result}
 
 -- an operand of the type, and the others that go with it
 abbrev pub row_at : (TypeRef → List TypeRef) → TypeRef → TypeRef → Row
@@ -48,7 +48,7 @@ base_of others rows result table t c g =
 ------------------------------------------------------------
 -- What is asked of the first operand
 
-only_int : (c t d : TypeRef) → if_int t c ≡ Some d → (Int ≡ t) × (c ≡ d)
+only_int : (c t d : TypeRef) → result_in (row (Int ∷ []) c ∷ []) t ≡ Some d → (Int ≡ t) × (c ≡ d)
 only_int c Int d e = (refl, cc)
 only_int c Bool d e = absurd (cc)
 only_int c Text d e = absurd (cc)
@@ -57,7 +57,7 @@ only_int c (Named n members) d e = absurd (cc)
 only_int c (At n bound) d e = absurd (cc)
 only_int c (Own l) d e = absurd (cc)
 
-only_bool : (c t d : TypeRef) → if_bool t c ≡ Some d → (Bool ≡ t) × (c ≡ d)
+only_bool : (c t d : TypeRef) → result_in (row (Bool ∷ []) c ∷ []) t ≡ Some d → (Bool ≡ t) × (c ≡ d)
 only_bool c Int d e = absurd (cc)
 only_bool c Bool d e = (refl, cc)
 only_bool c Text d e = absurd (cc)
@@ -66,7 +66,7 @@ only_bool c (Named n members) d e = absurd (cc)
 only_bool c (At n bound) d e = absurd (cc)
 only_bool c (Own l) d e = absurd (cc)
 
-only_text : (c t d : TypeRef) → if_text t c ≡ Some d → (Text ≡ t) × (c ≡ d)
+only_text : (c t d : TypeRef) → result_in (row (Text ∷ []) c ∷ []) t ≡ Some d → (Text ≡ t) × (c ≡ d)
 only_text c Int d e = absurd (cc)
 only_text c Bool d e = absurd (cc)
 only_text c Text d e = (refl, cc)
@@ -94,7 +94,7 @@ pub unary_table : (op : UnaryOperator) → IsTable no_others (unary_rows op) (un
 unary_table Negate = one_row no_others (unary_result Negate) Int Int (λ o. o) (λ o. o) refl (λ t d e. only_int Int t d e)
 unary_table Not = one_row no_others (unary_result Not) Bool Bool (λ o. o) (λ o. o) refl (λ t d e. only_bool Bool t d e)
 
-equality_row_for : (t c : TypeRef) → if_equated t ≡ Some c → In (row_at same_other t c) equality_rows
+equality_row_for : (t c : TypeRef) → result_in equality_rows t ≡ Some c → In (row_at same_other t c) equality_rows
 equality_row_for Int c e = inl (cc)
 equality_row_for Bool c e = inr (inl (cc))
 equality_row_for Text c e = inr (inr (inl (cc)))
@@ -103,7 +103,7 @@ equality_row_for (Named n members) c e = absurd (cc)
 equality_row_for (At n bound) c e = absurd (cc)
 equality_row_for (Own l) c e = absurd (cc)
 
-equality_table : (result : TypeRef → Option TypeRef) → ((t : TypeRef) → result t ≡ if_equated t) → IsTable same_other equality_rows result
+equality_table : (result : TypeRef → Option TypeRef) → ((t : TypeRef) → result t ≡ result_in equality_rows t) → IsTable same_other equality_rows result
 equality_table result same = record {
   row_for = λ t c e. equality_row_for t c (sym (same t) ∙ e);
   rows_are = λ r i. elim i [
@@ -119,13 +119,13 @@ equality_table result same = record {
   some_row = (row_at same_other Int Bool, inl refl);
 }
 
-two_ints : (op : BinaryOperator) (c : TypeRef) → (IsObject c → ⊥) → ((t : TypeRef) → binary_result op t ≡ if_int t c) → IsTable same_other (row_at same_other Int c ∷ []) (binary_result op)
+two_ints : (op : BinaryOperator) (c : TypeRef) → (IsObject c → ⊥) → ((t : TypeRef) → binary_result op t ≡ result_in (row (Int ∷ []) c ∷ []) t) → IsTable same_other (row_at same_other Int c ∷ []) (binary_result op)
 two_ints op c b same = one_row same_other (binary_result op) Int c (λ o. o) b (same Int) (λ t d e. only_int c t d (sym (same t) ∙ e))
 
-two_bools : (op : BinaryOperator) → ((t : TypeRef) → binary_result op t ≡ if_bool t Bool) → IsTable same_other (row_at same_other Bool Bool ∷ []) (binary_result op)
+two_bools : (op : BinaryOperator) → ((t : TypeRef) → binary_result op t ≡ result_in (row (Bool ∷ []) Bool ∷ []) t) → IsTable same_other (row_at same_other Bool Bool ∷ []) (binary_result op)
 two_bools op same = one_row same_other (binary_result op) Bool Bool (λ o. o) (λ o. o) (same Bool) (λ t d e. only_bool Bool t d (sym (same t) ∙ e))
 
-two_texts : (op : BinaryOperator) → ((t : TypeRef) → binary_result op t ≡ if_text t Text) → IsTable same_other (row_at same_other Text Text ∷ []) (binary_result op)
+two_texts : (op : BinaryOperator) → ((t : TypeRef) → binary_result op t ≡ result_in (row (Text ∷ []) Text ∷ []) t) → IsTable same_other (row_at same_other Text Text ∷ []) (binary_result op)
 two_texts op same = one_row same_other (binary_result op) Text Text (λ o. o) (λ o. o) (same Text) (λ t d e. only_text Text t d (sym (same t) ∙ e))
 
 pub binary_table : (op : BinaryOperator) → IsTable same_other (binary_rows op) (binary_result op)

@@ -17,7 +17,8 @@ use Rattle.wy_rules.proofs.Least.{text_call_least}
 use Rattle.wy_rules.proofs.Needs.{text_needs}
 use Rattle.wy_judge.specs.Fits.{Fits}
 use Rattle.wy_judge.specs.Fits as fits
-use Rattle.wy_judge.specs.Outcomes.{text_operands, text_result, text_outcome}
+use Rattle.wy_premises.specs.Operators.{text_operands, text_result}
+use Rattle.wy_judge.specs.Outcomes.{text_outcome}
 use Rattle.wy_judge.specs.Judged.{Inferred, HaveFirst, AllFitted}
 use Rattle.wy_judge.proofs.Bases.{base_below}
 use Rattle.wy_judge.proofs.Lists.{fail_left}

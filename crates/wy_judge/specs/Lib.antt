@@ -8,7 +8,6 @@ pub mod Judged
 pub mod Judging
 pub mod Lacks
 pub mod Outcomes
-pub mod Outside
 pub mod Results
 pub mod Step
 pub mod Tables

@@ -8,19 +8,17 @@ use Rattle.wy_text.specs.declared.fault.RuleName.{RuleName}
 use Rattle.wy_text.specs.declared.fault.RuleName.TheVariants.{TCall, TNew, TIf, TVal, TSet, TOp, TAsc, TBody, MPure, MAscribe}
 use Rattle.wy_effects.specs.EffSet.{union}
 use Rattle.wy_types.specs.declared.types.TypeRef.{TypeRef}
-use Rattle.wy_types.specs.declared.types.TypeRef.TheVariants.{Int, Bool, Text, Unit as Nothing, Named, At, Own}
+use Rattle.wy_types.specs.declared.types.TypeRef.TheVariants.{Unit as Nothing, Own}
 use Rattle.wy_types.specs.declared.code.UnaryOperator.{UnaryOperator}
-use Rattle.wy_types.specs.declared.code.UnaryOperator.TheVariants.{Negate, Not}
 use Rattle.wy_types.specs.declared.code.BinaryOperator.{BinaryOperator}
-use Rattle.wy_types.specs.declared.code.BinaryOperator.TheVariants.{Add, Subtract, Multiply, Divide, Remainder, Join, Less, LessOrEqual, Greater, GreaterOrEqual, Equal, NotEqual, And, Or}
 use Rattle.wy_types.specs.declared.code.TextOperator.{TextOperator}
-use Rattle.wy_types.specs.declared.code.TextOperator.TheVariants.{Size, Part, Code, Byte, Show}
 use Rattle.wy_types.specs.declared.resolved.Field.{Field}
 use Rattle.wy_types.specs.declared.resolved.OwnName.{OwnName}
 use Rattle.wy_types.specs.declared.resolved.Origin.{Origin}
 use Rattle.wy_types.specs.declared.resolved.Origin.TheVariants.{Parameter, Grant, Use, Instance, Import}
 use Rattle.wy_types.specs.declared.resolved.ScopeKind.{ScopeKind}
 use Rattle.wy_types.specs.declared.resolved.ScopeKind.TheVariants.{Pure, Resource, Plain, Program as Main}
+use Rattle.wy_premises.specs.Operators.{unary_result, binary_result, text_result}
 use Rattle.wy_judge.specs.Inference.{Inference}
 use Rattle.wy_judge.specs.Inference as inferred
 use Rattle.wy_judge.specs.Fit.{Fit}
@@ -36,80 +34,6 @@ fault_at place rule premise = record { place = place; rule = rule; premise = pre
 
 ------------------------------------------------------------
 -- Operators
-
-abbrev pub if_int : TypeRef → TypeRef → Option TypeRef
-if_int Int result = Some result
-if_int Bool result = None
-if_int Text result = None
-if_int Nothing result = None
-if_int (Named d members) result = None
-if_int (At d bound) result = None
-if_int (Own l) result = None
-
-abbrev pub if_bool : TypeRef → TypeRef → Option TypeRef
-if_bool Int result = None
-if_bool Bool result = Some result
-if_bool Text result = None
-if_bool Nothing result = None
-if_bool (Named d members) result = None
-if_bool (At d bound) result = None
-if_bool (Own l) result = None
-
-abbrev pub if_text : TypeRef → TypeRef → Option TypeRef
-if_text Int result = None
-if_text Bool result = None
-if_text Text result = Some result
-if_text Nothing result = None
-if_text (Named d members) result = None
-if_text (At d bound) result = None
-if_text (Own l) result = None
-
--- equality is asked of two numbers, two truth values or two texts
-abbrev pub if_equated : TypeRef → Option TypeRef
-if_equated Int = Some Bool
-if_equated Bool = Some Bool
-if_equated Text = Some Bool
-if_equated Nothing = None
-if_equated (Named d members) = None
-if_equated (At d bound) = None
-if_equated (Own l) = None
-
--- the result's type, where the operator takes an operand of this type
-abbrev pub unary_result : UnaryOperator → TypeRef → Option TypeRef
-unary_result Negate t = if_int t Int
-unary_result Not t = if_bool t Bool
-
--- .. where it takes a first operand of this type; the second one has to have the same type
-abbrev pub binary_result : BinaryOperator → TypeRef → Option TypeRef
-binary_result Add t = if_int t Int
-binary_result Subtract t = if_int t Int
-binary_result Multiply t = if_int t Int
-binary_result Divide t = if_int t Int
-binary_result Remainder t = if_int t Int
-binary_result Join t = if_text t Text
-binary_result Less t = if_int t Bool
-binary_result LessOrEqual t = if_int t Bool
-binary_result Greater t = if_int t Bool
-binary_result GreaterOrEqual t = if_int t Bool
-binary_result Equal t = if_equated t
-binary_result NotEqual t = if_equated t
-binary_result And t = if_bool t Bool
-binary_result Or t = if_bool t Bool
-
--- the type that an operation on texts asks of its operands, and its result's
-abbrev pub text_operands : TextOperator → List TypeRef
-text_operands Size = Text ∷ []
-text_operands Part = Text ∷ Int ∷ Int ∷ []
-text_operands Code = Text ∷ Int ∷ []
-text_operands Byte = Int ∷ []
-text_operands Show = Int ∷ []
-
-abbrev pub text_result : TextOperator → TypeRef
-text_result Size = Int
-text_result Part = Text
-text_result Code = Int
-text_result Byte = Text
-text_result Show = Text
 
 abbrev pub operation_outcome : Place → Option TypeRef → List ℕ → Inference
 operation_outcome place None e = inferred.Fails (fault_at place TOp 1)

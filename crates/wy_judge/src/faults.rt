@@ -11,26 +11,13 @@ ghost use Rattle.wy_judge.specs.Lacks.{LacksIn, IsBodyFault};
 ghost use Rattle.wy_judge.specs.Results.{fit_of};
 
 use crate::outcomes::{Fit, fault_at};
-use crate::targets::fields_of;
 use wy_effects::atom::{Atom, AtomTable};
 use wy_effects::set::EffSet;
+use wy_premises::{fields_of, least_missing};
 use wy_subtype::Mode;
 use wy_text::fault::{AtomName, Fault, Place, RuleName};
 use wy_text::text::Memory;
 use wy_types::resolved::{Field, Origin, OwnName, Scope, ScopeKind};
-
-/// The least atom of an effect that another lacks.
-pub fn least_missing(effect: &EffSet, declared: &EffSet) -> Result<Option<Atom>, Memory>
-    ensures none { IfOk result (λ o. IfNone o (Within effect.now declared.now)) }
-    ensures some { IfOk result (λ o. IfSome o (λ a. IsLeastMissing IsOneOf a.0 effect.now declared.now)) }
-{
-    effect.is_set();
-    if declared.includes(effect) {
-        return Ok(None);
-    }
-    let atoms = effect.without(declared)?.atoms()?;
-    Ok(atoms.first().copied())
-}
 
 /// The least atom of an effect that the declared one lacks; in a plain module none.
 fn lack(mode: Mode, effect: &EffSet, declared: &EffSet) -> Result<Option<Atom>, Memory>

@@ -15,11 +15,13 @@ ghost use Rattle.wy_judge.specs.Tables.{ExprReady, ValueReady, ValuesReady, Bloc
 ghost use Rattle.wy_judge.specs.Walk.{IsWalk, Asks, Here};
 ghost use Rattle.wy_judge.specs.Judging.{TypesInRange, StmtReady, IsCallable, ArgumentsTo, InfersTo, FitsTo, AllFitTo, BlockFitsTo, ProbesTo, AllProbeTo, BlockProbesTo, StatesTo, StepsTo};
 
-use crate::operators::{binary_result, text_operands, text_result, unary_result, united};
 use crate::outcomes::{Fit, Fits, Least, Stop, fails};
-use crate::targets::{Target, field_types, fitted, mark, target_of, type_of_binding, var_field};
+use crate::targets::{Target, fitted, target_of, type_of_binding};
 use crate::walk::{Known, Walk, put};
 use wy_effects::set::EffSet;
+use wy_premises::{
+    binary_result, field_types, mark, text_operands, text_result, unary_result, united, var_field,
+};
 use wy_text::fault::{Place, RuleName};
 use wy_text::text::Memory;
 use wy_types::code::{

@@ -6,15 +6,12 @@ mod checking;
 mod faults;
 mod judging;
 pub mod laws;
-mod operators;
 mod outcomes;
-mod respecting;
 mod scopes;
 mod targets;
 mod walk;
 
 pub use checking::{CheckRefusal, Checked, check_modules, check_scope, keep_limit};
-pub use faults::{atom_name, least_missing};
+pub use faults::atom_name;
 pub use outcomes::fault_at;
-pub use respecting::first_outside;
 pub use scopes::{Judged, judge_scope};

@@ -12,11 +12,11 @@ ghost use Rattle.wy_judge.specs.Walking.{Walked, StartsTo, BodyTo, BodiesTo, set
 
 use crate::faults::{body_fault, lack_fault, pure_fault};
 use crate::outcomes::{Fit, Stop, fails, stop_at};
-use crate::respecting::first_outside;
-use crate::targets::{field_types, mode_of};
+use crate::targets::mode_of;
 use crate::walk::{Known, Walk};
 use std::alloc::Global;
 use wy_effects::set::{EffSet, copy_sets};
+use wy_premises::{field_types, first_outside};
 use wy_subtype::{Mode, PairTable};
 use wy_text::fault::{Fault, Place, RuleName};
 use wy_text::list::Items;

@@ -1,13 +1,10 @@
-//! What is looked up where a part of a body is judged: types of names and fields, and the methods that calls name.
+//! What is looked up where a part of a body is judged: types of names, and the methods that calls name.
 
 ghost use Rattle.std.specs.Prelude.{◌≡◌, IfOk, slice_get};
 ghost use Rattle.std.specs.Option.{option_copied};
 ghost use Rattle.wy_types.specs.Program.{program_of, scope_of};
 ghost use Rattle.wy_types.specs.Types.{is_plain};
 ghost use Rattle.wy_types.specs.Fitting.{IsTypeOf};
-ghost use Rattle.wy_rules.specs.Typing.{field_types, field_at, var_field, parameter_type, fields_of};
-ghost use Rattle.wy_rules.specs.Derivations.{mark, expr_mark};
-ghost use Rattle.wy_types.specs.View.{value_of, expr_of};
 ghost use Rattle.wy_judge.specs.Inference as Inference;
 ghost use Rattle.wy_judge.specs.Results.{fit_of};
 ghost use Rattle.wy_judge.specs.Targets.{mode_of, known, type_of_binding, IsTargetOf, IsFittedIn};
@@ -15,14 +12,13 @@ ghost use Rattle.wy_judge.specs.Targets.{mode_of, known, type_of_binding, IsTarg
 use crate::outcomes::{Fit, Least};
 use std::alloc::Global;
 use wy_effects::set::EffSet;
+use wy_premises::declared_type;
 use wy_subtype::{Mode, PairTable};
-use wy_text::fault::Place;
-use wy_text::list::Items;
 use wy_text::text::{Memory, Text};
-use wy_types::code::{Binding, Expr, Value, Variable};
+use wy_types::code::{Binding, Variable};
 use wy_types::methods::find_method;
-use wy_types::resolved::{Core, Field, Scope, ScopeKind};
-use wy_types::types::{Method, TypeList, TypeRef};
+use wy_types::resolved::{Core, Scope, ScopeKind};
+use wy_types::types::{Method, TypeRef};
 
 /// What a receiver offers by a name.
 #[derive(Drop)]
@@ -40,68 +36,6 @@ pub fn mode_of(scope: &Scope) -> Mode
     match scope.kind {
         ScopeKind::Plain => Mode::Plain,
         ScopeKind::Pure | ScopeKind::Resource | ScopeKind::Program => Mode::Annotated,
-    }
-}
-
-// ----------------------------------------------------------------------------
-// Fields and names
-
-/// The fields of the module, by 0, or of a literal.
-pub fn fields_of(scope: &Scope, literal: u32) -> &[Field]
-    ensures { result.now ≡ fields_of (scope_of scope.now) literal }
-{
-    match scope.literals.get(literal as usize) {
-        Some(l) => l.fields.as_slice(),
-        None => &[],
-    }
-}
-
-/// The types of the fields of the module, by 0, or of a literal.
-pub fn field_types(alloc: Global, scope: &Scope, literal: u32) -> Result<TypeList, Memory>
-    ensures { IfOk result (λ ts. ts ≡ field_types (scope_of scope.now) literal) }
-{
-    let mut types = Items::new(alloc);
-    for field in fields_of(scope, literal) {
-        types.push(field.typ.copy(alloc)?)?;
-    }
-    Ok(types)
-}
-
-/// A field of the current object.
-fn field_at(scope: &Scope, owner: Option<u32>, number: u16) -> Option<&Field>
-    ensures { option_copied result ≡ field_at (scope_of scope.now) owner number }
-{
-    match owner {
-        Some(literal) => fields_of(scope, literal).get(number as usize),
-        None => None,
-    }
-}
-
-/// The `var` field of the current object that a name stands for.
-pub fn var_field(scope: &Scope, owner: Option<u32>, binding: Binding) -> Option<&Field>
-    ensures { option_copied result ≡ var_field (scope_of scope.now) owner binding }
-{
-    match binding {
-        Binding::Field(number) => match field_at(scope, owner, number) {
-            Some(field) => {
-                if field.mutable {
-                    return Some(field);
-                }
-                None
-            }
-            None => None,
-        },
-        Binding::Variable(_) | Binding::Own(_) => None,
-    }
-}
-
-/// The type of a parameter of the scope's body of a number.
-fn parameter_type(scope: &Scope, body: u32, index: u16) -> Option<&TypeRef>
-    ensures { option_copied result ≡ parameter_type (slice_get (scope_of scope.now).bodies body) index }
-{
-    match scope.bodies.get(body as usize) {
-        Some(b) => b.signature.params.get(index as usize),
-        None => None,
     }
 }
 
@@ -125,18 +59,10 @@ pub fn type_of_binding<'a>(
     ensures { option_copied result ≡ type_of_binding (scope_of scope.now) table.now owner binding }
 {
     match binding {
-        Binding::Variable(Variable::Parameter { body, index }) => {
-            parameter_type(scope, body, index)
-        }
         Binding::Variable(Variable::Local(number)) => local_type(table, number),
-        Binding::Field(number) => match field_at(scope, owner, number) {
-            Some(field) => Some(&field.typ),
-            None => None,
-        },
-        Binding::Own(number) => match scope.names.get(number as usize) {
-            Some(name) => Some(&name.typ),
-            None => None,
-        },
+        Binding::Variable(Variable::Parameter { .. }) | Binding::Field(_) | Binding::Own(_) => {
+            declared_type(scope, owner, binding)
+        }
     }
 }
 
@@ -182,27 +108,4 @@ pub fn fitted(pairs: &mut PairTable<'_>, expr: Least, typ: &TypeRef) -> Result<F
         return Ok(Fit::Has(expr.effect));
     }
     Ok(Fit::Misfit)
-}
-
-/// The mark of an expression.
-fn expr_mark(expr: &Expr) -> Place
-    ensures { result ≡ expr_mark (expr_of expr.now) }
-{
-    match expr {
-        Expr::Int(place, _) | Expr::Text(place, _) | Expr::Bool(place, _) => *place,
-        Expr::Unit(place) | Expr::This(place) | Expr::Name(place, _) => *place,
-        Expr::Unary(place, _, _) | Expr::Binary(place, _, _, _) => *place,
-        Expr::TextCall(place, _, _) | Expr::Call(place, _, _, _) | Expr::New(place, _, _) => *place,
-        Expr::Ascribe(place, _, _) | Expr::Assign(place, _, _) => *place,
-    }
-}
-
-/// The mark of a value.
-pub fn mark(value: &Value) -> Place
-    ensures { result ≡ mark (value_of value.now) }
-{
-    match value {
-        Value::Plain(expr) => expr_mark(expr),
-        Value::If(place, _, _, _) => *place,
-    }
 }

@@ -5,7 +5,7 @@ use Rattle.std.specs.Prelude.{slice_get, IfOk, IfSome, IfNone}
 use Rattle.wy_text.specs.declared.text.Memory.{Memory}
 use Rattle.wy_effects.specs.Members.{In, Within}
 use Rattle.wy_effects.specs.declared.atom.Atom.{Atom}
-use Rattle.wy_effects.specs.Bounds.{Bounds, IsOneOf, IsLeastMissing, IsWidened, Respects}
+use Rattle.wy_effects.specs.Bounds.{IsOneOf, IsLeastMissing, IsWidened}
 use Rattle.wy_types.specs.declared.types.TypeRef.{TypeRef}
 use Rattle.wy_types.specs.declared.path.Step.{Step}
 use Rattle.wy_types.specs.declared.resolved.OwnName.{OwnName}
@@ -14,12 +14,11 @@ use Rattle.wy_types.specs.Types.{methods_of}
 use Rattle.wy_types.specs.Bounds.{bounds_of}
 use Rattle.wy_types.specs.Paths.{IsEffect}
 use Rattle.wy_types.specs.Ground.{type_of}
-use Rattle.wy_rules.specs.Failing.{FirstOutside, LacksOutside}
-use Rattle.wy_rules.proofs.Outside.{outside_disrespects}
 use Rattle.wy_bounds.specs.declared.safety.Safety.{Safety}
 use Rattle.wy_bounds.specs.declared.safety.Safety.TheVariants.{Yes, No}
 use Rattle.wy_bounds.specs.Safety.{IsAnswer}
-use Rattle.wy_link.specs.Tried.{OrLacks, missing_atom, BoundedAt, ExceedsAt, SafeAt, UnsafeAt, Bounded, Exceeds, Safe, Unsafe}
+use Rattle.wy_premises.specs.Tried.{OrLacks, missing_atom}
+use Rattle.wy_link.specs.Tried.{BoundedAt, ExceedsAt, SafeAt, UnsafeAt, Bounded, Exceeds, Safe, Unsafe}
 
 module _ (p : Program) (k : ℕ) (bound : List ℕ) where
   ------------------------------------------------------------
@@ -67,19 +66,3 @@ module _ (p : Program) (k : ℕ) (bound : List ℕ) where
 
     pub lack_as : (v : Safety) (path : List Step) (x : Atom) → v ≡ No path x → IsAnswer p k t false bound v → OrLacks (Safe p k names bound a) (Unsafe p k names bound a) (Some x.0)
     lack_as v path x n h = subst (λ u. OrLacks (SafeAt p k bound u) (UnsafeAt p k bound u) (Some x.0)) type_as (lack_at t v path x n h)
-
-------------------------------------------------------------
--- The bounds of the members that a parameter opens
-
-module _ (bounds there : Bounds) (by : List (List ℕ)) where
-  outside_lacks : (o : Option Atom) → IfNone o (Respects bounds there by) → IfSome o (λ a. FirstOutside bounds there by a.0) → OrLacks (Respects bounds there by) (LacksOutside bounds there by) (missing_atom o)
-  outside_lacks None r f = r
-  outside_lacks (Some a) r f = (outside_disrespects bounds there by a.0 f, f)
-
--- .. as code has them
-pub outside_as : (bounds opened there : Bounds) (sets by : List (List ℕ)) (r : Result (Option Atom) Memory) → bounds ≡ opened → sets ≡ by → IfOk r (λ o. IfNone o (Respects bounds there sets)) → IfOk r (λ o. IfSome o (λ a. FirstOutside bounds there sets a.0)) →
-    IfOk r (λ o. OrLacks (Respects opened there by) (LacksOutside opened there by) (missing_atom o))
-outside_as bounds opened there sets by (Ok o) e f none some =
-    subst (λ v. OrLacks (Respects v there by) (LacksOutside v there by) (missing_atom o)) e
-    (subst (λ v. OrLacks (Respects bounds there v) (LacksOutside bounds there v) (missing_atom o)) f (outside_lacks bounds there sets o none some))
-outside_as bounds opened there sets by (Err m) e f none some = tt

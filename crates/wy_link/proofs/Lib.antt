@@ -3,12 +3,9 @@ mod ExamplesLocals
 mod FirstNames
 pub mod LineNodes
 pub mod LinesDecided
-pub mod MemberSets
 pub mod Premises
 pub mod Programs
 pub mod Ranges
 pub mod ReachListed
 pub mod Rooms
-pub mod ScopeKinds
-pub mod Trying
 pub mod Visits

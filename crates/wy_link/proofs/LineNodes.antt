@@ -18,7 +18,8 @@ use Rattle.wy_rules.proofs.Passing.{scope_holds}
 use Rattle.wy_judge.specs.Outcomes.{fault_at}
 use Rattle.wy_judge.proofs.Programs.{each_goes_on}
 use Rattle.wy_link.specs.declared.misfit.Misfit.{Misfit}
-use Rattle.wy_link.specs.Tried.{OrFails, Agrees, Disagrees, InstanceComesTo, BoundComesTo, missing_atom}
+use Rattle.wy_premises.specs.Tried.{OrFails, Agrees, Disagrees, missing_atom}
+use Rattle.wy_link.specs.Tried.{InstanceComesTo, BoundComesTo}
 use Rattle.wy_link.specs.Lines.{missing_name, misfit_fault, NodesComeTo, UseTo, InstanceTo, ImportTo, NameComesTo, ScopeComesTo, LinesFrom, LinesComeTo}
 
 ------------------------------------------------------------

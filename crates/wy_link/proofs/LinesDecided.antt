@@ -38,7 +38,8 @@ use Rattle.wy_judge.proofs.ScopesDecided.{scope_decided}
 use Rattle.wy_judge.proofs.SubtypesDecided.{subtype_decided}
 use Rattle.wy_link.specs.declared.misfit.Misfit.{Misfit}
 use Rattle.wy_link.specs.Lines.{misfit_fault, NodesComeTo, LinesFrom}
-use Rattle.wy_link.specs.Tried.{OfEach, HasOpened, OrFails, OrLacks, FirstLack, missing_atom, Bounded, Exceeds, Safe, Unsafe, Agrees, Disagrees, InstanceComesTo, BoundComesTo}
+use Rattle.wy_premises.specs.Tried.{OfEach, HasOpened, OrFails, OrLacks, FirstLack, missing_atom, Agrees, Disagrees}
+use Rattle.wy_link.specs.Tried.{Bounded, Exceeds, Safe, Unsafe, InstanceComesTo, BoundComesTo}
 use Rattle.wy_link.proofs.LineNodes.{plain_holds, use_passes, use_fails, instance_passes, instance_fails, import_misfits, bound_passes, bound_fails, all_then, fails_then}
 use Rattle.wy_link.proofs.Premises.{disagrees, members_outside, instance_holds, bounded, safe, exceeds, unsafe}
 use Rattle.wy_link.proofs.Ranges.{substituted_fits, parameter_fits, erased_fits, argument_in_range, parameters_written, handed_are_sets}

@@ -9,8 +9,9 @@ use Rattle.wy_types.specs.Program.{Program}
 use Rattle.wy_types.specs.Ground.{names_of, arguments_sets}
 use Rattle.wy_rules.specs.Acceptance.{Handed, handed_to, parameters_of, IsArgument, IsPlainArgument, RespectsBounds, NumbersAgree, PlainHolds, InstanceHolds, ImportHolds}
 use Rattle.wy_rules.specs.Failing.{LacksInMember, InstanceFits}
-use Rattle.wy_link.specs.Tried.{OfEach, HasOpened, OrFails, FirstLack, missing_atom, Bounded, Exceeds, Safe, Unsafe, Agrees, Disagrees, InstanceComesTo, BoundComesTo}
-use Rattle.wy_link.proofs.Trying.{handed_first, handed_each, first_breaks, false_tells}
+use Rattle.wy_premises.specs.Tried.{OfEach, HasOpened, OrFails, FirstLack, missing_atom, Agrees, Disagrees}
+use Rattle.wy_link.specs.Tried.{Bounded, Exceeds, Safe, Unsafe, InstanceComesTo, BoundComesTo}
+use Rattle.wy_premises.proofs.Trying.{handed_first, handed_each, first_breaks, false_tells}
 
 pub agreed : (A : Type 0) (D : ℕ → Type 0) (o : Option ℕ) → OrFails A D o → is_some o ≡ false → A
 agreed A D None h e = h

@@ -19,7 +19,7 @@ use Rattle.wy_types.proofs.MemberSets.{arguments_are_sets}
 use Rattle.wy_rules.specs.Acceptance.{is_parameter, parameters_until, parameters_among, parameters_of}
 use Rattle.wy_judge.specs.Tables.{IsScopeOf}
 use Rattle.wy_judge.proofs.Contexts.{name_in_range}
-use Rattle.wy_link.specs.Tried.{AreWritten}
+use Rattle.wy_premises.specs.Tried.{AreWritten}
 
 module _ (p : Program) (owns : ℕ) where
   pub substituted_fits : (sets : List (List ℕ)) (t : TypeRef) → AreSets 512 sets → FitsType p 512 0 t → FitsType p 512 owns (substituted sets t)

@@ -32,7 +32,8 @@ use Rattle.wy_bounds.proofs.Working.{advances, work_start, work_more, work_left,
 use Rattle.wy_subtype.specs.declared.verdict.Mode.TheVariants.{Annotated}
 use Rattle.wy_judge.specs.Lacks.{LacksIn}
 use Rattle.wy_judge.proofs.LacksDecided.{least_of, lack_decided}
-use Rattle.wy_link.specs.Tried.{OrLacks, missing_atom, BoundedAt, ExceedsAt, SafeAt, UnsafeAt}
+use Rattle.wy_premises.specs.Tried.{OrLacks, missing_atom}
+use Rattle.wy_link.specs.Tried.{BoundedAt, ExceedsAt, SafeAt, UnsafeAt}
 
 ------------------------------------------------------------
 -- The list

@@ -2,5 +2,4 @@ pub mod Checking
 pub mod Deciding
 pub mod Lines
 pub mod Linking
-pub mod Sets
 pub mod Tried

@@ -11,7 +11,7 @@ use Rattle.wy_rules.specs.Nodes.{Node, line_nodes, lines_nodes}
 use Rattle.wy_rules.specs.Failing.{AllPass, FirstFailing, IsLineFault, IsLineFaultFrom}
 use Rattle.wy_rules.specs.Refusals.{LinesPassFrom}
 use Rattle.wy_link.specs.declared.misfit.Misfit.{Misfit}
-use Rattle.wy_link.specs.Tried.{missing_atom}
+use Rattle.wy_premises.specs.Tried.{missing_atom}
 
 ------------------------------------------------------------
 -- Faults of rules with several premises

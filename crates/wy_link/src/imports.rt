@@ -7,15 +7,15 @@ ghost use Rattle.wy_rules.specs.Acceptance.{handed_to, IsPlainArgument, NumbersA
 ghost use Rattle.wy_subtype.specs.declared.verdict.Mode.{Mode};
 ghost use Rattle.wy_judge.specs.Tables.{IsScopeOf};
 ghost use Rattle.wy_judge.specs.Targets.{about_in};
-ghost use Rattle.wy_link.specs.Tried.{handed_pair, OfEach, AreWritten, OrLacks, FirstLack, missing_atom, Bounded, Exceeds, Safe, Unsafe, BoundComesTo};
+ghost use Rattle.wy_premises.specs.Tried.{handed_pair, OfEach, AreWritten, OrLacks, FirstLack, missing_atom};
+ghost use Rattle.wy_link.specs.Tried.{Bounded, Exceeds, Safe, Unsafe, BoundComesTo};
 
-use crate::members::{argument_type, parameters_of};
 use crate::misfit::Misfit;
 use std::alloc::Global;
 use wy_bounds::{Safety, effects, ho_safe};
 use wy_effects::atom::Atom;
 use wy_effects::set::EffSet;
-use wy_judge::least_missing;
+use wy_premises::{argument_type, least_missing, parameters_of};
 use wy_subtype::PairTable;
 use wy_text::text::Memory;
 use wy_types::bounds::widened;

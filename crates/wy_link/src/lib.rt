@@ -9,7 +9,6 @@ pub mod laws;
 mod lines;
 mod linking;
 mod lists;
-mod members;
 mod misfit;
 mod started;
 

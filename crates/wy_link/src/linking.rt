@@ -10,11 +10,11 @@ ghost use Rattle.wy_types.specs.Ground.{arguments_sets, members_of, names_of, vi
 ghost use Rattle.wy_rules.specs.Resolved.{CoreKeeps};
 ghost use Rattle.wy_link.specs.Linking.{IsLinked, IsLinkRefusal, ComesTo, CanSettle, CanSettleAll, visited, with_instance};
 
-use crate::members::{arguments_sets, members_of, names_of};
 use crate::started::Started;
 use std::alloc::Global;
 use wy_effects::atom::Atom;
 use wy_effects::set::{EffSet, SetList, substitute_sets};
+use wy_premises::{arguments_sets, members_of, names_of};
 use wy_text::limit::{LimitName, MOST_INSTANCES};
 use wy_text::list::Items;
 use wy_text::text::{Memory, Text, from_bytes};

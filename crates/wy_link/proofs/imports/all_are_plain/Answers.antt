@@ -5,8 +5,8 @@ use Rattle.wy_types.specs.Fitting.{FitsType}
 use Rattle.wy_rules.specs.Acceptance.{handed_to, IsPlainArgument}
 use Rattle.wy_subtype.specs.Decided.{About}
 use Rattle.wy_judge.specs.Tables.{IsScopeOf}
-use Rattle.wy_link.specs.Tried.{handed_pair, OfEach}
-use Rattle.wy_link.proofs.Trying.{handed_at, one_more, one_fails, told_false, false_tells, true_tells}
+use Rattle.wy_premises.specs.Tried.{handed_pair, OfEach}
+use Rattle.wy_premises.proofs.Trying.{handed_at, one_more, one_fails, told_false, false_tells, true_tells}
 use Rattle.wy_link.proofs.imports.all_are_plain.Goals as goal
 
 pub is_plain_argument-requires-clause-context : goal.is_plain_argument-requires-clause-context

@@ -1,6 +1,6 @@
 use Rattle.std.proofs.Common.{◌≡◌, ◌↔◌, drop}
 use Rattle.wy_rules.specs.Acceptance.{handed_to, IsPlainArgument}
-use Rattle.wy_link.specs.Tried.{OfEach}
+use Rattle.wy_premises.specs.Tried.{OfEach}
 use Rattle.wy_link.proofs.imports.all_are_plain.Given as goal
 
 abbrev pub invariant-loop-i : goal.invariant-loop-i

@@ -4,7 +4,7 @@ use Rattle.wy_types.specs.Program.{program_of, scope_of}
 use Rattle.wy_rules.specs.Acceptance.{handed_to, IsPlainArgument}
 use Rattle.wy_subtype.specs.Decided.{About}
 use Rattle.wy_judge.specs.Tables.{IsScopeOf}
-use Rattle.wy_link.specs.Tried.{OfEach, AreWritten}
+use Rattle.wy_premises.specs.Tried.{OfEach, AreWritten}
 use Rattle.wy_link.proofs.Premises.{bounded, safe, exceeds, unsafe, plain_as, other_plain_types, import_holds}
 use Rattle.wy_link.proofs.Ranges.{parameters_written}
 use Rattle.wy_link.proofs.imports.bound_misfit.Goals as goal

@@ -1,8 +1,9 @@
 use Rattle.std.proofs.Common.{get_or, sym}
 use Rattle.wy_effects.proofs.Walks.{drop_none}
 use Rattle.wy_types.specs.Program.{program_of}
-use Rattle.wy_link.specs.Tried.{FirstLack, Safe, Unsafe}
-use Rattle.wy_link.proofs.Trying.{number_at, first_past, first_lack, first_none}
+use Rattle.wy_premises.specs.Tried.{FirstLack}
+use Rattle.wy_link.specs.Tried.{Safe, Unsafe}
+use Rattle.wy_premises.proofs.Trying.{number_at, first_past, first_lack, first_none}
 use Rattle.wy_link.proofs.imports.first_unsafety.Goals as goal
 
 pub returns-then-is_some : goal.returns-then-is_some

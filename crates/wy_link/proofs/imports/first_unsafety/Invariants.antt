@@ -1,6 +1,7 @@
 use Rattle.std.proofs.Common.{ℕ, Option, drop}
 use Rattle.wy_types.specs.Program.{program_of}
-use Rattle.wy_link.specs.Tried.{FirstLack, Safe, Unsafe}
+use Rattle.wy_premises.specs.Tried.{FirstLack}
+use Rattle.wy_link.specs.Tried.{Safe, Unsafe}
 use Rattle.wy_link.proofs.imports.first_unsafety.Given as goal
 
 abbrev pub invariant-loop-argument : goal.invariant-loop-argument

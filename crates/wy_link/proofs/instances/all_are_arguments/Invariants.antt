@@ -1,6 +1,6 @@
 use Rattle.std.proofs.Common.{◌≡◌, ◌↔◌, drop}
 use Rattle.wy_rules.specs.Acceptance.{handed_to, IsArgument}
-use Rattle.wy_link.specs.Tried.{OfEach}
+use Rattle.wy_premises.specs.Tried.{OfEach}
 use Rattle.wy_link.proofs.instances.all_are_arguments.Given as goal
 
 abbrev pub invariant-loop-i : goal.invariant-loop-i

@@ -7,7 +7,7 @@ use Rattle.wy_rules.specs.Acceptance.{handed_to, IsArgument}
 use Rattle.wy_subtype.specs.Decided.{About}
 use Rattle.wy_judge.specs.Tables.{IsScopeOf}
 use Rattle.wy_judge.proofs.Contexts.{in_range}
-use Rattle.wy_link.specs.Tried.{OfEach, AreWritten, OrFails, Agrees, Disagrees, missing_atom}
+use Rattle.wy_premises.specs.Tried.{OfEach, AreWritten, OrFails, Agrees, Disagrees, missing_atom}
 use Rattle.wy_link.proofs.Premises.{members_as, types_as, disagrees, lacks_members, other_types, instance_fits, outside_as, members_outside, instance_holds, sets_as}
 use Rattle.wy_link.proofs.Ranges.{parameters_written, handed_are_sets}
 use Rattle.wy_link.proofs.instances.instance_misfit.Goals as goal

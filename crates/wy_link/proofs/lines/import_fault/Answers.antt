@@ -1,7 +1,7 @@
 use Rattle.std.proofs.Common.{subst}
 use Rattle.wy_types.specs.declared.resolved.ScopeKind.TheVariants.{Plain}
 use Rattle.wy_types.specs.Program.{program_of, scope_of}
-use Rattle.wy_link.specs.Tried.{OrFails, Agrees, Disagrees}
+use Rattle.wy_premises.specs.Tried.{OrFails, Agrees, Disagrees}
 use Rattle.wy_link.proofs.LineNodes.{plain_holds, import_misfits, bound_passes, bound_fails}
 use Rattle.wy_link.proofs.lines.import_fault.Goals as goal
 

@@ -7,7 +7,7 @@ use Rattle.wy_types.specs.declared.resolved.Scope.{Scope}
 use Rattle.wy_types.specs.Program.{program_of, scope_of}
 use Rattle.wy_judge.proofs.ScopeParts.{scope_there}
 use Rattle.wy_link.specs.Lines.{LinesFrom}
-use Rattle.wy_link.proofs.Trying.{left_at}
+use Rattle.wy_premises.proofs.Trying.{left_at}
 use Rattle.wy_link.proofs.LineNodes.{next_scope, this_scope, no_scope, lines_from}
 use Rattle.wy_link.proofs.lines.judge_lines.Goals as goal
 

@@ -6,7 +6,7 @@ use Rattle.wy_types.specs.Program.{program_of, scope_of}
 use Rattle.wy_rules.specs.Nodes.{lines_nodes}
 use Rattle.wy_judge.proofs.Contexts.{in_range}
 use Rattle.wy_link.specs.Lines.{NodesComeTo}
-use Rattle.wy_link.proofs.Trying.{left_at}
+use Rattle.wy_premises.proofs.Trying.{left_at}
 use Rattle.wy_link.proofs.LineNodes.{next_name, this_name, no_name}
 use Rattle.wy_link.proofs.lines.scope_fault.Goals as goal
 

@@ -1,7 +1,7 @@
 use Rattle.wy_types.specs.declared.resolved.ScopeKind.TheVariants.{Pure}
 use Rattle.wy_types.specs.Program.{program_of}
 use Rattle.wy_rules.specs.Acceptance.{IsOfKind}
-use Rattle.wy_link.proofs.Trying.{false_tells}
+use Rattle.wy_premises.proofs.Trying.{false_tells}
 use Rattle.wy_link.proofs.LineNodes.{use_passes, use_fails}
 use Rattle.wy_link.proofs.lines.use_fault.Goals as goal
 
