@@ -3,34 +3,58 @@ ghost use Rattle.wy_types.specs.InRange.{IsInRange};
 ghost use Rattle.wy_types.specs.Program.{program_of};
 
 use crate::ranges::{is_in_range, is_type_of};
+use crate::texts::{core_of, set_of};
 use std::alloc::Global;
 use std::test::Fail;
-use wy_bounds::{Matrix, Part, Path, Safety, Step, effects, ho_effects, ho_safe, safe};
-use wy_effects::atom::{Atom, AtomTable};
+use wy_bounds::{Matrix, Part, Path, Safety, effects, ho_effects, ho_safe, safe};
 use wy_effects::set::{EffSet, SetList};
-use wy_text::fault::Place;
 use wy_text::list::Items;
-use wy_text::text::{Memory, from_bytes};
-use wy_types::bodies::Bodies;
-use wy_types::code::{Block, Expr, Value};
-use wy_types::primitive::primitives;
-use wy_types::resolved::{Body, Core, Literal, Scope, ScopeKind, Start, TypeDecl};
-use wy_types::types::{Method, TypeList, TypeRef};
+use wy_text::text::Memory;
+use wy_types::resolved::Core;
+use wy_types::types::TypeRef;
 
-const PLACE: Place = Place {
-    file: 1,
-    line: 1,
-    column: 1,
-};
+/// Types 4 to 6, each with a member `E`, and a program.
+const PROGRAM: &str = r#"type A
+  effect E
+  def f(b: B[E = {E}]): {} Unit
+type B
+  effect E
+  def g(c: C[E = {E}]): {} Unit
+type C
+  effect E
+  def h(): {E} A[E = {E}]
+program
+  run: {}
+    ()
+"#;
 
-fn set_of(alloc: Global, atoms: &[u16]) -> Result<EffSet, Memory> {
-    let mut set = EffSet::empty(alloc);
-    for atom in atoms {
-        if *atom < 512 {
-            set.insert(Atom(*atom))?;
-        }
+/// A module with one method, the atoms of whose parameters are 0 to 11; it is the first scope where it stands behind
+/// that program.
+const OWN: &str = r#"resource module m(a: Folder, b: Folder, c: Folder): A
+  effect E = {}
+  def m(): {c.Read} A[E = {b.Write}] = this.m()
+"#;
+
+/// A plain module, likewise.
+const PLAIN: &str = "plain module m(): A\n";
+
+/// The program, and behind it a module or nothing.
+fn polar_core(alloc: Global, module: &str) -> Result<Core, Fail> {
+    core_of(alloc, format!(in alloc; "{PROGRAM}{module}")?.as_str())
+}
+
+/// Types from 4 on, so many, each of which goes on by `next` with its member as the effect, the last to the
+/// first with none; and a program.
+fn ring_core(alloc: Global, number: u32) -> Result<Core, Fail> {
+    let mut text = String::new(alloc);
+    for at in 1..number {
+        let next = at.saturating_add(1);
+        text.push_str(format!(in alloc; "type T{at}\n  effect E\n")?.as_str())?;
+        text.push_str(format!(in alloc; "  def next(): {{E}} T{next}[E = {{E}}]\n")?.as_str())?;
     }
-    Ok(set)
+    text.push_str(format!(in alloc; "type T{number}\n  effect E\n")?.as_str())?;
+    text.push_str("  def next(): {} T1[E = {E}]\nprogram\n  run: {}\n    ()\n")?;
+    core_of(alloc, text.as_str())
 }
 
 /// A declared type with these atoms for its one member.
@@ -40,120 +64,10 @@ fn named(alloc: Global, decl: u16, atoms: &[u16]) -> Result<TypeRef, Memory> {
     Ok(TypeRef::Named { decl, members })
 }
 
-fn method(
-    alloc: Global,
-    name: &[u8],
-    param: Option<TypeRef>,
-    effect: &[u16],
-    gives: TypeRef,
-) -> Result<Method, Memory> {
-    let mut params: TypeList = Items::new(alloc);
-    if let Some(t) = param {
-        params.push(t)?;
-    }
-    Ok(Method {
-        name: from_bytes(alloc, name)?,
-        params,
-        effect: set_of(alloc, effect)?,
-        result: gives,
-    })
-}
-
-/// Declares a type with one member and one method.
-fn declare(alloc: Global, core: &mut Core, m: Method) -> Result<(), Memory> {
-    let mut members = Items::new(alloc);
-    members.push(from_bytes(alloc, b"E")?)?;
-    let mut bounds = Items::new(alloc);
-    bounds.push(None)?;
-    let mut methods = Items::new(alloc);
-    methods.push(m)?;
-    core.declarations.push(TypeDecl {
-        name: from_bytes(alloc, b"T")?,
-        members,
-        bounds,
-        defined: Items::new(alloc),
-        methods,
-    })
-}
-
-/// Bodies with one method of the module, `def m(): {8} A[E = {5}]`.
-fn own_bodies(alloc: Global) -> Result<Bodies, Memory> {
-    let last = Box::new(alloc, Value::Plain(Expr::Unit(PLACE)))?;
-    let mut bodies = Vec::new(alloc);
-    bodies.push(Body {
-        owner: 0,
-        place: PLACE,
-        signature: method(alloc, b"m", None, &[8], named(alloc, 4, &[5])?)?,
-        block: Block {
-            statements: Vec::new(alloc),
-            last,
-        },
-    })?;
-    Bodies::new(alloc, bodies)
-}
-
-/// A core of one scope, with the primitive types alone.
-fn empty_core(alloc: Global, kind: ScopeKind) -> Result<Core, Memory> {
-    let mut literals = Items::new(alloc);
-    literals.push(Literal {
-        captures: Items::new(alloc),
-        fields: Items::new(alloc),
-    })?;
-    let bodies = own_bodies(alloc)?;
-    let mut scopes = Items::new(alloc);
-    scopes.push(Scope {
-        kind,
-        name: from_bytes(alloc, b"main")?,
-        place: PLACE,
-        atoms: AtomTable::new(alloc),
-        bounds: Items::new(alloc),
-        names: Items::new(alloc),
-        ascribed: None,
-        definitions: Items::new(alloc),
-        literals,
-        start_place: PLACE,
-        start_effect: EffSet::empty(alloc),
-        start: Start::Init(Vec::new(alloc)),
-        bodies,
-    })?;
-    Ok(Core {
-        declarations: primitives(alloc)?,
-        scopes,
-    })
-}
-
-/// Types 4 to 6: `A { def f(b: B[E = {E}]): {} Unit }`, `B { def g(c: C[E = {E}]): {} Unit }` and
-/// `C { def h(): {E} A[E = {E}] }`, each with a member `E`.
-fn polar_core(alloc: Global, kind: ScopeKind) -> Result<Core, Memory> {
-    let mut core = empty_core(alloc, kind)?;
-    let b = named(alloc, 5, &[0])?;
-    declare(
-        alloc,
-        &mut core,
-        method(alloc, b"f", Some(b), &[], TypeRef::Unit)?,
-    )?;
-    let c = named(alloc, 6, &[0])?;
-    declare(
-        alloc,
-        &mut core,
-        method(alloc, b"g", Some(c), &[], TypeRef::Unit)?,
-    )?;
-    let a = named(alloc, 4, &[0])?;
-    declare(alloc, &mut core, method(alloc, b"h", None, &[0], a)?)?;
-    Ok(core)
-}
-
-/// Types from 4 on, each of which goes on by `next` with its member as the effect, the last to the
-/// first with none.
-fn ring_core(alloc: Global, number: u16) -> Result<Core, Memory> {
-    let mut core = empty_core(alloc, ScopeKind::Program)?;
-    for k in 5..number.saturating_add(4) {
-        let gives = named(alloc, k, &[0])?;
-        declare(alloc, &mut core, method(alloc, b"next", None, &[0], gives)?)?;
-    }
-    let first = named(alloc, 4, &[0])?;
-    declare(alloc, &mut core, method(alloc, b"next", None, &[], first)?)?;
-    Ok(core)
+/// A declared type with this bound.
+fn bounded(alloc: Global, decl: u16, atoms: &[u16]) -> Result<TypeRef, Memory> {
+    let bound = set_of(alloc, atoms)?;
+    Ok(TypeRef::At { decl, bound })
 }
 
 /// Whether the table of a type's paths has these sets.
@@ -231,102 +145,112 @@ fn answers(
     Ok(Some((given, taken)))
 }
 
-/// A path of steps, each by a method of one letter to its parameter or its result.
-fn path_of(alloc: Global, steps: &[(&[u8], Part)]) -> Result<Path, Memory> {
-    let mut path = Items::new(alloc);
-    for (name, part) in steps {
-        path.push(Step {
-            method: from_bytes(alloc, name)?,
-            part: *part,
-        })?;
-    }
-    Ok(path)
-}
-
-fn no(alloc: Global, steps: &[(&[u8], Part)], atom: u16) -> Result<Safety, Memory> {
-    Ok(Safety::No {
-        path: path_of(alloc, steps)?,
-        atom: Atom(atom),
-    })
-}
-
 #[test]
 fn parameters_turn_the_polarity(rt: HostRuntime) -> Result<(), Fail> {
     let alloc = rt.alloc();
-    let core = polar_core(alloc, ScopeKind::Program)?;
-    let (a, b) = (named(alloc, 4, &[7])?, named(alloc, 5, &[7])?);
-    assert!(rt; has_effects(alloc, &core, &a, &[7], &[])?);
-    assert!(rt; has_effects(alloc, &core, &b, &[], &[7])?);
-    let both = named(alloc, 4, &[3, 7])?;
-    assert!(rt; has_effects(alloc, &core, &both, &[3, 7], &[])?);
+    let core = polar_core(alloc, "")?;
+    let rows: [(u16, &[u16], &[u16], &[u16]); 3] = [
+        (4, &[7], &[7], &[]),
+        (5, &[7], &[], &[7]),
+        (4, &[3, 7], &[3, 7], &[]),
+    ];
+    for (decl, atoms, positive, negative) in rows {
+        let t = named(alloc, decl, atoms)?;
+        assert!(rt; has_effects(alloc, &core, &t, positive, negative)?);
+    }
     Ok(())
 }
 
 #[test]
-fn each_form_of_type_has_its_effects(rt: HostRuntime) -> Result<(), Fail> {
+fn base_types_and_bounds_have_their_effects(rt: HostRuntime) -> Result<(), Fail> {
     let alloc = rt.alloc();
-    let core = polar_core(alloc, ScopeKind::Program)?;
+    let core = polar_core(alloc, "")?;
     assert!(rt; has_effects(alloc, &core, &TypeRef::Text, &[], &[])?);
-    let bound = set_of(alloc, &[2, 9])?;
-    let at = TypeRef::At { decl: 4, bound };
+    let at = bounded(alloc, 4, &[2, 9])?;
     assert!(rt; has_effects(alloc, &core, &at, &[2, 9], &[2, 9])?);
+    Ok(())
+}
+
+#[test]
+fn a_module_s_own_type_has_the_effects_of_its_methods(rt: HostRuntime) -> Result<(), Fail> {
+    let alloc = rt.alloc();
+    let core = polar_core(alloc, OWN)?;
     let own = TypeRef::Own { literal: 0 };
     assert!(rt; has_effects(alloc, &core, &own, &[5, 8], &[])?);
-    let plain = polar_core(alloc, ScopeKind::Plain)?;
+    Ok(())
+}
+
+#[test]
+fn a_bare_type_has_no_effects(rt: HostRuntime) -> Result<(), Fail> {
+    let alloc = rt.alloc();
+    let core = polar_core(alloc, PLAIN)?;
     let bare = TypeRef::Named {
         decl: 4,
         members: Items::new(alloc),
     };
-    assert!(rt; has_effects(alloc, &plain, &bare, &[], &[])?);
+    assert!(rt; has_effects(alloc, &core, &bare, &[], &[])?);
     Ok(())
 }
 
-/// Whether these are the answers of safety and of higher-order safety.
-fn is_answered(
-    alloc: Global,
-    core: &Core,
-    t: &TypeRef,
-    atoms: &[u16],
-    given: Safety,
-    taken: Safety,
-) -> Result<bool, Memory> {
-    Ok(answers(alloc, core, t, atoms)? == Some((given, taken)))
+/// Adds a path's steps, as `h:result` or `f:0`.
+fn push_path(out: &mut String, alloc: Global, path: &Path) -> Result<(), Fail> {
+    for step in path.as_slice() {
+        out.push_str(std::str::from_utf8(step.method.as_bytes())?)?;
+        match step.part {
+            Part::Result => out.push_str(":result ")?,
+            Part::Parameter(index) => out.push_str(format!(in alloc; ":{index} ")?.as_str())?,
+        }
+    }
+    Ok(())
+}
+
+/// Adds an answer: `yes`, or the path and the atom of a refusal.
+fn push_answer(out: &mut String, alloc: Global, answer: &Safety) -> Result<(), Fail> {
+    match answer {
+        Safety::Yes => out.push_str("yes")?,
+        Safety::No { path, atom } => {
+            push_path(out, alloc, path)?;
+            let number = atom.0;
+            out.push_str(format!(in alloc; "{number}")?.as_str())?;
+        }
+    }
+    Ok(())
+}
+
+/// The answers of safety and of higher-order safety.
+fn shown(alloc: Global, answers: &Option<(Safety, Safety)>) -> Result<String, Fail> {
+    let mut out = String::new(alloc);
+    if let Some((given, taken)) = answers {
+        push_answer(&mut out, alloc, given)?;
+        out.push_str("; ")?;
+        push_answer(&mut out, alloc, taken)?;
+    }
+    Ok(out)
+}
+
+/// Whether these are the answers on a type and these atoms.
+fn is_answered(alloc: Global, t: &TypeRef, atoms: &[u16], wanted: &str) -> Result<bool, Fail> {
+    let core = polar_core(alloc, "")?;
+    let answers = answers(alloc, &core, t, atoms)?;
+    Ok(shown(alloc, &answers)?.as_str() == wanted)
 }
 
 #[test]
 fn base_types_and_bounds_are_safe(rt: HostRuntime) -> Result<(), Fail> {
     let alloc = rt.alloc();
-    let core = polar_core(alloc, ScopeKind::Program)?;
-    let bound = set_of(alloc, &[2, 9])?;
-    let at = TypeRef::At { decl: 4, bound };
-    for t in [&TypeRef::Int, &at] {
-        let yes = is_answered(alloc, &core, t, &[9], Safety::Yes, Safety::Yes)?;
-        assert!(rt; yes);
-    }
+    let at = bounded(alloc, 4, &[2, 9])?;
+    assert!(rt; is_answered(alloc, &TypeRef::Int, &[9], "yes; yes")?);
+    assert!(rt; is_answered(alloc, &at, &[9], "yes; yes")?);
     Ok(())
 }
 
 #[test]
-fn a_refusal_has_the_least_atom(rt: HostRuntime) -> Result<(), Fail> {
+fn a_refusal_has_the_least_atom_and_a_path(rt: HostRuntime) -> Result<(), Fail> {
     let alloc = rt.alloc();
-    let core = polar_core(alloc, ScopeKind::Program)?;
-    let bound = set_of(alloc, &[2, 9])?;
-    let at = TypeRef::At { decl: 4, bound };
-    let given = no(alloc, &[], 1)?;
-    let taken = no(alloc, &[(b"f", Part::Parameter(0))], 1)?;
-    assert!(rt; is_answered(alloc, &core, &at, &[1, 2, 10], given, taken)?);
-    Ok(())
-}
-
-#[test]
-fn a_refusal_has_a_path(rt: HostRuntime) -> Result<(), Fail> {
-    let alloc = rt.alloc();
-    let core = polar_core(alloc, ScopeKind::Program)?;
+    let at = bounded(alloc, 4, &[2, 9])?;
+    assert!(rt; is_answered(alloc, &at, &[1, 2, 10], "1; f:0 1")?);
     let c = named(alloc, 6, &[7])?;
-    let h: (&[u8], Part) = (b"h", Part::Result);
-    let given = no(alloc, &[h], 7)?;
-    let taken = no(alloc, &[h, (b"f", Part::Parameter(0))], 7)?;
-    assert!(rt; is_answered(alloc, &core, &c, &[7], given, taken)?);
+    assert!(rt; is_answered(alloc, &c, &[7], "h:result 7; h:result f:0 7")?);
     Ok(())
 }
 

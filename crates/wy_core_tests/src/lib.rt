@@ -15,4 +15,6 @@ mod ranges;
 #[cfg(test)]
 mod subtyping;
 #[cfg(test)]
+mod texts;
+#[cfg(test)]
 mod types;

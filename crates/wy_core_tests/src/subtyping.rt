@@ -2,37 +2,72 @@ ghost use Rattle.std.specs.Prelude.{◌≡◌, ◌<◌, ◌≤◌, true, IfOk};
 ghost use Rattle.wy_types.specs.Fitting.{IsTypeOf};
 
 use crate::ranges::{is_in_range, type_fits};
+use crate::texts::{core_of, set_of};
 use std::alloc::Global;
 use std::marker::Brand;
 use std::sync::ledger::{Blank, Ledger};
 use std::test::Fail;
-use wy_effects::atom::{Atom, AtomTable};
-use wy_effects::set::{EffSet, SetList};
-use wy_subtype::{
-    Cause, Mode, PairTable, Part, Path, Step, Steps, Unfolding, Verdict, subtype, unfold,
-};
-use wy_text::fault::Place;
+use wy_effects::set::SetList;
+use wy_subtype::{Cause, Mode, PairTable, Part, Step, Steps, Unfolding, Verdict, subtype, unfold};
 use wy_text::list::Items;
-use wy_text::text::{Memory, from_bytes};
-use wy_types::bodies::Bodies;
-use wy_types::primitive::primitives;
-use wy_types::resolved::{Core, Literal, Scope, ScopeKind, Start, TypeDecl};
-use wy_types::types::{Method, TypeList, TypeRef};
+use wy_text::text::{Memory, Text};
+use wy_types::resolved::Core;
+use wy_types::types::TypeRef;
 
-const PLACE: Place = Place {
-    file: 1,
-    line: 1,
-    column: 1,
-};
+/// Types 4 to 20: `P` and `Q`; `R`; `S0` to `S2` and `U0` to `U2`; two whose `next` differ in their
+/// numbers of parameters; one with a member, and one that takes it; two that go on to each other; two that ask for one pair by
+/// both parameters and by the result. Behind them a program.
+const PROGRAM: &str = r#"type P
+  def next(): {} P
+type Q
+  def next(): {} Q
+type R
+  def next(): {} R
+  def more(): {} Int
+type S0
+  def next(): {} S1
+type S1
+  def next(): {} S2
+type S2
+  def next(): {} Int
+type U0
+  def next(): {} U1
+type U1
+  def next(): {} U2
+type U2
+  def next(): {} Bool
+type Bare
+  def next(): {} Unit
+type Taking
+  def next(t: Int): {} Unit
+type Running
+  effect E
+  def go(): {E} Unit
+type User
+  effect E
+  def next(r: Running[E = {E}]): {} User[E = {E}]
+type There
+  def next(): {} Back
+type Back
+  def next(): {} There
+type Twice
+  def twice(s: S2, t: S2): {} U2
+type TwiceMore
+  def twice(s: U2, t: U2): {} S2
+program
+  run: {}
+    ()
+"#;
 
-fn set_of(alloc: Global, atoms: &[u16]) -> Result<EffSet, Memory> {
-    let mut set = EffSet::empty(alloc);
-    for atom in atoms {
-        if *atom < 512 {
-            set.insert(Atom(*atom))?;
-        }
+/// A plain module, which is the first scope where it stands behind that program.
+const PLAIN: &str = "plain module m(): P\n";
+
+/// The types in a program of one scope, or, for `Mode::Plain`, in one whose first scope is a plain module.
+fn core_of_types(alloc: Global, mode: Mode) -> Result<Core, Fail> {
+    match mode {
+        Mode::Annotated => core_of(alloc, PROGRAM),
+        Mode::Plain => core_of(alloc, format!(in alloc; "{PROGRAM}{PLAIN}")?.as_str()),
     }
-    Ok(set)
 }
 
 /// A declared type with these atoms for its one member, or with no member.
@@ -42,174 +77,6 @@ fn named(alloc: Global, decl: u16, member: Option<&[u16]>) -> Result<TypeRef, Me
         members.push(set_of(alloc, atoms)?)?;
     }
     Ok(TypeRef::Named { decl, members })
-}
-
-/// A core of one scope, with the primitive types alone.
-fn empty_core(alloc: Global, kind: ScopeKind) -> Result<Core, Memory> {
-    let mut literals = Items::new(alloc);
-    literals.push(Literal {
-        captures: Items::new(alloc),
-        fields: Items::new(alloc),
-    })?;
-    let bodies = Bodies::new(alloc, Vec::new(alloc))?;
-    let mut scopes = Items::new(alloc);
-    scopes.push(Scope {
-        kind,
-        name: from_bytes(alloc, b"main")?,
-        place: PLACE,
-        atoms: AtomTable::new(alloc),
-        bounds: Items::new(alloc),
-        names: Items::new(alloc),
-        ascribed: None,
-        definitions: Items::new(alloc),
-        literals,
-        start_place: PLACE,
-        start_effect: EffSet::empty(alloc),
-        start: Start::Init(Vec::new(alloc)),
-        bodies,
-    })?;
-    Ok(Core {
-        declarations: primitives(alloc)?,
-        scopes,
-    })
-}
-
-fn add_method(
-    alloc: Global,
-    methods: &mut Items<Method>,
-    name: &[u8],
-    param: Option<TypeRef>,
-    effect: &[u16],
-    gives: TypeRef,
-) -> Result<(), Memory> {
-    let mut params: TypeList = Items::new(alloc);
-    if let Some(t) = param {
-        params.push(t)?;
-    }
-    methods.push(Method {
-        name: from_bytes(alloc, name)?,
-        params,
-        effect: set_of(alloc, effect)?,
-        result: gives,
-    })
-}
-
-/// Declares a type, with a member `E` or with none.
-fn declare(
-    alloc: Global,
-    core: &mut Core,
-    has_member: bool,
-    methods: Items<Method>,
-) -> Result<(), Memory> {
-    let mut members = Items::new(alloc);
-    let mut bounds = Items::new(alloc);
-    if has_member {
-        members.push(from_bytes(alloc, b"E")?)?;
-        bounds.push(None)?;
-    }
-    core.declarations.push(TypeDecl {
-        name: from_bytes(alloc, b"T")?,
-        members,
-        bounds,
-        defined: Items::new(alloc),
-        methods,
-    })
-}
-
-/// Declares a type that goes on by `next` to this one.
-fn declare_next(alloc: Global, core: &mut Core, gives: TypeRef) -> Result<(), Memory> {
-    let mut methods = Items::new(alloc);
-    add_method(alloc, &mut methods, b"next", None, &[], gives)?;
-    declare(alloc, core, false, methods)
-}
-
-/// Types that each go on by `next` to the declared type of a number.
-fn declare_links(alloc: Global, core: &mut Core, links: &[u16]) -> Result<(), Memory> {
-    for decl in links {
-        declare_next(alloc, core, named(alloc, *decl, None)?)?;
-    }
-    Ok(())
-}
-
-/// A type that goes on to itself, and has a method more.
-fn declare_more(alloc: Global, core: &mut Core, own: u16) -> Result<(), Memory> {
-    let mut methods = Items::new(alloc);
-    add_method(
-        alloc,
-        &mut methods,
-        b"next",
-        None,
-        &[],
-        named(alloc, own, None)?,
-    )?;
-    add_method(alloc, &mut methods, b"more", None, &[], TypeRef::Int)?;
-    declare(alloc, core, false, methods)
-}
-
-/// A type whose `next` has a parameter.
-fn declare_taking(alloc: Global, core: &mut Core) -> Result<(), Memory> {
-    let mut methods = Items::new(alloc);
-    add_method(
-        alloc,
-        &mut methods,
-        b"next",
-        Some(TypeRef::Int),
-        &[],
-        TypeRef::Unit,
-    )?;
-    declare(alloc, core, false, methods)
-}
-
-/// A type with a member, whose `run` has the member as its effect.
-fn declare_running(alloc: Global, core: &mut Core) -> Result<(), Memory> {
-    let mut methods = Items::new(alloc);
-    add_method(alloc, &mut methods, b"run", None, &[0], TypeRef::Unit)?;
-    declare(alloc, core, true, methods)
-}
-
-/// A type with a member, which takes the type before it and goes on to itself.
-fn declare_user(alloc: Global, core: &mut Core, before: u16, own: u16) -> Result<(), Memory> {
-    let mut methods = Items::new(alloc);
-    let taken = named(alloc, before, Some(&[0]))?;
-    let gives = named(alloc, own, Some(&[0]))?;
-    add_method(alloc, &mut methods, b"next", Some(taken), &[], gives)?;
-    declare(alloc, core, true, methods)
-}
-
-/// A type whose method takes one type twice and gives another.
-fn declare_twice(alloc: Global, core: &mut Core, taken: u16, gives: u16) -> Result<(), Memory> {
-    let mut params: TypeList = Items::new(alloc);
-    params.push(named(alloc, taken, None)?)?;
-    params.push(named(alloc, taken, None)?)?;
-    let mut methods = Items::new(alloc);
-    methods.push(Method {
-        name: from_bytes(alloc, b"twice")?,
-        params,
-        effect: set_of(alloc, &[])?,
-        result: named(alloc, gives, None)?,
-    })?;
-    declare(alloc, core, false, methods)
-}
-
-/// Types 4 to 20: `P` and `Q`; `R`; `S0` to `S2` and `U0` to `U2`; two whose `next` differ in their
-/// numbers of parameters; one with a member, and one that takes it; two that go on to each other; two that ask for one pair by
-/// both parameters and by the result.
-fn core_of_types(alloc: Global, kind: ScopeKind) -> Result<Core, Memory> {
-    let mut core = empty_core(alloc, kind)?;
-    declare_links(alloc, &mut core, &[4, 5])?;
-    declare_more(alloc, &mut core, 6)?;
-    declare_links(alloc, &mut core, &[8, 9])?;
-    declare_next(alloc, &mut core, TypeRef::Int)?;
-    declare_links(alloc, &mut core, &[11, 12])?;
-    declare_next(alloc, &mut core, TypeRef::Bool)?;
-    declare_next(alloc, &mut core, TypeRef::Unit)?;
-    declare_taking(alloc, &mut core)?;
-    declare_running(alloc, &mut core)?;
-    declare_user(alloc, &mut core, 15, 16)?;
-    declare_links(alloc, &mut core, &[18, 17])?;
-    declare_twice(alloc, &mut core, 9, 12)?;
-    declare_twice(alloc, &mut core, 12, 9)?;
-    Ok(core)
 }
 
 /// The verdict, where the core and the types are in range.
@@ -232,112 +99,136 @@ fn verdict(
     Ok(Some(subtype(alloc, core, 0, s, t, mode)?))
 }
 
-fn path_of(alloc: Global, steps: &[(&[u8], Part)]) -> Result<Path, Memory> {
-    let mut path = Items::new(alloc);
-    for (method, part) in steps {
-        path.push(Step {
-            method: from_bytes(alloc, method)?,
-            part: *part,
-        })?;
+/// Adds a text and what stands behind it.
+fn push_word(out: &mut String, word: &Text, behind: &str) -> Result<(), Fail> {
+    out.push_str(std::str::from_utf8(word.as_bytes())?)?;
+    out.push_str(behind)?;
+    Ok(())
+}
+
+/// Adds a step, as `next:result` or `next:0`.
+fn push_step(out: &mut String, alloc: Global, step: &Step) -> Result<(), Fail> {
+    push_word(out, &step.method, ":")?;
+    match step.part {
+        Part::Result => out.push_str("result ")?,
+        Part::Parameter(index) => out.push_str(format!(in alloc; "{index} ")?.as_str())?,
     }
-    Ok(path)
+    Ok(())
 }
 
-/// A refusal by a path.
-fn no(alloc: Global, steps: &[(&[u8], Part)], cause: Cause) -> Result<Option<Verdict>, Memory> {
-    Ok(Some(Verdict::No {
-        path: path_of(alloc, steps)?,
-        cause,
-    }))
-}
-
-#[test]
-fn recursive_types_are_subtypes(rt: HostRuntime) -> Result<(), Fail> {
-    let alloc = rt.alloc();
-    for (kind, mode) in [
-        (ScopeKind::Program, Mode::Annotated),
-        (ScopeKind::Plain, Mode::Plain),
-    ] {
-        let core = core_of_types(alloc, kind)?;
-        for (s, t) in [(4, 5), (5, 4), (6, 4), (17, 4), (4, 18), (17, 18)] {
-            let left = named(alloc, s, None)?;
-            let right = named(alloc, t, None)?;
-            assert!(rt; verdict(alloc, &core, &left, &right, mode)? == Some(Verdict::Yes));
+/// Adds a cause: a base type, a method that lacks or has another number of parameters, or one and the atom that its effect has.
+fn push_cause(out: &mut String, alloc: Global, cause: &Cause) -> Result<(), Fail> {
+    match cause {
+        Cause::Base => out.push_str("base")?,
+        Cause::MissingMethod(method) => push_word(out, method, " lacks")?,
+        Cause::Arity(method) => push_word(out, method, " takes others")?,
+        Cause::Effect { method, atom } => {
+            let number = atom.0;
+            push_word(out, method, format!(in alloc; " has {number}")?.as_str())?;
         }
     }
     Ok(())
 }
 
-/// Whether of two bare types the first is no subtype of the second, by this path and this cause.
-fn fails(
+/// A verdict in words, a refusal by its path and its cause.
+fn shown(alloc: Global, verdict: &Option<Verdict>) -> Result<String, Fail> {
+    let mut out = String::new(alloc);
+    match verdict {
+        None => out.push_str("not in range")?,
+        Some(Verdict::Yes) => out.push_str("yes")?,
+        Some(Verdict::No { path, cause }) => {
+            for step in path.as_slice() {
+                push_step(&mut out, alloc, step)?;
+            }
+            push_cause(&mut out, alloc, cause)?;
+        }
+    }
+    Ok(out)
+}
+
+/// Whether this is the verdict on two types, in words.
+fn is_said(
     alloc: Global,
     core: &Core,
-    types: (u16, u16),
+    s: &TypeRef,
+    t: &TypeRef,
     mode: Mode,
-    steps: &[(&[u8], Part)],
-    cause: Cause,
-) -> Result<bool, Memory> {
-    let wanted = no(alloc, steps, cause)?;
-    let left = named(alloc, types.0, None)?;
-    let right = named(alloc, types.1, None)?;
-    Ok(verdict(alloc, core, &left, &right, mode)? == wanted)
+    wanted: &str,
+) -> Result<bool, Fail> {
+    let verdict = verdict(alloc, core, s, t, mode)?;
+    Ok(shown(alloc, &verdict)?.as_str() == wanted)
+}
+
+/// Pairs of types without members, and the verdict on each.
+static PAIRS: [(u16, u16, &str); 10] = [
+    (4, 5, "yes"),
+    (5, 4, "yes"),
+    (6, 4, "yes"),
+    (17, 4, "yes"),
+    (4, 18, "yes"),
+    (17, 18, "yes"),
+    (4, 6, "more lacks"),
+    (7, 10, "next:result next:result next:result base"),
+    (19, 20, "twice:0 next:result base"),
+    (13, 14, "next takes others"),
+];
+
+/// The first pair of bare types on which there is another verdict.
+fn first_otherwise(alloc: Global, mode: Mode) -> Result<Option<(u16, u16)>, Fail> {
+    let core = core_of_types(alloc, mode)?;
+    for (s, t, wanted) in &PAIRS {
+        let left = named(alloc, *s, None)?;
+        let right = named(alloc, *t, None)?;
+        if !is_said(alloc, &core, &left, &right, mode, wanted)? {
+            return Ok(Some((*s, *t)));
+        }
+    }
+    Ok(None)
 }
 
 #[test]
-fn a_path_leads_to_the_pair_that_fails(rt: HostRuntime) -> Result<(), Fail> {
-    let alloc = rt.alloc();
-    for (kind, mode) in [
-        (ScopeKind::Program, Mode::Annotated),
-        (ScopeKind::Plain, Mode::Plain),
-    ] {
-        let core = core_of_types(alloc, kind)?;
-        let more = Cause::MissingMethod(from_bytes(alloc, b"more")?);
-        assert!(rt; fails(alloc, &core, (4, 6), mode, &[], more)?);
-        let next: (&[u8], Part) = (b"next", Part::Result);
-        assert!(rt;
-            fails(
-                alloc,
-                &core,
-                (7, 10),
-                mode,
-                &[next, next, next],
-                Cause::Base
-            )?
-        );
-        let first: (&[u8], Part) = (b"twice", Part::Parameter(0));
-        assert!(rt; fails(alloc, &core, (19, 20), mode, &[first, next], Cause::Base)?);
-        let arity = Cause::Arity(from_bytes(alloc, b"next")?);
-        assert!(rt; fails(alloc, &core, (13, 14), mode, &[], arity)?);
-    }
+fn recursive_types_are_subtypes_or_a_path_leads_to_the_pair_that_fails(
+    rt: HostRuntime,
+) -> Result<(), Fail> {
+    assert_eq!(rt; first_otherwise(rt.alloc(), Mode::Annotated)?, None);
+    assert_eq!(rt; first_otherwise(rt.alloc(), Mode::Plain)?, None);
     Ok(())
 }
 
 #[test]
 fn a_base_type_is_no_subtype_of_an_object_type(rt: HostRuntime) -> Result<(), Fail> {
     let alloc = rt.alloc();
-    let base = no(alloc, &[], Cause::Base)?;
-    let core = core_of_types(alloc, ScopeKind::Program)?;
+    let core = core_of_types(alloc, Mode::Annotated)?;
     let p = named(alloc, 4, None)?;
     for mode in [Mode::Annotated, Mode::Plain] {
-        assert!(rt; verdict(alloc, &core, &TypeRef::Int, &p, mode)? == base);
+        assert!(rt; is_said(alloc, &core, &TypeRef::Int, &p, mode, "base")?);
     }
     Ok(())
+}
+
+/// Whether this is the verdict on type 16 with these atoms for its member.
+fn is_said_of_users(
+    alloc: Global,
+    left: &[u16],
+    right: &[u16],
+    mode: Mode,
+    wanted: &str,
+) -> Result<bool, Fail> {
+    let core = core_of_types(alloc, Mode::Annotated)?;
+    let left = named(alloc, 16, Some(left))?;
+    let right = named(alloc, 16, Some(right))?;
+    is_said(alloc, &core, &left, &right, mode, wanted)
 }
 
 #[test]
 fn parameters_exchange_the_sides(rt: HostRuntime) -> Result<(), Fail> {
     let alloc = rt.alloc();
-    let core = core_of_types(alloc, ScopeKind::Program)?;
-    let small = named(alloc, 16, Some(&[3]))?;
-    let large = named(alloc, 16, Some(&[3, 4, 5]))?;
-    assert!(rt; verdict(alloc, &core, &large, &small, Mode::Annotated)? == Some(Verdict::Yes));
-    let effect = Cause::Effect {
-        method: from_bytes(alloc, b"run")?,
-        atom: Atom(4),
-    };
-    let lacks = no(alloc, &[(b"next", Part::Parameter(0))], effect)?;
-    assert!(rt; verdict(alloc, &core, &small, &large, Mode::Annotated)? == lacks);
-    assert!(rt; verdict(alloc, &core, &small, &large, Mode::Plain)? == Some(Verdict::Yes));
+    let small: &[u16] = &[3];
+    let large: &[u16] = &[3, 4, 5];
+    let lacks = "next:0 go has 4";
+    assert!(rt; is_said_of_users(alloc, large, small, Mode::Annotated, "yes")?);
+    assert!(rt; is_said_of_users(alloc, small, large, Mode::Annotated, lacks)?);
+    assert!(rt; is_said_of_users(alloc, small, large, Mode::Plain, "yes")?);
     Ok(())
 }
 
@@ -367,15 +258,31 @@ fn asked(alloc: Global, core: &Core, s: &TypeRef, t: &TypeRef) -> Result<Option<
     asked_from::<Brand>(alloc, core, s, t, Blank::new(1))
 }
 
+/// How many pairs the test of two types of this member asks for; `None` where it fails.
+fn asked_of(
+    alloc: Global,
+    core: &Core,
+    s: u16,
+    t: u16,
+    member: Option<&[u16]>,
+) -> Result<Option<usize>, Memory> {
+    let left = named(alloc, s, member)?;
+    let right = named(alloc, t, member)?;
+    asked(alloc, core, &left, &right)
+}
+
 #[test]
 fn one_pair_is_tested_by_itself(rt: HostRuntime) -> Result<(), Fail> {
     let alloc = rt.alloc();
-    let core = core_of_types(alloc, ScopeKind::Program)?;
-    let (p, r) = (named(alloc, 4, None)?, named(alloc, 6, None)?);
-    let v = named(alloc, 16, Some(&[3]))?;
-    assert_eq!(rt; asked(alloc, &core, &r, &p)?, Some(1));
-    assert_eq!(rt; asked(alloc, &core, &p, &r)?, None);
-    assert_eq!(rt; asked(alloc, &core, &v, &v)?, Some(2));
+    let core = core_of_types(alloc, Mode::Annotated)?;
+    let member: &[u16] = &[3];
+    for (s, t, member, want) in [
+        (6, 4, None, Some(1)),
+        (4, 6, None, None),
+        (16, 16, Some(member), Some(2)),
+    ] {
+        assert_eq!(rt; asked_of(alloc, &core, s, t, member)?, want);
+    }
     assert_eq!(rt; asked(alloc, &core, &TypeRef::Int, &TypeRef::Int)?, Some(0));
     Ok(())
 }
@@ -410,17 +317,18 @@ fn answers(
 #[test]
 fn a_table_unfolds_each_pair_once(rt: HostRuntime) -> Result<(), Fail> {
     let alloc = rt.alloc();
-    let core = core_of_types(alloc, ScopeKind::Program)?;
+    let core = core_of_types(alloc, Mode::Annotated)?;
     let asked = [(17, 4), (17, 4), (18, 4), (4, 6), (4, 6), (6, 4)];
-    let yes = vec![in alloc;
+    let wanted = [
         (true, 2),
         (true, 2),
         (true, 2),
         (false, 3),
         (false, 3),
         (true, 4),
-    ]?;
-    assert!(rt; answers(alloc, &core, asked.as_slice())? == Some(yes));
+    ];
+    let found = answers(alloc, &core, &asked)?.ok_or("in range")?;
+    assert!(rt; found.as_slice() == wanted.as_slice());
     Ok(())
 }
 
@@ -479,16 +387,16 @@ fn asked_twice<L: Ledger>(
 #[test]
 fn what_is_asked_again_takes_no_step(rt: HostRuntime) -> Result<(), Fail> {
     let alloc = rt.alloc();
-    let core = core_of_types(alloc, ScopeKind::Program)?;
+    let core = core_of_types(alloc, Mode::Annotated)?;
     let asked = [(4, 5), (5, 4), (6, 4), (4, 6), (7, 10)];
-    let again = vec![in alloc;
+    let again = [
         (true, true),
         (true, true),
         (true, true),
         (false, true),
         (false, true),
-    ]?;
-    let answers = asked_twice::<Brand>(alloc, &core, asked.as_slice(), Blank::new(1))?;
-    assert!(rt; answers == Some(again));
+    ];
+    let found = asked_twice::<Brand>(alloc, &core, &asked, Blank::new(1))?.ok_or("in range")?;
+    assert!(rt; found.as_slice() == again.as_slice());
     Ok(())
 }

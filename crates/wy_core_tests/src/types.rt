@@ -1,35 +1,14 @@
+use crate::texts::{core_of, set_of};
 use std::alloc::Global;
 use std::test::Fail;
-use wy_effects::atom::{Atom, AtomTable};
 use wy_effects::set::{EffSet, SetList};
-use wy_text::fault::Place;
 use wy_text::list::Items;
-use wy_text::text::{Memory, from_bytes};
-use wy_types::bodies::Bodies;
-use wy_types::code::{Block, Expr, Value};
+use wy_text::text::Memory;
 use wy_types::key::{key_of_mark, key_of_pair};
 use wy_types::methods::methods;
-use wy_types::primitive::primitives;
 use wy_types::reach::{ReachRefusal, reach};
 use wy_types::reading::substitute;
-use wy_types::resolved::{Core, Literal, Origin, OwnName, Scope, ScopeKind, Start, TypeDecl};
 use wy_types::types::{Method, TypeRef};
-
-const PLACE: Place = Place {
-    file: 1,
-    line: 1,
-    column: 1,
-};
-
-fn set_of(alloc: Global, atoms: &[u16]) -> Result<EffSet, Memory> {
-    let mut set = EffSet::empty(alloc);
-    for atom in atoms {
-        if *atom < 512 {
-            set.insert(Atom(*atom))?;
-        }
-    }
-    Ok(set)
-}
 
 fn sets_of(alloc: Global, sets: &[&[u16]]) -> Result<SetList, Memory> {
     let mut list = Items::new(alloc);
@@ -39,168 +18,133 @@ fn sets_of(alloc: Global, sets: &[&[u16]]) -> Result<SetList, Memory> {
     Ok(list)
 }
 
-/// A core of one scope, with a grant of a console and a block that does nothing.
-fn small_core(alloc: Global, kind: ScopeKind, ascribed: Option<u16>) -> Result<Core, Memory> {
-    let mut names = Items::new(alloc);
-    names.push(OwnName {
-        name: from_bytes(alloc, b"console")?,
-        place: PLACE,
-        typ: TypeRef::Named {
-            decl: 0,
-            members: sets_of(alloc, &[&[0], &[1]])?,
-        },
-        origin: Origin::Grant,
-    })?;
-    let mut literals = Items::new(alloc);
-    literals.push(Literal {
-        captures: Items::new(alloc),
-        fields: Items::new(alloc),
-    })?;
-    let last = Box::new(alloc, Value::Plain(Expr::Unit(PLACE)))?;
-    let bodies = Bodies::new(alloc, Vec::new(alloc))?;
-    let mut scopes = Items::new(alloc);
-    scopes.push(Scope {
-        kind,
-        name: from_bytes(alloc, b"main")?,
-        place: PLACE,
-        atoms: AtomTable::new(alloc),
-        bounds: Items::new(alloc),
-        names,
-        ascribed,
-        definitions: Items::new(alloc),
-        literals,
-        start_place: PLACE,
-        start_effect: EffSet::empty(alloc),
-        start: Start::Run(Block {
-            statements: Vec::new(alloc),
-            last,
-        }),
-        bodies,
-    })?;
-    Ok(Core {
-        declarations: primitives(alloc)?,
-        scopes,
-    })
+/// A program that is granted a console.
+const PROGRAM: &str = "program\n  grant console: Console\n  run: {}\n    ()\n";
+
+/// A plain module, and a program.
+const PLAIN: &str = "type N\nplain module p(): N\nprogram\n  run: {}\n    ()\n";
+
+/// A module that is handed a console and sealed at its type, and a program.
+const RESOURCE: &str =
+    "resource module m(c: Console): Console\n  effect In = {c.In}\n  effect Out = {c.Out}\nprogram\n  run: {}\n    ()\n";
+
+/// The methods of a type in the first scope of a program.
+fn methods_in(alloc: Global, text: &str, t: &TypeRef) -> Result<Vec<Method>, Fail> {
+    let core = core_of(alloc, text)?;
+    Ok(methods(alloc, &core, 0, t)?)
+}
+
+/// A declared type with these sets for its members.
+fn named(alloc: Global, decl: u16, sets: &[&[u16]]) -> Result<TypeRef, Memory> {
+    let members = sets_of(alloc, sets)?;
+    Ok(TypeRef::Named { decl, members })
+}
+
+/// A declared type with this bound.
+fn bounded(alloc: Global, decl: u16, atoms: &[u16]) -> Result<TypeRef, Memory> {
+    let bound = set_of(alloc, atoms)?;
+    Ok(TypeRef::At { decl, bound })
+}
+
+/// Whether these are `read`, which gives a text, and `write`, which takes something, with these effects.
+fn read_and_write(found: &[Method], input: &EffSet, output: &EffSet) -> bool {
+    let [read, write] = found else {
+        return false;
+    };
+    read.name.as_bytes() == b"read".as_slice()
+        && read.effect == *input
+        && read.result == TypeRef::Text
+        && write.name.as_bytes() == b"write".as_slice()
+        && write.effect == *output
+        && write.params.len() == 1
+}
+
+/// Whether there are so many methods, the last of them with this effect.
+fn end_with(found: &[Method], count: usize, effect: &EffSet) -> bool {
+    match found.last() {
+        Some(last) => found.len() == count && last.effect == *effect,
+        None => false,
+    }
 }
 
 #[test]
 fn primitive_types_have_their_methods(rt: HostRuntime) -> Result<(), Fail> {
     let alloc = rt.alloc();
-    let core = small_core(alloc, ScopeKind::Program, None)?;
-    let console = TypeRef::Named {
-        decl: 0,
-        members: sets_of(alloc, &[&[5], &[2, 7]])?,
-    };
-    let found = methods(alloc, &core, 0, &console)?;
-    assert_eq!(rt; found.len(), 2);
-    assert_eq!(rt; found[0].name.as_bytes(), b"read".as_slice());
-    assert!(rt; found[0].effect == set_of(alloc, &[5])? && found[0].result == TypeRef::Text);
-    assert_eq!(rt; found[1].name.as_bytes(), b"write".as_slice());
-    assert!(rt; found[1].effect == set_of(alloc, &[2, 7])? && found[1].params.len() == 1);
-    let folder = TypeRef::At {
-        decl: 1,
-        bound: set_of(alloc, &[3])?,
-    };
-    let bounded = methods(alloc, &core, 0, &folder)?;
-    assert_eq!(rt; bounded.len(), 5);
-    assert!(rt; bounded[4].effect == set_of(alloc, &[3])?);
-    assert!(rt; methods(alloc, &core, 0, &TypeRef::Int)?.is_empty());
+    let input = set_of(alloc, &[5])?;
+    let output = set_of(alloc, &[2, 7])?;
+    let console = named(alloc, 0, &[&[5], &[2, 7]])?;
+    let found = methods_in(alloc, PROGRAM, &console)?;
+    assert!(rt; read_and_write(found.as_slice(), &input, &output));
+    Ok(())
+}
+
+#[test]
+fn bounded_and_base_types_have_their_methods(rt: HostRuntime) -> Result<(), Fail> {
+    let alloc = rt.alloc();
+    let folder = bounded(alloc, 1, &[3])?;
+    let found = methods_in(alloc, PROGRAM, &folder)?;
+    assert!(rt; end_with(found.as_slice(), 5, &set_of(alloc, &[3])?));
+    assert!(rt; methods_in(alloc, PROGRAM, &TypeRef::Int)?.is_empty());
     Ok(())
 }
 
 #[test]
 fn plain_modules_see_bare_types(rt: HostRuntime) -> Result<(), Fail> {
     let alloc = rt.alloc();
-    let core = small_core(alloc, ScopeKind::Plain, None)?;
-    let clock = TypeRef::Named {
-        decl: 2,
-        members: Items::new(alloc),
-    };
-    let found = methods(alloc, &core, 0, &clock)?;
-    assert_eq!(rt; found.len(), 1);
-    assert!(rt; found[0].effect == EffSet::empty(alloc));
+    let clock = named(alloc, 2, &[])?;
+    let found = methods_in(alloc, PLAIN, &clock)?;
+    assert!(rt; end_with(found.as_slice(), 1, &EffSet::empty(alloc)));
     Ok(())
+}
+
+/// The type with its atoms replaced: the first, the second and the third one by these sets.
+fn replaced(alloc: Global, t: &TypeRef) -> Result<TypeRef, Memory> {
+    let by = sets_of(alloc, &[&[4], &[], &[1, 9]])?;
+    substitute(alloc, t, by.as_slice())
 }
 
 #[test]
 fn atoms_are_replaced_in_types(rt: HostRuntime) -> Result<(), Fail> {
     let alloc = rt.alloc();
-    let by = sets_of(alloc, &[&[4], &[], &[1, 9]])?;
-    let named = TypeRef::Named {
-        decl: 0,
-        members: sets_of(alloc, &[&[0, 2], &[1]])?,
-    };
-    let want = TypeRef::Named {
-        decl: 0,
-        members: sets_of(alloc, &[&[1, 4, 9], &[]])?,
-    };
-    assert!(rt; substitute(alloc, &named, by.as_slice())? == want);
+    let found = replaced(alloc, &named(alloc, 0, &[&[0, 2], &[1]])?)?;
+    assert!(rt; found == named(alloc, 0, &[&[1, 4, 9], &[]])?);
     let own = TypeRef::Own { literal: 3 };
-    assert!(rt; substitute(alloc, &own, by.as_slice())? == own);
+    assert!(rt; replaced(alloc, &own)? == own);
     Ok(())
 }
 
-/// A core whose last declarations are a chain of types, each going on to the next and the last to the first.
-fn chained_core(alloc: Global, number: u16) -> Result<Core, Memory> {
-    let mut core = small_core(alloc, ScopeKind::Program, Some(4))?;
-    for k in 0..number {
-        let next = if k == number - 1 {
-            4
-        } else {
-            k.saturating_add(5)
-        };
-        let mut calls = Items::new(alloc);
-        calls.push(Method {
-            name: from_bytes(alloc, b"f")?,
-            params: Items::new(alloc),
-            effect: EffSet::empty(alloc),
-            result: TypeRef::Named {
-                decl: next,
-                members: Items::new(alloc),
-            },
-        })?;
-        core.declarations.push(TypeDecl {
-            name: from_bytes(alloc, &k.to_be_bytes())?,
-            members: Items::new(alloc),
-            bounds: Items::new(alloc),
-            defined: Items::new(alloc),
-            methods: calls,
-        })?;
+/// A program that is granted a console, and has an instance of a module that is sealed at the first of so many types, each
+/// going on to the next and the last to the first.
+fn chained(alloc: Global, number: u32) -> Result<String, Fail> {
+    let mut text = String::new(alloc);
+    for at in 1..=number {
+        let next = at % number + 1;
+        text.push_str(format!(in alloc; "type T{at}\n  def f(): {{}} T{next}\n")?.as_str())?;
     }
-    Ok(core)
+    text.push_str("resource module m(): T1\nprogram\n  grant console: Console\n")?;
+    text.push_str("  instance x = m()\n  run: {}\n    ()\n")?;
+    Ok(text)
 }
 
-/// How many types the first scope reaches; `None` where they pass the limit.
-fn reached(alloc: Global, core: &Core) -> Result<Option<usize>, Memory> {
-    match reach(alloc, core, 0) {
+/// How many types a scope reaches; `None` where they pass the limit.
+fn reached(alloc: Global, text: &str, scope: u16) -> Result<Option<usize>, Fail> {
+    let core = core_of(alloc, text)?;
+    match reach(alloc, &core, scope) {
         Ok(types) => Ok(Some(types.len())),
         Err(ReachRefusal::Limit(_limit)) => Ok(None),
-        Err(ReachRefusal::Memory) => Err(Memory),
+        Err(ReachRefusal::Memory) => Err(Memory.into()),
     }
 }
 
 #[test]
 fn a_scope_reaches_at_most_1024_types(rt: HostRuntime) -> Result<(), Fail> {
     let alloc = rt.alloc();
-    assert_eq!(rt;
-        reached(alloc, &small_core(alloc, ScopeKind::Program, None)?)?,
-        Some(1)
-    );
-    assert_eq!(rt;
-        reached(alloc, &small_core(alloc, ScopeKind::Resource, None)?)?,
-        Some(2)
-    );
+    assert_eq!(rt; reached(alloc, PROGRAM, 0)?, Some(1));
+    assert_eq!(rt; reached(alloc, RESOURCE, 0)?, Some(2));
     for (number, want) in [(3, Some(4)), (1023, Some(1024)), (1024, None)] {
-        assert_eq!(rt; reached(alloc, &chained_core(alloc, number)?)?, want);
+        assert_eq!(rt; reached(alloc, chained(alloc, number)?.as_str(), 1)?, want);
     }
     Ok(())
-}
-
-fn named_by(alloc: Global, sets: &[&[u16]]) -> Result<TypeRef, Memory> {
-    Ok(TypeRef::Named {
-        decl: 4,
-        members: sets_of(alloc, sets)?,
-    })
 }
 
 /// Types no two of which are equal.
@@ -209,15 +153,24 @@ fn distinct_types(alloc: Global) -> Result<Vec<TypeRef>, Memory> {
     types.push(TypeRef::Int)?;
     types.push(TypeRef::Unit)?;
     types.push(TypeRef::Own { literal: 4 })?;
-    types.push(named_by(alloc, &[])?)?;
-    types.push(named_by(alloc, &[&[1, 2]])?)?;
-    types.push(named_by(alloc, &[&[1, 2], &[]])?)?;
-    types.push(named_by(alloc, &[&[1], &[2]])?)?;
-    types.push(TypeRef::At {
-        decl: 4,
-        bound: set_of(alloc, &[1, 2])?,
-    })?;
+    let members: [&[&[u16]]; 4] = [&[], &[&[1, 2]], &[&[1, 2], &[]], &[&[1], &[2]]];
+    for sets in members {
+        types.push(named(alloc, 4, sets)?)?;
+    }
+    types.push(bounded(alloc, 4, &[1, 2])?)?;
     Ok(types)
+}
+
+/// Whether two types have one key in both orders.
+fn have_one_key(alloc: Global, s: &TypeRef, t: &TypeRef) -> Result<bool, Memory> {
+    let one = key_of_pair(alloc, s, t)?;
+    Ok(one == key_of_pair(alloc, t, s)?)
+}
+
+/// Whether a type has one key with a mark and without.
+fn is_mark_lost(alloc: Global, t: &TypeRef) -> Result<bool, Memory> {
+    let marked = key_of_mark(alloc, t, true)?;
+    Ok(marked == key_of_mark(alloc, t, false)?)
 }
 
 #[test]
@@ -226,11 +179,9 @@ fn keys_differ_where_types_do(rt: HostRuntime) -> Result<(), Fail> {
     let types = distinct_types(alloc)?;
     for (i, s) in types.iter().enumerate() {
         for (j, t) in types.iter().enumerate() {
-            let same = key_of_pair(alloc, s, t)? == key_of_pair(alloc, t, s)?;
-            assert_eq!(rt; same, i == j);
+            assert_eq!(rt; have_one_key(alloc, s, t)?, i == j);
         }
-        let marked = key_of_mark(alloc, s, true)?;
-        assert!(rt; marked != key_of_mark(alloc, s, false)?);
+        assert!(rt; !is_mark_lost(alloc, s)?);
     }
     Ok(())
 }
