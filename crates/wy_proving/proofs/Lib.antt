@@ -1,23 +1,23 @@
-mod AcceptedCertified
-mod BareStand
-mod CertifiedNodes
+pub mod AcceptedCertified
+pub mod BareStand
+pub mod CertifiedNodes
 mod ClosedPairs
 mod ClosedTypes
 mod EffectsKept
 pub mod Erasing
-mod ExactLists
+pub mod ExactLists
 mod Examples
 mod ExamplesForms
 mod ExamplesLogger
 mod ExamplesPlain
-mod FirstFailures
+pub mod FirstFailures
 mod LinesAsked
 mod Listed
 mod ListedClosed
 mod LocalsCounted
 mod MethodEffects
 mod NodeSteps
-mod NodesRead
+pub mod NodesRead
 mod OperatorRows
 pub mod PlainPairs
 mod ProvedAccepted
@@ -30,5 +30,5 @@ mod StandingKept
 mod StepsGood
 mod StepsListed
 mod Tests
-mod WrittenOut
+pub mod WrittenOut
 mod WrittenTypes

@@ -1,6 +1,6 @@
 -- The pairs that the rules for a module and its lines ask: of an accepted program they are subtypings of types that stand, and
 -- where they are listed the rules hold.
-use Rattle.std.proofs.Common.{◌≡◌, ℕ, ◌<◌, List, [], ◌∷◌, ◌++◌, map, length, inl, inr, refl, sym, ap, subst, Option, Some, None, Bool as Truth, true, false}
+use Rattle.std.proofs.Common.{◌≡◌, ℕ, ◌<◌, List, [], ◌∷◌, ◌++◌, length, inl, inr, refl, sym, ap, subst, Option, Some, None, Bool as Truth, true, false}
 use Rattle.std.specs.Prelude.{slice_get}
 use Rattle.wy_effects.specs.Members.{In}
 use Rattle.wy_effects.specs.EffSet.{IsSet}
@@ -19,15 +19,16 @@ use Rattle.wy_types.specs.Bounds.{bounds_of}
 use Rattle.wy_types.specs.Subtyping.{AnyEffect, IsPlainSubtype}
 use Rattle.wy_types.specs.Fitting.{FitsType}
 use Rattle.wy_types.specs.Core.{IsCore, ScopeFits, IsAscribed, IsWritten, HasSets, OriginFits}
-use Rattle.wy_types.specs.Ground.{type_of, names_of, arguments_sets}
+use Rattle.wy_types.specs.Ground.{type_of, names_of}
 use Rattle.wy_types.proofs.Kept.{Fits-wider}
 use Rattle.wy_types.proofs.MemberSets.{arguments_are_sets}
 use Rattle.wy_rules.specs.Tables.{erased_methods}
-use Rattle.wy_rules.specs.Acceptance.{Handed, reading_of, scope_reading, PureHolds, SealHolds, IsOfKind, ImportFits, InstanceHolds, ImportHolds, LineHolds, argument_type, handed_to, parameters_of, ScopeAccepted}
+use Rattle.wy_rules.specs.Acceptance.{Handed, reading_of, scope_reading, PureHolds, SealHolds, IsOfKind, ImportFits, InstanceHolds, ImportHolds, LineHolds, argument_type, parameters_of, ScopeAccepted}
 use Rattle.wy_rules.proofs.Agreeing.{annotation_of_erasure}
 use Rattle.wy_cert.specs.declared.certificate.CertScope.{CertScope}
 use Rattle.wy_proving.specs.Certified.{Pair, bare, annotated_pairs, plain_pairs}
 use Rattle.wy_proving.specs.Proving.{TypeStands, sets_of, IsOwn, LineRule, purity, ascription, use_of, instance_of, import_of, bound_of, kind_rules, ascription_rules, line_rules, names_rules, scope_rules, IsListedIn, RuleStands}
+use Rattle.wy_proving.specs.Written.{asked_by_all, unless_plain, where_plain, all_handed, seal, sets_for, argument_pair, bound_pair, plain_pair, asked_by, asked_plainly}
 use Rattle.wy_proving.proofs.Erasing.{erased_erased}
 use Rattle.wy_proving.proofs.ProvedAccepted.{among, handed}
 use Rattle.wy_proving.proofs.ReachedStand.{written_stands, put_stands, any_bound}
@@ -36,11 +37,6 @@ use Rattle.wy_proving.proofs.BareStand.{BareStands, bare_of_standing, bare_of_fi
 
 ------------------------------------------------------------
 -- Pairs that are asked by each of some rules
-
--- the pairs of each rule, one after the other
-abbrev pub asked_by_all : (LineRule → List Pair) → List LineRule → List Pair
-asked_by_all f [] = []
-asked_by_all f (r ∷ rs) = f r ++ asked_by_all f rs
 
 -- what holds of each rule's holds of all
 pub asked_by_each : (f : LineRule → List Pair) (A : Pair → Type 0) (rs : List LineRule) → ((r : LineRule) → In r rs → (q : Pair) → In {X = Pair} q (f r) → A q) → (q : Pair) → In {X = Pair} q (asked_by_all f rs) → A q
@@ -55,51 +51,6 @@ pub asked_by_one : (f : LineRule → List Pair) (rs : List LineRule) (r : LineRu
 asked_by_one f [] r i q j = absurd i
 asked_by_one f (a ∷ rs) r (inl e) q j = In-left {X = Pair} q (f a) (asked_by_all f rs) (subst (λ v. In {X = Pair} q (f v)) (sym e) j)
 asked_by_one f (a ∷ rs) r (inr i) q j = In-right {X = Pair} q (f a) (asked_by_all f rs) (asked_by_one f rs r i q j)
-
-abbrev unless_plain : Truth → List Pair → List Pair
-unless_plain true ps = []
-unless_plain false ps = ps
-
-abbrev where_plain : Truth → List Pair → List Pair
-where_plain true ps = ps
-where_plain false ps = []
-
-module _ (p : Program) (k : ℕ) (s : Scope) where
-  abbrev all_handed : ℕ → List ℕ → List Handed
-  all_handed m arguments = handed_to (parameters_of p m) arguments
-
-  abbrev seal : ℕ → List Pair
-  seal d = (Own 0, Named d s.definitions) ∷ []
-
-  abbrev sets_for : ℕ → List ℕ → List (List ℕ)
-  sets_for m arguments = arguments_sets p s.names (names_of (slice_get p.scopes m)) arguments
-
-  abbrev argument_pair : List (List ℕ) → Handed → Pair
-  argument_pair es h = (argument_type p k s.names h, substituted es h.parameter.typ)
-
-  abbrev bound_pair : List ℕ → Handed → Pair
-  bound_pair bound h = (argument_type p k s.names h, annotated bound (erased (argument_type p k s.names h)))
-
-  abbrev plain_pair : Handed → Pair
-  plain_pair h = (argument_type p k s.names h, h.parameter.typ)
-
-  -- the annotated pairs that a rule asks
-  abbrev pub asked_by : LineRule → List Pair
-  asked_by purity = []
-  asked_by (ascription d) = unless_plain (is_plain s.kind) (seal d)
-  asked_by (use_of m) = []
-  asked_by (instance_of m arguments) = map (argument_pair (sets_for m arguments)) (all_handed m arguments)
-  asked_by (import_of m arguments) = []
-  asked_by (bound_of m arguments bound) = map (bound_pair bound) (all_handed m arguments)
-
-  -- .. and the plain ones
-  abbrev pub asked_plainly : LineRule → List Pair
-  asked_plainly purity = []
-  asked_plainly (ascription d) = where_plain (is_plain s.kind) (seal d)
-  asked_plainly (use_of m) = []
-  asked_plainly (instance_of m arguments) = []
-  asked_plainly (import_of m arguments) = []
-  asked_plainly (bound_of m arguments bound) = map plain_pair (all_handed m arguments)
 
 module _ (p : Program) (core : IsCore p) (k : ℕ) (s : Scope) (at : slice_get p.scopes k ≡ Some s) (fits : ScopeFits p s) where
   ------------------------------------------------------------

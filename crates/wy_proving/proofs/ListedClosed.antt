@@ -14,15 +14,10 @@ use Rattle.wy_cert.specs.declared.certificate.CertScope.{CertScope}
 use Rattle.wy_proving.specs.Certified.{Pair, bare, annotated_pairs, plain_pairs}
 use Rattle.wy_proving.specs.Steps.{Step}
 use Rattle.wy_proving.specs.Proving.{TypeStands, TypesHold, PairStands, PairsHold, PlainStands, PlainPairsHold}
-use Rattle.wy_proving.proofs.ClosedPairs.{Closed}
+use Rattle.wy_proving.specs.Written.{pair_types, step_types, cert_pair, written_out}
+use Rattle.wy_proving.proofs.ClosedPairs.{PairsWithin, Closed}
 use Rattle.wy_proving.proofs.BareStand.{BareStands, erased_annotated_bare}
-use Rattle.wy_proving.proofs.StepsListed.{step_types}
-use Rattle.wy_proving.proofs.WrittenOut.{listed_in, number_names, cert_pair, pairs_back, written_out}
-
--- the types of pairs
-abbrev pair_types : List Pair → List TypeRef
-pair_types [] = []
-pair_types (q ∷ ps) = q.0 ∷ q.1 ∷ pair_types ps
+use Rattle.wy_proving.proofs.WrittenOut.{listed_in, number_names, pairs_back}
 
 in_pairs : (ps : List Pair) (q : Pair) → In {X = Pair} q ps → In q.0 (pair_types ps) × In q.1 (pair_types ps)
 in_pairs [] q i = absurd i
@@ -46,99 +41,125 @@ bare_back : (ps : List Pair) → ((q : Pair) → In {X = Pair} q ps → (erased 
 bare_back [] h = refl
 bare_back (q ∷ ps) h = ap₂ (λ (v : Pair) (vs : List Pair). v ∷ vs) (one_back q (h q (inl refl)).0 (h q (inl refl)).1) (bare_back ps (λ v i. h v (inr i)))
 
--- what a part of a certificate is written from: closed lists that have the pairs that are asked, the types of `val`s, and steps
-pub record Whole (p : Program) (k : ℕ) (s : Scope) : Type 0 where
-  pub asks : List Pair
-  pub annotated : Closed (methods_of p k) (IsWithin (bounds_of p k)) (TypeStands p s) asks
-  pub plain_asks : List Pair
-  pub plain : Closed (erased_methods p k) AnyEffect (BareStands p s) plain_asks
-  pub locals : List TypeRef
-  pub steps : List (Step TypeRef)
+-- what a part of a certificate is written from: lists that have the pairs that are asked, each pair closed in its list, and types that can
+-- stand, those of the pairs, of the steps and of the `val`s among them
+pub record Whole (p : Program) (k : ℕ) (s : Scope) (asks plain_asks : List Pair) (locals : List TypeRef) (steps : List (Step TypeRef)) : Type 0 where
+  pub types : List TypeRef
+  pub pairs : List Pair
+  pub bares : List Pair
+  pub asked : PairsWithin asks pairs
+  pub closed : (q : Pair) → In {X = Pair} q pairs → IsClosed TypeRef (methods_of p k) IsObject (IsWithin (bounds_of p k)) pairs q
+  pub asked_plainly : PairsWithin plain_asks (map bare bares)
+  pub closed_plainly : (q : Pair) → In {X = Pair} q bares → IsClosed TypeRef (erased_methods p k) IsObject AnyEffect (map bare bares) (bare q)
+  pub listed : (t : TypeRef) → In t (pair_types pairs ++ (pair_types bares ++ (step_types steps ++ locals))) → In t types
+  pub stand : (t : TypeRef) → In t types → TypeStands p s t
 
-module _ (p : Program) (k : ℕ) (s : Scope) (w : Whole p k s) where
-  abbrev bares : List Pair
-  bares = map at_empty w.plain.list
+module _ (p : Program) (k : ℕ) (s : Scope) (asks plain_asks : List Pair) (locals : List TypeRef) (steps : List (Step TypeRef)) where
+  module _ (w : Whole p k s asks plain_asks locals steps) where
+    -- the part of a certificate
+    abbrev pub part : CertScope
+    part = written_out w.types w.pairs w.bares locals steps
 
-  -- all types of the pairs, of the steps, and of the `val`s
-  abbrev pub all_types : List TypeRef
-  all_types = pair_types w.annotated.list ++ (pair_types bares ++ (step_types w.steps ++ w.locals))
+    in_first : (t : TypeRef) → In t (pair_types w.pairs) → In t w.types
+    in_first t i = w.listed t (In-left t (pair_types w.pairs) (pair_types w.bares ++ (step_types steps ++ locals)) i)
 
-  -- the part of a certificate
-  abbrev pub part : CertScope
-  part = written_out all_types w.annotated.list bares w.locals w.steps
+    in_second : (t : TypeRef) → In t (pair_types w.bares) → In t w.types
+    in_second t i = w.listed t (In-right t (pair_types w.pairs) (pair_types w.bares ++ (step_types steps ++ locals)) (In-left t (pair_types w.bares) (step_types steps ++ locals) i))
 
-  in_first : (t : TypeRef) → In t (pair_types w.annotated.list) → In t all_types
-  in_first t i = In-left t (pair_types w.annotated.list) (pair_types bares ++ (step_types w.steps ++ w.locals)) i
+    -- the types of its steps are listed
+    pub in_steps : (t : TypeRef) → In t (step_types steps) → In t w.types
+    in_steps t i =
+        w.listed t (In-right t (pair_types w.pairs) (pair_types w.bares ++ (step_types steps ++ locals)) (In-right t (pair_types w.bares) (step_types steps ++ locals) (In-left t (step_types steps) locals i)))
 
-  in_second : (t : TypeRef) → In t (pair_types bares) → In t all_types
-  in_second t i = In-right t (pair_types w.annotated.list) (pair_types bares ++ (step_types w.steps ++ w.locals)) (In-left t (pair_types bares) (step_types w.steps ++ w.locals) i)
+    -- .. and those of `val`s
+    pub in_locals : (t : TypeRef) → In t locals → In t w.types
+    in_locals t i =
+        w.listed t (In-right t (pair_types w.pairs) (pair_types w.bares ++ (step_types steps ++ locals)) (In-right t (pair_types w.bares) (step_types steps ++ locals) (In-right t (step_types steps) locals i)))
 
-  -- the types of its steps are listed
-  pub in_steps : (t : TypeRef) → In t (step_types w.steps) → In t all_types
-  in_steps t i = In-right t (pair_types w.annotated.list) (pair_types bares ++ (step_types w.steps ++ w.locals)) (In-right t (pair_types bares) (step_types w.steps ++ w.locals) (In-left t (step_types w.steps) w.locals i))
+    -- all types stand
+    pub types_hold : TypesHold p k s part
+    types_hold t i = w.stand t (listed_in w.types t i)
 
-  -- .. and those of `val`s
-  pub in_locals : (t : TypeRef) → In t w.locals → In t all_types
-  in_locals t i = In-right t (pair_types w.annotated.list) (pair_types bares ++ (step_types w.steps ++ w.locals)) (In-right t (pair_types bares) (step_types w.steps ++ w.locals) (In-right t (step_types w.steps) w.locals i))
+    ------------------------------------------------------------
+    -- Pairs
+
+    annotated_back : annotated_pairs part ≡ w.pairs
+    annotated_back = pairs_back w.types w.pairs (λ q i. (let r = in_pairs w.pairs q i in (in_first q.0 r.0, in_first q.1 r.1)))
+
+    bare_there : (q : Pair) → In {X = Pair} q w.bares → In q.0 w.types × In q.1 w.types
+    bare_there q i = (let r = in_pairs w.bares q i in (in_second q.0 r.0, in_second q.1 r.1))
+
+    plain_back : plain_pairs part ≡ map bare w.bares
+    plain_back = ap (λ (ps : List Pair). map bare ps) (pairs_back w.types w.bares bare_there)
+
+    -- what is asked is listed
+    pub asked_listed : (q : Pair) → In {X = Pair} q asks → In {X = Pair} q (annotated_pairs part)
+    asked_listed q i = subst (λ ps. In {X = Pair} q ps) (sym annotated_back) (w.asked q i)
+
+    -- .. and in the plain list
+    pub asked_plainly_listed : (q : Pair) → In {X = Pair} q plain_asks → In {X = Pair} q (plain_pairs part)
+    asked_plainly_listed q i = subst (λ ps. In {X = Pair} q ps) (sym plain_back) (w.asked_plainly q i)
+
+    -- each pair is closed
+    pub pairs_hold : PairsHold p k s part
+    pairs_hold n i =
+        let r = In-unmap {X = Pair} {Y = CertPair} (cert_pair w.types) n w.pairs i in
+        let q = r.0 in
+        let l = in_pairs w.pairs q r.1 in
+        let closed = subst (λ ps. IsClosed TypeRef (methods_of p k) IsObject (IsWithin (bounds_of p k)) ps q) (sym annotated_back) (w.closed q r.1) in
+        subst (PairStands p k s part) r.2 (q.0, q.1, number_names w.types q.0 (in_first q.0 l.0), number_names w.types q.1 (in_first q.1 l.1), closed)
+
+    -- .. and each plain one
+    pub plain_hold : PlainPairsHold p k s part
+    plain_hold n i =
+        let r = In-unmap {X = Pair} {Y = CertPair} (cert_pair w.types) n w.bares i in
+        let q = r.0 in
+        let l = bare_there q r.1 in
+        let closed = subst (λ ps. IsClosed TypeRef (erased_methods p k) IsObject AnyEffect ps (bare q)) (sym plain_back) (w.closed_plainly q r.1) in
+        subst (PlainStands p k s part) r.2 (q.0, q.1, number_names w.types q.0 l.0, number_names w.types q.1 l.1, closed)
 
   ------------------------------------------------------------
-  -- Types
+  -- From closed lists
 
-  bares_stand : (q : Pair) → In {X = Pair} q bares → TypeStands p s q.0 × TypeStands p s q.1
-  bares_stand q i =
-      let r = In-unmap at_empty q w.plain.list i in
-      let h = w.plain.each r.0 r.1 in
-      let Q : Pair → Type 0 = λ v. TypeStands p s v.0 × TypeStands p s v.1 in
-      subst Q r.2 (h.0.1, h.1.1)
+  module _ (annotated_list : Closed (methods_of p k) (IsWithin (bounds_of p k)) (TypeStands p s) asks) (plain_list : Closed (erased_methods p k) AnyEffect (BareStands p s) plain_asks) where
+    abbrev empties : List Pair
+    empties = map at_empty plain_list.list
 
-  -- all types stand, where those of steps and `val`s do
-  pub types_hold : ((t : TypeRef) → In t (step_types w.steps) → TypeStands p s t) → ((t : TypeRef) → In t w.locals → TypeStands p s t) → TypesHold p k s part
-  types_hold f g t i = elim (In-cases t (pair_types w.annotated.list) (pair_types bares ++ (step_types w.steps ++ w.locals)) (listed_in all_types t i)) [
-    | inl j ↦ pairs_have (TypeStands p s) w.annotated.list w.annotated.each t j
-    | inr j ↦ elim (In-cases t (pair_types bares) (step_types w.steps ++ w.locals) j) [
-      | inl l ↦ pairs_have (TypeStands p s) bares bares_stand t l
-      | inr l ↦ elim (In-cases t (step_types w.steps) w.locals l) [ inl x ↦ f t x | inr x ↦ g t x ]
-    ]
-  ]
+    empties_stand : (q : Pair) → In {X = Pair} q empties → TypeStands p s q.0 × TypeStands p s q.1
+    empties_stand q i =
+        let r = In-unmap at_empty q plain_list.list i in
+        let h = plain_list.each r.0 r.1 in
+        let Q : Pair → Type 0 = λ v. TypeStands p s v.0 × TypeStands p s v.1 in
+        subst Q r.2 (h.0.1, h.1.1)
 
-  ------------------------------------------------------------
-  -- Pairs
+    plain_again : map bare empties ≡ plain_list.list
+    plain_again = bare_back plain_list.list (λ q i. (let h = plain_list.each q i in (h.0.0, h.1.0)))
 
-  annotated_back : annotated_pairs part ≡ w.annotated.list
-  annotated_back = pairs_back all_types w.annotated.list (λ q i. (let r = in_pairs w.annotated.list q i in (in_first q.0 r.0, in_first q.1 r.1)))
+    empties_closed : (q : Pair) → In {X = Pair} q empties → IsClosed TypeRef (erased_methods p k) IsObject AnyEffect (map bare empties) (bare q)
+    empties_closed q i =
+        let u = In-unmap at_empty q plain_list.list i in
+        let h = plain_list.each u.0 u.1 in
+        let back : bare q ≡ u.0 = ap (λ (v : Pair). bare v) (sym u.2) ∙ one_back u.0 h.0.0 h.1.0 in
+        let listed = subst (λ ps. IsClosed TypeRef (erased_methods p k) IsObject AnyEffect ps u.0) (sym plain_again) (plain_list.closed u.0 u.1) in
+        let Q : Pair → Type 0 = IsClosed TypeRef (erased_methods p k) IsObject AnyEffect (map bare empties) in
+        subst Q (sym back) listed
 
-  bare_there : (q : Pair) → In {X = Pair} q bares → In q.0 all_types × In q.1 all_types
-  bare_there q i = (let r = in_pairs bares q i in (in_second q.0 r.0, in_second q.1 r.1))
-
-  plain_back : plain_pairs part ≡ w.plain.list
-  plain_back = ap (λ (ps : List Pair). map bare ps) (pairs_back all_types bares bare_there) ∙ bare_back w.plain.list (λ q i. (let h = w.plain.each q i in (h.0.0, h.1.0)))
-
-  -- what is asked is listed
-  pub asked_listed : (q : Pair) → In {X = Pair} q w.asks → In {X = Pair} q (annotated_pairs part)
-  asked_listed q i = subst (λ ps. In {X = Pair} q ps) (sym annotated_back) (w.annotated.has q i)
-
-  -- .. and in the plain list
-  pub asked_plainly_listed : (q : Pair) → In {X = Pair} q w.plain_asks → In {X = Pair} q (plain_pairs part)
-  asked_plainly_listed q i = subst (λ ps. In {X = Pair} q ps) (sym plain_back) (w.plain.has q i)
-
-  -- each pair is closed
-  pub pairs_hold : PairsHold p k s part
-  pairs_hold n i =
-      let r = In-unmap {X = Pair} {Y = CertPair} (cert_pair all_types) n w.annotated.list i in
-      let q = r.0 in
-      let l = in_pairs w.annotated.list q r.1 in
-      let closed = subst (λ ps. IsClosed TypeRef (methods_of p k) IsObject (IsWithin (bounds_of p k)) ps q) (sym annotated_back) (w.annotated.closed q r.1) in
-      subst (PairStands p k s part) r.2 (q.0, q.1, number_names all_types q.0 (in_first q.0 l.0), number_names all_types q.1 (in_first q.1 l.1), closed)
-
-  -- .. and each plain one
-  pub plain_hold : PlainPairsHold p k s part
-  plain_hold n i =
-      let r = In-unmap {X = Pair} {Y = CertPair} (cert_pair all_types) n bares i in
-      let q = r.0 in
-      let l = bare_there q r.1 in
-      let u = In-unmap at_empty q w.plain.list r.1 in
-      let h = w.plain.each u.0 u.1 in
-      let back : bare q ≡ u.0 = ap (λ (v : Pair). bare v) (sym u.2) ∙ one_back u.0 h.0.0 h.1.0 in
-      let listed = subst (λ ps. IsClosed TypeRef (erased_methods p k) IsObject AnyEffect ps u.0) (sym plain_back) (w.plain.closed u.0 u.1) in
-      let Q : Pair → Type 0 = IsClosed TypeRef (erased_methods p k) IsObject AnyEffect (plain_pairs part) in
-      subst (PlainStands p k s part) r.2 (q.0, q.1, number_names all_types q.0 l.0, number_names all_types q.1 l.1, subst Q (sym back) listed)
+    -- all of them, where the types of steps and `val`s stand
+    pub whole_of : ((t : TypeRef) → In t (step_types steps) → TypeStands p s t) → ((t : TypeRef) → In t locals → TypeStands p s t) → Whole p k s asks plain_asks locals steps
+    whole_of f g = record {
+      types = pair_types annotated_list.list ++ (pair_types empties ++ (step_types steps ++ locals));
+      pairs = annotated_list.list;
+      bares = empties;
+      asked = annotated_list.has;
+      closed = annotated_list.closed;
+      asked_plainly = λ q i. subst (λ ps. In {X = Pair} q ps) (sym plain_again) (plain_list.has q i);
+      closed_plainly = empties_closed;
+      listed = λ t i. i;
+      stand = λ t i. elim (In-cases t (pair_types annotated_list.list) (pair_types empties ++ (step_types steps ++ locals)) i) [
+        | inl j ↦ pairs_have (TypeStands p s) annotated_list.list annotated_list.each t j
+        | inr j ↦ elim (In-cases t (pair_types empties) (step_types steps ++ locals) j) [
+          | inl l ↦ pairs_have (TypeStands p s) empties empties_stand t l
+          | inr l ↦ elim (In-cases t (step_types steps) locals l) [ inl x ↦ f t x | inr x ↦ g t x ]
+        ]
+      ];
+    }

@@ -1,5 +1,5 @@
 -- The types and the pairs of steps: what each step asks of the lists of a scope.
-use Rattle.std.proofs.Common.{◌≡◌, ℕ, List, [], ◌∷◌, ◌++◌, inl, inr, refl, subst, Option, Some, None, true}
+use Rattle.std.proofs.Common.{◌≡◌, ℕ, List, [], ◌∷◌, inl, inr, refl, subst, Option, Some, None, true}
 use Rattle.std.specs.Prelude.{slice_get}
 use Rattle.wy_effects.specs.Members.{In}
 use Rattle.wy_effects.proofs.Lists.{In-left, In-right, In-cases}
@@ -14,25 +14,12 @@ use Rattle.wy_proving.specs.Steps.{Step}
 use Rattle.wy_proving.specs.Reading.{Lists}
 use Rattle.wy_proving.proofs.ClosedPairs.{IsAsked}
 use Rattle.wy_proving.proofs.StepsGood.{TypeIsGood, SubIsGood, IsGood}
-use Rattle.wy_proving.proofs.WrittenOut.{listed_types, IsListedType, IsListedSub, IsSaid}
+use Rattle.wy_proving.specs.Written.{listed_types, type_of, step_types, sub_pairs}
+use Rattle.wy_proving.proofs.WrittenOut.{IsListedType, IsListedSub, IsSaid}
 
 -- types as they are written, with these methods and these tests of effects
 abbrev pub over : Methods → Tests → Reading
 over m tests = record { Kind = TypeRef; read = λ t. t; effect = λ e. e; methods = m; IsObject = IsObject; Includes = tests.Includes; Allows = tests.Allows; Under = tests.Under }
-
-abbrev type_of : Option TypeRef → List TypeRef
-type_of None = []
-type_of (Some t) = t ∷ []
-
--- the types that steps give
-abbrev pub step_types : List (Step TypeRef) → List TypeRef
-step_types [] = []
-step_types (st ∷ sts) = type_of st.typ ++ step_types sts
-
--- the pairs of their T-Subs
-abbrev pub sub_pairs : List (Step TypeRef) → List Pair
-sub_pairs [] = []
-sub_pairs (st ∷ sts) = pair_of st.below st.typ ++ sub_pairs sts
 
 module _ (methods : Methods) (tests : Tests) (P : TypeRef → Type 0) (E : List ℕ → Type 0) where
   abbrev Good : Step TypeRef → Type 0

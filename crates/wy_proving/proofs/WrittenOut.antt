@@ -9,28 +9,15 @@ use Rattle.wy_types.specs.declared.types.TypeRef.TheVariants as to
 use Rattle.wy_rules.specs.Canonical.{same_type}
 use Rattle.wy_rules.specs.Reached.{Each}
 use Rattle.wy_rules.proofs.SameTypes.{types_are_told_apart}
-use Rattle.wy_cert.specs.declared.certificate.CertType.{CertType}
-use Rattle.wy_cert.specs.declared.certificate.CertType.TheVariants.{Int, Bool, Text, Unit as Nothing, Named, At, Own}
-use Rattle.wy_cert.specs.declared.certificate.CertPair.{CertPair}
-use Rattle.wy_cert.specs.declared.certificate.CertNode.{CertNode}
-use Rattle.wy_cert.specs.declared.certificate.CertScope.{CertScope}
 use Rattle.wy_cert.specs.Spelled.{rule_byte}
 use Rattle.wy_proving.specs.Certified.{typed, Pair, pair_of, typed_pairs, with_type, named_types}
 use Rattle.wy_proving.specs.Steps.{Step}
 use Rattle.wy_proving.specs.Reading.{Lists, says_rule, SaysType, SaySteps}
+use Rattle.wy_proving.specs.Written.{cert_type, listed_types, number_of, number, cert_pair, type_number, cert_node}
 use Rattle.wy_proving.proofs.Tests.{both_true}
 
 ------------------------------------------------------------
 -- Types
-
-abbrev cert_type : TypeRef → CertType
-cert_type to.Int = Int
-cert_type to.Bool = Bool
-cert_type to.Text = Text
-cert_type to.Unit = Nothing
-cert_type (to.Named d es) = Named d es
-cert_type (to.At d e) = At d e
-cert_type (to.Own l) = Own l
 
 typed_back : (t : TypeRef) → typed (cert_type t) ≡ t
 typed_back to.Int = refl
@@ -40,10 +27,6 @@ typed_back to.Unit = refl
 typed_back (to.Named d es) = refl
 typed_back (to.At d e) = refl
 typed_back (to.Own l) = refl
-
--- the types of a list, as they are listed
-abbrev pub listed_types : List TypeRef → List TypeRef
-listed_types ts = map typed (map cert_type ts)
 
 in_listed : (ts : List TypeRef) (t : TypeRef) → In t ts → In t (listed_types ts)
 in_listed ts t i = subst (λ v. In v (listed_types ts)) (typed_back t) (In-map typed (cert_type t) (map cert_type ts) (In-map cert_type t ts i))
@@ -55,11 +38,6 @@ listed_in ts t i =
     let u = In-unmap cert_type r.0 ts r.1 in
     subst (λ v. In v ts) (sym (typed_back u.0) ∙ (ap typed u.2 ∙ r.2)) u.1
 
--- the number of a type: where it stands first
-abbrev number_of : List TypeRef → TypeRef → ℕ
-number_of [] t = 0
-number_of (u ∷ us) t = if same_type u t then 0 else suc (number_of us t)
-
 number_there : (ts : List TypeRef) (t : TypeRef) → In t ts → slice_get ts (number_of ts t) ≡ Some t
 number_there [] t i = absurd i
 number_there (u ∷ us) t i =
@@ -69,59 +47,36 @@ number_there (u ∷ us) t i =
     ] refl
 
 module _ (ts : List TypeRef) where
-  abbrev number : TypeRef → ℕ
-  number t = number_of (listed_types ts) t
-
   -- it names the type
-  pub number_names : (t : TypeRef) → In t ts → slice_get (listed_types ts) (number t) ≡ Some t
+  pub number_names : (t : TypeRef) → In t ts → slice_get (listed_types ts) (number ts t) ≡ Some t
   number_names t i = number_there (listed_types ts) t (in_listed ts t i)
 
   ------------------------------------------------------------
   -- Pairs and types of `val`s
 
-  -- a pair, by the numbers of its types
-  abbrev pub cert_pair : Pair → CertPair
-  cert_pair q = record { left = number q.0; right = number q.1 }
-
   a_pair : (a b : Option TypeRef) (q : Pair) → a ≡ Some q.0 → b ≡ Some q.1 → pair_of a b ≡ q ∷ []
   a_pair a b q e f = subst (λ v. pair_of v b ≡ q ∷ []) (sym e) (subst (λ v. pair_of (Some q.0) v ≡ q ∷ []) (sym f) refl)
 
   -- the pairs that are listed are those that were written, where their types are
-  pub pairs_back : (ps : List Pair) → ((q : Pair) → In {X = Pair} q ps → In q.0 ts × In q.1 ts) → typed_pairs (listed_types ts) (map cert_pair ps) ≡ ps
+  pub pairs_back : (ps : List Pair) → ((q : Pair) → In {X = Pair} q ps → In q.0 ts × In q.1 ts) → typed_pairs (listed_types ts) (map (cert_pair ts) ps) ≡ ps
   pairs_back [] h = refl
   pairs_back (q ∷ ps) h =
       let r = h q (inl refl) in
-      let first = a_pair (slice_get (listed_types ts) (number q.0)) (slice_get (listed_types ts) (number q.1)) q (number_names q.0 r.0) (number_names q.1 r.1) in
+      let first = a_pair (slice_get (listed_types ts) (number ts q.0)) (slice_get (listed_types ts) (number ts q.1)) q (number_names q.0 r.0) (number_names q.1 r.1) in
       ap₂ (λ (xs zs : List Pair). xs ++ zs) first (pairs_back ps (λ v i. h v (inr i)))
 
   -- .. and so are the types of `val`s
-  pub locals_back : (us : List TypeRef) → ((t : TypeRef) → In t us → In t ts) → named_types (listed_types ts) (map number us) ≡ Some us
+  pub locals_back : (us : List TypeRef) → ((t : TypeRef) → In t us → In t ts) → named_types (listed_types ts) (map (number ts) us) ≡ Some us
   locals_back [] h = refl
   locals_back (u ∷ us) h = ap₂ with_type (number_names u (h u (inl refl))) (locals_back us (λ t i. h t (inr i)))
 
   ------------------------------------------------------------
   -- Nodes
 
-  abbrev type_number : Option TypeRef → ℕ
-  type_number None = 0
-  type_number (Some t) = number t
-
-  -- the node of a step
-  abbrev pub cert_node : Step TypeRef → CertNode
-  cert_node st = record {
-    rule = st.rule;
-    file = st.place.file;
-    line = st.place.line;
-    column = st.place.column;
-    parts = st.parts;
-    typ = type_number st.typ;
-    effect = st.effect;
-  }
-
   same_number : (n : ℕ) → nat_eq n n ≡ true
   same_number n = eq-eqb n n refl
 
-  rule_said : (st : Step TypeRef) → says_rule st.rule st.place st.parts (cert_node st) ≡ true
+  rule_said : (st : Step TypeRef) → says_rule st.rule st.place st.parts (cert_node ts st) ≡ true
   rule_said st =
       both_true _ _ (same_number (rule_byte st.rule))
       (both_true _ _ (same_number st.place.file) (both_true _ _ (same_number st.place.line) (both_true _ _ (same_number st.place.column) (same_number st.parts))))
@@ -142,9 +97,9 @@ module _ (ts : List TypeRef) where
     abbrev pub IsSaid : Step TypeRef → Type 0
     IsSaid st = IsListedType st.typ × IsListedSub st.below st.typ st.effect
 
-    type_said : (o : Option TypeRef) → IsListedType o → SaysType c (type_number o) o
+    type_said : (o : Option TypeRef) → IsListedType o → SaysType c (type_number ts o) o
     type_said None h = refl
-    type_said (Some t) h = named (number t) ∙ number_names t h
+    type_said (Some t) h = named (number ts t) ∙ number_names t h
 
     pair_said : (o w : Option TypeRef) (e : List ℕ) → IsListedSub o w e → (a b : TypeRef) → o ≡ Some a → w ≡ Some b → c.listed a b ≡ true
     pair_said None w e h a b f g = absurd (cc)
@@ -157,7 +112,7 @@ module _ (ts : List TypeRef) where
     set_said (Some k) (Some t) e h a f = h.1
 
     -- the nodes of steps say them
-    pub steps_said : (sts : List (Step TypeRef)) → Each IsSaid sts → SaySteps c (map cert_node sts) sts []
+    pub steps_said : (sts : List (Step TypeRef)) → Each IsSaid sts → SaySteps c (map (cert_node ts) sts) sts []
     steps_said [] h = refl
     steps_said (st ∷ sts) h = (
       record {
@@ -169,13 +124,3 @@ module _ (ts : List TypeRef) where
       },
       steps_said sts h.1,
     )
-
--- what is said of a scope: these types, pairs, pairs for plain comparison, types of `val`s and steps
-abbrev pub written_out : List TypeRef → List Pair → List Pair → List TypeRef → List (Step TypeRef) → CertScope
-written_out ts ps bs us sts = record {
-  types = map cert_type ts;
-  pairs = map (cert_pair ts) ps;
-  plain = map (cert_pair ts) bs;
-  locals = map (number ts) us;
-  nodes = map (cert_node ts) sts;
-}

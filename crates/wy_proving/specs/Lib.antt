@@ -3,3 +3,4 @@ pub mod Steps
 pub mod Reading
 pub mod Proving
 pub mod Unproved
+pub mod Written

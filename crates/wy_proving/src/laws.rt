@@ -3,6 +3,7 @@
 ghost use Rattle.wy_proving.specs.Proving.{AcceptedHasCanonicalCertificate, AcceptedHasCertificate, AcceptedHasWrittenCertificate, ListsAreExact, NodesAreRead, ProvedIsAccepted, ReachedTypesStand};
 ghost use Rattle.wy_proving.specs.Reading.{AnnotatedNodesAreRead, PlainNodesAreRead};
 ghost use Rattle.wy_proving.specs.Unproved.{OneUnproved, UnprovedIsNoProof};
+ghost use Rattle.wy_proving.specs.Written.{NamedBareTypesStand, NamedTypesStand, WhatIsAskedStands, WrittenIsProof};
 
 /// What a certificate proves is accepted: each test holds, so the bodies have derivations and the rules for modules and lines
 /// hold (docs/LANGUAGE.md, "Certificates").
@@ -26,6 +27,28 @@ pub fn accepted_has_canonical_certificate()
 /// bodies").
 pub fn accepted_has_written_certificate()
     ensures { AcceptedHasWrittenCertificate }
+{}
+
+/// What is written for a scope of an accepted program proves it, where it is written from lists that have each pair that is asked, each pair
+/// closed in its list, and types that can stand, those of the others among them (docs/LANGUAGE.md, "Certificates").
+pub fn written_is_proof()
+    ensures { WrittenIsProof }
+{}
+
+/// The pairs that the rules and the canonical derivation of an accepted scope ask are subtypings of types that can stand, and so can the
+/// types of its steps and its `val`s (docs/LANGUAGE.md, "Certificates").
+pub fn what_is_asked_stands()
+    ensures { WhatIsAskedStands }
+{}
+
+/// The methods of a type that can stand in a scope name types that can (docs/LANGUAGE.md, "Certificates").
+pub fn named_types_stand()
+    ensures { NamedTypesStand }
+{}
+
+/// The methods, without effects, of an erased type name erased types that can be listed (docs/LANGUAGE.md, "Certificates").
+pub fn named_bare_types_stand()
+    ensures { NamedBareTypesStand }
 {}
 
 /// The nodes of an annotated scope are read to the end exactly where they are those of derivations of its bodies, over any lists

@@ -1,0 +1,5 @@
+use Rattle.wy_proving.proofs.AcceptedCertified.{named_bare_types_stand}
+use Rattle.wy_proving.proofs.laws.named_bare_types_stand.Goals as goal
+
+pub returns : goal.returns
+returns c = named_bare_types_stand
