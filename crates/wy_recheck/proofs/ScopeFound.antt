@@ -22,7 +22,8 @@ module _ (core : Core) (k : ℕ) (x : sc.Scope) (there : slice_get core.scopes k
   few_atoms h = (h.scopes (scope_of x) (In-map scope_of x core.scopes (In-slice_get core.scopes k x there))).atoms
 
   module _ (s : Scope) (at : slice_get (program_of core).scopes k ≡ Some s) where
-    scope_is : scope_of x ≡ s
+    -- it is the scope of the program
+    pub scope_is : scope_of x ≡ s
     scope_is = let e : Some (scope_of x) ≡ Some s = sym (slice_get-mapped scope_of core.scopes k x there) ∙ at in cc
 
     module _ (part : CertScope) (listed : List CertType) (same : listed ≡ part.types) where

@@ -1,3 +1,7 @@
 pub mod Closing
+pub mod Nodes
 pub mod PairSet
+pub mod Rechecked
+pub mod Rules
 pub mod Standing
+pub mod Vals

@@ -22,7 +22,11 @@ use wy_types::resolved::{Core, Scope, ScopeKind, TypeDecl};
 use wy_types::types::{TypeList, TypeRef};
 
 /// The set of the atoms that are listed; none exactly where they do not ascend or one is not among so many atoms.
-fn standing_set(alloc: Global, listed: &[u32], atoms: usize) -> Result<Option<EffSet>, Memory>
+pub(crate) fn standing_set(
+    alloc: Global,
+    listed: &[u32],
+    atoms: usize,
+) -> Result<Option<EffSet>, Memory>
     requires { atoms ≤ 512 }
     ensures { IfOk result (StandsAs (IsSet atoms) listed.now) }
 {
