@@ -1,0 +1,16 @@
+pub mod Adding
+pub mod Blocks
+pub mod Bodies
+mod ExamplesNumbers
+pub mod ListsWhole
+pub mod Numbers
+pub mod PairsGrowing
+pub mod PairsHolding
+pub mod PairsListed
+pub mod PairsMet
+pub mod Parts
+pub mod PartsPushed
+pub mod RulesAsked
+pub mod ScopesProved
+pub mod Settled
+pub mod Turns

@@ -1,0 +1,10 @@
+use Rattle.std.proofs.Common.{map, take}
+use Rattle.wy_certify.specs.Pair.{pair_of}
+use Rattle.wy_certify.specs.Closed.{all_looked_up, pairs_in, IsKept, IsGrown}
+use Rattle.wy_certify.proofs.closing.Work.add_asked.Given as goal
+
+abbrev pub invariant-loop-pair : goal.invariant-loop-pair
+invariant-loop-pair l = record {
+  kept : IsKept l.self;
+  grown : IsGrown (all_looked_up l.mode (map pair_of (take l.pair-index l.asked))) (pairs_in l.initial.self) (pairs_in l.self);
+}

@@ -1,0 +1,9 @@
+pub mod Asking
+pub mod Closed
+pub mod Numbering
+pub mod Pair
+pub mod Reading
+pub mod Settling
+pub mod Step
+pub mod Writer
+pub mod Written
