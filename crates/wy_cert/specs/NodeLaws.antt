@@ -1,5 +1,5 @@
 -- Nodes: a rule, five numbers and a set.
-use Rattle.std.proofs.Common.{ℕ, List, refl, lit<}
+use Rattle.std.proofs.Common.{ℕ, ◌≤◌, List, length, refl, arith, lit<}
 use Rattle.wy_spelling.specs.ListLaws.{lists_apart, some_list}
 use Rattle.wy_spelling.specs.NumberLaws.{numbers_apart}
 use Rattle.wy_spelling.specs.PairLaws.{pairs_apart as both_apart}
@@ -78,6 +78,9 @@ node_parts_apart =
 
 pub nodes_apart : AreApart IsNodeSpelled node_bytes
 nodes_apart = apart_in_shape AreNodeParts node_parts_bytes IsNodeSpelled node_bytes node_of node_parts node_shape node_parts_apart
+
+pub nodes_filled : (n : CertNode) → 1 ≤ length (node_bytes n)
+nodes_filled n = omega arith
 
 pub some_node : (n : CertNode) × IsNodeSpelled n
 some_node =

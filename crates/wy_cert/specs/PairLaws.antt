@@ -1,5 +1,5 @@
 -- Pairs of types: two numbers.
-use Rattle.std.proofs.Common.{ℕ, refl}
+use Rattle.std.proofs.Common.{ℕ, ◌≤◌, length, refl, lit≤}
 use Rattle.wy_spelling.specs.NumberLaws.{numbers_apart, some_number}
 use Rattle.wy_spelling.specs.PairLaws.{pairs_apart as both_apart}
 use Rattle.wy_spelling.specs.ShapeLaws.{IsShape, apart_in_shape, some_in_shape}
@@ -21,6 +21,9 @@ pair_parts_apart = both_apart IsNumber number_bytes IsNumber number_bytes number
 
 pub pairs_apart : AreApart IsPairSpelled pair_bytes
 pairs_apart = apart_in_shape (AreBoth IsNumber IsNumber) (both_bytes number_bytes number_bytes) IsPairSpelled pair_bytes pair_of pair_parts pair_shape pair_parts_apart
+
+pub pairs_filled : (q : CertPair) → 1 ≤ length (pair_bytes q)
+pairs_filled q = lit≤ tt
 
 pub some_pair : (q : CertPair) × IsPairSpelled q
 some_pair = some_in_shape (AreBoth IsNumber IsNumber) (both_bytes number_bytes number_bytes) IsPairSpelled pair_bytes pair_of pair_parts pair_shape ((some_number.0, some_number.0), (some_number.1, some_number.1))

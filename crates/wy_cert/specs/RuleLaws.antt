@@ -1,5 +1,5 @@
 -- Rules: a byte each.
-use Rattle.std.proofs.Common.{◌≡◌, ℕ, List, [], ◌∷◌, get_or, refl, sym, ap, ◌∙◌}
+use Rattle.std.proofs.Common.{◌≡◌, ℕ, ◌≤◌, List, [], ◌∷◌, length, get_or, refl, sym, ap, ◌∙◌, lit≤}
 use Rattle.wy_spelling.specs.Spelling.{AreApart}
 use Rattle.wy_cert.specs.Spelled.{rule_byte}
 use Rattle.wy_cert.specs.declared.certificate.Rule.{Rule}
@@ -10,6 +10,9 @@ one_byte r = rule_byte r ∷ []
 
 abbrev pub IsRuleSpelled : Rule → Type 0
 IsRuleSpelled r = Unit {0}
+
+pub rules_filled : (r : Rule) → 1 ≤ length (one_byte r)
+rules_filled r = lit≤ tt
 
 -- the rules, each at the place of its byte
 abbrev rules : List Rule

@@ -1,5 +1,5 @@
 -- What is said of a scope: five lists.
-use Rattle.std.proofs.Common.{◌≡◌, ℕ, List, ◌++◌, refl, append_assoc}
+use Rattle.std.proofs.Common.{◌≡◌, ℕ, ◌≤◌, List, ◌++◌, length, refl, append_assoc, arith}
 use Rattle.wy_spelling.specs.ListLaws.{lists_apart, some_list}
 use Rattle.wy_spelling.specs.NumberLaws.{numbers_apart}
 use Rattle.wy_spelling.specs.PairLaws.{pairs_apart as both_apart}
@@ -75,6 +75,9 @@ scope_parts_apart =
 
 pub scopes_apart : AreApart IsScopeSpelled scope_bytes
 scopes_apart = apart_in_shape AreScopeParts scope_parts_bytes IsScopeSpelled scope_bytes scope_of scope_parts scope_shape scope_parts_apart
+
+pub scopes_filled : (s : CertScope) → 1 ≤ length (scope_bytes s)
+scopes_filled s = omega arith
 
 pub some_scope : (s : CertScope) × IsScopeSpelled s
 some_scope =

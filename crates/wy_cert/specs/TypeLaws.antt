@@ -1,10 +1,11 @@
 -- Types: a byte for the form, and what the form has.
-use Rattle.std.proofs.Common.{◌≡◌, ℕ, List, ◌++◌, refl, ap}
+use Rattle.std.proofs.Common.{◌≡◌, ℕ, ◌≤◌, List, ◌++◌, length, refl, ap, arith, lit≤}
 use Rattle.wy_spelling.specs.ListLaws.{lists_apart}
 use Rattle.wy_spelling.specs.NumberLaws.{numbers_apart}
 use Rattle.wy_spelling.specs.PairLaws.{pairs_apart as both_apart}
 use Rattle.wy_spelling.specs.Spelling.{AreApart, AreBoth, AreSpelled, IsNumber, both_bytes, list_bytes, number_bytes}
 use Rattle.wy_cert.specs.Spelled.{IsSetSpelled, IsTypeSpelled, set_bytes, type_bytes}
+use Rattle.wy_cert.specs.declared.certificate.CertType.{CertType}
 use Rattle.wy_cert.specs.declared.certificate.CertType.TheVariants as typ
 
 pub sets_apart : AreApart IsSetSpelled set_bytes
@@ -15,6 +16,15 @@ named_apart = both_apart IsNumber number_bytes (AreSpelled IsSetSpelled) (list_b
 
 pub at_apart : AreApart (AreBoth IsNumber IsSetSpelled) (both_bytes number_bytes set_bytes)
 at_apart = both_apart IsNumber number_bytes IsSetSpelled set_bytes numbers_apart sets_apart
+
+pub types_filled : (t : CertType) → 1 ≤ length (type_bytes t)
+types_filled typ.Int = lit≤ tt
+types_filled typ.Bool = lit≤ tt
+types_filled typ.Text = lit≤ tt
+types_filled typ.Unit = lit≤ tt
+types_filled (typ.Named d es) = omega arith
+types_filled (typ.At d s) = omega arith
+types_filled (typ.Own l) = lit≤ tt
 
 pub types_apart : AreApart IsTypeSpelled type_bytes
 types_apart typ.Int typ.Int others more is_x is_y e = (refl, cc)

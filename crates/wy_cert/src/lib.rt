@@ -15,3 +15,4 @@ mod writing;
 pub use certificate::{CertNode, CertPair, CertScope, CertType, Certificate, NumberList, Rule};
 pub use reading::{ReadRefusal, read_certificate};
 pub use writing::write_certificate;
+pub use wy_spelling::WriteRefusal;

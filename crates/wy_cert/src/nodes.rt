@@ -1,12 +1,11 @@
 //! Nodes as bytes.
 
-ghost use Rattle.wy_cert.specs.NodeLaws.{nodes_apart, some_node};
+ghost use Rattle.wy_cert.specs.NodeLaws.{nodes_apart, nodes_filled, some_node};
 ghost use Rattle.wy_cert.specs.Spelled.{IsNodeSpelled, node_bytes};
 
 use crate::certificate::{CertNode, NumberList, Rule};
 use std::alloc::Global;
-use wy_spelling::{ReadError, Spelled};
-use wy_text::text::Memory;
+use wy_spelling::{ReadError, Spelled, WriteRefusal};
 
 /// A node's parts, in the order of their bytes.
 type NodeParts = (Rule, (u32, (u32, (u32, (u32, (u32, NumberList))))));
@@ -32,7 +31,7 @@ impl Spelled for CertNode {
         Ok((node, rest))
     }
 
-    fn write(&self, out: &mut Vec<u8>) -> Result<(), Memory> {
+    fn write(&self, out: &mut Vec<u8>) -> Result<(), WriteRefusal> {
         self.rule.write(out)?;
         self.file.write(out)?;
         self.line.write(out)?;
@@ -45,4 +44,6 @@ impl Spelled for CertNode {
     ghost some = { some_node };
 
     ghost apart = { nodes_apart };
+
+    ghost filled = { nodes_filled };
 }

@@ -1,12 +1,11 @@
 //! Pairs of types as bytes.
 
-ghost use Rattle.wy_cert.specs.PairLaws.{pairs_apart, some_pair};
+ghost use Rattle.wy_cert.specs.PairLaws.{pairs_apart, pairs_filled, some_pair};
 ghost use Rattle.wy_cert.specs.Spelled.{IsPairSpelled, pair_bytes};
 
 use crate::certificate::CertPair;
 use std::alloc::Global;
-use wy_spelling::{ReadError, Spelled};
-use wy_text::text::Memory;
+use wy_spelling::{ReadError, Spelled, WriteRefusal};
 
 impl Spelled for CertPair {
     ghost IsSpelled = { IsPairSpelled };
@@ -18,7 +17,7 @@ impl Spelled for CertPair {
         Ok((CertPair { left, right }, rest))
     }
 
-    fn write(&self, out: &mut Vec<u8>) -> Result<(), Memory> {
+    fn write(&self, out: &mut Vec<u8>) -> Result<(), WriteRefusal> {
         self.left.write(out)?;
         self.right.write(out)
     }
@@ -26,4 +25,6 @@ impl Spelled for CertPair {
     ghost some = { some_pair };
 
     ghost apart = { pairs_apart };
+
+    ghost filled = { pairs_filled };
 }

@@ -1,14 +1,13 @@
 //! Rules as bytes.
 
 ghost use Rattle.std.specs.Prelude.{◌≡◌, ◌<◌, [], ◌∷◌, IfNone, IfSome};
-ghost use Rattle.wy_cert.specs.RuleLaws.{IsRuleSpelled, one_byte, rules_apart};
+ghost use Rattle.wy_cert.specs.RuleLaws.{IsRuleSpelled, one_byte, rules_apart, rules_filled};
 ghost use Rattle.wy_cert.specs.Spelled.{rule_byte};
 ghost use Rattle.wy_cert.specs.declared.certificate.Rule.TheVariants as rule;
 
 use crate::certificate::Rule;
 use std::alloc::Global;
-use wy_spelling::{ReadError, Spelled};
-use wy_text::text::Memory;
+use wy_spelling::{ReadError, Spelled, WriteRefusal};
 
 /// The rule that a byte says.
 fn rule_of(byte: u8) -> Option<Rule>
@@ -69,7 +68,7 @@ impl Spelled for Rule {
         }
     }
 
-    fn write(&self, out: &mut Vec<u8>) -> Result<(), Memory> {
+    fn write(&self, out: &mut Vec<u8>) -> Result<(), WriteRefusal> {
         out.push(byte_of(*self))?;
         Ok(())
     }
@@ -77,4 +76,6 @@ impl Spelled for Rule {
     ghost some = { (rule.Lit, tt) };
 
     ghost apart = { rules_apart };
+
+    ghost filled = { rules_filled };
 }

@@ -1,13 +1,12 @@
 //! What is said of a scope as bytes.
 
-ghost use Rattle.wy_cert.specs.ScopeLaws.{scopes_apart, some_scope};
+ghost use Rattle.wy_cert.specs.ScopeLaws.{scopes_apart, scopes_filled, some_scope};
 ghost use Rattle.wy_cert.specs.Spelled.{IsScopeSpelled, scope_bytes};
 
 use crate::certificate::{CertNode, CertPair, CertScope, CertType, NumberList};
 use std::alloc::Global;
-use wy_spelling::{ReadError, Spelled};
+use wy_spelling::{ReadError, Spelled, WriteRefusal};
 use wy_text::list::Items;
-use wy_text::text::Memory;
 
 /// The lists of a scope, in the order of their bytes.
 type ScopeParts = (
@@ -35,7 +34,7 @@ impl Spelled for CertScope {
         Ok((scope, rest))
     }
 
-    fn write(&self, out: &mut Vec<u8>) -> Result<(), Memory> {
+    fn write(&self, out: &mut Vec<u8>) -> Result<(), WriteRefusal> {
         self.types.write(out)?;
         self.pairs.write(out)?;
         self.plain.write(out)?;
@@ -46,4 +45,6 @@ impl Spelled for CertScope {
     ghost some = { some_scope };
 
     ghost apart = { scopes_apart };
+
+    ghost filled = { scopes_filled };
 }

@@ -1,14 +1,13 @@
 //! Types as bytes: a byte that says of which form they are, and what that form has.
 
 ghost use Rattle.wy_cert.specs.Spelled.{IsTypeSpelled, type_bytes};
-ghost use Rattle.wy_cert.specs.TypeLaws.{types_apart};
+ghost use Rattle.wy_cert.specs.TypeLaws.{types_apart, types_filled};
 ghost use Rattle.wy_cert.specs.declared.certificate.CertType.TheVariants as typ;
 
 use crate::certificate::{CertType, NumberList};
 use std::alloc::Global;
-use wy_spelling::{ReadError, Spelled};
+use wy_spelling::{ReadError, Spelled, WriteRefusal};
 use wy_text::list::Items;
-use wy_text::text::Memory;
 
 impl Spelled for CertType {
     ghost IsSpelled = { IsTypeSpelled };
@@ -40,7 +39,7 @@ impl Spelled for CertType {
         }
     }
 
-    fn write(&self, out: &mut Vec<u8>) -> Result<(), Memory> {
+    fn write(&self, out: &mut Vec<u8>) -> Result<(), WriteRefusal> {
         match self {
             CertType::Int => out.push(0)?,
             CertType::Bool => out.push(1)?,
@@ -67,4 +66,6 @@ impl Spelled for CertType {
     ghost some = { (typ.Int, tt) };
 
     ghost apart = { types_apart };
+
+    ghost filled = { types_filled };
 }

@@ -23,14 +23,19 @@ split_push bytes_of start bytes rest after xs x e h =
     ∙ ap (λ (t : List ℕ). t ++ after) (append_assoc start (joined bytes_of xs) (bytes_of x) ∙ ap (λ (t : List ℕ). start ++ t) (sym (joined-push bytes_of xs x)))
 
 -- what was written, one value on
-pub written_more : {X : Type 0} (bytes_of : X → List ℕ) (out start : List ℕ) (xs : List X) (i : ℕ) (x d : X) → i < length xs → x ≡ get_or xs i d
-    → (out ++ (start ++ joined bytes_of (take i xs))) ++ bytes_of x ≡ out ++ (start ++ joined bytes_of (take (i + 1) xs))
-written_more bytes_of out start xs i x d h e =
+pub written_more : {X : Type 0} (bytes_of : X → List ℕ) (out before after start : List ℕ) (xs : List X) (i : ℕ) (x d : X) → i < length xs → x ≡ get_or xs i d
+    → before ≡ out ++ (start ++ joined bytes_of (take i xs)) → after ≡ before ++ bytes_of x → after ≡ out ++ (start ++ joined bytes_of (take (i + 1) xs))
+written_more bytes_of out before after start xs i x d h e was is =
     let more : joined bytes_of (take i xs) ++ bytes_of x ≡ joined bytes_of (take (i + 1) xs) = sym (joined-push bytes_of (take i xs) x) ∙ ap (λ y. joined bytes_of (take i xs ++ y ∷ [])) e ∙ ap (joined bytes_of) (sym (take_more xs i d h)) in
-    append_assoc out (start ++ joined bytes_of (take i xs)) (bytes_of x) ∙ ap (λ (t : List ℕ). out ++ t) (append_assoc start (joined bytes_of (take i xs)) (bytes_of x) ∙ ap (λ (t : List ℕ). start ++ t) more)
+    is ∙ ap (λ (t : List ℕ). t ++ bytes_of x) was ∙ append_assoc out (start ++ joined bytes_of (take i xs)) (bytes_of x)
+    ∙ ap (λ (t : List ℕ). out ++ t) (append_assoc start (joined bytes_of (take i xs)) (bytes_of x) ∙ ap (λ (t : List ℕ). start ++ t) more)
 
 pub each_push : {X : Type 0} (P : X → Type 0) (xs : List X) (x : X) → ((y : X) → In y xs → P y) → P x → (y : X) → In y (xs ++ x ∷ []) → P y
 each_push {X} P xs x each is y h = ⊎_elim (each y) (λ (at : In y (x ∷ [])). ⊎_elim (λ (e : x ≡ y). subst P e is) (λ (no : ⊥). absurd no) at) (In-cases y xs (x ∷ []) h)
+
+-- .. of the first values of a list, one value on
+pub each_more : {X : Type 0} (P : X → Type 0) (xs : List X) (i : ℕ) (x d : X) → i < length xs → x ≡ get_or xs i d → ((y : X) → In y (take i xs) → P y) → P x → (y : X) → In y (take (i + 1) xs) → P y
+each_more {X} P xs i x d h e each is y at = each_push P (take i xs) x each is y (subst (λ (zs : List X). In y zs) (take_more xs i d h ∙ ap (λ (z : X). take i xs ++ z ∷ []) (sym e)) at)
 
 In-copies : {X : Type 0} (x y : X) (count : ℕ) → In y (replicate count x) → x ≡ y
 In-copies x y zero h = absurd h

@@ -1,11 +1,14 @@
 -- Lists: how many, and each of them.
-use Rattle.std.proofs.Common.{◌≡◌, ℕ, List, [], ◌∷◌, ◌++◌, length, refl, sym, ap, ◌∙◌, inl, inr, append_assoc, lit<}
+use Rattle.std.proofs.Common.{◌≡◌, ℕ, ◌≤◌, List, [], ◌∷◌, ◌++◌, length, refl, sym, ap, ◌∙◌, inl, inr, append_assoc, arith, lit<}
 use Rattle.wy_effects.specs.Members.{In}
 use Rattle.wy_spelling.specs.Spelling.{AreApart, AreSpelled, joined, list_bytes}
 use Rattle.wy_spelling.specs.NumberLaws.{numbers_apart}
 
 pub some_list : {X : Type 0} (IsSpelled : X → Type 0) → (xs : List X) × AreSpelled IsSpelled xs
 some_list IsSpelled = ([], (lit< tt, λ x h. absurd h))
+
+pub lists_filled : {X : Type 0} (bytes_of : X → List ℕ) (xs : List X) → 1 ≤ length (list_bytes bytes_of xs)
+lists_filled bytes_of xs = omega arith
 
 module _ {X : Type 0} (IsSpelled : X → Type 0) (bytes_of : X → List ℕ) (apart : AreApart IsSpelled bytes_of) where
   joined_apart : (xs ys : List X) (others more : List ℕ) → length xs ≡ length ys → ((x : X) → In x xs → IsSpelled x) → ((y : X) → In y ys → IsSpelled y)

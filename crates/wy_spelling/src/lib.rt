@@ -7,5 +7,5 @@ mod pair;
 mod spelled;
 mod whole;
 
-pub use spelled::{ReadError, Spelled};
+pub use spelled::{ReadError, Spelled, WriteRefusal};
 pub use whole::{WholeError, read_whole};

@@ -1,11 +1,13 @@
 //! What is read and written: values of a kind, each with its bytes.
 
-ghost use Rattle.std.specs.Prelude.{◌≡◌, ◌++◌, ℕ, List, IfErr, IfOk, OnOk};
+ghost use Rattle.std.specs.Prelude.{◌≡◌, ◌≤◌, ◌++◌, ℕ, List, length, IfErr, IfOk, OnOk};
 ghost use Rattle.wy_spelling.specs.Spelling.{AreApart, SpellsFront};
 ghost use Rattle.wy_spelling.specs.Reading.{IsRefused};
+ghost use Rattle.wy_spelling.specs.Writing.{IsUnwritten};
 ghost use Rattle.wy_spelling.specs.declared.spelled.ReadError.TheVariants as read_error;
+ghost use Rattle.wy_spelling.specs.declared.spelled.WriteRefusal.TheVariants as write_refusal;
 
-use std::alloc::{AllocError, Global};
+use std::alloc::{AllocError, AllocFailed, Global};
 use wy_text::text::Memory;
 
 /// Why no value could be read.
@@ -33,6 +35,30 @@ impl From<Memory> for ReadError {
     }
 }
 
+/// Why a value was not written.
+#[derive(Clone, Copy, PartialEq, Eq)]
+pub enum WriteRefusal {
+    /// A list has 4,294,967,296 items or more, and four bytes cannot say how many.
+    Long,
+    Memory,
+}
+
+impl From<AllocError> for WriteRefusal {
+    ghost from_gives = { λ _ error. error ≡ write_refusal.Memory };
+
+    fn from(_error: AllocError) -> WriteRefusal {
+        WriteRefusal::Memory
+    }
+}
+
+impl<X: Drop> From<AllocFailed<X>> for WriteRefusal {
+    ghost from_gives = { λ _ error. error ≡ write_refusal.Memory };
+
+    fn from(_error: AllocFailed<X>) -> WriteRefusal {
+        WriteRefusal::Memory
+    }
+}
+
 /// A kind of values that have bytes, of which no value's begin another's.
 pub trait Spelled: Drop {
     /// Which values have a spelling.
@@ -46,14 +72,18 @@ pub trait Spelled: Drop {
         ensures found { IfOk result (λ x. SpellsFront IsSpelled bytes_of bytes.now x.0 x.1.now) }
         ensures bad { IfErr result (IsRefused IsSpelled bytes_of bytes.now) };
 
-    /// Adds the value's bytes at the end.
-    fn write(&self, out: &mut Vec<u8>) -> Result<(), Memory>
-        requires { IsSpelled self.now }
-        ensures { OnOk result (out.new.items ≡ out.old.items ++ bytes_of self.now) };
+    /// Adds the value's bytes at the end. `Long` comes exactly where it has no spelling, but for `Memory`; its bytes would then be
+    /// 4,294,967,296 or more.
+    fn write(&self, out: &mut Vec<u8>) -> Result<(), WriteRefusal>
+        ensures written { OnOk result (IsSpelled self.now × (out.new.items ≡ out.old.items ++ bytes_of self.now)) }
+        ensures long { IfErr result (IsUnwritten IsSpelled bytes_of self.now) };
 
     /// Some value has a spelling.
     ghost some: { (x : Self) × IsSpelled x };
 
     /// No value's bytes begin another's, and no two values have the same bytes.
     ghost apart: { AreApart IsSpelled bytes_of };
+
+    /// No value has no bytes.
+    ghost filled: { (x : Self) → 1 ≤ length (bytes_of x) };
 }
