@@ -1,5 +1,6 @@
 pub mod Certified
 pub mod Steps
+pub mod OneReading
 pub mod Reading
 pub mod Proving
 pub mod Unproved

@@ -1,5 +1,5 @@
 /// A test of a certificate against a program, in the order in which they are made (docs/LANGUAGE.md, "Certificates").
-#[derive(Clone, Copy, PartialEq, Eq)]
+#[derive(Clone, Copy, Debug, PartialEq, Eq)]
 pub enum CertTest {
     /// There is one part for each scope. It is made once, the others for each scope.
     Scopes,

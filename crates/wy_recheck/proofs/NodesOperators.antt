@@ -12,7 +12,7 @@ use Rattle.wy_rules.specs.Canonical.{both, same_type, first_row, row_of, first_o
 use Rattle.wy_rules.proofs.SameTypes.{types_are_told_apart}
 use Rattle.wy_premises.specs.Operators.{result_in, unary_result, binary_result}
 use Rattle.wy_types.specs.Program.{Program}
-use Rattle.wy_recheck.specs.Nodes.{reading_at}
+use Rattle.wy_proving.specs.OneReading.{reading_at}
 
 -- a premise fails where nothing is found, and else the result is the row's
 abbrev pub Takes : Truth → Truth → TypeRef → Option TypeRef → Type 0

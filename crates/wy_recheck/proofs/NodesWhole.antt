@@ -9,11 +9,12 @@ use Rattle.wy_rules.specs.Canonical.{same_type}
 use Rattle.wy_cert.specs.declared.certificate.CertScope.{CertScope}
 use Rattle.wy_cert.specs.declared.certificate.CertNode.{CertNode}
 use Rattle.wy_proving.specs.Certified.{types_of, named_types}
+use Rattle.wy_proving.specs.OneReading.{reading_at}
 use Rattle.wy_proving.specs.Reading.{Bodies, bodies_stand, bodies_fail, read_scope}
 use Rattle.wy_proving.specs.Proving.{read_in, read_over, nodes_read}
 use Rattle.wy_recheck.specs.declared.failure.Failure.{Failure}
 use Rattle.wy_recheck.specs.Standing.{FailsFirst}
-use Rattle.wy_recheck.specs.Nodes.{reading_at, lists_at, ScopeIsRead}
+use Rattle.wy_recheck.specs.Nodes.{lists_at, ScopeIsRead}
 
 module _ (p : Program) (k : ℕ) (s : Scope) (c : CertScope) where
   -- in one of the two ways

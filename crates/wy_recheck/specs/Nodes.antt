@@ -2,9 +2,7 @@
 -- read (docs/LANGUAGE.md, "Certificates").
 use Rattle.std.specs.Prelude.{◌≡◌, ℕ, ◌+◌, List, [], ◌∷◌, Option, Some, None, Result, Ok, Err, Bool as Truth, true, false, length, map, drop, slice_get}
 use Rattle.wy_text.specs.declared.fault.Place.{Place}
-use Rattle.wy_effects.specs.Members.{Within}
 use Rattle.wy_effects.specs.EffSet.{union}
-use Rattle.wy_effects.specs.Bounds.{IsUnder, IsWithin}
 use Rattle.wy_effects.specs.Widened.{includes, widened_set}
 use Rattle.wy_types.specs.declared.types.TypeRef.{TypeRef}
 use Rattle.wy_types.specs.declared.types.TypeRef.TheVariants.{Bool, Own}
@@ -17,9 +15,8 @@ use Rattle.wy_types.specs.Code.{Expr, Value, Values, Block}
 use Rattle.wy_types.specs.View.{stmt_block, stmts_block}
 use Rattle.wy_types.specs.Program.{Program, Scope, Body, program_of, scope_of}
 use Rattle.wy_types.specs.Signature.{find_method}
-use Rattle.wy_types.specs.Types.{IsObject, erased, methods_of}
+use Rattle.wy_types.specs.Types.{erased}
 use Rattle.wy_types.specs.Bounds.{bounds_of}
-use Rattle.wy_types.specs.Subtyping.{AnyEffect}
 use Rattle.wy_types.specs.Core.{IsCore}
 use Rattle.wy_rules.specs.Readings.{Reading}
 use Rattle.wy_rules.specs.Operators.{unary_rows, binary_rows, text_rows}
@@ -30,6 +27,7 @@ use Rattle.wy_cert.specs.declared.certificate.Rule.TheVariants as by
 use Rattle.wy_cert.specs.declared.certificate.CertNode.{CertNode}
 use Rattle.wy_cert.specs.declared.certificate.CertScope.{CertScope}
 use Rattle.wy_proving.specs.Certified.{Pair, types_of, annotated_pairs, plain_pairs, has_pair}
+use Rattle.wy_proving.specs.OneReading.{reading_at}
 use Rattle.wy_proving.specs.Reading.{Lists, Part, part_stands, part_fails, part_then, Parts, parts_stand, parts_fail, Bodies, bodies_stand, bodies_fail, same_types, is_sub_of, read_subs, read_node, read_name, read_this, read_call, read_set, read_expr, read_value, read_values, read_block, read_val, read_body_node, read_start, read_body, read_bodies, read_scope}
 use Rattle.wy_proving.specs.Proving.{ascends, is_empty}
 use Rattle.wy_recheck.specs.declared.failure.Failure.{Failure}
@@ -42,31 +40,6 @@ use Rattle.wy_recheck.specs.Standing.{FailsFirst}
 
 ------------------------------------------------------------
 -- Annotated and plain reading as one
-
-abbrev pub includes_in : Truth → List ℕ → List ℕ → Type 0
-includes_in true = AnyEffect
-includes_in false = Within
-
-abbrev pub allows_in : Program → ℕ → Truth → List ℕ → List ℕ → Type 0
-allows_in p k true = AnyEffect
-allows_in p k false = IsWithin (bounds_of p k)
-
-abbrev pub under_in : Program → ℕ → Truth → List ℕ → ℕ → Type 0
-under_in p k true = λ f a. Unit {0}
-under_in p k false = IsUnder (bounds_of p k)
-
--- the plain reading of a scope, or the annotated one
-abbrev pub reading_at : Program → ℕ → Truth → Reading
-reading_at p k plain = record {
-  Kind = TypeRef;
-  read = λ t. t;
-  effect = λ e. e;
-  methods = methods_of p k;
-  IsObject = IsObject;
-  Includes = includes_in plain;
-  Allows = allows_in p k plain;
-  Under = under_in p k plain;
-}
 
 abbrev pub pairs_in : CertScope → Truth → List Pair
 pairs_in c true = plain_pairs c

@@ -2,8 +2,8 @@
 //! node.
 
 ghost use Rattle.std.specs.Prelude.{◌≡◌, ◌<◌, ◌++◌, ◌∷◌, [], ℕ, IfErr, OnOk, IfOk, None, length, slice_get, Some};
-ghost use Rattle.std.specs.Option.{option_copied};
 ghost use Rattle.wy_effects.specs.EffSet.{union};
+ghost use Rattle.wy_types.specs.Code.{New, TextCall};
 ghost use Rattle.wy_types.specs.View.{expr_of, value_of, values_of, block_of};
 ghost use Rattle.wy_types.specs.Program.{Scope as ProgramScope, program_of, scope_of, body_of};
 ghost use Rattle.wy_types.specs.Types.{is_plain};
@@ -21,6 +21,7 @@ use crate::failure::Failure;
 use crate::forms::Waiting;
 use crate::pair_set::PairSet;
 use crate::reader::{Form, Read, Reader, Several, same};
+use crate::types::type_at;
 use crate::vals::has_vals;
 use std::alloc::Global;
 use wy_cert::{CertScope, Rule};
@@ -29,7 +30,7 @@ use wy_premises::{field_types, mark, united};
 use wy_text::fault::Place;
 use wy_text::list::Items;
 use wy_text::text::Memory;
-use wy_types::code::{Block, Expr, Stmt, Value};
+use wy_types::code::{Block, Expr, Stmt, TextOperator, Value};
 use wy_types::resolved::{Body, Core, ScopeKind, Start};
 use wy_types::types::{TypeList, TypeRef};
 
@@ -68,18 +69,14 @@ impl Reader<'_> {
                 self.binary(at, *place, *operator, first, second)
             }
             Expr::TextCall(place, operator, values) => {
-                let operands = self.read_values(at, values)?;
-                self.text_call(at, *place, *operator, values.len(), operands)
+                self.read_text_call(at, *place, *operator, values)
             }
             Expr::Call(place, x, name, values) => {
                 let receiver = self.read_expr(at, x)?;
                 let arguments = self.read_values(at, values)?;
                 self.call(at, *place, name, values.len() + 1, receiver, arguments)
             }
-            Expr::New(place, literal, values) => {
-                let initialisers = self.read_values(at, values)?;
-                self.new_object(at, *place, *literal, values.len(), initialisers)
-            }
+            Expr::New(place, literal, values) => self.read_new(at, *place, *literal, values),
             Expr::Ascribe(place, x, typ) => {
                 let value = self.read_value(at, x)?;
                 self.ascription(at, *place, typ, value)
@@ -89,6 +86,38 @@ impl Reader<'_> {
                 self.assignment(at, *place, *binding, value)
             }
         }
+    }
+
+    /// An operation on texts.
+    #[cycle(reading)]
+    fn read_text_call(
+        &self,
+        at: &mut usize,
+        place: Place,
+        operator: TextOperator,
+        values: &Vec<Value>,
+    ) -> Result<Read, Failure>
+        requires reader { IsReader self.now }
+        ensures { IsRead self.now.nodes.now (expr_read self.now at.old (TextCall place operator (values_of values.now.items))) at.new result }
+    {
+        let operands = self.read_values(at, values)?;
+        self.text_call(at, place, operator, values.len(), operands)
+    }
+
+    /// An object literal.
+    #[cycle(reading)]
+    fn read_new(
+        &self,
+        at: &mut usize,
+        place: Place,
+        literal: u32,
+        values: &Vec<Value>,
+    ) -> Result<Read, Failure>
+        requires reader { IsReader self.now }
+        ensures { IsRead self.now.nodes.now (expr_read self.now at.old (New place literal (values_of values.now.items))) at.new result }
+    {
+        let initialisers = self.read_values(at, values)?;
+        self.new_object(at, place, literal, values.len(), initialisers)
     }
 
     /// A value.
@@ -287,13 +316,6 @@ impl Reader<'_> {
     }
 }
 
-/// The type of a number; none where there are not so many.
-fn type_of_number(types: &[TypeRef], number: u32) -> Option<&TypeRef>
-    ensures { option_copied result ≡ slice_get types.now number }
-{
-    types.get(number as usize)
-}
-
 /// The types of these numbers; none where one names no type.
 fn named_types(
     alloc: Global,
@@ -304,7 +326,7 @@ fn named_types(
 {
     let mut named = Items::new(alloc);
     for number in numbers {
-        match type_of_number(types, *number) {
+        match type_at(types, *number) {
             None => return Ok(None),
             Some(typ) => named.push(typ.copy(alloc)?)?,
         }

@@ -1,7 +1,6 @@
 //! The pairs that are listed for a scope.
 
 ghost use Rattle.std.specs.Prelude.{◌≡◌, ◌≤◌, ◌+◌, ◌++◌, List, length, map, slice_get, IfOk, IfErr, OnOk};
-ghost use Rattle.std.specs.Option.{option_copied};
 ghost use Rattle.wy_effects.specs.Members.{In as IsIn};
 ghost use Rattle.wy_types.specs.Program.{Scope as ProgramScope, program_of};
 ghost use Rattle.wy_types.specs.InRange.{IsInRange};
@@ -17,6 +16,7 @@ ghost use Rattle.wy_recheck.specs.Closing.{looked_up, ClosedIn, PairStandsIn};
 
 use crate::failure::Failure;
 use crate::pair_set::PairSet;
+use crate::types::type_at;
 use std::alloc::Global;
 use std::sync::ledger::Ledger;
 use wy_cert::{CertPair, CertScope};
@@ -25,13 +25,6 @@ use wy_text::text::Memory;
 use wy_types::reading::{erase, erase_types};
 use wy_types::resolved::Core;
 use wy_types::types::TypeRef;
-
-/// The type of a number; none where there are not so many.
-fn type_at(types: &[TypeRef], number: u32) -> Option<&TypeRef>
-    ensures { option_copied result ≡ slice_get types.now number }
-{
-    types.get(number as usize)
-}
 
 /// Adds a pair, where its numbers name types.
 fn add_pair(

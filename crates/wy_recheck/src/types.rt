@@ -1,6 +1,7 @@
 //! The types that are listed for a scope.
 
 ghost use Rattle.std.specs.Prelude.{◌≡◌, ℕ, ◌≤◌, ◌<◌, IfOk, IfErr, length, map, slice_get, Some};
+ghost use Rattle.std.specs.Option.{option_copied};
 ghost use Rattle.wy_effects.specs.EffSet.{IsSet, AreSets};
 ghost use Rattle.wy_types.specs.declared.types.TypeRef.TheVariants.{Named, At, Own};
 ghost use Rattle.wy_types.specs.Program.{Program, Scope as ProgramScope, program_of, scope_of};
@@ -20,6 +21,13 @@ use wy_text::list::Items;
 use wy_text::text::Memory;
 use wy_types::resolved::{Core, Scope, ScopeKind, TypeDecl};
 use wy_types::types::{TypeList, TypeRef};
+
+/// The type of a number; none where there are not so many.
+pub(crate) fn type_at(types: &[TypeRef], number: u32) -> Option<&TypeRef>
+    ensures { option_copied result ≡ slice_get types.now number }
+{
+    types.get(number as usize)
+}
 
 /// The set of the atoms that are listed; none exactly where they do not ascend or one is not among so many atoms.
 pub(crate) fn standing_set(

@@ -81,27 +81,25 @@ read_expr-returns-in_ok-second-in-Binary t c =
     behind_read r.nodes.now _ _ _ form c.in_ok-first-in-Binary.first middle _ c.binary.result first
     (then_read r.nodes.now _ _ c.in_ok-second-in-Binary.second c.read_expr-in-Binary-2.new.at _ c.binary.result second c.binary.ensures)
 
-pub read_expr-returns-in_err-operands-in-TextCall : goal.read_expr-returns-in_err-operands-in-TextCall
-read_expr-returns-in_err-operands-in-TextCall t c =
-    let r = c.args.self.now in
-    let at = c.args.at.now in
-    let xs = c.in-TextCall.values in
-    let form = ap (expr_read r at) (ap expr_of c.in-TextCall.is ∙ expr_text_call c.in-TextCall.place c.in-TextCall.operator xs) in
-    let e : c.from_residual-in_err-operands-in-TextCall.result ≡ Err c.in_err-operands-in-TextCall.field-0.0 = search rules in
-    rw e (parts_fail_first r.nodes.now _ _ _ form _ c.in_err-operands-in-TextCall.ensures)
+pub read_expr-returns-in-TextCall : goal.read_expr-returns-in-TextCall
+read_expr-returns-in-TextCall t c =
+    read_as _ _ c.read_text_call.result _ _ (ap (expr_read c.args.self.now c.args.at.now) (ap expr_of c.in-TextCall.is ∙ expr_text_call c.in-TextCall.place c.in-TextCall.operator c.in-TextCall.values)) c.read_text_call.ensures
 
-pub read_expr-returns-in_ok-operands-in-TextCall : goal.read_expr-returns-in_ok-operands-in-TextCall
-read_expr-returns-in_ok-operands-in-TextCall t c =
+pub read_text_call-returns-in_err-operands : goal.read_text_call-returns-in_err-operands
+read_text_call-returns-in_err-operands t c =
+    let e : c.from_residual.result ≡ Err c.in_err-operands.field-0.0 = search rules in
+    rw e (parts_fail_first c.args.self.now.nodes.now _ _ _ refl _ c.in_err-operands.ensures)
+
+pub read_text_call-returns : goal.read_text_call-returns
+read_text_call-returns t c =
     let r = c.args.self.now in
-    let at = c.args.at.now in
-    let xs = c.in-TextCall.values in
-    let form = ap (expr_read r at) (ap expr_of c.in-TextCall.is ∙ expr_text_call c.in-TextCall.place c.in-TextCall.operator xs) in
-    let z = c.in_ok-operands-in-TextCall.operands in
+    let xs = c.args.values.now in
+    let z = c.in_ok-operands.operands in
     let behind = c.read_values.new.at in
     let size : vec_len xs ≡ length xs.items = search rules in
     let count = c.len.ensures ∙ size ∙ sym (values_counted xs.items) in
-    behind_parts r.nodes.now _ _ _ form z behind _ c.text_call.result c.in_ok-operands-in-TextCall.ensures
-    (subst (λ n. IsRead r.nodes.now (text_read r behind c.in-TextCall.place c.in-TextCall.operator n z) c.text_call.new.at c.text_call.result) count c.text_call.ensures)
+    behind_parts r.nodes.now _ _ _ refl z behind _ c.text_call.result c.in_ok-operands.ensures
+    (subst (λ n. IsRead r.nodes.now (text_read r behind c.args.place c.args.operator n z) c.text_call.new.at c.text_call.result) count c.text_call.ensures)
 
 pub read_expr-returns-in_err-receiver-in-Call : goal.read_expr-returns-in_err-receiver-in-Call
 read_expr-returns-in_err-receiver-in-Call t c =
@@ -133,34 +131,32 @@ read_expr-returns-in_ok-arguments-in-Call t c =
     let middle = c.read_expr-in-Call.new.at in
     let x = c.in_ok-receiver-in-Call.receiver in
     let z = c.in_ok-arguments-in-Call.arguments in
-    let behind = c.read_values-in-Call.new.at in
+    let behind = c.read_values.new.at in
     let size : vec_len xs ≡ length xs.items = search rules in
-    let count = ap (λ n. n + 1) (c.len-in-Call.ensures ∙ size ∙ sym (values_counted xs.items)) in
+    let count = ap (λ n. n + 1) (c.len.ensures ∙ size ∙ sym (values_counted xs.items)) in
     behind_read r.nodes.now _ _ _ form x middle _ c.call.result first
     (behind_parts r.nodes.now _ _ _ refl z behind _ c.call.result c.in_ok-arguments-in-Call.ensures
     (subst (λ n. IsRead r.nodes.now (call_read r behind c.in-Call.place c.in-Call.name n x z) c.call.new.at c.call.result) count c.call.ensures))
 
-pub read_expr-returns-in_err-initialisers-in-New : goal.read_expr-returns-in_err-initialisers-in-New
-read_expr-returns-in_err-initialisers-in-New t c =
-    let r = c.args.self.now in
-    let at = c.args.at.now in
-    let xs = c.in-New.values in
-    let form = ap (expr_read r at) (ap expr_of c.in-New.is ∙ expr_new c.in-New.place c.in-New.literal xs) in
-    let e : c.from_residual-in_err-initialisers-in-New.result ≡ Err c.in_err-initialisers-in-New.field-0.0 = search rules in
-    rw e (parts_fail_first r.nodes.now _ _ _ form _ c.in_err-initialisers-in-New.ensures)
+pub read_expr-returns-in-New : goal.read_expr-returns-in-New
+read_expr-returns-in-New t c =
+    read_as _ _ c.read_new.result _ _ (ap (expr_read c.args.self.now c.args.at.now) (ap expr_of c.in-New.is ∙ expr_new c.in-New.place c.in-New.literal c.in-New.values)) c.read_new.ensures
 
-pub read_expr-returns-in_ok-initialisers-in-New : goal.read_expr-returns-in_ok-initialisers-in-New
-read_expr-returns-in_ok-initialisers-in-New t c =
+pub read_new-returns-in_err-initialisers : goal.read_new-returns-in_err-initialisers
+read_new-returns-in_err-initialisers t c =
+    let e : c.from_residual.result ≡ Err c.in_err-initialisers.field-0.0 = search rules in
+    rw e (parts_fail_first c.args.self.now.nodes.now _ _ _ refl _ c.in_err-initialisers.ensures)
+
+pub read_new-returns : goal.read_new-returns
+read_new-returns t c =
     let r = c.args.self.now in
-    let at = c.args.at.now in
-    let xs = c.in-New.values in
-    let form = ap (expr_read r at) (ap expr_of c.in-New.is ∙ expr_new c.in-New.place c.in-New.literal xs) in
-    let z = c.in_ok-initialisers-in-New.initialisers in
-    let behind = c.read_values-in-New.new.at in
+    let xs = c.args.values.now in
+    let z = c.in_ok-initialisers.initialisers in
+    let behind = c.read_values.new.at in
     let size : vec_len xs ≡ length xs.items = search rules in
-    let count = c.len-in-New.ensures ∙ size ∙ sym (values_counted xs.items) in
-    behind_parts r.nodes.now _ _ _ form z behind _ c.new_object.result c.in_ok-initialisers-in-New.ensures
-    (subst (λ n. IsRead r.nodes.now (new_read r behind c.in-New.place c.in-New.literal n z) c.new_object.new.at c.new_object.result) count c.new_object.ensures)
+    let count = c.len.ensures ∙ size ∙ sym (values_counted xs.items) in
+    behind_parts r.nodes.now _ _ _ refl z behind _ c.new_object.result c.in_ok-initialisers.ensures
+    (subst (λ n. IsRead r.nodes.now (new_read r behind c.args.place c.args.literal n z) c.new_object.new.at c.new_object.result) count c.new_object.ensures)
 
 pub read_expr-returns-in_err-value-in-Ascribe : goal.read_expr-returns-in_err-value-in-Ascribe
 read_expr-returns-in_err-value-in-Ascribe t c =
