@@ -13,7 +13,7 @@ use Rattle.wy_rules.specs.Canonical.{same_type, block_at_type, canonical_values,
 use Rattle.wy_cert.specs.declared.certificate.Rule.TheVariants as by
 use Rattle.wy_proving.specs.Steps.{Step, step, values_steps, block_steps, start_steps, bodies_steps}
 use Rattle.wy_proving.specs.Written.{steps_in, written_steps}
-use Rattle.wy_certify.specs.Reading.{reading_at}
+use Rattle.wy_proving.specs.OneReading.{reading_at}
 use Rattle.wy_certify.specs.Written.{Context, reading, all_steps, field_typs, run_at_steps, start_written, body_written, bodies_written}
 
 -- where the current object is another one

@@ -1,6 +1,9 @@
 pub mod Adding
+pub mod Arising
 pub mod Blocks
 pub mod Bodies
+pub mod Certificates
+mod ExamplesClosed
 mod ExamplesNumbers
 pub mod ListsWhole
 pub mod Numbers
@@ -13,4 +16,6 @@ pub mod PartsPushed
 pub mod RulesAsked
 pub mod ScopesProved
 pub mod Settled
+pub mod Sizes
+pub mod StepParts
 pub mod Turns

@@ -23,7 +23,7 @@ use Rattle.wy_proving.specs.Certified.{Pair, bare}
 use Rattle.wy_proving.proofs.Erasing.{erased_erased}
 use Rattle.wy_recheck.specs.Closing.{looked_up, ClosedIn}
 use Rattle.wy_recheck.proofs.ClosedPairs.{asks_closed}
-use Rattle.wy_certify.specs.Closed.{all_looked_up, Holds, AllHold, IsGrown, AreReady, Advances, IsExplored}
+use Rattle.wy_certify.specs.Closed.{all_looked_up, Holds, AllHold, Arises, of_asked, of_pair, IsGrown, AreReady, Advances, IsExplored}
 use Rattle.wy_certify.proofs.PairsHolding.{compared_holds, asked_holds, holding_fits}
 
 ------------------------------------------------------------
@@ -77,11 +77,11 @@ pub in_looked_up : (mode : Mode) (q : Pair) (qs : List Pair) → In {X = Pair} q
 in_looked_up Annotated q qs i = i
 in_looked_up Plain q qs i = In-map {X = Pair} {Y = Pair} bare q qs i
 
-of_looked_up : (mode : Mode) (r : Pair) (qs : List Pair) → In {X = Pair} r (all_looked_up mode qs) → (q : Pair) × In {X = Pair} q qs × (looked_up mode q ≡ r)
+pub of_looked_up : (mode : Mode) (r : Pair) (qs : List Pair) → In {X = Pair} r (all_looked_up mode qs) → (q : Pair) × In {X = Pair} q qs × (looked_up mode q ≡ r)
 of_looked_up Annotated r qs i = (r, i, refl)
 of_looked_up Plain r qs i = In-unmap {X = Pair} {Y = Pair} bare r qs i
 
-looked_up_twice : (mode : Mode) (q : Pair) → looked_up mode (looked_up mode q) ≡ looked_up mode q
+pub looked_up_twice : (mode : Mode) (q : Pair) → looked_up mode (looked_up mode q) ≡ looked_up mode q
 looked_up_twice Annotated q = refl
 looked_up_twice Plain q =
     let first : ◌≡◌ {A = Pair} (erased (erased q.0), erased (erased q.1)) (erased q.0, erased (erased q.1)) = ap (λ (t : TypeRef). let r : Pair = (t, erased (erased q.1)) in r) (erased_erased q.0) in
@@ -104,6 +104,32 @@ module _ (p : Program) (k : ℕ) (mode : Mode) where
     each = λ r i. elim (g.only r i) [ inl j ↦ absurd j | inr j ↦ (let u = of_looked_up mode r qs j in ready_one h.scope u.0 (h.each u.0 u.1) r u.2) ];
     apart = g.apart tt;
   }
+
+  ------------------------------------------------------------
+  -- What arises
+
+  -- what is asked and is as it is compared arises
+  arises_itself : (qs : List Pair) (q : Pair) → In {X = Pair} q qs → looked_up mode q ≡ q → Arises p k mode qs q
+  arises_itself qs q i same = subst (λ (v : Pair). Arises p k mode qs v) same (of_asked q i)
+
+  -- what arises from pairs, each of which arises as it is compared, arises
+  pub arises_through : (asked first : List Pair) → ((q : Pair) → In {X = Pair} q first → Arises p k mode asked (looked_up mode q)) → (q : Pair) → Arises p k mode first q → Arises p k mode asked q
+  arises_through asked first h q (of_asked r i) = h r i
+  arises_through asked first h q (of_pair r t step a to) = of_pair r t step (arises_through asked first h r a) to
+
+  -- .. from pairs that are as they are compared
+  arises_onward : (asked old : List Pair) → AreReady p k mode old → ((q : Pair) → In {X = Pair} q old → Arises p k mode asked q) → (q : Pair) → Arises p k mode old q → Arises p k mode asked q
+  arises_onward asked old ready h = arises_through asked old (λ q i. subst (λ (v : Pair). Arises p k mode asked v) (sym (ready.each q i).1) (h q i))
+
+  -- .. from the pairs that are asked, as they are compared
+  pub arises_first : (asked first : List Pair) → IsGrown (all_looked_up mode asked) [] first → (q : Pair) → Arises p k mode first q → Arises p k mode asked q
+  arises_first asked first g = arises_through asked first (λ r i. elim (g.only r i) [
+    | inl j ↦ absurd j
+    | inr j ↦
+        let u = of_looked_up mode r asked j in
+        let same : looked_up mode u.0 ≡ looked_up mode r = sym (looked_up_twice mode u.0) ∙ ap (looked_up mode) u.2 in
+        subst (λ (v : Pair). Arises p k mode asked v) same (of_asked u.0 u.1)
+  ])
 
   ------------------------------------------------------------
   -- One pair is tested
@@ -141,6 +167,15 @@ module _ (p : Program) (k : ℕ) (mode : Mode) where
           ];
           apart = g.apart ready.apart;
         };
+        only = λ r i. elim (g.only r i) [
+          | inl j ↦ arises_itself old r j (ready.each r j).1
+          | inr j ↦
+              let u = of_looked_up mode r (map sides asked) j in
+              let v = In-unmap sides u.0 asked u.1 in
+              let there = In-slice_get old at q is in
+              let to : Arises p k mode old (looked_up mode (sides v.0)) = of_pair q (sides v.0) v.0.step (arises_itself old q there (ready.each q there).1) (a.steps v.0 v.1) in
+              subst (λ (w : Pair). Arises p k mode old w) (ap (looked_up mode) v.2 ∙ u.2) to
+        ];
         done = λ r e. subst (λ (w : Pair). ClosedIn p k mode new w) (same_item new at q r (same_place old new g.tail g.extends at q is) e) done;
       }
 
@@ -148,13 +183,14 @@ module _ (p : Program) (k : ℕ) (mode : Mode) where
   -- One after another
 
   pub explored_none : (first : List Pair) → AreReady p k mode first → IsExplored p k mode first first 0
-  explored_none first ready = record { tail = []; extends = sym (append-nil first); ready = ready; within = omega arith; done = λ at lt. absurd (omega arith) }
+  explored_none first ready = record { tail = []; extends = sym (append-nil first); ready = ready; only = λ q i. arises_itself first q i (ready.each q i).1; within = omega arith; done = λ at lt. absurd (omega arith) }
 
   pub explored_more : (first old new : List Pair) (n : ℕ) → n < length old → IsExplored p k mode first old n → Advances p k mode old new n → IsExplored p k mode first new (n + 1)
   explored_more first old new n lt x a = record {
     tail = x.tail ++ a.tail;
     extends = extended first old new x.tail a.tail x.extends a.extends;
     ready = a.ready;
+    only = λ q i. arises_onward first old x.ready x.only q (a.only q i);
     within = (let e : length new ≡ length old + length a.tail = ap (λ (l : List Pair). length l) a.extends ∙ length-append old a.tail in omega (arith, e, lt));
     done = λ at le q e. elim (cases_lt at n) [
       | inl less ↦ earlier at less q e

@@ -15,7 +15,7 @@ use Rattle.wy_proving.specs.Certified.{Pair, bare}
 use Rattle.wy_proving.specs.Proving.{TypeStands}
 use Rattle.wy_recheck.specs.Closing.{looked_up, ClosedIn}
 use Rattle.wy_certify.specs.Closed.{all_looked_up, Holds, IsClosedList, IsGrown, IsExplored, at_empty, given_back}
-use Rattle.wy_certify.proofs.PairsGrowing.{in_looked_up}
+use Rattle.wy_certify.proofs.PairsGrowing.{in_looked_up, arises_first}
 
 -- an erased type is what is erased of it at the empty set
 erased_back : (t : TypeRef) → erased t ≡ t → erased (annotated [] t) ≡ t
@@ -71,7 +71,9 @@ module _ (p : Program) (k : ℕ) (s : Scope) where
         let there : In {X = Pair} (looked_up mode q) qs = subst (λ (l : List Pair). In {X = Pair} (looked_up mode q) l) (sym x.extends) (In-left {X = Pair} (looked_up mode q) first x.tail (g.has (looked_up mode q) (in_looked_up mode q asked i))) in
         subst (λ (l : List Pair). In {X = Pair} (looked_up mode q) l) (sym back) there;
     closed = λ q i. subst (λ (l : List Pair). ClosedIn p k mode l q) (sym back) (given_closed mode qs same done q i);
+    only = λ q i. arises_first p k mode asked first g q (x.only q (subst (λ (l : List Pair). In {X = Pair} q l) back i));
     apart = subst (λ (l : List Pair). Apart l) (sym back) x.ready.apart;
+    form = ap (given_back mode) back;
     stand = given_stands mode qs ready;
   })
     where

@@ -1,7 +1,8 @@
 -- The pairs that rules ask, one after another.
-use Rattle.std.proofs.Common.{◌≡◌, ℕ, ◌+◌, ◌<◌, ◌≤◌, List, [], ◌∷◌, ◌++◌, map, drop, length, get_or, sym, ap, ◌∙◌, append_assoc, append-nil}
+use Rattle.std.proofs.Common.{◌≡◌, ℕ, ◌+◌, ◌<◌, ◌≤◌, List, [], ◌∷◌, ◌++◌, map, drop, length, get_or, sym, ap, ◌∙◌, subst, append_assoc, append-nil}
 use Rattle.std.proofs.lemmas.List.{map-append}
 use Rattle.wy_effects.proofs.Walks.{drop_at, drop_none}
+use Rattle.wy_types.specs.declared.types.TypeRef.{TypeRef}
 use Rattle.wy_proving.specs.Certified.{Pair}
 use Rattle.wy_proving.specs.Proving.{LineRule as Rule}
 use Rattle.wy_proving.specs.Written.{asked_by_all}
@@ -11,6 +12,12 @@ use Rattle.wy_certify.specs.Pair.{pair_of}
 -- a pair more
 pub pair_pushed : (old new : List TypePair) (q : TypePair) → new ≡ old ++ q ∷ [] → map pair_of new ≡ map pair_of old ++ pair_of q ∷ []
 pair_pushed old new q e = ap (map pair_of) e ∙ map-append pair_of old (q ∷ [])
+
+-- .. of two types
+pub pushed_as : (old new : List TypePair) (q : TypePair) (a b : TypeRef) → q.left ≡ a → q.right ≡ b → new ≡ old ++ q ∷ [] → map pair_of new ≡ map pair_of old ++ (a, b) ∷ []
+pushed_as old new q a b f g e =
+    let P : TypeRef → TypeRef → Type 0 = λ u v. map pair_of new ≡ map pair_of old ++ (u, v) ∷ [] in
+    subst (λ v. P a v) g (subst (λ u. P u q.right) f (pair_pushed old new q e))
 
 -- what is added, and what is left to add, are what was to be added
 pub added_next : {X : Type 0} (out next whole one rest : List X) (left : List X) → left ≡ one ++ rest → next ≡ out ++ one → out ++ left ≡ whole → next ++ rest ≡ whole

@@ -1,16 +1,17 @@
 -- Closed lists of what is asked in a scope, and what is kept while one is made (docs/LANGUAGE.md, "Certificates").
-use Rattle.std.specs.Prelude.{◌≡◌, ◌↔◌, ℕ, ◌<◌, ◌≤◌, List, [], ◌++◌, ◌⊎◌, Some, length, map, slice_get}
+use Rattle.std.specs.Prelude.{◌≡◌, ℕ, ◌<◌, ◌≤◌, List, [], ◌++◌, ◌⊎◌, Some, length, map, slice_get}
 use Rattle.wy_effects.specs.Members.{In, Apart}
-use Rattle.wy_types.specs.declared.types.TypeRef.{TypeRef}
+use Rattle.wy_types.specs.declared.path.Step.{Step}
 use Rattle.wy_types.specs.Program.{Program, Scope}
 use Rattle.wy_types.specs.Types.{annotated, erased}
 use Rattle.wy_types.specs.Subtyping.{IsAnnotatedSubtype}
 use Rattle.wy_rules.specs.Tables.{erased_methods, IsPlainSubtypeOver}
 use Rattle.wy_subtype.specs.declared.verdict.Mode.{Mode}
 use Rattle.wy_subtype.specs.declared.verdict.Mode.TheVariants.{Annotated, Plain}
+use Rattle.wy_subtype.specs.Verdict.{StepsTo}
 use Rattle.wy_proving.specs.Certified.{Pair, bare}
 use Rattle.wy_proving.specs.Proving.{TypeStands}
-use Rattle.wy_proving.specs.Written.{BareStands, asks, plain_asks, pair_types, step_types, written_steps, IsWhole, AskedStand}
+use Rattle.wy_proving.specs.Written.{BareStands}
 use Rattle.wy_recheck.specs.PairSet.{StandsFor}
 use Rattle.wy_recheck.specs.Closing.{looked_up, ClosedIn}
 use Rattle.wy_certify.specs.declared.closing.Work.{Work}
@@ -32,11 +33,27 @@ pub record AllHold (p : Program) (k : ℕ) (mode : Mode) (qs : List Pair) : Type
   pub there : slice_get p.scopes k ≡ Some scope
   pub each : (q : Pair) → In {X = Pair} q qs → Holds p k scope mode q
 
--- a list has what is asked, each pair is closed in it, no two are alike, and the types can stand
+-- the pair with its types at the empty set
+abbrev pub at_empty : Pair → Pair
+at_empty q = (annotated [] q.0, annotated [] q.1)
+
+-- compared pairs as they are listed
+abbrev pub given_back : Mode → List Pair → List Pair
+given_back Annotated qs = qs
+given_back Plain qs = map at_empty qs
+
+-- the pair, as it is compared, is asked, or a step away from one that arises
+pub data Arises (p : Program) (k : ℕ) (mode : Mode) (asked : List Pair) : Pair → Type 0 where
+  of_asked : (q : Pair) → In {X = Pair} q asked → Arises p k mode asked (looked_up mode q)
+  of_pair : (q r : Pair) (step : Step) → Arises p k mode asked q → StepsTo p k mode q step r → Arises p k mode asked (looked_up mode r)
+
+-- a list has what is asked, each pair is closed in it, and nothing else is there; no two pairs are alike, and the types can stand
 pub record IsClosedList (p : Program) (k : ℕ) (s : Scope) (mode : Mode) (asked list : List Pair) : Type 0 where
   pub has : (q : Pair) → In {X = Pair} q asked → In {X = Pair} (looked_up mode q) (all_looked_up mode list)
   pub closed : (q : Pair) → In {X = Pair} q list → ClosedIn p k mode (all_looked_up mode list) q
+  pub only : (q : Pair) → In {X = Pair} q (all_looked_up mode list) → Arises p k mode asked q
   pub apart : Apart (all_looked_up mode list)
+  pub form : given_back mode (all_looked_up mode list) ≡ list
   pub stand : (q : Pair) → In {X = Pair} q list → TypeStands p s q.0 × TypeStands p s q.1
 
 ------------------------------------------------------------
@@ -68,40 +85,19 @@ pub record AreReady (p : Program) (k : ℕ) (mode : Mode) (qs : List Pair) : Typ
 abbrev pub IsDone : Program → ℕ → Mode → List Pair → ℕ → Type 0
 IsDone p k mode qs at = (q : Pair) → slice_get qs at ≡ Some q → ClosedIn p k mode qs q
 
--- the pair at a place was tested
+-- the pair at a place was tested: what was added arises from what was there
 pub record Advances (p : Program) (k : ℕ) (mode : Mode) (old new : List Pair) (at : ℕ) : Type 0 where
   pub tail : List Pair
   pub extends : new ≡ old ++ tail
   pub ready : AreReady p k mode new
+  pub only : (q : Pair) → In {X = Pair} q new → Arises p k mode old q
   pub done : IsDone p k mode new at
 
--- the pairs before a place were tested
+-- the pairs before a place were tested: what was added arises from the first ones
 pub record IsExplored (p : Program) (k : ℕ) (mode : Mode) (first qs : List Pair) (next : ℕ) : Type 0 where
   pub tail : List Pair
   pub extends : qs ≡ first ++ tail
   pub ready : AreReady p k mode qs
+  pub only : (q : Pair) → In {X = Pair} q qs → Arises p k mode first q
   pub within : next ≤ length qs
   pub done : (at : ℕ) → at < next → IsDone p k mode qs at
-
--- the pair with its types at the empty set
-abbrev pub at_empty : Pair → Pair
-at_empty q = (annotated [] q.0, annotated [] q.1)
-
--- the pairs as they are listed
-abbrev pub given_back : Mode → List Pair → List Pair
-given_back Annotated qs = qs
-given_back Plain qs = map at_empty qs
-
-------------------------------------------------------------
--- Laws
-
--- what is asked of a scope, where it stands, is a subtyping of types that can stand
-abbrev pub WhatIsAskedHolds : Type 0
-WhatIsAskedHolds =
-    (p : Program) (k : ℕ) (s : Scope) (us : List TypeRef) → slice_get p.scopes k ≡ Some s → AskedStand p k s us → AllHold p k Annotated (asks p k s us) × AllHold p k Plain (plain_asks p k s us)
-
--- closed lists of what is asked of a scope, with all types of these, of its steps and of its `val`s, are those from which what is written proves it
-abbrev pub ClosedListsAreWhole : Type 0
-ClosedListsAreWhole =
-    (p : Program) (k : ℕ) (s : Scope) (us ts : List TypeRef) (ps bs : List Pair) → AskedStand p k s us → IsClosedList p k s Annotated (asks p k s us) ps → IsClosedList p k s Plain (plain_asks p k s us) bs →
-    ((t : TypeRef) → In t ts ↔ In t (pair_types ps ++ (pair_types bs ++ (step_types (written_steps p k s us) ++ us)))) → IsWhole p k s us ts ps bs

@@ -1,8 +1,9 @@
 pub mod Asking
+pub mod Certificates
 pub mod Closed
 pub mod Numbering
 pub mod Pair
-pub mod Reading
+pub mod Parts
 pub mod Settling
 pub mod Step
 pub mod Writer

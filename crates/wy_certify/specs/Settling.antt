@@ -7,8 +7,8 @@ use Rattle.wy_types.specs.View.{value_of}
 use Rattle.wy_types.specs.Program.{Program, Scope, Body, program_of, scope_of}
 use Rattle.wy_types.specs.Types.{is_plain}
 use Rattle.wy_rules.specs.Canonical.{same_type, with_local, val_type, settle_expr, settle_value, settle_values, settle_block, settle_start, settle_bodies, canonical_locals}
+use Rattle.wy_proving.specs.OneReading.{reading_at}
 use Rattle.wy_certify.specs.declared.settling.Settler.{Settler}
-use Rattle.wy_certify.specs.Reading.{reading_at}
 use Rattle.wy_certify.specs.Written.{Context, reading}
 
 -- where a part stands: no type is known by itself

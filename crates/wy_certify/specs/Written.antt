@@ -20,7 +20,7 @@ use Rattle.wy_rules.specs.Typing.{binding_type, var_field, field_types}
 use Rattle.wy_rules.specs.Canonical.{Typed, TypedBlock, same_type, row_of, found_type, object_type, field_type, method_params, method_effect, method_result, first_operand, at_type, block_at_type, canonical_expr, canonical_value, canonical_values, canonical_block, canonical_start, canonical_body}
 use Rattle.wy_cert.specs.declared.certificate.Rule.TheVariants as by
 use Rattle.wy_proving.specs.Steps.{Step, step, value_steps, values_steps, block_steps, start_steps, body_steps, bodies_steps}
-use Rattle.wy_certify.specs.Reading.{reading_at}
+use Rattle.wy_proving.specs.OneReading.{reading_at}
 use Rattle.wy_certify.specs.Step.{sub_steps}
 
 -- where a part stands: the scope of a number in a program, the types of its `val`s, and the current object

@@ -1,4 +1,4 @@
-//! Closed lists of what is asked: each pair together with all that its own test asks for.
+//! Closed lists of what is asked: each pair together with all that its own test asks for, and no others.
 
 ghost use Rattle.std.specs.Prelude.{◌≡◌, ◌<◌, ◌∷◌, [], IfOk, OnOk, length, map, slice_get};
 ghost use Rattle.wy_types.specs.Program.{Scope as ProgramScope, program_of};
@@ -6,7 +6,7 @@ ghost use Rattle.wy_types.specs.Core.{IsCore};
 ghost use Rattle.wy_subtype.specs.Unfolding.{sides};
 ghost use Rattle.wy_recheck.specs.Closing.{looked_up};
 ghost use Rattle.wy_certify.specs.Pair.{pair_of};
-ghost use Rattle.wy_certify.specs.Closed.{AllHold, ClosedListsAreWhole, IsClosedList, WhatIsAskedHolds, pairs_in, IsKept, all_looked_up, IsGrown, AreReady, Advances, IsExplored, given_back};
+ghost use Rattle.wy_certify.specs.Closed.{AllHold, IsClosedList, pairs_in, IsKept, all_looked_up, IsGrown, AreReady, Advances, IsExplored, given_back};
 
 use crate::pair::TypePair;
 use indexmap::IndexSet;
@@ -21,22 +21,6 @@ use wy_types::key::{Key, key_of_pair};
 use wy_types::reading::{annotate, erase};
 use wy_types::resolved::Core;
 use wy_types::types::TypeRef;
-
-/// A pair as it is compared: in plain mode its types are bare.
-fn compared(alloc: Global, mode: Mode, left: &TypeRef, right: &TypeRef) -> Result<TypePair, Memory>
-    ensures { IfOk result (λ q. pair_of q ≡ looked_up mode (left.now, right.now)) }
-{
-    match mode {
-        Mode::Annotated => Ok(TypePair {
-            left: left.copy(alloc)?,
-            right: right.copy(alloc)?,
-        }),
-        Mode::Plain => Ok(TypePair {
-            left: erase(alloc, left)?,
-            right: erase(alloc, right)?,
-        }),
-    }
-}
 
 // ----------------------------------------------------------------------------
 // Pairs, each once
@@ -60,17 +44,43 @@ impl Work {
         }
     }
 
-    /// Adds a pair that is not there.
-    fn insert(&mut self, alloc: Global, pair: TypePair) -> Result<(), Memory>
+    /// Adds a pair that is not there. Types are copied only then.
+    fn insert(&mut self, alloc: Global, left: &TypeRef, right: &TypeRef) -> Result<(), Memory>
         requires kept { IsKept self.old }
         ensures kept { OnOk result (IsKept self.new) }
-        ensures grown { OnOk result (IsGrown (pair_of pair ∷ []) (pairs_in self.old) (pairs_in self.new)) }
+        ensures grown { OnOk result (IsGrown ((left.now, right.now) ∷ []) (pairs_in self.old) (pairs_in self.new)) }
     {
-        let key = key_of_pair(alloc, &pair.left, &pair.right)?;
+        let key = key_of_pair(alloc, left, right)?;
         if self.keys.insert(key)? {
+            let pair = TypePair {
+                left: left.copy(alloc)?,
+                right: right.copy(alloc)?,
+            };
             self.pairs.push(pair)?;
         }
         Ok(())
+    }
+
+    /// Adds a pair as it is compared: in plain mode its types are bare.
+    fn add(
+        &mut self,
+        alloc: Global,
+        mode: Mode,
+        left: &TypeRef,
+        right: &TypeRef,
+    ) -> Result<(), Memory>
+        requires kept { IsKept self.old }
+        ensures kept { OnOk result (IsKept self.new) }
+        ensures grown { OnOk result (IsGrown (looked_up mode (left.now, right.now) ∷ []) (pairs_in self.old) (pairs_in self.new)) }
+    {
+        match mode {
+            Mode::Annotated => self.insert(alloc, left, right),
+            Mode::Plain => {
+                let left = erase(alloc, left)?;
+                let right = erase(alloc, right)?;
+                self.insert(alloc, &left, &right)
+            }
+        }
     }
 
     /// Adds the pairs that a test asks for.
@@ -85,7 +95,7 @@ impl Work {
         ensures grown { OnOk result (IsGrown (all_looked_up mode (map sides asked.now)) (pairs_in self.old) (pairs_in self.new)) }
     {
         for pair in asked {
-            self.insert(alloc, compared(alloc, mode, &pair.left, &pair.right)?)?;
+            self.add(alloc, mode, &pair.left, &pair.right)?;
         }
         Ok(())
     }
@@ -97,7 +107,7 @@ impl Work {
         ensures grown { OnOk result (IsGrown (all_looked_up mode (map pair_of asked.now)) (pairs_in self.old) (pairs_in self.new)) }
     {
         for pair in asked {
-            self.insert(alloc, compared(alloc, mode, &pair.left, &pair.right)?)?;
+            self.add(alloc, mode, &pair.left, &pair.right)?;
         }
         Ok(())
     }
@@ -221,10 +231,10 @@ fn closed_from<L: Ledger>(
     listed(alloc, mode, work.pairs)
 }
 
-/// A list in which each pair that is asked in the scope of a number is, and with each pair all that its own test asks for: by
-/// methods and their effects, or in plain mode by erased methods, where pairs are compared by erasure. No two pairs are alike, and
-/// their types can stand in the scope. What is asked is to be a subtyping of types that can stand. The one error is want of memory
-/// (docs/LANGUAGE.md, "Subtyping" and "Certificates").
+/// A list in which each pair that is asked in the scope of a number is, and with each pair all that its own test asks for, and no
+/// others: by methods and their effects, or in plain mode by erased methods, where pairs are compared by erasure and listed at the
+/// empty set. No two pairs are alike, and their types can stand in the scope. What is asked is to be a subtyping of types that can
+/// stand. The one error is want of memory (docs/LANGUAGE.md, "Subtyping" and "Certificates").
 pub fn closed_list(
     alloc: Global,
     core: &Core,
@@ -238,17 +248,3 @@ pub fn closed_list(
 {
     closed_from::<Brand>(alloc, core, number, mode, asked, Blank::new(1))
 }
-
-// ----------------------------------------------------------------------------
-// Laws. These functions do nothing: what each says is its clause
-
-/// What the rules and the steps of a scope ask is what `closed_list` wants, where it stands (docs/LANGUAGE.md, "Certificates").
-pub fn what_is_asked_holds()
-    ensures { WhatIsAskedHolds }
-{}
-
-/// What is written from closed lists of what is asked, and from all their types and those of steps and `val`s, proves the scope
-/// (docs/LANGUAGE.md, "Certificates").
-pub fn closed_lists_are_whole()
-    ensures { ClosedListsAreWhole }
-{}

@@ -1,14 +1,15 @@
-//! What is said of a scope, written out from lists of types, pairs and steps: each type by its number (docs/LANGUAGE.md,
-//! "Certificates").
+//! What is said of a scope, written out: each type by its number (docs/LANGUAGE.md, "Certificates").
 
 ghost use Rattle.std.specs.Prelude.{◌≡◌, ◌↔◌, IfErr, IfOk, IsTrue, OnOk, length, map};
 ghost use Rattle.wy_spelling.specs.Spelling.{IsNumber};
-ghost use Rattle.wy_proving.specs.Written.{number, cert_type, cert_pair, cert_node, written_out};
-ghost use Rattle.wy_certify.specs.Numbering.{part_types, part_table, IsEachOnce, AreNumbers};
+ghost use Rattle.wy_proving.specs.Written.{number, cert_type, cert_pair, cert_node};
+ghost use Rattle.wy_certify.specs.Numbering.{AreNumbers};
 ghost use Rattle.wy_certify.specs.Pair.{pair_of};
+ghost use Rattle.wy_certify.specs.Parts.{part_steps, said, said_by, types_in};
 ghost use Rattle.wy_certify.specs.Step.{step_of, steps_of};
 ghost use Rattle.wy_certify.specs.declared.listing.PartRefusal.TheVariants as refusal;
 
+use crate::finding::ScopePart;
 use crate::numbering::TypeNumbers;
 use crate::pair::TypePair;
 use crate::step::Step;
@@ -174,67 +175,42 @@ fn are_numbers(table: &TypeNumbers, steps: &[Step]) -> bool
     table.len() <= u32::MAX as usize
 }
 
-/// The table of the types of pairs, steps and `val`s.
-fn table_of(
-    alloc: Global,
-    pairs: &[TypePair],
-    bares: &[TypePair],
-    vals: &[TypeRef],
-    steps: &[Step],
-) -> Result<TypeNumbers, Memory>
-    ensures { IfOk result (λ ts. ts ≡ part_table (map pair_of pairs.now) (map pair_of bares.now) vals.now (steps_of steps.now)) }
+/// The table of the types of a part.
+fn table_of(alloc: Global, part: &ScopePart) -> Result<TypeNumbers, Memory>
+    ensures { IfOk result (λ ts. ts ≡ types_in part.now) }
 {
     let mut table = TypeNumbers::new(alloc);
-    table.add_pairs(pairs)?;
-    table.add_pairs(bares)?;
-    table.add_steps(steps)?;
-    table.add_all(vals)?;
+    table.add_pairs(part.pairs.as_slice())?;
+    table.add_pairs(part.bares.as_slice())?;
+    table.add_steps(part.steps.as_slice())?;
+    table.add_all(part.vals.as_slice())?;
     Ok(table)
 }
 
 /// What is said of a scope by the numbers of a table.
-fn written_by(
-    alloc: Global,
-    table: &TypeNumbers,
-    pairs: &[TypePair],
-    bares: &[TypePair],
-    vals: &[TypeRef],
-    steps: &[Step],
-) -> Result<CertScope, Memory>
-    requires { AreNumbers table.now (steps_of steps.now) }
-    ensures { IfOk result (λ c. c ≡ written_out table.now (map pair_of pairs.now) (map pair_of bares.now) vals.now (steps_of steps.now)) }
+fn written_by(alloc: Global, table: &TypeNumbers, part: &ScopePart) -> Result<CertScope, Memory>
+    requires { AreNumbers table.now (part_steps part.now) }
+    ensures { IfOk result (λ c. c ≡ said_by table.now part.now) }
 {
     Ok(CertScope {
         types: cert_types_of(alloc, table.as_slice())?,
-        pairs: cert_pairs_of(alloc, table, pairs)?,
-        plain: cert_pairs_of(alloc, table, bares)?,
-        locals: type_numbers(alloc, table, vals)?,
-        nodes: cert_nodes_of(alloc, table, steps)?,
+        pairs: cert_pairs_of(alloc, table, part.pairs.as_slice())?,
+        plain: cert_pairs_of(alloc, table, part.bares.as_slice())?,
+        locals: type_numbers(alloc, table, part.vals.as_slice())?,
+        nodes: cert_nodes_of(alloc, table, part.steps.as_slice())?,
     })
 }
 
-/// What is said of a scope: these pairs, pairs for plain comparison, types of `val`s and steps, by the numbers of their types in the
-/// list of all of those types, each once. `Limit` comes exactly where there are 4,294,967,296 types or more, or a step has as many
-/// parts.
-pub fn part_of(
-    alloc: Global,
-    pairs: &[TypePair],
-    bares: &[TypePair],
-    vals: &[TypeRef],
-    steps: &[Step],
-) -> Result<CertScope, PartRefusal>
-    ensures written { let ps = map pair_of pairs.now in
-        let bs = map pair_of bares.now in
-        IfOk result (λ c. c ≡ written_out (part_table ps bs vals.now (steps_of steps.now)) ps bs vals.now (steps_of steps.now)) }
-    ensures table { let ps = map pair_of pairs.now in
-        let bs = map pair_of bares.now in
-        OnOk result (IsEachOnce (part_types ps bs vals.now (steps_of steps.now)) (part_table ps bs vals.now (steps_of steps.now))) }
-    ensures numbers { OnOk result (AreNumbers (part_table (map pair_of pairs.now) (map pair_of bares.now) vals.now (steps_of steps.now)) (steps_of steps.now)) }
-    ensures limit { IfErr result (λ e. e ≡ refusal.Limit → ¬ AreNumbers (part_table (map pair_of pairs.now) (map pair_of bares.now) vals.now (steps_of steps.now)) (steps_of steps.now)) }
+/// What is said of a scope by the numbers of its types in the list of all of them, each once. `Limit` comes, but for `Memory`, exactly
+/// where there are 4,294,967,296 types or more, or a step has as many parts.
+pub fn part_of(alloc: Global, part: &ScopePart) -> Result<CertScope, PartRefusal>
+    ensures written { IfOk result (λ c. c ≡ said part.now) }
+    ensures numbers { OnOk result (AreNumbers (types_in part.now) (part_steps part.now)) }
+    ensures limit { IfErr result (λ e. e ≡ refusal.Limit → ¬ AreNumbers (types_in part.now) (part_steps part.now)) }
 {
-    let table = table_of(alloc, pairs, bares, vals, steps)?;
-    if !are_numbers(&table, steps) {
+    let table = table_of(alloc, part)?;
+    if !are_numbers(&table, part.steps.as_slice()) {
         return Err(PartRefusal::Limit);
     }
-    Ok(written_by(alloc, &table, pairs, bares, vals, steps)?)
+    Ok(written_by(alloc, &table, part)?)
 }

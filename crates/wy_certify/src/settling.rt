@@ -5,7 +5,6 @@ ghost use Rattle.std.specs.Prelude.{◌≡◌, ◌<◌, [], IfOk, OnOk, None, So
 ghost use Rattle.wy_types.specs.View.{expr_of, value_of, values_of, block_of};
 ghost use Rattle.wy_types.specs.Program.{Scope as ProgramScope, program_of, scope_of, body_of};
 ghost use Rattle.wy_rules.specs.Canonical.{with_local};
-ghost use Rattle.wy_proving.specs.Written.{AreFound};
 ghost use Rattle.wy_certify.specs.Settling.{standing_of, knowing, val_typ, expr_settled, value_settled, values_settled, stmt_settled, front_settled, block_settled, start_settled, bodies_settled, locals_at};
 
 use crate::writer::Writer;
@@ -194,8 +193,7 @@ fn listed(alloc: Global, types: &[TypeRef]) -> Result<TypeList, Memory>
 
 /// The types of the `val`s of this scope of a number.
 fn scope_types(alloc: Global, core: &Core, number: u16, scope: &Scope) -> Result<TypeList, Memory>
-    ensures found { IfOk result (λ us. AreFound (program_of core.now) number (scope_of scope.now) us) }
-    ensures locals { IfOk result (λ us. us ≡ locals_at (program_of core.now) number (scope_of scope.now)) }
+    ensures { IfOk result (λ us. us ≡ locals_at (program_of core.now) number (scope_of scope.now)) }
 {
     let settler = Settler {
         alloc,
@@ -217,8 +215,7 @@ fn scope_types(alloc: Global, core: &Core, number: u16, scope: &Scope) -> Result
 /// want of memory.
 pub fn found_types(alloc: Global, core: &Core, number: u16) -> Result<TypeList, Memory>
     requires there { number < length core.now.scopes }
-    ensures found { IfOk result (λ us. (s : ProgramScope) → slice_get (program_of core.now).scopes number ≡ Some s → AreFound (program_of core.now) number s us) }
-    ensures locals { IfOk result (λ us. (s : ProgramScope) → slice_get (program_of core.now).scopes number ≡ Some s → us ≡ locals_at (program_of core.now) number s) }
+    ensures { IfOk result (λ us. (s : ProgramScope) → slice_get (program_of core.now).scopes number ≡ Some s → us ≡ locals_at (program_of core.now) number s) }
 {
     match core.scopes.get(number as usize) {
         Some(scope) => scope_types(alloc, core, number, scope),

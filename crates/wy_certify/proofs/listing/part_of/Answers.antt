@@ -1,21 +1,26 @@
-use Rattle.std.proofs.Common.{List, map, subst, rules}
+use Rattle.std.proofs.Common.{List, sym, subst, rules}
 use Rattle.std.specs.Prelude.{IsTrue}
 use Rattle.wy_types.specs.declared.types.TypeRef.{TypeRef}
-use Rattle.wy_certify.specs.Numbering.{part_types, AreNumbers}
-use Rattle.wy_certify.specs.Pair.{pair_of}
+use Rattle.wy_certify.specs.declared.step.Step as own
+use Rattle.wy_certify.specs.Numbering.{AreNumbers}
+use Rattle.wy_certify.specs.Parts.{part_steps}
 use Rattle.wy_certify.specs.Step.{steps_of}
-use Rattle.wy_certify.proofs.Numbers.{each_is_once}
 use Rattle.wy_certify.proofs.listing.part_of.Goals as goal
+
+pub returns-then-not-are_numbers-clause-limit : goal.returns-then-not-are_numbers-clause-limit
+returns-then-not-are_numbers-clause-limit c =
+    λ e n.
+    let here = subst (λ (l : List TypeRef). AreNumbers l (part_steps c.args.part.now)) (sym c.in_ok-table.ensures) n in
+    let yes : IsTrue c.are_numbers.result = c.are_numbers.ensures.1 (subst (λ (l : List own.Step). AreNumbers c.in_ok-table.table (steps_of l)) (sym c.as_slice.ensures) here) in
+    search rules
 
 pub written_by-requires : goal.written_by-requires
 written_by-requires c =
     let yes : IsTrue c.are_numbers.result = search rules in
-    c.are_numbers.ensures.0 yes
-
-pub returns-clause-table : goal.returns-clause-table
-returns-clause-table c = each_is_once (part_types (map pair_of c.args.pairs.now) (map pair_of c.args.bares.now) c.args.vals.now (steps_of c.args.steps.now))
+    subst (λ (l : List own.Step). AreNumbers c.in_ok-table.table (steps_of l)) c.as_slice.ensures (c.are_numbers.ensures.0 yes)
 
 pub returns-clause-numbers : goal.returns-clause-numbers
 returns-clause-numbers c =
     let yes : IsTrue c.are_numbers.result = search rules in
-    subst (λ (l : List TypeRef). AreNumbers l (steps_of c.args.steps.now)) c.in_ok-table.ensures (c.are_numbers.ensures.0 yes)
+    let here = subst (λ (l : List own.Step). AreNumbers c.in_ok-table.table (steps_of l)) c.as_slice.ensures (c.are_numbers.ensures.0 yes) in
+    subst (λ (l : List TypeRef). AreNumbers l (part_steps c.args.part.now)) c.in_ok-table.ensures here

@@ -5,8 +5,14 @@ use Rattle.wy_types.proofs.Finite.{pair_bound}
 use Rattle.wy_proving.specs.Certified.{Pair}
 use Rattle.wy_certify.specs.Pair.{pair_of}
 use Rattle.wy_certify.specs.Closed.{pairs_in}
-use Rattle.wy_certify.proofs.PairsGrowing.{explored_more, explored_left}
+use Rattle.wy_certify.proofs.PairsGrowing.{explored_none, explored_more, explored_left}
 use Rattle.wy_certify.proofs.closing.Closing.explore.Goals as goal
+
+pub loop-next-init : goal.loop-next-init
+loop-next-init g c = record {
+  kept = c.requires.kept;
+  explored = explored_none (program_of c.args.self.now.core.now) c.args.self.now.number c.args.self.now.mode (pairs_in c.args.work.now) c.requires.ready;
+}
 
 pub loop-next-smaller : goal.loop-next-smaller
 loop-next-smaller g c =

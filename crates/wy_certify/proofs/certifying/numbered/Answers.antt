@@ -1,0 +1,11 @@
+use Rattle.std.proofs.Common.{◌≡◌, List, Err, rules}
+use Rattle.wy_effects.proofs.Lists.{In-read}
+use Rattle.wy_certify.specs.declared.finding.ScopePart.{ScopePart}
+use Rattle.wy_certify.proofs.certifying.numbered.Goals as goal
+
+pub returns-in_err-part_of-clause-limit : goal.returns-in_err-part_of-clause-limit
+returns-in_err-part_of-clause-limit c =
+    let xs : List ScopePart = c.args.parts.now in
+    let x : ScopePart = c.part-item.result in
+    let e : c.from_residual.result ≡ Err c.in_err-part_of.field-0.0 = search rules in
+    rw e (λ is. (x, In-read xs c.loop-part.part-index x x c.loop-part-test.true c.part-item.is, c.in_err-part_of.ensures.limit is))
