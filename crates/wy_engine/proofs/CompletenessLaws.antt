@@ -24,7 +24,9 @@ use Rattle.wy_settings.specs.declared.command_line.Command.{Command}
 use Rattle.wy_settings.specs.declared.command_line.Command.TheVariants as command
 use Rattle.wy_engine.specs.Completeness.{EndsAsMeant, HasNoFault, IsWritten, RunsEnd, WritesEnd}
 use Rattle.wy_engine.specs.Headline.{Accepts, EndsAs, Headline, IsUncut, IsUnwritten, Runs, Settles, Writes, before_last_line, course_in}
-use Rattle.wy_engine.specs.Judgement.{Asks, Did, Passes, accepted_text, allowed_text, authority_text, checked, formatted, nothing, permitted, ran, reported}
+use Rattle.wy_engine.specs.Judgement.{Asks, Did, accepted_text, allowed_text, authority_text, certified, checked, formatted, nothing, permitted, proved, ran, reported}
+use Rattle.wy_engine.specs.Passing.{Passes}
+use Rattle.wy_engine.specs.Certificates.{proved_text}
 use Rattle.wy_engine.specs.ProgramLaws.{AcceptedRunAsMeant, RunsAsMeant}
 use Rattle.wy_engine.specs.Status.{IsOfEnd, IsOfOut}
 use Rattle.wy_engine.specs.TopCall.{IsGiven, IsSet, TopCall}
@@ -67,6 +69,8 @@ unwritten_run call command.Sample rest report out (inl is) = report is.rose
 unwritten_run call command.Sample rest report out (inr is) = out is.1
 unwritten_run call command.Format rest report out is = report is.rose
 unwritten_run call command.Policy rest report out is = report is.rose
+unwritten_run call command.Certify rest report out is = report is.rose
+unwritten_run call command.Recheck rest report out is = report is.rose
 
 meant : (end : Status) (e : RunEnd) → IsOfEnd end e → e ≢ ends.Spent → ((grant : List ℕ) (op : OpName) → end ≢ status.DeviceFailed grant op) → EndsAsMeant end e
 meant status.Ended e is unspent unfailed = is
@@ -81,6 +85,8 @@ meant status.Spent e is unspent unfailed = unspent is
 meant (status.DeviceFailed grant op) e is unspent unfailed = unfailed grant op refl
 meant status.Unwritten e is unspent unfailed = is
 meant status.Memory e is unspent unfailed = is
+meant (status.BadCert at) e is unspent unfailed = is
+meant (status.Unproved scope test index) e is unspent unfailed = is
 meant (status.Denied line instance atom) e is unspent unfailed = is
 meant (status.BadPolicy line) e is unspent unfailed = is
 
@@ -93,6 +99,8 @@ passed command.Observe texts program asks = asks.passes
 passed command.Sample texts program asks = asks.passes
 passed command.Format texts program asks = absurd asks
 passed command.Policy texts program asks = absurd asks
+passed command.Certify texts program asks = absurd asks
+passed command.Recheck texts program asks = absurd asks
 
 -- what is settled of a program that ran ends as it is meant
 settled_run : ((code : Code) → SpentTakesAll code) → (call : TopCall) (settings : Settings) → IsSet call settings → (program : Program) → RunsAsMeant program → Runs call program → TellsDeeds call.devices
@@ -126,6 +134,8 @@ memory_or status.Spent = inr (λ is. cc)
 memory_or (status.DeviceFailed grant op) = inr (λ is. cc)
 memory_or status.Unwritten = inr (λ is. cc)
 memory_or status.Memory = inl refl
+memory_or (status.BadCert at) = inr (λ is. cc)
+memory_or (status.Unproved scope test index) = inr (λ is. cc)
 memory_or (status.Denied line instance atom) = inr (λ is. cc)
 memory_or (status.BadPolicy line) = inr (λ is. cc)
 
@@ -168,6 +178,8 @@ out_ended status.Spent out written full = absurd out
 out_ended (status.DeviceFailed grant op) out written full = absurd out
 out_ended status.Unwritten out written full = absurd (written refl)
 out_ended status.Memory out written full = absurd (full refl)
+out_ended (status.BadCert at) out written full = absurd out
+out_ended (status.Unproved scope test index) out written full = absurd out
 out_ended (status.Denied line instance atom) out written full = absurd out
 out_ended (status.BadPolicy line) out written full = absurd out
 
@@ -181,6 +193,8 @@ settled_written call settles (reported program) is written out full = written_en
 settled_written call settles (ran program) is written out full = absurd written
 settled_written call settles (formatted tree) is written out full = written_ended call command.Format (canonical_form tree) (settles.formats tree is) out full
 settled_written call settles permitted is written out full = written_ended call command.Policy allowed_text (settles.allows is) out full
+settled_written call settles (certified program) is written out full = (let so = settles.certifies program is in written_ended call command.Certify so.0 so.2 out full)
+settled_written call settles (proved program) is written out full = written_ended call command.Recheck proved_text (settles.proves program is).1 out full
 
 pub writes_end : WritesEnd
 writes_end call h none named texts given did written asks =

@@ -8,7 +8,8 @@ use Rattle.wy_device.specs.declared.operation.OpName.TheVariants.{ConsoleWrite}
 use Rattle.wy_machine.specs.declared.run_end.TrapKind.TheVariants.{Overflow}
 use Rattle.wy_engine.specs.LastLine.{LineWords, last_line, line_words}
 use Rattle.wy_settings.specs.Settings.{usual_depth, usual_steps}
-use Rattle.wy_settings.specs.declared.command_line.Command.TheVariants.{Policy}
+use Rattle.wy_settings.specs.declared.command_line.Command.TheVariants.{Policy, Recheck}
+use Rattle.wy_proving.specs.declared.proof.CertTest.TheVariants.{Nodes}
 use Rattle.wy_engine.specs.declared.status.Status.TheVariants as status
 
 abbrev at : ℕ → ℕ → Place
@@ -61,6 +62,22 @@ bad_line = refl
 behind_line : last_line of_policy (status.Refused (record { place = at 4 9; rule = TOp; premise = 2; atom = None })) ≡ codes "a.wy:4:9: refused: T-Op premise 2\n"
 unfolding digits
 behind_line = refl
+
+-- .. and so under a certificate
+abbrev of_certificate : LineWords
+of_certificate = line_words (Some (record { command = Recheck; steps = usual_steps; depth = usual_depth; files = codes "c" ∷ codes "log.wy" ∷ codes "main.wy" ∷ [] }))
+
+unproved_example : last_line of_certificate (status.Unproved 1 Nodes 3) ≡ codes "c: unproved 1 C-Nodes 3\n"
+unfolding digits
+unproved_example = refl
+
+bad_certificate : last_line of_certificate (status.BadCert 492) ≡ codes "c: bad certificate at 492\n"
+unfolding digits
+bad_certificate = refl
+
+behind_certificate : last_line of_certificate (status.Refused (record { place = at 4 9; rule = TOp; premise = 2; atom = None })) ≡ codes "log.wy:4:9: refused: T-Op premise 2\n"
+unfolding digits
+behind_certificate = refl
 
 policy_unread_line : last_line of_policy (status.Unread 1) ≡ codes "p.pol: unread\n"
 policy_unread_line = refl

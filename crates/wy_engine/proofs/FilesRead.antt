@@ -6,7 +6,7 @@ use Rattle.std.proofs.Math.Seq.{take-length}
 use Rattle.wy_text.specs.Outside.{gained, Rose}
 use Rattle.wy_text.specs.Shelf.{ShelfState}
 use Rattle.wy_text.specs.declared.limit.LimitName.TheVariants as limit
-use Rattle.wy_engine.specs.Reading.{GivesFiles, ReadsWell}
+use Rattle.wy_engine.specs.Reading.{GivesFiles, ReadsWell, first_bytes}
 use Rattle.wy_sample.specs.Sample.{sample_text}
 use Rattle.wy_settings.specs.Settings.{Settings, sample_number, takes}
 use Rattle.wy_engine.specs.TopCall.{HasTexts, IsGiven, IsSet, ReadsFiles, ReadsFor, ReadsInOrder, TellsTexts, TopCall, most_files, reads_of, sampled, takes_files}
@@ -39,6 +39,8 @@ is_sample command.Observe none = absurd (cc)
 is_sample command.Sample none = refl
 is_sample command.Format none = absurd (cc)
 is_sample command.Policy none = absurd (cc)
+is_sample command.Certify none = absurd (cc)
+is_sample command.Recheck none = absurd (cc)
 
 pub reads_for : (asked : Command) (call : TopCall) (names : List (List ℕ)) → takes_files asked ≡ true → ReadsInOrder call names → ReadsFor asked call names
 reads_for command.Check call names takes order = order
@@ -49,6 +51,8 @@ reads_for command.Observe call names takes order = order
 reads_for command.Sample call names takes order = absurd (cc)
 reads_for command.Format call names takes order = order
 reads_for command.Policy call names takes order = order
+reads_for command.Certify call names takes order = order
+reads_for command.Recheck call names takes order = order
 
 tells_of : (asked : Command) (shelf : ShelfState) (names texts : List (List ℕ)) → takes_files asked ≡ true → HasTexts asked shelf names texts → TellsTexts shelf names texts
 tells_of command.Check shelf names texts takes has = has
@@ -59,6 +63,8 @@ tells_of command.Observe shelf names texts takes has = has
 tells_of command.Sample shelf names texts takes has = absurd (cc)
 tells_of command.Format shelf names texts takes has = has
 tells_of command.Policy shelf names texts takes has = has
+tells_of command.Certify shelf names texts takes has = has
+tells_of command.Recheck shelf names texts takes has = has
 
 -- the text that the number of a sample makes
 pub record SampleMade (names : List (List ℕ)) : Type 0 where
@@ -74,7 +80,7 @@ sample_made asked names sample fits = by (sample_number names) refl (subst (λ (
 
 -- how the texts of a call came: they were read, or the number of a sample made them
 pub data Came (call : TopCall) (settings : Settings) (read : List (List ℕ)) : Type 0 where
-  read_well : takes_files settings.command ≡ true → ReadsWell settings.files (length settings.files) call.shelf call.shelf_after read → Came call settings read
+  read_well : takes_files settings.command ≡ true → ReadsWell (first_bytes settings.command) settings.files (length settings.files) call.shelf call.shelf_after read → Came call settings read
   made : settings.command ≡ command.Sample → call.shelf_after ≡ call.shelf → sampled settings.files ≡ Some read → Came call settings read
 
 -- all texts came
@@ -95,7 +101,7 @@ reads_all call settings texts set few (made asked shelf is) past = reads_by call
 -- the texts of a call, and those that came
 pub record IsRead (asked other : Command) (read texts : List (List ℕ)) : Type 0 where
   pub same : asked ≡ other
-  pub came : IsTextOf read texts
+  pub came : IsTextOf asked read texts
 
 pub given_came : (call : TopCall) (settings : Settings) (read : List (List ℕ)) (other : Command) (texts : List (List ℕ)) → IsSet call settings
     → Came call settings read → IsGiven call other texts → IsRead settings.command other read texts
@@ -104,10 +110,10 @@ given_came call settings read other texts set came given =
     let has : HasTexts settings.command call.shelf settings.files texts = subst (λ (s : Settings). HasTexts s.command call.shelf s.files texts) (sym e) given.texts_are in
     record { same = ap (λ (s : Settings). s.command) e ∙ given.is; came = by came has }
   where
-    by : Came call settings read → HasTexts settings.command call.shelf settings.files texts → IsTextOf read texts
+    by : Came call settings read → HasTexts settings.command call.shelf settings.files texts → IsTextOf settings.command read texts
     by (read_well takes so) has =
         let told : TellsTexts call.shelf settings.files texts = tells_of settings.command call.shelf settings.files texts takes has in
-        inl (cut_texts call.shelf told.files settings.files read texts told.told (subst (λ x. GivesFiles call.shelf x read) (take-length settings.files) so.gives) told.found)
+        inl (cut_texts (first_bytes settings.command) call.shelf told.files settings.files read texts told.told (subst (λ x. GivesFiles (first_bytes settings.command) call.shelf x read) (take-length settings.files) so.gives) told.found)
     by (made asked shelf is) has =
         let there : sampled settings.files ≡ Some texts = subst (λ (c : Command). HasTexts c call.shelf settings.files texts) asked has in
         let same : Some read ≡ Some texts = sym is ∙ there in

@@ -1,6 +1,6 @@
 -- The texts that a shelf tells, and those that were read from it: reading no more than one byte past the limit on a
 -- file's bytes changes nothing of what the texts say.
-use Rattle.std.proofs.Common.{◌≡◌, ◌⊎◌, inl, inr, ◌<◌, ◌≤◌, ℕ, suc, List, [], ◌∷◌, Option, Some, None, refl, sym, ap, subst, arith, length, take, map, min, ◌+◌}
+use Rattle.std.proofs.Common.{◌≡◌, ◌⊎◌, inl, inr, ◌<◌, ◌≤◌, ℕ, suc, List, [], ◌∷◌, Option, Some, None, refl, sym, ◌∙◌, ap, ap₂, subst, arith, length, take, map, min, ◌+◌}
 use Rattle.std.specs.Option.{option_and_then, option_map}
 use Rattle.std.proofs.lemmas.List.{length-take, take_all}
 use Rattle.wy_text.specs.Shelf.{GivesFile, ShelfState, file_named}
@@ -17,21 +17,35 @@ use Rattle.wy_policy.specs.declared.policy.PolicyRefusal.TheVariants as unread
 use Rattle.wy_policy.specs.declared.policy.PolicyRow.{PolicyRow}
 use Rattle.wy_canonical.specs.Printed.{HasTree}
 use Rattle.wy_engine.specs.FileTrees.{FirstNoTree, HasNoTree, HaveTrees}
-use Rattle.wy_engine.specs.Judgement.{KeepsToPolicy, Passes, Refuses, Runnable, Stops, StopsByPolicy, StopsTexts, UnderPolicy, by_policy, by_texts}
+use Rattle.wy_recheck.specs.Rechecked.{IsProvedBy}
+use Rattle.wy_engine.specs.Certificates.{Disproves, EndsCertifying, HasLargeCertificate, HasNoLargeCertificate, ProvesTexts, ResolveBehind, StopsByCertificate, UnderCertificate, most_certificate}
+use Rattle.wy_engine.specs.Judgement.{KeepsToPolicy, Refuses, Runnable, Stage, Stops, StopsByPolicy, StopsTexts, UnderPolicy, by_certificate, by_length, by_policy, by_size, by_texts, running, stage_of}
+use Rattle.wy_engine.specs.Passing.{Passes}
 use Rattle.wy_engine.specs.NameFaults.{NamesStop, ResolveTo}
-use Rattle.wy_engine.specs.Reading.{GivesFiles}
+use Rattle.wy_engine.specs.Reading.{GivesFiles, asked_bytes, first_bytes}
 use Rattle.wy_engine.specs.TopCall.{texts_of}
 use Rattle.wy_settings.specs.Settings.{texts_among}
 use Rattle.wy_settings.specs.declared.command_line.Command.{Command}
+use Rattle.wy_settings.specs.declared.command_line.Command.TheVariants as command
+use Rattle.wy_engine.specs.declared.running.Mode.{Mode}
+use Rattle.wy_engine.specs.declared.running.Mode.TheVariants as mode
 use Rattle.wy_engine.specs.declared.status.Status.{Status}
 use Rattle.wy_engine.specs.declared.status.Status.TheVariants as status
 use Rattle.wy_engine.proofs.OneAnswer.{StopsBy, not_accepted, not_lowered, stops_by, stops_of, treeless, unresolved}
-use Rattle.wy_engine.proofs.TextsAmong.{among_map}
 use Rattle.wy_engine.proofs.OneTree.{IsWhy, Why, large, none_of, reason_of, unexpected, wrong}
 
 -- what is read of a text
 abbrev pub cut : List ℕ → List ℕ
-cut text = take 1048577 text
+cut text = take asked_bytes text
+
+-- .. of texts, where so much is read of the first
+abbrev pub cut_all : ℕ → List (List ℕ) → List (List ℕ)
+cut_all first [] = []
+cut_all first (text ∷ texts) = take first text ∷ map cut texts
+
+alike : (texts : List (List ℕ)) → cut_all asked_bytes texts ≡ map cut texts
+alike [] = refl
+alike (text ∷ texts) = refl
 
 -- ---- which texts were read
 
@@ -47,18 +61,18 @@ texts_split None rest text texts all one = absurd (cc)
 texts_split (Some t) None text texts all one = absurd (cc)
 texts_split (Some t) (Some more) text texts all one = record { more = more; rest_is = refl; texts_are = let q : t ≡ text = cc in cc }
 
-pub cut_texts : (shelf : ShelfState) (files : List NamedText) (names read texts : List (List ℕ)) → shelf.files ≡ Some files → GivesFiles shelf names read
-    → texts_of files names ≡ Some texts → read ≡ map cut texts
-cut_texts shelf files [] [] texts told given found = let q : texts ≡ [] = cc in rw q refl
-cut_texts shelf files [] (t ∷ ts) texts told given found = absurd given
-cut_texts shelf files (n ∷ ns) [] texts told given found = absurd given
-cut_texts shelf files (n ∷ ns) (t ∷ ts) texts told given found =
-    let one : GivesFile (Some files) n 1048577 t = subst (λ x. GivesFile x n 1048577 t) told given.0 in
+pub cut_texts : (first : ℕ) (shelf : ShelfState) (files : List NamedText) (names read texts : List (List ℕ)) → shelf.files ≡ Some files → GivesFiles first shelf names read
+    → texts_of files names ≡ Some texts → read ≡ cut_all first texts
+cut_texts first shelf files [] [] texts told given found = let q : texts ≡ [] = cc in rw q refl
+cut_texts first shelf files [] (t ∷ ts) texts told given found = absurd given
+cut_texts first shelf files (n ∷ ns) [] texts told given found = absurd given
+cut_texts first shelf files (n ∷ ns) (t ∷ ts) texts told given found =
+    let one : GivesFile (Some files) n first t = subst (λ x. GivesFile x n first t) told given.0 in
     let split : TextsSplit (texts_of files ns) one.0 texts = texts_split (file_named n files) (texts_of files ns) one.0 texts found one.1 in
-    let rest : ts ≡ map cut split.more = cut_texts shelf files ns ts split.more told given.1 split.rest_is in
-    let first : t ≡ cut one.0 = one.2 in
-    let whole : map cut texts ≡ cut one.0 ∷ map cut split.more = ap (λ x. map cut x) split.texts_are in
-    cc
+    let rest : ts ≡ map cut split.more = cut_texts asked_bytes shelf files ns ts split.more told given.1 split.rest_is ∙ alike split.more in
+    let begins : t ≡ take first one.0 = one.2 in
+    let whole : cut_all first texts ≡ take first one.0 ∷ map cut split.more = ap (cut_all first) split.texts_are in
+    ap₂ (λ (x : List ℕ) (xs : List (List ℕ)). x ∷ xs) begins rest ∙ sym whole
 
 -- ---- what is read of a text says the same as the text
 
@@ -120,14 +134,14 @@ passes_of_cut texts program is = record { read = core_of_cut texts program is.re
 runnable_of_cut : (texts : List (List ℕ)) (program : Program) → Runnable (map cut texts) program → Runnable texts program
 runnable_of_cut texts program is = record { passes = passes_of_cut texts program is.passes; within = is.within }
 
-stop_of_cut : (asked : Command) (texts : List (List ℕ)) (end : Status) → StopsBy asked (map cut texts) end → StopsBy asked texts end
-stop_of_cut asked texts end (treeless first) = treeless (first_of_cut 1 texts end first)
-stop_of_cut asked texts end (unresolved judges stop full) = unresolved judges (names_of_cut texts end stop) full
-stop_of_cut asked texts end (not_accepted judges why is named) = not_accepted judges why (record { program = is.program; read = core_of_cut texts is.program is.read; ends = is.ends }) named
-stop_of_cut asked texts end (not_lowered run name is named) = not_lowered run name (record { program = is.program; passes = passes_of_cut texts is.program is.passes; passed = is.passed }) named
+stop_of_cut : (stage : Stage) (texts : List (List ℕ)) (end : Status) → StopsBy stage (map cut texts) end → StopsBy stage texts end
+stop_of_cut stage texts end (treeless first) = treeless (first_of_cut 1 texts end first)
+stop_of_cut stage texts end (unresolved judges stop full) = unresolved judges (names_of_cut texts end stop) full
+stop_of_cut stage texts end (not_accepted judges why is named) = not_accepted judges why (record { program = is.program; read = core_of_cut texts is.program is.read; ends = is.ends }) named
+stop_of_cut stage texts end (not_lowered lowers name is named) = not_lowered lowers name (record { program = is.program; passes = passes_of_cut texts is.program is.passes; passed = is.passed }) named
 
-texts_stop_of_cut : (asked : Command) (texts : List (List ℕ)) (end : Status) → StopsTexts asked (map cut texts) end → StopsTexts asked texts end
-texts_stop_of_cut asked texts end stops = stops_of asked texts end (stop_of_cut asked texts end (stops_by asked (map cut texts) end stops))
+texts_stop_of_cut : (stage : Stage) (texts : List (List ℕ)) (end : Status) → StopsTexts stage (map cut texts) end → StopsTexts stage texts end
+texts_stop_of_cut stage texts end stops = stops_of stage texts end (stop_of_cut stage texts end (stops_by stage (map cut texts) end stops))
 
 -- ---- a policy that is read says the same as the policy
 
@@ -185,10 +199,106 @@ keeps_of_cut files keeps =
       allowed = subst (λ (p : Program). Allowed keeps.rows (authority_of p)) so.program keeps.allowed;
     }
 
-stops_of_cut : (asked : Command) (files : List (List ℕ)) (end : Status) → Stops asked (map cut files) end → Stops asked files end
-stops_of_cut asked files end (by_texts stop) =
-    by_texts (texts_stop_of_cut asked (texts_among asked files) end (subst (λ (ts : List (List ℕ)). StopsTexts asked ts end) (among_map cut asked files) stop))
-stops_of_cut asked files end (by_policy policy stop) = by_policy policy (policy_stop_of_cut files end stop)
+-- ---- a certificate that is read says the same as the certificate
+
+abbrev first_cut : List ℕ → List ℕ
+first_cut bytes = take (most_certificate + 1) bytes
+
+-- what is read of files under a certificate, and what they are
+record BehindCut (files : List (List ℕ)) (read : UnderCertificate (cut_all (most_certificate + 1) files)) : Type 0 where
+  under : UnderCertificate files
+  bytes : read.bytes ≡ first_cut under.bytes
+  texts : read.texts ≡ map cut under.texts
+
+behind_cut : (files : List (List ℕ)) (read : UnderCertificate (cut_all (most_certificate + 1) files)) → BehindCut files read
+behind_cut [] read = let e : [] ≡ read.bytes ∷ read.texts = read.split in absurd (cc)
+behind_cut (x ∷ xs) read =
+    let e : first_cut x ∷ map cut xs ≡ read.bytes ∷ read.texts = read.split in
+    record { under = record { bytes = x; texts = xs; split = refl }; bytes = cc; texts = cc }
+
+large_of_cut : (files : List (List ℕ)) → HasLargeCertificate (cut_all (most_certificate + 1) files) → HasLargeCertificate files
+large_of_cut files much =
+    let so = behind_cut files much.under in
+    record { under = so.under; large = larger most_certificate so.under.bytes (subst (λ (l : List ℕ). most_certificate < length l) so.bytes much.large) }
+
+-- the certificate is read whole, and the texts behind it resolve to the same program
+record ResolvedCut (files : List (List ℕ)) (program : Program) (read : ResolveBehind (cut_all (most_certificate + 1) files) program) : Type 0 where
+  behind : ResolveBehind files program
+  same : read.under.bytes ≡ behind.under.bytes
+
+resolved_cut : (files : List (List ℕ)) (program : Program) (read : ResolveBehind (cut_all (most_certificate + 1) files) program) → ResolvedCut files program read
+resolved_cut files program read =
+    let so = behind_cut files read.under in
+    let small : length (first_cut so.under.bytes) ≤ most_certificate = subst (λ (l : List ℕ). length l ≤ most_certificate) so.bytes read.within in
+    let whole : first_cut so.under.bytes ≡ so.under.bytes = whole_where most_certificate so.under.bytes small in
+    record {
+      behind = record {
+        under = so.under;
+        within = subst (λ (l : List ℕ). length l ≤ most_certificate) whole small;
+        read = core_of_cut so.under.texts program (subst (λ (ts : List (List ℕ)). ResolveTo ts program) so.texts read.read);
+      };
+      same = so.bytes ∙ whole;
+    }
+
+disproof_of_cut : (files : List (List ℕ)) (end : Status) → StopsByCertificate (cut_all (most_certificate + 1) files) end → StopsByCertificate files end
+disproof_of_cut files end stop =
+    let so = resolved_cut files stop.program stop.resolve in
+    record { program = stop.program; resolve = so.behind; disproves = subst (λ (l : List ℕ). Disproves l stop.program end) so.same stop.disproves }
+
+proof_of_cut : (files : List (List ℕ)) (program : Program) → ProvesTexts (cut_all (most_certificate + 1) files) program → ProvesTexts files program
+proof_of_cut files program proves =
+    let so = resolved_cut files program proves.resolve in
+    record { resolve = so.behind; proves = subst (λ (l : List ℕ). IsProvedBy program l) so.same proves.proves }
+
+-- ---- what is read of a command's files
+
+among_cut : (asked : Command) (files : List (List ℕ)) → texts_among asked (cut_all (first_bytes asked) files) ≡ map cut (texts_among asked files)
+among_cut command.Check files = alike files
+among_cut command.Authority files = alike files
+among_cut command.Run files = alike files
+among_cut command.Trace files = alike files
+among_cut command.Observe files = alike files
+among_cut command.Sample files = alike files
+among_cut command.Format files = alike files
+among_cut command.Certify files = alike files
+among_cut command.Policy [] = refl
+among_cut command.Policy (x ∷ xs) = refl
+among_cut command.Recheck [] = refl
+among_cut command.Recheck (x ∷ xs) = refl
+
+none_large_of_cut : (asked : Command) (files : List (List ℕ)) → HasNoLargeCertificate asked (cut_all (first_bytes asked) files) → HasNoLargeCertificate asked files
+none_large_of_cut command.Check files none = tt
+none_large_of_cut command.Authority files none = tt
+none_large_of_cut command.Run files none = tt
+none_large_of_cut command.Trace files none = tt
+none_large_of_cut command.Observe files none = tt
+none_large_of_cut command.Sample files none = tt
+none_large_of_cut command.Format files none = tt
+none_large_of_cut command.Certify files none = tt
+none_large_of_cut command.Policy files none = tt
+none_large_of_cut command.Recheck [] none = tt
+none_large_of_cut command.Recheck (x ∷ xs) none = subst (λ (l : List ℕ). length l ≤ most_certificate) (whole_where most_certificate x none) none
+
+-- what holds of what is read of a command's files holds of them, where it does so under the command's name
+of_named : (P : List (List ℕ) → Type 0) (asked named : Command) (files : List (List ℕ)) → asked ≡ named → (P (cut_all (first_bytes named) files) → P files) → P (cut_all (first_bytes asked) files) → P files
+of_named P asked named files is whole holds = whole (subst (λ (c : Command). P (cut_all (first_bytes c) files)) is holds)
+
+-- .. of files that are all texts or policies
+of_alike : (P : List (List ℕ) → Type 0) (files : List (List ℕ)) → (P (map cut files) → P files) → P (cut_all asked_bytes files) → P files
+of_alike P files whole holds = whole (subst P (alike files) holds)
+
+certifying_of_cut : (texts : List (List ℕ)) → EndsCertifying (map cut texts) → EndsCertifying texts
+certifying_of_cut texts is = record { program = is.program; passes = passes_of_cut texts is.program is.passes; long = is.long }
+
+stops_of_cut : (asked : Command) (files : List (List ℕ)) (end : Status) → Stops asked (cut_all (first_bytes asked) files) end → Stops asked files end
+stops_of_cut asked files end (by_size recheck much is) = by_size recheck (of_named HasLargeCertificate asked command.Recheck files recheck (large_of_cut files) much) is
+stops_of_cut asked files end (by_texts none stop) =
+    by_texts (none_large_of_cut asked files none)
+    (texts_stop_of_cut (stage_of asked) (texts_among asked files) end (subst (λ (ts : List (List ℕ)). StopsTexts (stage_of asked) ts end) (among_cut asked files) stop))
+stops_of_cut asked files end (by_policy policy stop) =
+    by_policy policy (of_named (λ (fs : List (List ℕ)). StopsByPolicy fs end) asked command.Policy files policy (of_alike (λ (fs : List (List ℕ)). StopsByPolicy fs end) files (policy_stop_of_cut files end)) stop)
+stops_of_cut asked files end (by_length certify is named) = by_length certify (of_named EndsCertifying asked command.Certify files certify (of_alike EndsCertifying files (certifying_of_cut files)) is) named
+stops_of_cut asked files end (by_certificate recheck stop) = by_certificate recheck (of_named (λ (fs : List (List ℕ)). StopsByCertificate fs end) asked command.Recheck files recheck (disproof_of_cut files end) stop)
 
 tree_of_cuts : (texts : List (List ℕ)) (tree : List ItemTree) → HaveTrees 1 (map cut texts) (tree ∷ []) → HaveTrees 1 texts (tree ∷ [])
 tree_of_cuts texts tree have = trees_of_cut 1 texts (tree ∷ []) have
@@ -196,26 +306,44 @@ tree_of_cuts texts tree have = trees_of_cut 1 texts (tree ∷ []) have
 -- ---- texts that came say the same as those of the call
 
 -- the texts that came are what is read of these, or these
-abbrev pub IsTextOf : List (List ℕ) → List (List ℕ) → Type 0
-IsTextOf read texts = (read ≡ map cut texts) ⊎ (read ≡ texts)
+abbrev pub IsTextOf : Command → List (List ℕ) → List (List ℕ) → Type 0
+IsTextOf asked read texts = (read ≡ cut_all (first_bytes asked) texts) ⊎ (read ≡ texts)
 
 -- what holds of the texts that came holds of the call's, where it does so of what is read of them
-by_read : (P : List (List ℕ) → Type 0) (read texts : List (List ℕ)) → (P (map cut texts) → P texts) → IsTextOf read texts → P read → P texts
-by_read P read texts whole (inl cuts) holds = whole (subst P cuts holds)
-by_read P read texts whole (inr same) holds = subst P same holds
+by_read : (P : List (List ℕ) → Type 0) (asked : Command) (read texts : List (List ℕ)) → (P (cut_all (first_bytes asked) texts) → P texts) → IsTextOf asked read texts → P read → P texts
+by_read P asked read texts whole (inl cuts) holds = whole (subst P cuts holds)
+by_read P asked read texts whole (inr same) holds = subst P same holds
 
-pub passes_read : (read texts : List (List ℕ)) (program : Program) → IsTextOf read texts → Passes read program → Passes texts program
-passes_read read texts program = by_read (λ (ts : List (List ℕ)). Passes ts program) read texts (passes_of_cut texts program)
+-- .. under a command without certificate
+by_alike : (P : List (List ℕ) → Type 0) (asked : Command) (read texts : List (List ℕ)) → first_bytes asked ≡ asked_bytes → (P (map cut texts) → P texts) → IsTextOf asked read texts → P read → P texts
+by_alike P asked read texts same whole = by_read P asked read texts (λ holds. of_alike P texts whole (subst (λ (n : ℕ). P (cut_all n texts)) same holds))
 
-pub runnable_read : (read texts : List (List ℕ)) (program : Program) → IsTextOf read texts → Runnable read program → Runnable texts program
-runnable_read read texts program = by_read (λ (ts : List (List ℕ)). Runnable ts program) read texts (runnable_of_cut texts program)
+-- commands that ask for as much of each file
+pub same_bytes : (asked named : Command) → asked ≡ named → first_bytes named ≡ asked_bytes → first_bytes asked ≡ asked_bytes
+same_bytes asked named is same = ap first_bytes is ∙ same
 
-pub tree_read : (read texts : List (List ℕ)) (tree : List ItemTree) → IsTextOf read texts → HaveTrees 1 read (tree ∷ []) → HaveTrees 1 texts (tree ∷ [])
-tree_read read texts tree = by_read (λ (ts : List (List ℕ)). HaveTrees 1 ts (tree ∷ [])) read texts (tree_of_cuts texts tree)
+pub run_bytes : (asked : Command) (way : Mode) → asked ≡ running way → first_bytes asked ≡ asked_bytes
+run_bytes asked mode.Silent is = ap first_bytes is
+run_bytes asked mode.Traced is = ap first_bytes is
+run_bytes asked mode.Observed is = ap first_bytes is
+run_bytes asked (mode.Summed number) is = ap first_bytes is
 
-pub keeps_read : (read files : List (List ℕ)) → IsTextOf read files → KeepsToPolicy read → KeepsToPolicy files
-keeps_read read files = by_read (λ (ts : List (List ℕ)). KeepsToPolicy ts) read files (keeps_of_cut files)
+pub passes_read : (asked : Command) (read texts : List (List ℕ)) (program : Program) → first_bytes asked ≡ asked_bytes → IsTextOf asked read texts → Passes read program → Passes texts program
+passes_read asked read texts program same = by_alike (λ (ts : List (List ℕ)). Passes ts program) asked read texts same (passes_of_cut texts program)
 
-pub stopped_read : (asked : Command) (read texts : List (List ℕ)) (end : Status) → IsTextOf read texts → (end ≡ status.Memory) ⊎ Stops asked read end → (end ≡ status.Memory) ⊎ Stops asked texts end
+pub runnable_read : (asked : Command) (read texts : List (List ℕ)) (program : Program) → first_bytes asked ≡ asked_bytes → IsTextOf asked read texts → Runnable read program → Runnable texts program
+runnable_read asked read texts program same = by_alike (λ (ts : List (List ℕ)). Runnable ts program) asked read texts same (runnable_of_cut texts program)
+
+pub tree_read : (asked : Command) (read texts : List (List ℕ)) (tree : List ItemTree) → first_bytes asked ≡ asked_bytes → IsTextOf asked read texts → HaveTrees 1 read (tree ∷ []) → HaveTrees 1 texts (tree ∷ [])
+tree_read asked read texts tree same = by_alike (λ (ts : List (List ℕ)). HaveTrees 1 ts (tree ∷ [])) asked read texts same (tree_of_cuts texts tree)
+
+pub keeps_read : (asked : Command) (read files : List (List ℕ)) → first_bytes asked ≡ asked_bytes → IsTextOf asked read files → KeepsToPolicy read → KeepsToPolicy files
+keeps_read asked read files same = by_alike (λ (ts : List (List ℕ)). KeepsToPolicy ts) asked read files same (keeps_of_cut files)
+
+pub proves_read : (asked : Command) (read files : List (List ℕ)) (program : Program) → asked ≡ command.Recheck → IsTextOf asked read files → ProvesTexts read program → ProvesTexts files program
+proves_read asked read files program is =
+    by_read (λ (ts : List (List ℕ)). ProvesTexts ts program) asked read files (of_named (λ (ts : List (List ℕ)). ProvesTexts ts program) asked command.Recheck files is (proof_of_cut files program))
+
+pub stopped_read : (asked : Command) (read texts : List (List ℕ)) (end : Status) → IsTextOf asked read texts → (end ≡ status.Memory) ⊎ Stops asked read end → (end ≡ status.Memory) ⊎ Stops asked texts end
 stopped_read asked read texts end of (inl is) = inl is
-stopped_read asked read texts end of (inr stops) = inr (by_read (λ (ts : List (List ℕ)). Stops asked ts end) read texts (stops_of_cut asked texts end) of stops)
+stopped_read asked read texts end of (inr stops) = inr (by_read (λ (ts : List (List ℕ)). Stops asked ts end) asked read texts (stops_of_cut asked texts end) of stops)

@@ -1,3 +1,4 @@
+mod CertificateAnswers
 mod CodeRuns
 mod CompletenessLaws
 mod Deeds

@@ -23,7 +23,7 @@ use Rattle.wy_lower.specs.Laws.{HasItsMarks}
 use Rattle.wy_lower.specs.Lowering.{lowered}
 use Rattle.wy_sound.specs.Programs.{program_starts}
 use Rattle.wy_engine.specs.FileTrees.{HaveTrees}
-use Rattle.wy_engine.specs.Judgement.{Passes}
+use Rattle.wy_engine.specs.Passing.{Passes}
 use Rattle.wy_engine.specs.MarkFiles.{MarksAreInFiles}
 
 -- ---- lists that pass

@@ -1,5 +1,5 @@
 -- The instances of a program's code have the names that the report gives them, and what is kept of them is what the report's rows used.
-use Rattle.std.proofs.Common.{codes, ◌≡◌, ◌∙◌, ℕ, List, [], ◌∷◌, ◌++◌, ap, length, map, refl, sym}
+use Rattle.std.proofs.Common.{◌≡◌, ◌∙◌, ℕ, List, [], ◌∷◌, ◌++◌, ap, length, map, refl, sym}
 use Rattle.std.proofs.Math.ListN.{length-map}
 use Rattle.wy_text.specs.declared.fault.AtomName.{AtomName}
 use Rattle.wy_device.specs.declared.deed.Event.{Event}

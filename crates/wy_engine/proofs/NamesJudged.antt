@@ -1,4 +1,4 @@
--- Texts whose names are refused: they have one refusal, which stops each command that judges names; their names do not
+-- Texts whose names are refused: they have one refusal, which stops each call that judges names; their names do not
 -- resolve; and no limit of reading is theirs.
 use Rattle.std.proofs.Common.{◌≡◌, ◌≢◌, ◌⊎◌, inl, inr, ℕ, List, [], ◌∷◌, Some, Bool, true, false, if◌then◌else◌, refl, sym, ◌∙◌, ap, subst}
 use Rattle.wy_text.specs.declared.fault.Fault.{Fault}
@@ -13,10 +13,8 @@ use Rattle.wy_names.specs.declared.refusal.NameRefusal.{NameRefusal}
 use Rattle.wy_names.specs.declared.refusal.NameRefusal.TheVariants as refusal
 use Rattle.wy_names.proofs.OneAnswer.{one_refusal, resolved_or_refused}
 use Rattle.wy_engine.specs.FileTrees.{HaveTrees}
-use Rattle.wy_engine.specs.Judgement.{StopsTexts}
+use Rattle.wy_engine.specs.Judgement.{Stage, StopsTexts, judging, lowering, naming, parsing}
 use Rattle.wy_engine.specs.NameFaults.{NamesResolve, NamesStop, names_status}
-use Rattle.wy_settings.specs.declared.command_line.Command.{Command}
-use Rattle.wy_settings.specs.declared.command_line.Command.TheVariants as command
 use Rattle.wy_engine.specs.declared.status.Status.{Status}
 use Rattle.wy_engine.specs.declared.status.Status.TheVariants as status
 use Rattle.wy_engine.proofs.OneTree.{same_trees}
@@ -37,59 +35,47 @@ resolve_or_stop texts trees end have names stop full =
     let refused : Refused (all_items trees) stop.why = subst (λ (ts : List (List ItemTree)). Refused (all_items ts) stop.why) same stop.refused in
     not_starved end stop.why stop.gives full (resolved_or_refused (all_items trees) names.program stop.why names.resolves refused)
 
--- whether a command judges the names of texts
-abbrev pub JudgesNames : Command → Type 0
-JudgesNames command.Check = Unit {0}
-JudgesNames command.Authority = Unit {0}
-JudgesNames command.Run = Unit {0}
-JudgesNames command.Trace = Unit {0}
-JudgesNames command.Observe = Unit {0}
-JudgesNames command.Sample = Unit {0}
-JudgesNames command.Format = ⊥
-JudgesNames command.Policy = Unit {0}
+-- whether names are judged so far
+abbrev pub JudgesNames : Stage → Type 0
+JudgesNames parsing = ⊥
+JudgesNames naming = Unit {0}
+JudgesNames judging = Unit {0}
+JudgesNames lowering = Unit {0}
 
-stops_refused : (asked : Command) (texts : List (List ℕ)) (fault : Fault) → JudgesNames asked → NamesStop texts (status.Refused fault) → StopsTexts asked texts (status.Refused fault)
-stops_refused command.Check texts fault judges stop = inl stop
-stops_refused command.Authority texts fault judges stop = inl stop
-stops_refused command.Run texts fault judges stop = inl stop
-stops_refused command.Trace texts fault judges stop = inl stop
-stops_refused command.Observe texts fault judges stop = inl stop
-stops_refused command.Sample texts fault judges stop = inl stop
-stops_refused command.Format texts fault judges stop = absurd judges
-stops_refused command.Policy texts fault judges stop = inl stop
+stops_refused : (stage : Stage) (texts : List (List ℕ)) (fault : Fault) → JudgesNames stage → NamesStop texts (status.Refused fault) → StopsTexts stage texts (status.Refused fault)
+stops_refused parsing texts fault judges stop = absurd judges
+stops_refused naming texts fault judges stop = stop
+stops_refused judging texts fault judges stop = inl stop
+stops_refused lowering texts fault judges stop = inl stop
 
-stops_limit : (asked : Command) (texts : List (List ℕ)) (name : LimitName) → JudgesNames asked → NamesStop texts (status.Limit name) → StopsTexts asked texts (status.Limit name)
-stops_limit command.Check texts name judges stop = inr (inl stop)
-stops_limit command.Authority texts name judges stop = inr (inl stop)
-stops_limit command.Run texts name judges stop = inl (inr (inl stop))
-stops_limit command.Trace texts name judges stop = inl (inr (inl stop))
-stops_limit command.Observe texts name judges stop = inl (inr (inl stop))
-stops_limit command.Sample texts name judges stop = inl (inr (inl stop))
-stops_limit command.Format texts name judges stop = absurd judges
-stops_limit command.Policy texts name judges stop = inr (inl stop)
+stops_limit : (stage : Stage) (texts : List (List ℕ)) (name : LimitName) → JudgesNames stage → NamesStop texts (status.Limit name) → StopsTexts stage texts (status.Limit name)
+stops_limit parsing texts name judges stop = absurd judges
+stops_limit naming texts name judges stop = inr stop
+stops_limit judging texts name judges stop = inl (inr stop)
+stops_limit lowering texts name judges stop = inl (inl (inr stop))
 
--- what a refusal of names gives stops a command that judges them, but for want of memory
-stops_by_names : (asked : Command) (texts : List (List ℕ)) (why : NameRefusal) → JudgesNames asked → NamesStop texts (names_status why) → (names_status why ≡ status.Memory) ⊎ StopsTexts asked texts (names_status why)
-stops_by_names asked texts (refusal.Unknown place) judges stop = inr (stops_refused asked texts _ judges stop)
-stops_by_names asked texts (refusal.Twice place) judges stop = inr (stops_refused asked texts _ judges stop)
-stops_by_names asked texts (refusal.Cycle place) judges stop = inr (stops_refused asked texts _ judges stop)
-stops_by_names asked texts refusal.NoProgram judges stop = inr (stops_refused asked texts _ judges stop)
-stops_by_names asked texts (refusal.TwoPrograms place) judges stop = inr (stops_refused asked texts _ judges stop)
-stops_by_names asked texts (refusal.MemberUndefined place) judges stop = inr (stops_refused asked texts _ judges stop)
-stops_by_names asked texts (refusal.MemberUnknown place) judges stop = inr (stops_refused asked texts _ judges stop)
-stops_by_names asked texts (refusal.Limit name) judges stop = inr (stops_limit asked texts name judges stop)
-stops_by_names asked texts refusal.Memory judges stop = inl refl
+-- what a refusal of names gives stops a call that judges them, but for want of memory
+stops_by_names : (stage : Stage) (texts : List (List ℕ)) (why : NameRefusal) → JudgesNames stage → NamesStop texts (names_status why) → (names_status why ≡ status.Memory) ⊎ StopsTexts stage texts (names_status why)
+stops_by_names stage texts (refusal.Unknown place) judges stop = inr (stops_refused stage texts _ judges stop)
+stops_by_names stage texts (refusal.Twice place) judges stop = inr (stops_refused stage texts _ judges stop)
+stops_by_names stage texts (refusal.Cycle place) judges stop = inr (stops_refused stage texts _ judges stop)
+stops_by_names stage texts refusal.NoProgram judges stop = inr (stops_refused stage texts _ judges stop)
+stops_by_names stage texts (refusal.TwoPrograms place) judges stop = inr (stops_refused stage texts _ judges stop)
+stops_by_names stage texts (refusal.MemberUndefined place) judges stop = inr (stops_refused stage texts _ judges stop)
+stops_by_names stage texts (refusal.MemberUnknown place) judges stop = inr (stops_refused stage texts _ judges stop)
+stops_by_names stage texts (refusal.Limit name) judges stop = inr (stops_limit stage texts name judges stop)
+stops_by_names stage texts refusal.Memory judges stop = inl refl
 
-pub names_stop : (asked : Command) (texts : List (List ℕ)) (trees : List (List ItemTree)) (why : NameRefusal) (end : Status) → JudgesNames asked → HaveTrees 1 texts trees → Refused (all_items trees) why
-    → end ≡ names_status why → (end ≡ status.Memory) ⊎ StopsTexts asked texts end
-names_stop asked texts trees why end judges have is gives =
-    subst (λ (s : Status). (s ≡ status.Memory) ⊎ StopsTexts asked texts s) (sym gives)
-    (stops_by_names asked texts why judges (record { trees = trees; have = have; why = why; refused = is; gives = refl }))
+pub names_stop : (stage : Stage) (texts : List (List ℕ)) (trees : List (List ItemTree)) (why : NameRefusal) (end : Status) → JudgesNames stage → HaveTrees 1 texts trees → Refused (all_items trees) why
+    → end ≡ names_status why → (end ≡ status.Memory) ⊎ StopsTexts stage texts end
+names_stop stage texts trees why end judges have is gives =
+    subst (λ (s : Status). (s ≡ status.Memory) ⊎ StopsTexts stage texts s) (sym gives)
+    (stops_by_names stage texts why judges (record { trees = trees; have = have; why = why; refused = is; gives = refl }))
 
 -- and so it does where it is given
-pub stops_names : (asked : Command) (texts : List (List ℕ)) (end : Status) → JudgesNames asked → NamesStop texts end → end ≢ status.Memory → StopsTexts asked texts end
-stops_names asked texts end judges stop full =
-    elim (names_stop asked texts stop.trees stop.why end judges stop.have stop.refused stop.gives) [ inl is ↦ absurd (full is) | inr stops ↦ stops ]
+pub stops_names : (stage : Stage) (texts : List (List ℕ)) (end : Status) → JudgesNames stage → NamesStop texts end → end ≢ status.Memory → StopsTexts stage texts end
+stops_names stage texts end judges stop full =
+    elim (names_stop stage texts stop.trees stop.why end judges stop.have stop.refused stop.gives) [ inl is ↦ absurd (full is) | inr stops ↦ stops ]
 
 -- ---- the limit on files is not one of names
 

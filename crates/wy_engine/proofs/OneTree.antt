@@ -91,6 +91,8 @@ reason_of file bytes status.Memory none = absurd none
 reason_of file bytes (status.Trap kind mark) none = absurd none
 reason_of file bytes status.TooDeep none = absurd none
 reason_of file bytes status.Spent none = absurd none
+reason_of file bytes (status.BadCert at) none = absurd none
+reason_of file bytes (status.Unproved scope test index) none = absurd none
 reason_of file bytes (status.Denied row instance atom) none = absurd none
 reason_of file bytes (status.BadPolicy row) none = absurd none
 

@@ -163,6 +163,8 @@ unwritten_by command.Observe call rest is = inl is
 unwritten_by command.Sample call rest is = inl is
 unwritten_by command.Format call rest is = is
 unwritten_by command.Policy call rest is = is
+unwritten_by command.Certify call rest is = is
+unwritten_by command.Recheck call rest is = is
 
 stopped_ended : {A : Type 0} → (end : Status) → end ≡ status.Ended → (end ≡ status.Memory) ⊎ ((end ≡ status.Unwritten) × A) → ⊥
 stopped_ended end is (inl other) = let q : status.Ended ≡ status.Memory = sym is ∙ other in cc

@@ -9,12 +9,17 @@ use Rattle.wy_text.specs.declared.limit.LimitName.TheVariants as limit
 use Rattle.wy_syntax.specs.Canonical.{canonical_form}
 use Rattle.wy_syntax.specs.Trees.{ItemTree}
 use Rattle.wy_types.specs.Program.{Program}
+use Rattle.wy_symbols.specs.Declarations.{all_items}
+use Rattle.wy_rules.specs.Acceptance.{Accepted}
+use Rattle.wy_proving.specs.Proving.{ProvedIsAccepted}
+use Rattle.wy_certify.specs.Certificates.{IsCertified, OneSize}
 use Rattle.wy_well_formed.specs.WellFormed.{ResolvedIsCore}
 use Rattle.wy_engine.specs.Answering.{Answered}
 use Rattle.wy_engine.specs.Answering as answering
 use Rattle.wy_engine.specs.Headline.{Accepts, Closes, HasCommand, Headline, Runs, Settles, Writes, before_last_line}
 use Rattle.wy_engine.specs.LastLine.{LineWords, line_words}
-use Rattle.wy_engine.specs.Judgement.{accepted_text, allowed_text, authority_text, checked, formatted, nothing, permitted, ran, reported}
+use Rattle.wy_engine.specs.Certificates.{ProvesTexts, proved_text}
+use Rattle.wy_engine.specs.Judgement.{HasFirst, accepted_text, allowed_text, authority_text, certified, checked, formatted, nothing, permitted, proved, ran, reported}
 use Rattle.wy_engine.specs.ProgramLaws.{AcceptedRunAsMeant}
 use Rattle.wy_engine.specs.Reading.{StopsAfter, StopsAt}
 use Rattle.wy_settings.specs.Settings.{Settings, settings_of, takes}
@@ -26,12 +31,12 @@ use Rattle.wy_settings.specs.declared.command_line.SettingsRefusal.{SettingsRefu
 use Rattle.wy_settings.specs.declared.command_line.SettingsRefusal.TheVariants as words
 use Rattle.wy_engine.specs.declared.status.Status.{Status}
 use Rattle.wy_engine.specs.declared.status.Status.TheVariants as status
-use Rattle.wy_engine.proofs.FilesRead.{Came, is_sample, reads_all, reads_by, reads_for}
-use Rattle.wy_engine.proofs.Givens.{keeps_read, passes_read, runnable_read, tree_read}
+use Rattle.wy_engine.proofs.FilesRead.{Came, is_sample, reads_all, reads_by, reads_for, same_settings}
+use Rattle.wy_engine.proofs.Givens.{keeps_read, passes_read, proves_read, run_bytes, runnable_read, same_bytes, tree_read}
 use Rattle.wy_engine.proofs.OutWritten.{writes_by}
 use Rattle.wy_engine.proofs.RunsMade.{ran_counted, runs_by}
 use Rattle.wy_engine.proofs.Statuses.{idle_declined, out_past, out_run, out_wrote, past_declined, run_past, run_ran}
-use Rattle.wy_engine.proofs.TextsAnswered.{accepts_none, accepts_some, asks_check, asks_format, asks_policy, asks_report, asks_run}
+use Rattle.wy_engine.proofs.TextsAnswered.{accepts_none, accepts_some, asks_certify, asks_check, asks_format, asks_policy, asks_recheck, asks_report, asks_run}
 
 -- `format` has one file
 pub one_of_format : (named : Command) (files : List (List ℕ)) → takes named files ≡ true → named ≡ command.Format → length files ≡ 1
@@ -39,11 +44,18 @@ one_of_format named files is format =
     let fits : takes command.Format files ≡ true = subst (λ (c : Command). takes c files ≡ true) format is in
     grind (arith, nat_tests)
 
--- .. and `policy` two or more
-pub some_of_policy : (named : Command) (files : List (List ℕ)) → takes named files ≡ true → named ≡ command.Policy → 1 ≤ length files
-some_of_policy named files is policy =
-    let fits : takes command.Policy files ≡ true = subst (λ (c : Command). takes c files ≡ true) policy is in
-    grind (arith, nat_tests)
+-- .. and a command whose first file is no text has some
+pub some_first : (named : Command) (files : List (List ℕ)) → takes named files ≡ true → HasFirst named → 1 ≤ length files
+some_first command.Check files is has = absurd has
+some_first command.Authority files is has = absurd has
+some_first command.Run files is has = absurd has
+some_first command.Trace files is has = absurd has
+some_first command.Observe files is has = absurd has
+some_first command.Sample files is has = absurd has
+some_first command.Format files is has = absurd has
+some_first command.Certify files is has = absurd has
+some_first command.Policy files is has = grind (arith, nat_tests)
+some_first command.Recheck files is has = grind (arith, nat_tests)
 
 -- the words of a call name one number of files
 not_crowded : {A : Type 0} → (call : TopCall) (settings other : Settings) → IsSet call settings → length settings.files ≤ most_files → IsSet call other → most_files < length other.files → A
@@ -68,6 +80,8 @@ quiet_settles call reads accepts quiet idle = record {
   reports = λ program none. absurd (cc);
   formats = λ tree none. absurd (cc);
   allows = λ none. absurd (cc);
+  certifies = λ program none. absurd (cc);
+  proves = λ program none. absurd (cc);
   counted = rw quiet.report (omega arith);
 }
 
@@ -83,6 +97,20 @@ settles_faulty call none shelf quiet is = quiet_settles call
       counted = λ file unread. let q : status.Usage ≡ status.Unread file = sym is ∙ unread in absurd (cc);
     })
     (λ asked texts given. let q : Some given.settings ≡ None = sym given.set ∙ none in absurd (cc))
+    quiet (λ full run. subst IsOfRun is run)
+
+-- the words name more files than the limit
+pub settles_crowded : (call : TopCall) (settings : Settings) → IsSet call settings → most_files < length settings.files → call.shelf_after ≡ call.shelf → IsQuiet call → call.status ≡ status.Limit limit.Files → Settles call
+settles_crowded call settings set many shelf quiet is = quiet_settles call
+    (record {
+      usage = λ usage. let q : status.Limit limit.Files ≡ status.Usage = sym is ∙ usage in absurd (cc);
+      faulty = λ none. let q : Some settings ≡ None = sym set ∙ none in absurd (cc);
+      crowd = λ _ other same. subst (λ (s : Settings). most_files < length s.files) (same_settings call settings other set same) many;
+      crowded = λ other same more. ((λ full. is), shelf);
+      reads = λ other same few. not_crowded call other settings same few set many;
+      counted = λ file unread. let q : status.Limit limit.Files ≡ status.Unread file = sym is ∙ unread in absurd (cc);
+    })
+    (λ asked texts given none. not_crowded call given.settings settings given.set given.few set many)
     quiet (λ full run. subst IsOfRun is run)
 
 -- nothing was read, for want of memory
@@ -156,6 +184,8 @@ settles_unread call settings file set takes few stops out report devices is = re
   reports = λ program none. absurd (cc);
   formats = λ tree none. absurd (cc);
   allows = λ none. absurd (cc);
+  certifies = λ program none. absurd (cc);
+  proves = λ program none. absurd (cc);
   counted = rw report (omega arith);
 }
 
@@ -186,21 +216,28 @@ settles_starved call settings set takes few stops out report devices is = record
   reports = λ program none. absurd (cc);
   formats = λ tree none. absurd (cc);
   allows = λ none. absurd (cc);
+  certifies = λ program none. absurd (cc);
+  proves = λ program none. absurd (cc);
   counted = rw report (omega arith);
 }
+
+-- what is proved is accepted
+proves_accepted : ResolvedIsCore → ProvedIsAccepted → (files : List (List ℕ)) (program : Program) → ProvesTexts files program → Accepted program
+proves_accepted law sound files program proves =
+    sound program proves.proves.0 (law (all_items proves.resolve.read.trees) program proves.resolve.read.resolves) proves.proves.2
 
 -- texts came and were answered
 has_command : (call : TopCall) (settings : Settings) (named : Command) → IsSet call settings → settings.command ≡ named → HasCommand call named
 has_command call settings named set is = record { settings = settings; set = set; is = is }
 
-pub settles_answered : ResolvedIsCore → AcceptedRunAsMeant → (call : TopCall) (settings : Settings) (read : List (List ℕ)) → IsSet call settings → length settings.files ≤ most_files
+pub settles_answered : ResolvedIsCore → OneSize → ProvedIsAccepted → AcceptedRunAsMeant → (call : TopCall) (settings : Settings) (read : List (List ℕ)) → IsSet call settings → length settings.files ≤ most_files
     → Came call settings read
     → Answered settings read call.out call.out_after call.report call.report_after call.devices call.devices_after call.status → Settles call
 unfolding has_command
-settles_answered law runs call settings read set few so (answering.declined why out report devices) = record {
+settles_answered law size sound runs call settings read set few so (answering.declined why out report devices) = record {
   reads = reads_all call settings read set few so (past_declined settings.command read call.status why);
   did = nothing;
-  accepts = λ other texts given none. accepts_none law call settings read set so why other texts given;
+  accepts = λ other texts given none. accepts_none law size call settings read set so why other texts given;
   quiet = λ _. record { out = out; report = report; devices = devices };
   crowded = λ other same many. refl;
   idle = λ _. idle_declined settings.command read call.status why;
@@ -209,15 +246,17 @@ settles_answered law runs call settings read set few so (answering.declined why 
   reports = λ program none. absurd (cc);
   formats = λ tree none. absurd (cc);
   allows = λ none. absurd (cc);
+  certifies = λ program none. absurd (cc);
+  proves = λ program none. absurd (cc);
   counted = rw report (omega arith);
 }
-settles_answered law runs call settings read set few so (answering.checked program check passes wrote report devices) =
+settles_answered law size sound runs call settings read set few so (answering.checked program check passes wrote report devices) =
     let reached : IsOfOut call.status = out_wrote accepted_text call.out call.out_after call.status wrote in
     record {
       reads = reads_all call settings read set few so (out_past call.status reached);
       did = checked;
-      accepts = λ other texts given none. accepts_some law call settings read checked set so
-          (λ told same. asks_check settings.command told program check (passes_read read told program same passes)) (out_run call.status reached) other texts given;
+      accepts = λ other texts given none. accepts_some law size call settings read checked set so
+          (λ told same. asks_check settings.command told program check (passes_read settings.command read told program (same_bytes settings.command command.Check check refl) same passes)) (out_run call.status reached) other texts given;
       quiet = λ none. absurd (cc);
       crowded = λ other same many. not_crowded call settings other set few same many;
       idle = λ none. absurd (cc);
@@ -226,15 +265,17 @@ settles_answered law runs call settings read set few so (answering.checked progr
       reports = λ program none. absurd (cc);
       formats = λ tree none. absurd (cc);
       allows = λ none. absurd (cc);
+      certifies = λ program none. absurd (cc);
+      proves = λ program none. absurd (cc);
       counted = rw report (omega arith);
     }
-settles_answered law runs call settings read set few so (answering.reported program asks passes wrote report devices) =
+settles_answered law size sound runs call settings read set few so (answering.reported program asks passes wrote report devices) =
     let reached : IsOfOut call.status = out_wrote (authority_text program) call.out call.out_after call.status wrote in
     record {
       reads = reads_all call settings read set few so (out_past call.status reached);
       did = reported program;
-      accepts = λ other texts given none. accepts_some law call settings read (reported program) set so
-          (λ told same. asks_report settings.command told program asks (passes_read read told program same passes)) (out_run call.status reached) other texts given;
+      accepts = λ other texts given none. accepts_some law size call settings read (reported program) set so
+          (λ told same. asks_report settings.command told program asks (passes_read settings.command read told program (same_bytes settings.command command.Authority asks refl) same passes)) (out_run call.status reached) other texts given;
       quiet = λ none. absurd (cc);
       crowded = λ other same many. not_crowded call settings other set few same many;
       idle = λ none. absurd (cc);
@@ -244,15 +285,17 @@ settles_answered law runs call settings read set few so (answering.reported prog
           (writes_by call command.Authority (authority_text program) (has_command call settings command.Authority set asks) report devices wrote);
       formats = λ tree none. absurd (cc);
       allows = λ none. absurd (cc);
+      certifies = λ program none. absurd (cc);
+      proves = λ program none. absurd (cc);
       counted = rw report (omega arith);
     }
-settles_answered law runs call settings read set few so (answering.ran program way run number is ended) =
+settles_answered law size sound runs call settings read set few so (answering.ran program way run number is ended) =
     let reached : IsOfRun call.status = run_ran way program settings.depth settings.steps call.out call.out_after call.report call.report_after call.devices call.devices_after call.status ended in
     record {
       reads = reads_all call settings read set few so (run_past call.status reached);
       did = ran program;
-      accepts = λ other texts given none. accepts_some law call settings read (ran program) set so
-          (λ told same. asks_run settings.command told way program run (runnable_read read told program same is)) reached other texts given;
+      accepts = λ other texts given none. accepts_some law size call settings read (ran program) set so
+          (λ told same. asks_run settings.command told way program run (runnable_read settings.command read told program (run_bytes settings.command way run) same is)) reached other texts given;
       quiet = λ none. absurd (cc);
       crowded = λ other same many. not_crowded call settings other set few same many;
       idle = λ none. absurd (cc);
@@ -262,15 +305,17 @@ settles_answered law runs call settings read set few so (answering.ran program w
       reports = λ program none. absurd (cc);
       formats = λ tree none. absurd (cc);
       allows = λ none. absurd (cc);
+      certifies = λ program none. absurd (cc);
+      proves = λ program none. absurd (cc);
       counted = ran_counted way program settings.depth settings.steps call.out call.out_after call.report call.report_after call.devices call.devices_after call.status ended;
     }
-settles_answered law runs call settings read set few so (answering.formatted tree format have wrote report devices) =
+settles_answered law size sound runs call settings read set few so (answering.formatted tree format have wrote report devices) =
     let reached : IsOfOut call.status = out_wrote (canonical_form tree) call.out call.out_after call.status wrote in
     record {
       reads = reads_all call settings read set few so (out_past call.status reached);
       did = formatted tree;
-      accepts = λ other texts given none. accepts_some law call settings read (formatted tree) set so
-          (λ told same. asks_format settings.command told tree format (tree_read read told tree same have)) (out_run call.status reached) other texts given;
+      accepts = λ other texts given none. accepts_some law size call settings read (formatted tree) set so
+          (λ told same. asks_format settings.command told tree format (tree_read settings.command read told tree (same_bytes settings.command command.Format format refl) same have)) (out_run call.status reached) other texts given;
       quiet = λ none. absurd (cc);
       crowded = λ other same many. not_crowded call settings other set few same many;
       idle = λ none. absurd (cc);
@@ -280,15 +325,17 @@ settles_answered law runs call settings read set few so (answering.formatted tre
       formats = λ other same. let e : tree ≡ other = cc in subst (λ (t : List ItemTree). Writes call command.Format (canonical_form t)) e
           (writes_by call command.Format (canonical_form tree) (has_command call settings command.Format set format) report devices wrote);
       allows = λ none. absurd (cc);
+      certifies = λ program none. absurd (cc);
+      proves = λ program none. absurd (cc);
       counted = rw report (omega arith);
     }
-settles_answered law runs call settings read set few so (answering.permitted asks keeps wrote report devices) =
+settles_answered law size sound runs call settings read set few so (answering.permitted asks keeps wrote report devices) =
     let reached : IsOfOut call.status = out_wrote allowed_text call.out call.out_after call.status wrote in
     record {
       reads = reads_all call settings read set few so (out_past call.status reached);
       did = permitted;
-      accepts = λ other texts given none. accepts_some law call settings read permitted set so
-          (λ told same. asks_policy settings.command told asks (keeps_read read told same keeps)) (out_run call.status reached) other texts given;
+      accepts = λ other texts given none. accepts_some law size call settings read permitted set so
+          (λ told same. asks_policy settings.command told asks (keeps_read settings.command read told (same_bytes settings.command command.Policy asks refl) same keeps)) (out_run call.status reached) other texts given;
       quiet = λ none. absurd (cc);
       crowded = λ other same many. not_crowded call settings other set few same many;
       idle = λ none. absurd (cc);
@@ -297,6 +344,49 @@ settles_answered law runs call settings read set few so (answering.permitted ask
       reports = λ program none. absurd (cc);
       formats = λ tree none. absurd (cc);
       allows = λ _. writes_by call command.Policy allowed_text (has_command call settings command.Policy set asks) report devices wrote;
+      certifies = λ program none. absurd (cc);
+      proves = λ program none. absurd (cc);
+      counted = rw report (omega arith);
+    }
+settles_answered law size sound runs call settings read set few so (answering.certified program text asks passes is wrote report devices) =
+    let reached : IsOfOut call.status = out_wrote text call.out call.out_after call.status wrote in
+    record {
+      reads = reads_all call settings read set few so (out_past call.status reached);
+      did = certified program;
+      accepts = λ other texts given none. accepts_some law size call settings read (certified program) set so
+          (λ told same. asks_certify settings.command told program asks (record { passes = passes_read settings.command read told program (same_bytes settings.command command.Certify asks refl) same passes; bytes = text; is = is }))
+          (out_run call.status reached) other texts given;
+      quiet = λ none. absurd (cc);
+      crowded = λ other same many. not_crowded call settings other set few same many;
+      idle = λ none. absurd (cc);
+      runs = λ program none. absurd (cc);
+      checks = λ none. absurd (cc);
+      reports = λ program none. absurd (cc);
+      formats = λ tree none. absurd (cc);
+      allows = λ none. absurd (cc);
+      certifies = λ other same. let e : program ≡ other = cc in
+          (text, subst (λ (p : Program). IsCertified p text) e is, writes_by call command.Certify text (has_command call settings command.Certify set asks) report devices wrote);
+      proves = λ program none. absurd (cc);
+      counted = rw report (omega arith);
+    }
+settles_answered law size sound runs call settings read set few so (answering.proved program asks proves wrote report devices) =
+    let reached : IsOfOut call.status = out_wrote proved_text call.out call.out_after call.status wrote in
+    record {
+      reads = reads_all call settings read set few so (out_past call.status reached);
+      did = proved program;
+      accepts = λ other texts given none. accepts_some law size call settings read (proved program) set so
+          (λ told same. asks_recheck settings.command told program asks (proves_read settings.command read told program asks same proves)) (out_run call.status reached) other texts given;
+      quiet = λ none. absurd (cc);
+      crowded = λ other same many. not_crowded call settings other set few same many;
+      idle = λ none. absurd (cc);
+      runs = λ program none. absurd (cc);
+      checks = λ none. absurd (cc);
+      reports = λ program none. absurd (cc);
+      formats = λ tree none. absurd (cc);
+      allows = λ none. absurd (cc);
+      certifies = λ program none. absurd (cc);
+      proves = λ other same. let e : program ≡ other = cc in
+          (subst (λ (p : Program). Accepted p) e (proves_accepted law sound read program proves), writes_by call command.Recheck proved_text (has_command call settings command.Recheck set asks) report devices wrote);
       counted = rw report (omega arith);
     }
 

@@ -1,5 +1,5 @@
 -- Which statuses come when: once files were read, of texts that stop a call, of a run, and of what was written.
-use Rattle.std.proofs.Common.{◌≡◌, ◌≢◌, ◌⊎◌, inl, inr, ℕ, List, [], ◌∷◌, Some, None, Bool, true, false, nat_lt, if◌then◌else◌, sym, subst}
+use Rattle.std.proofs.Common.{◌≡◌, ◌≢◌, ◌⊎◌, inl, inr, ℕ, List, [], ◌∷◌, Some, None, Bool, true, false, nat_lt, if◌then◌else◌, sym, ◌∙◌, subst}
 use Rattle.wy_text.specs.LimitName.{limit_number}
 use Rattle.wy_text.specs.Outside.{SinkState}
 use Rattle.wy_text.specs.declared.limit.LimitName.TheVariants as limit
@@ -17,13 +17,13 @@ use Rattle.wy_rules.specs.Ends.{FirstEnd, IsEnd, IsLimitEnd, limited}
 use Rattle.wy_rules.specs.Refusals.{Numbered}
 use Rattle.wy_authority.specs.Authority.{authority_of}
 use Rattle.wy_authority.specs.declared.rows.Authority.{Authority}
-use Rattle.wy_engine.specs.Judgement.{Refuses, Stops, StopsLimited, StopsTexts, by_policy, by_texts, observed_text}
+use Rattle.wy_engine.specs.Certificates.{Disproves}
+use Rattle.wy_engine.specs.Judgement.{Refuses, Stage, Stops, StopsLimited, StopsTexts, StopsUnnamed, by_certificate, by_length, by_policy, by_size, by_texts, judging, lowering, naming, observed_text, parsing, stage_of}
 use Rattle.wy_engine.specs.Running.{ObservesCode, Ran, ThenObserved, ThenWrote, begun, behind, observed, performed, skipped, status_of, stopped, summary_in, summed, unbegun, unobserved}
 use Rattle.wy_engine.specs.Status.{IsOfOut, IsOfRun, IsOfTexts}
 use Rattle.wy_engine.specs.Writing.{Wrote, cut, starved, whole}
 use Rattle.wy_settings.specs.Settings.{texts_among}
 use Rattle.wy_settings.specs.declared.command_line.Command.{Command}
-use Rattle.wy_settings.specs.declared.command_line.Command.TheVariants as command
 use Rattle.wy_engine.specs.declared.running.Mode.{Mode}
 use Rattle.wy_engine.specs.declared.running.Mode.TheVariants as mode
 use Rattle.wy_engine.specs.declared.status.Status.{Status}
@@ -62,10 +62,13 @@ pub record IsPastReading (end : Status) : Type 0 where
   pub unread : (file : ℕ) → end ≢ status.Unread file
   pub crowd : end ≢ status.Limit limit.Files
 
+unnamed_uncrowded : (texts : List (List ℕ)) → StopsUnnamed texts limit.Files → ⊥
+unnamed_uncrowded texts (inl none) = never (status.Limit limit.Files) (λ file bytes h. h) 1 texts none
+unnamed_uncrowded texts (inr stop) = uncrowded texts stop
+
 limited_uncrowded : (texts : List (List ℕ)) → StopsLimited texts limit.Files → ⊥
-limited_uncrowded texts (inl none) = never (status.Limit limit.Files) (λ file bytes h. h) 1 texts none
-limited_uncrowded texts (inr (inl stop)) = uncrowded texts stop
-limited_uncrowded texts (inr (inr stop)) = ends_uncrowded stop.program stop.ends
+limited_uncrowded texts (inl stop) = unnamed_uncrowded texts stop
+limited_uncrowded texts (inr stop) = ends_uncrowded stop.program stop.ends
 
 -- .. nor of lowering
 lowers_uncrowded : (p : Program) (starts : Starts) → lowering_limit p starts ≡ Some limit.Files → ⊥
@@ -76,25 +79,18 @@ lowers_uncrowded p starts is = by (nat_lt (limit_number limit.Bodies) (body_coun
     by false true same = cc
     by false false same = cc
 
-crowds_none : (asked : Command) (texts : List (List ℕ)) → StopsTexts asked texts (status.Limit limit.Files) → ⊥
-crowds_none command.Check texts stop = limited_uncrowded texts stop
-crowds_none command.Authority texts stop = limited_uncrowded texts stop
-crowds_none command.Run texts (inl stop) = limited_uncrowded texts stop
-crowds_none command.Run texts (inr stop) = lowers_uncrowded stop.program (program_starts stop.program) stop.passed
-crowds_none command.Trace texts (inl stop) = limited_uncrowded texts stop
-crowds_none command.Observe texts (inl stop) = limited_uncrowded texts stop
-crowds_none command.Trace texts (inr stop) = lowers_uncrowded stop.program (program_starts stop.program) stop.passed
-crowds_none command.Observe texts (inr stop) = lowers_uncrowded stop.program (program_starts stop.program) stop.passed
-crowds_none command.Sample texts (inl stop) = limited_uncrowded texts stop
-crowds_none command.Sample texts (inr stop) = lowers_uncrowded stop.program (program_starts stop.program) stop.passed
-crowds_none command.Policy texts stop = limited_uncrowded texts stop
-crowds_none command.Format texts none = never (status.Limit limit.Files) (λ file bytes h. h) 1 texts none
+crowds_none : (stage : Stage) (texts : List (List ℕ)) → StopsTexts stage texts (status.Limit limit.Files) → ⊥
+crowds_none parsing texts none = never (status.Limit limit.Files) (λ file bytes h. h) 1 texts none
+crowds_none naming texts stop = unnamed_uncrowded texts stop
+crowds_none judging texts stop = limited_uncrowded texts stop
+crowds_none lowering texts (inl stop) = limited_uncrowded texts stop
+crowds_none lowering texts (inr stop) = lowers_uncrowded stop.program (program_starts stop.program) stop.passed
 
-texts_past : (asked : Command) (texts : List (List ℕ)) (end : Status) → StopsTexts asked texts end → IsPastReading end
-texts_past asked texts end stops = record {
-  usage = λ is. subst (λ (s : Status). StopsTexts asked texts s) is stops;
-  unread = λ file is. subst (λ (s : Status). StopsTexts asked texts s) is stops;
-  crowd = λ is. crowds_none asked texts (subst (λ (s : Status). StopsTexts asked texts s) is stops);
+texts_past : (stage : Stage) (texts : List (List ℕ)) (end : Status) → StopsTexts stage texts end → IsPastReading end
+texts_past stage texts end stops = record {
+  usage = λ is. subst (λ (s : Status). StopsTexts stage texts s) is stops;
+  unread = λ file is. subst (λ (s : Status). StopsTexts stage texts s) is stops;
+  crowd = λ is. crowds_none stage texts (subst (λ (s : Status). StopsTexts stage texts s) is stops);
 }
 
 policy_past : (bytes : List ℕ) (a : Authority) (end : Status) → Refuses bytes a end → IsPastReading end
@@ -104,9 +100,27 @@ policy_past bytes a end refuses = record {
   crowd = λ is. uncrowded_policy bytes a (subst (λ (s : Status). Refuses bytes a s) is refuses);
 }
 
+certificate_past : (bytes : List ℕ) (program : Program) (end : Status) → Disproves bytes program end → IsPastReading end
+certificate_past bytes program end disproves = record {
+  usage = λ is. subst (λ (s : Status). Disproves bytes program s) is disproves;
+  unread = λ file is. subst (λ (s : Status). Disproves bytes program s) is disproves;
+  crowd = λ is. subst (λ (s : Status). Disproves bytes program s) is disproves;
+}
+
+-- the limit on a certificate's bytes is not the one on files
+size_past : (end : Status) → end ≡ status.Limit limit.CertificateBytes → IsPastReading end
+size_past end is = record {
+  usage = λ other. let e : status.Limit limit.CertificateBytes ≡ status.Usage = sym is ∙ other in cc;
+  unread = λ file other. let e : status.Limit limit.CertificateBytes ≡ status.Unread file = sym is ∙ other in cc;
+  crowd = λ other. let e : status.Limit limit.CertificateBytes ≡ status.Limit limit.Files = sym is ∙ other in cc;
+}
+
 stops_past : (asked : Command) (files : List (List ℕ)) (end : Status) → Stops asked files end → IsPastReading end
-stops_past asked files end (by_texts stops) = texts_past asked (texts_among asked files) end stops
+stops_past asked files end (by_size recheck large is) = size_past end is
+stops_past asked files end (by_texts none stops) = texts_past (stage_of asked) (texts_among asked files) end stops
 stops_past asked files end (by_policy policy stops) = policy_past stops.under.policy (authority_of stops.under.program) end stops.refuses
+stops_past asked files end (by_length certify long is) = size_past end is
+stops_past asked files end (by_certificate recheck stops) = certificate_past stops.resolve.under.bytes stops.program end stops.disproves
 
 pub run_past : (end : Status) → IsOfRun end → IsPastReading end
 run_past end run = record { usage = λ is. subst IsOfRun is run; unread = λ file is. subst IsOfRun is run; crowd = λ is. subst IsOfRun is run }
@@ -114,21 +128,23 @@ run_past end run = record { usage = λ is. subst IsOfRun is run; unread = λ fil
 pub out_past : (end : Status) → IsOfOut end → IsPastReading end
 out_past end out = record { usage = λ is. subst IsOfOut is out; unread = λ file is. subst IsOfOut is out; crowd = λ is. subst IsOfOut is out }
 
-texts_idle : (asked : Command) (texts : List (List ℕ)) (end : Status) → StopsTexts asked texts end → ¬ IsOfRun end
-texts_idle asked texts status.Ended stops run = stops
-texts_idle asked texts status.Usage stops run = run
-texts_idle asked texts (status.Unread file) stops run = run
-texts_idle asked texts (status.Syntax place kind) stops run = run
-texts_idle asked texts (status.Refused fault) stops run = run
-texts_idle asked texts (status.Limit name) stops run = run
-texts_idle asked texts (status.Trap kind place) stops run = stops
-texts_idle asked texts status.TooDeep stops run = stops
-texts_idle asked texts status.Spent stops run = stops
-texts_idle asked texts (status.DeviceFailed grant op) stops run = stops
-texts_idle asked texts status.Unwritten stops run = stops
-texts_idle asked texts status.Memory stops run = stops
-texts_idle asked texts (status.Denied line instance atom) stops run = run
-texts_idle asked texts (status.BadPolicy line) stops run = run
+texts_idle : (stage : Stage) (texts : List (List ℕ)) (end : Status) → StopsTexts stage texts end → ¬ IsOfRun end
+texts_idle stage texts status.Ended stops run = stops
+texts_idle stage texts status.Usage stops run = run
+texts_idle stage texts (status.Unread file) stops run = run
+texts_idle stage texts (status.Syntax place kind) stops run = run
+texts_idle stage texts (status.Refused fault) stops run = run
+texts_idle stage texts (status.Limit name) stops run = run
+texts_idle stage texts (status.Trap kind place) stops run = stops
+texts_idle stage texts status.TooDeep stops run = stops
+texts_idle stage texts status.Spent stops run = stops
+texts_idle stage texts (status.DeviceFailed grant op) stops run = stops
+texts_idle stage texts status.Unwritten stops run = stops
+texts_idle stage texts status.Memory stops run = stops
+texts_idle stage texts (status.BadCert at) stops run = run
+texts_idle stage texts (status.Unproved scope test index) stops run = run
+texts_idle stage texts (status.Denied line instance atom) stops run = run
+texts_idle stage texts (status.BadPolicy line) stops run = run
 
 policy_idle : (bytes : List ℕ) (a : Authority) (end : Status) → Refuses bytes a end → ¬ IsOfRun end
 policy_idle bytes a (status.Limit name) refuses run = run
@@ -136,9 +152,20 @@ policy_idle bytes a (status.BadPolicy line) refuses run = run
 policy_idle bytes a (status.Denied line instance atom) refuses run = run
 policy_idle bytes a other refuses run = refuses
 
+certificate_idle : (bytes : List ℕ) (program : Program) (end : Status) → Disproves bytes program end → ¬ IsOfRun end
+certificate_idle bytes program (status.BadCert at) disproves run = run
+certificate_idle bytes program (status.Unproved scope test index) disproves run = run
+certificate_idle bytes program other disproves run = disproves
+
+size_idle : (end : Status) → end ≡ status.Limit limit.CertificateBytes → ¬ IsOfRun end
+size_idle end is run = subst IsOfRun is run
+
 stops_idle : (asked : Command) (files : List (List ℕ)) (end : Status) → Stops asked files end → ¬ IsOfRun end
-stops_idle asked files end (by_texts stops) run = texts_idle asked (texts_among asked files) end stops run
+stops_idle asked files end (by_size recheck large is) run = size_idle end is run
+stops_idle asked files end (by_texts none stops) run = texts_idle (stage_of asked) (texts_among asked files) end stops run
 stops_idle asked files end (by_policy policy stops) run = policy_idle stops.under.policy (authority_of stops.under.program) end stops.refuses run
+stops_idle asked files end (by_length certify long is) run = size_idle end is run
+stops_idle asked files end (by_certificate recheck stops) run = certificate_idle stops.resolve.under.bytes stops.program end stops.disproves run
 
 pub run_or_texts : (end : Status) → IsOfRun end → ¬ IsOfTexts end
 run_or_texts status.Ended run texts = texts
@@ -153,6 +180,8 @@ run_or_texts status.Spent run texts = texts
 run_or_texts (status.DeviceFailed grant op) run texts = texts
 run_or_texts status.Unwritten run texts = texts
 run_or_texts status.Memory run texts = texts
+run_or_texts (status.BadCert at) run texts = run
+run_or_texts (status.Unproved scope test index) run texts = run
 run_or_texts (status.Denied line instance atom) run texts = run
 run_or_texts (status.BadPolicy line) run texts = run
 
@@ -169,6 +198,8 @@ out_run status.Spent out = tt
 out_run (status.DeviceFailed grant op) out = tt
 out_run status.Unwritten out = tt
 out_run status.Memory out = tt
+out_run (status.BadCert at) out = out
+out_run (status.Unproved scope test index) out = out
 out_run (status.Denied line instance atom) out = out
 out_run (status.BadPolicy line) out = out
 

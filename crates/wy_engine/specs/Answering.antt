@@ -20,8 +20,18 @@ use Rattle.wy_policy.specs.declared.policy.PolicyRefusal.{PolicyRefusal}
 use Rattle.wy_policy.specs.declared.policy.PolicyRefusal.TheVariants as unread
 use Rattle.wy_policy.specs.declared.policy.PolicyRow.{PolicyRow}
 use Rattle.wy_sound.specs.Programs.{program_starts}
+use Rattle.wy_certify.specs.Certificates as certifying
+use Rattle.wy_certify.specs.Certificates.{IsCertified}
+use Rattle.wy_certify.specs.declared.certifying.CertifyRefusal.{CertifyRefusal}
+use Rattle.wy_certify.specs.declared.certifying.CertifyRefusal.TheVariants as overlong
+use Rattle.wy_recheck.specs.Rechecked as rechecking
+use Rattle.wy_recheck.specs.Rechecked.{IsProvedBy}
+use Rattle.wy_recheck.specs.declared.rechecking.CertRefusal.{CertRefusal}
+use Rattle.wy_recheck.specs.declared.rechecking.CertRefusal.TheVariants as disproof
+use Rattle.wy_engine.specs.Certificates.{ProvesTexts, proved_text}
 use Rattle.wy_engine.specs.FileTrees.{HaveTrees}
-use Rattle.wy_engine.specs.Judgement.{IsNumbered, KeepsToPolicy, Passes, Refuses, Runnable, Stops, accepted_text, allowed_text, authority_text, running}
+use Rattle.wy_engine.specs.Judgement.{IsNumbered, KeepsToPolicy, Refuses, Runnable, Stops, accepted_text, allowed_text, authority_text, running}
+use Rattle.wy_engine.specs.Passing.{Passes}
 use Rattle.wy_engine.specs.NameFaults.{names_status}
 use Rattle.wy_engine.specs.Running.{Ran}
 use Rattle.wy_engine.specs.Writing.{Wrote}
@@ -66,6 +76,32 @@ pub data JudgesTreesByPolicy (policy : List ℕ) (trees : List (List ItemTree)) 
   judged : (program : Program) → Resolves (all_items trees) program → IsAccepted program → JudgesByPolicy policy program out out' end
       → JudgesTreesByPolicy policy trees out out' end
 
+-- the status of a call that writes no certificate
+abbrev pub certify_status : CertifyRefusal → Status
+certify_status (overlong.Limit name) = status.Limit name
+certify_status overlong.Memory = status.Memory
+
+-- what certifying trees did: nothing, since they do not pass, or no certificate is given; or the program's certificate was written
+pub data CertifiesTrees (trees : List (List ItemTree)) (out out' : SinkState) (end : Status) : Type 0 where
+  uncertified : FailsCheck trees end → out' ≡ out → CertifiesTrees trees out out' end
+  overlong_for : (program : Program) → Resolves (all_items trees) program → IsAccepted program → (why : CertifyRefusal) → certifying.IsRefusedBy program why → end ≡ certify_status why → out' ≡ out
+      → CertifiesTrees trees out out' end
+  certified_trees : (program : Program) → Resolves (all_items trees) program → IsAccepted program → (text : List ℕ) → IsCertified program text → Wrote text out out' end → CertifiesTrees trees out out' end
+
+-- the status of a call whose certificate does not prove the program
+abbrev pub recheck_status : CertRefusal → Status
+recheck_status (disproof.BadCert at) = status.BadCert at
+recheck_status (disproof.Unproved scope test index) = status.Unproved scope test index
+recheck_status disproof.Memory = status.Memory
+
+-- what rechecking trees by a certificate did: nothing, since the names are refused, or it does not prove the program; or it was said
+-- that it does
+pub data RechecksTrees (bytes : List ℕ) (trees : List (List ItemTree)) (out out' : SinkState) (end : Status) : Type 0 where
+  unnamed : (why : NameRefusal) → Refused (all_items trees) why → end ≡ names_status why → out' ≡ out → RechecksTrees bytes trees out out' end
+  disproved : (program : Program) → Resolves (all_items trees) program → (why : CertRefusal) → rechecking.IsRefusedBy program bytes why → end ≡ recheck_status why → out' ≡ out
+      → RechecksTrees bytes trees out out' end
+  proved_trees : (program : Program) → Resolves (all_items trees) program → IsProvedBy program bytes → Wrote proved_text out out' end → RechecksTrees bytes trees out out' end
+
 -- what running an accepted program did: nothing, since its code passes a limit or memory was wanting; or it was run
 pub data RunsAccepted (way : Mode) (program : Program) (depth steps : ℕ) (out out' report report' : SinkState) (devices devices' : DevicesState) (end : Status) : Type 0 where
   limited : (name : LimitName) → lowering_limit program (program_starts program) ≡ Some name → end ≡ status.Limit name → out' ≡ out → report' ≡ report → devices' ≡ devices
@@ -81,8 +117,8 @@ pub data RunsTrees (way : Mode) (trees : List (List ItemTree)) (depth steps : �
       → RunsTrees way trees depth steps out out' report report' devices devices' end
 
 -- what was done with texts: nothing, since memory was wanting or they stop the call; it was said that they are accepted;
--- the report of what their program may do was written; a program was run; the canonical form of a file was written; or it
--- was said that a program keeps to its policy
+-- the report of what their program may do was written; a program was run; the canonical form of a file was written; it was said
+-- that a program keeps to its policy; a program's certificate was written; or it was said that one proves a program
 pub data Answered (asked : Settings) (texts : List (List ℕ)) (out out' report report' : SinkState) (devices devices' : DevicesState) (end : Status) : Type 0 where
   declined : (end ≡ status.Memory) ⊎ Stops asked.command texts end → out' ≡ out → report' ≡ report → devices' ≡ devices
       → Answered asked texts out out' report report' devices devices' end
@@ -95,4 +131,8 @@ pub data Answered (asked : Settings) (texts : List (List ℕ)) (out out' report 
   formatted : (tree : List ItemTree) → asked.command ≡ command.Format → HaveTrees 1 texts (tree ∷ []) → Wrote (canonical_form tree) out out' end → report' ≡ report → devices' ≡ devices
       → Answered asked texts out out' report report' devices devices' end
   permitted : asked.command ≡ command.Policy → KeepsToPolicy texts → Wrote allowed_text out out' end → report' ≡ report → devices' ≡ devices
+      → Answered asked texts out out' report report' devices devices' end
+  certified : (program : Program) (text : List ℕ) → asked.command ≡ command.Certify → Passes texts program → IsCertified program text → Wrote text out out' end → report' ≡ report → devices' ≡ devices
+      → Answered asked texts out out' report report' devices devices' end
+  proved : (program : Program) → asked.command ≡ command.Recheck → ProvesTexts texts program → Wrote proved_text out out' end → report' ≡ report → devices' ≡ devices
       → Answered asked texts out out' report report' devices devices' end

@@ -11,7 +11,7 @@ use Rattle.wy_machine.specs.TrapKinds.{trap_meant}
 use Rattle.wy_types.specs.Program.{Program}
 use Rattle.wy_settings.specs.declared.command_line.Command.{Command}
 use Rattle.wy_engine.specs.Headline.{Headline, course_in}
-use Rattle.wy_engine.specs.Judgement.{Asks, Did, checked, formatted, nothing, permitted, ran, reported}
+use Rattle.wy_engine.specs.Judgement.{Asks, Did, certified, checked, formatted, nothing, permitted, proved, ran, reported}
 use Rattle.wy_engine.specs.TopCall.{IsGiven, TopCall}
 use Rattle.wy_engine.specs.declared.status.Status.{Status}
 use Rattle.wy_engine.specs.declared.status.Status.TheVariants as status
@@ -46,6 +46,8 @@ IsWritten (reported program) = ⊤
 IsWritten (ran program) = ⊥
 IsWritten (formatted tree) = ⊤
 IsWritten permitted = ⊤
+IsWritten (certified program) = ⊤
+IsWritten (proved program) = ⊤
 
 -- .. and these end well, unless memory was wanting
 abbrev pub WritesEnd : Type 0

@@ -46,6 +46,8 @@ HasNoTree file bytes status.Spent = ⊥
 HasNoTree file bytes (status.DeviceFailed grant op) = ⊥
 HasNoTree file bytes status.Unwritten = ⊥
 HasNoTree file bytes status.Memory = ⊥
+HasNoTree file bytes (status.BadCert at) = ⊥
+HasNoTree file bytes (status.Unproved scope test index) = ⊥
 HasNoTree file bytes (status.Denied row instance atom) = ⊥
 HasNoTree file bytes (status.BadPolicy row) = ⊥
 

@@ -27,7 +27,10 @@ use Rattle.wy_types.specs.Program.{Program}
 use Rattle.wy_sound.specs.Laws.{course}
 use Rattle.wy_sound.specs.Programs.{allowed, program_starts}
 use Rattle.wy_sound.specs.Used.{IsUsedWithin}
-use Rattle.wy_engine.specs.Judgement.{Asks, Did, IsReported, RunsPrograms, Stops, accepted_text, allowed_text, authority_text, checked, formatted, nothing, observed_text, permitted, ran, reported, summary_text}
+use Rattle.wy_rules.specs.Acceptance.{Accepted}
+use Rattle.wy_certify.specs.Certificates.{IsCertified}
+use Rattle.wy_engine.specs.Certificates.{proved_text}
+use Rattle.wy_engine.specs.Judgement.{Asks, Did, IsReported, RunsPrograms, Stops, accepted_text, allowed_text, authority_text, certified, checked, formatted, nothing, observed_text, permitted, proved, ran, reported, summary_text}
 use Rattle.wy_engine.specs.LastLine.{LineWords, last_line, line_words}
 use Rattle.wy_settings.specs.Settings.{Settings, sample_number, settings_of}
 use Rattle.wy_engine.specs.Status.{IsOfEnd, IsOfOut, IsOfRun, IsOfTexts}
@@ -38,8 +41,9 @@ use Rattle.wy_engine.specs.declared.status.Status.{Status}
 use Rattle.wy_engine.specs.declared.status.Status.TheVariants as status
 
 -- Texts that the shelf tells and that were all read. A status that texts have by themselves is theirs, and comes
--- wherever it is; and so with the program that was run, the file whose canonical form was written and the program that
--- keeps to its policy. Only want of memory may come in the place of these answers.
+-- wherever it is; and so with the program that was run, the file whose canonical form was written, the program that
+-- keeps to its policy, the one whose certificate was written and the one that a certificate proves. Only want of memory may come in
+-- the place of these answers.
 pub record Accepts (call : TopCall) (command : Command) (did : Did) (texts : List (List ℕ)) : Type 0 where
   pub stopped : IsOfTexts call.status → Stops command texts call.status
   pub stops : (end : Status) → Stops command texts end → call.status ≢ status.Memory → call.status ≡ end
@@ -242,6 +246,8 @@ pub record Settles (call : TopCall) : Type 0 where
   pub reports : (program : Program) → did ≡ reported program → Writes call command.Authority (authority_text program)
   pub formats : (tree : List ItemTree) → did ≡ formatted tree → Writes call command.Format (canonical_form tree)
   pub allows : did ≡ permitted → Writes call command.Policy allowed_text
+  pub certifies : (program : Program) → did ≡ certified program → (text : List ℕ) × IsCertified program text × Writes call command.Certify text
+  pub proves : (program : Program) → did ≡ proved program → Accepted program × Writes call command.Recheck proved_text
   pub counted : call.report.faults ≤ call.report_after.faults
 
 -- The last line of a settled status was written, whole unless the sink counted a fault; a fault changes no status.

@@ -2,11 +2,11 @@
 -- promises of the top call say of programs, they say by the words of this page.
 use Rattle.std.specs.Prelude.{codes, ◌≡◌, ◌⊎◌, List, [], ◌∷◌, ℕ, Some, None, ⊤, ◌+◌, length}
 use Rattle.wy_text.specs.declared.limit.LimitName.{LimitName}
+use Rattle.wy_text.specs.declared.limit.LimitName.TheVariants as limit
 use Rattle.wy_device.specs.declared.deed.Event.{Event}
 use Rattle.wy_syntax.specs.Trees.{ItemTree}
 use Rattle.wy_types.specs.Program.{Program}
 use Rattle.wy_rules.specs.Ends.{End, IsEnd, limited, refused}
-use Rattle.wy_judge.specs.Checking.{IsAccepted}
 use Rattle.wy_authority.specs.Authority.{authority_of}
 use Rattle.wy_authority.specs.Report.{named_atoms, report_text}
 use Rattle.wy_authority.specs.declared.rows.Authority.{Authority}
@@ -17,7 +17,9 @@ use Rattle.wy_lower.specs.Counts.{lowering_limit}
 use Rattle.wy_sound.specs.Programs.{allowed, program_starts}
 use Rattle.wy_sound.specs.Telling.{call_of}
 use Rattle.wy_engine.specs.FileTrees.{FirstNoTree, HaveTrees}
+use Rattle.wy_engine.specs.Certificates.{EndsCertifying, HasCertificate, HasLargeCertificate, HasNoLargeCertificate, ProvesTexts, StopsByCertificate}
 use Rattle.wy_engine.specs.NameFaults.{NamesStop, ResolveTo}
+use Rattle.wy_engine.specs.Passing.{Passes}
 use Rattle.wy_sample.specs.Sample.{summary_line}
 use Rattle.wy_policy.specs.Allowed.{Allowed, Denied}
 use Rattle.wy_policy.specs.Policy.{IsPolicy, IsRefused}
@@ -32,12 +34,7 @@ use Rattle.wy_engine.specs.declared.running.Mode.TheVariants as mode
 use Rattle.wy_engine.specs.declared.status.Status.{Status}
 use Rattle.wy_engine.specs.declared.status.Status.TheVariants as status
 
--- the texts are those of the program, which is accepted by the rules, within the limits
-pub record Passes (texts : List (List ℕ)) (program : Program) : Type 0 where
-  pub read : ResolveTo texts program
-  pub accepted : IsAccepted program
-
--- .. of one that is not, and why
+-- the texts are those of a program that is not accepted, and why
 pub record EndsJudging (texts : List (List ℕ)) (end : End) : Type 0 where
   pub program : Program
   pub read : ResolveTo texts program
@@ -126,6 +123,8 @@ RunsPrograms command.Sample = ⊤
 RunsPrograms command.Format = ⊥
 RunsPrograms command.Policy = ⊥
 RunsPrograms command.Observe = ⊤
+RunsPrograms command.Certify = ⊥
+RunsPrograms command.Recheck = ⊥
 
 -- the command that runs programs in this way
 abbrev pub running : Mode → Command
@@ -139,40 +138,67 @@ abbrev pub IsNumbered : Mode → List (List ℕ) → Type 0
 IsNumbered (mode.Summed number) names = sample_number names ≡ Some number
 IsNumbered way names = ⊤
 
--- the texts have trees whose names are refused, or whose program is not accepted; and this is the limit or the fault
+-- How far a command goes with texts before anything is run or written to `out`: to their trees, to what their names stand for, to
+-- whether their program is accepted, or to its code.
+pub data Stage : Type 0 where
+  parsing : Stage
+  naming : Stage
+  judging : Stage
+  lowering : Stage
+
+-- what is formatted may have any names, and what is rechecked any types
+abbrev pub stage_of : Command → Stage
+stage_of command.Check = judging
+stage_of command.Authority = judging
+stage_of command.Run = lowering
+stage_of command.Trace = lowering
+stage_of command.Sample = lowering
+stage_of command.Format = parsing
+stage_of command.Policy = judging
+stage_of command.Observe = lowering
+stage_of command.Certify = judging
+stage_of command.Recheck = naming
+
+-- the texts have trees whose names are refused, and this is the limit
+abbrev pub StopsUnnamed : List (List ℕ) → LimitName → Type 0
+StopsUnnamed texts name = FirstNoTree 1 texts (status.Limit name) ⊎ NamesStop texts (status.Limit name)
+
+-- .. or whose program is not accepted
 abbrev pub StopsLimited : List (List ℕ) → LimitName → Type 0
-StopsLimited texts name = FirstNoTree 1 texts (status.Limit name) ⊎ (NamesStop texts (status.Limit name) ⊎ EndsJudging texts (limited name))
+StopsLimited texts name = StopsUnnamed texts name ⊎ EndsJudging texts (limited name)
 
--- The status with which texts end a call before anything is run or written to `out`: some file has no tree; or, of
--- texts that are to be checked, to be reported on, to keep to a policy or to run, the names are refused, or the program is; or, of
--- those that are to run, the code passes a limit. What is formatted may have any names.
-abbrev pub StopsTexts : Command → List (List ℕ) → Status → Type 0
-StopsTexts command texts (status.Syntax place kind) = FirstNoTree 1 texts (status.Syntax place kind)
-StopsTexts command.Check texts (status.Limit name) = StopsLimited texts name
-StopsTexts command.Authority texts (status.Limit name) = StopsLimited texts name
-StopsTexts command.Run texts (status.Limit name) = StopsLimited texts name ⊎ EndsLowering texts name
-StopsTexts command.Trace texts (status.Limit name) = StopsLimited texts name ⊎ EndsLowering texts name
-StopsTexts command.Sample texts (status.Limit name) = StopsLimited texts name ⊎ EndsLowering texts name
-StopsTexts command.Format texts (status.Limit name) = FirstNoTree 1 texts (status.Limit name)
-StopsTexts command.Policy texts (status.Limit name) = StopsLimited texts name
-StopsTexts command.Observe texts (status.Limit name) = StopsLimited texts name ⊎ EndsLowering texts name
-StopsTexts command.Check texts (status.Refused fault) = NamesStop texts (status.Refused fault) ⊎ EndsJudging texts (refused fault)
-StopsTexts command.Authority texts (status.Refused fault) = NamesStop texts (status.Refused fault) ⊎ EndsJudging texts (refused fault)
-StopsTexts command.Run texts (status.Refused fault) = NamesStop texts (status.Refused fault) ⊎ EndsJudging texts (refused fault)
-StopsTexts command.Trace texts (status.Refused fault) = NamesStop texts (status.Refused fault) ⊎ EndsJudging texts (refused fault)
-StopsTexts command.Sample texts (status.Refused fault) = NamesStop texts (status.Refused fault) ⊎ EndsJudging texts (refused fault)
-StopsTexts command.Policy texts (status.Refused fault) = NamesStop texts (status.Refused fault) ⊎ EndsJudging texts (refused fault)
-StopsTexts command.Observe texts (status.Refused fault) = NamesStop texts (status.Refused fault) ⊎ EndsJudging texts (refused fault)
-StopsTexts command texts other = ⊥
+-- The status with which texts end a call that goes so far: some file has no tree; or the names are refused; or the program is; or
+-- its code passes a limit.
+abbrev pub StopsTexts : Stage → List (List ℕ) → Status → Type 0
+StopsTexts stage texts (status.Syntax place kind) = FirstNoTree 1 texts (status.Syntax place kind)
+StopsTexts parsing texts (status.Limit name) = FirstNoTree 1 texts (status.Limit name)
+StopsTexts naming texts (status.Limit name) = StopsUnnamed texts name
+StopsTexts judging texts (status.Limit name) = StopsLimited texts name
+StopsTexts lowering texts (status.Limit name) = StopsLimited texts name ⊎ EndsLowering texts name
+StopsTexts naming texts (status.Refused fault) = NamesStop texts (status.Refused fault)
+StopsTexts judging texts (status.Refused fault) = NamesStop texts (status.Refused fault) ⊎ EndsJudging texts (refused fault)
+StopsTexts lowering texts (status.Refused fault) = NamesStop texts (status.Refused fault) ⊎ EndsJudging texts (refused fault)
+StopsTexts stage texts other = ⊥
 
--- The status with which the files of a command end a call so: the one of the texts among them; and under `policy`, where these
--- pass, the one that the first file gives.
+-- The status with which the files of a command end a call before anything is run or written to `out`: under `recheck` the first has
+-- more bytes than a certificate may have; or it is the one of the texts among them. Where these go far enough, it is under `policy` and
+-- under `recheck` the one that the first file gives, and under `certify` that a certificate has too many bytes.
 pub data Stops (asked : Command) (files : List (List ℕ)) (end : Status) : Type 0 where
-  by_texts : StopsTexts asked (texts_among asked files) end → Stops asked files end
+  by_size : asked ≡ command.Recheck → HasLargeCertificate files → end ≡ status.Limit limit.CertificateBytes → Stops asked files end
+  by_texts : HasNoLargeCertificate asked files → StopsTexts (stage_of asked) (texts_among asked files) end → Stops asked files end
   by_policy : asked ≡ command.Policy → StopsByPolicy files end → Stops asked files end
+  by_length : asked ≡ command.Certify → EndsCertifying files → end ≡ status.Limit limit.CertificateBytes → Stops asked files end
+  by_certificate : asked ≡ command.Recheck → StopsByCertificate files end → Stops asked files end
+
+-- a command whose first file is not among its texts
+abbrev pub HasFirst : Command → Type 0
+HasFirst command.Policy = ⊤
+HasFirst command.Recheck = ⊤
+HasFirst other = ⊥
 
 -- what a call did: nothing, or it said that texts are accepted, or it reported what a program may do, or it ran a program,
--- or it wrote the canonical form of a file, or it said that a program keeps to its policy
+-- or it wrote the canonical form of a file, or it said that a program keeps to its policy, or it wrote a program's certificate, or it
+-- said that a certificate proves a program
 pub data Did : Type 0 where
   nothing : Did
   checked : Did
@@ -180,6 +206,8 @@ pub data Did : Type 0 where
   ran : Program → Did
   formatted : List ItemTree → Did
   permitted : Did
+  certified : Program → Did
+  proved : Program → Did
 
 -- what a command does with files that do not stop it
 abbrev pub Asks : Command → List (List ℕ) → Did → Type 0
@@ -191,4 +219,6 @@ Asks command.Sample texts (ran program) = Runnable texts program
 Asks command.Observe texts (ran program) = Runnable texts program
 Asks command.Format texts (formatted tree) = HaveTrees 1 texts (tree ∷ [])
 Asks command.Policy files permitted = KeepsToPolicy files
+Asks command.Certify texts (certified program) = HasCertificate texts program
+Asks command.Recheck files (proved program) = ProvesTexts files program
 Asks command texts other = ⊥

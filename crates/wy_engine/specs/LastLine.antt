@@ -11,6 +11,8 @@ use Rattle.wy_device.specs.RunEnds.{RunEnd, Trap, TooDeep, Spent, DeviceFailed}
 use Rattle.wy_meaning.specs.EndLines.{end_line}
 use Rattle.wy_authority.specs.Report.{atom_text}
 use Rattle.wy_machine.specs.TrapKinds.{trap_meant}
+use Rattle.wy_proving.specs.declared.proof.CertTest.{CertTest}
+use Rattle.wy_proving.specs.declared.proof.CertTest.TheVariants as test
 use Rattle.wy_settings.specs.Settings.{Settings, texts_among, usual_steps, usual_depth}
 use Rattle.wy_engine.specs.declared.status.Status.{Status}
 use Rattle.wy_engine.specs.declared.status.Status.TheVariants as status
@@ -50,6 +52,22 @@ limit_line name = codes "limit: " ++ (limit_text name ++ (codes " " ++ (decimal 
 abbrev pub usage_line : List ℕ
 usage_line = codes "usage: wyvern COMMAND [--steps N] [--depth N] FILE...\n"
 
+-- a test of a certificate
+abbrev pub test_text : CertTest → List ℕ
+test_text test.Scopes = codes "C-Scopes"
+test_text test.Types = codes "C-Types"
+test_text test.Pairs = codes "C-Pairs"
+test_text test.Plain = codes "C-Plain"
+test_text test.Lines = codes "C-Lines"
+test_text test.Nodes = codes "C-Nodes"
+
+-- what a certificate, which is the first file, does not prove, as `c: unproved 1 C-Nodes 3`
+abbrev pub scope_text : List (List ℕ) → ℕ → List ℕ
+scope_text names scope = file_word names 1 ++ (codes ": unproved " ++ decimal scope)
+
+abbrev pub unproved_line : List (List ℕ) → ℕ → CertTest → ℕ → List ℕ
+unproved_line names scope test index = scope_text names scope ++ (codes " " ++ (test_text test ++ (codes " " ++ (decimal index ++ codes "\n"))))
+
 -- a line of a policy, which is the first file, as `plugins.pol:3`
 abbrev pub row_text : List (List ℕ) → ℕ → List ℕ
 row_text names line = file_word names 1 ++ (codes ":" ++ decimal line)
@@ -88,5 +106,7 @@ last_line words status.Spent = run_line words Spent
 last_line words (status.DeviceFailed grant op) = run_line words (DeviceFailed grant op)
 last_line words status.Unwritten = codes "unwritten\n"
 last_line words status.Memory = codes "no memory\n"
+last_line words (status.BadCert at) = file_word words.names 1 ++ (codes ": bad certificate at " ++ (decimal at ++ codes "\n"))
+last_line words (status.Unproved scope test index) = unproved_line words.names scope test index
 last_line words (status.Denied line instance atom) = denial_line words.names line instance atom
 last_line words (status.BadPolicy line) = row_text words.names line ++ codes ": bad policy\n"

@@ -1,4 +1,6 @@
 pub mod Answering
+pub mod Certificates
+pub mod CertifiedProved
 pub mod Completeness
 pub mod FileTrees
 pub mod FormatAgain
@@ -8,6 +10,7 @@ pub mod LastLine
 pub mod MarkFiles
 pub mod NameFaults
 pub mod Parsed
+pub mod Passing
 pub mod ProgramLaws
 pub mod Reading
 pub mod Running

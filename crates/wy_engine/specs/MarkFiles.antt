@@ -6,7 +6,7 @@ use Rattle.wy_code.specs.declared.code.Body.{Body}
 use Rattle.wy_code.specs.declared.instruction.Placed.{Placed}
 use Rattle.wy_lower.specs.Lowering.{lowered}
 use Rattle.wy_sound.specs.Programs.{program_starts}
-use Rattle.wy_engine.specs.Judgement.{Passes}
+use Rattle.wy_engine.specs.Passing.{Passes}
 
 -- the mark of each instruction is in one of the files, which count from 1
 abbrev pub MarksAreInFiles : Type 0

@@ -14,7 +14,8 @@ use Rattle.wy_sound.specs.Laws.{course}
 use Rattle.wy_sound.specs.Programs.{allowed, program_starts}
 use Rattle.wy_sound.specs.Used.{IsUsedWithin}
 use Rattle.wy_types.specs.Program.{Program}
-use Rattle.wy_engine.specs.Judgement.{IsReported, Passes}
+use Rattle.wy_engine.specs.Judgement.{IsReported}
+use Rattle.wy_engine.specs.Passing.{Passes}
 
 -- the names of the instances of a report
 abbrev pub row_names : List InstanceRow → List (List ℕ)

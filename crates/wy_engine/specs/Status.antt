@@ -22,6 +22,8 @@ number_of status.Spent = 8
 number_of (status.DeviceFailed grant op) = 9
 number_of status.Unwritten = 10
 number_of status.Memory = 11
+number_of (status.BadCert at) = 14
+number_of (status.Unproved scope test index) = 15
 number_of (status.Denied line instance atom) = 16
 number_of (status.BadPolicy line) = 17
 
@@ -44,6 +46,8 @@ IsOfEnd status.Spent end = end ≡ ends.Spent
 IsOfEnd (status.DeviceFailed grant op) end = end ≡ ends.DeviceFailed grant op
 IsOfEnd status.Unwritten end = ⊥
 IsOfEnd status.Memory end = ⊥
+IsOfEnd (status.BadCert at) end = ⊥
+IsOfEnd (status.Unproved scope test index) end = ⊥
 IsOfEnd (status.Denied line instance atom) end = ⊥
 IsOfEnd (status.BadPolicy line) end = ⊥
 
@@ -61,6 +65,8 @@ IsOfRun status.Spent = ⊤
 IsOfRun (status.DeviceFailed grant op) = ⊤
 IsOfRun status.Unwritten = ⊤
 IsOfRun status.Memory = ⊤
+IsOfRun (status.BadCert at) = ⊥
+IsOfRun (status.Unproved scope test index) = ⊥
 IsOfRun (status.Denied line instance atom) = ⊥
 IsOfRun (status.BadPolicy line) = ⊥
 
@@ -78,6 +84,8 @@ IsOfOut status.Spent = ⊥
 IsOfOut (status.DeviceFailed grant op) = ⊥
 IsOfOut status.Unwritten = ⊤
 IsOfOut status.Memory = ⊤
+IsOfOut (status.BadCert at) = ⊥
+IsOfOut (status.Unproved scope test index) = ⊥
 IsOfOut (status.Denied line instance atom) = ⊥
 IsOfOut (status.BadPolicy line) = ⊥
 
@@ -95,5 +103,7 @@ IsOfTexts status.Spent = ⊥
 IsOfTexts (status.DeviceFailed grant op) = ⊥
 IsOfTexts status.Unwritten = ⊥
 IsOfTexts status.Memory = ⊥
+IsOfTexts (status.BadCert at) = ⊤
+IsOfTexts (status.Unproved scope test index) = ⊤
 IsOfTexts (status.Denied line instance atom) = ⊤
 IsOfTexts (status.BadPolicy line) = ⊤

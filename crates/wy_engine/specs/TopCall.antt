@@ -60,8 +60,10 @@ takes_files command.Sample = false
 takes_files command.Format = true
 takes_files command.Policy = true
 takes_files command.Observe = true
+takes_files command.Certify = true
+takes_files command.Recheck = true
 
--- the texts of a command: those that the shelf tells for its files, a policy among them, and of `sample` the one that its number makes
+-- the texts of a command: those that the shelf tells for its files, a policy or a certificate among them, and of `sample` the one that its number makes
 abbrev pub HasTexts : Command → ShelfState → List (List ℕ) → List (List ℕ) → Type 0
 HasTexts command.Sample shelf names texts = sampled names ≡ Some texts
 HasTexts asked shelf names texts = TellsTexts shelf names texts

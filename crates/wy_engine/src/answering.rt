@@ -1,10 +1,12 @@
-ghost use Rattle.std.specs.Prelude.{◌≡◌, ◌≤◌, length, map, string_bytes, true};
+ghost use Rattle.std.specs.Prelude.{◌≡◌, ◌≤◌, length, map, string_bytes, true, IsFalse, IsTrue};
 ghost use Rattle.wy_device.specs.Devices.{IsInOrder};
 ghost use Rattle.wy_machine.specs.Devices.{states};
 ghost use Rattle.wy_settings.specs.Settings.{takes};
 ghost use Rattle.wy_engine.specs.Answering.{Answered};
-ghost use Rattle.wy_engine.specs.Judgement.{IsNumbered, RunsPrograms, running};
+ghost use Rattle.wy_engine.specs.Certificates.{HasLargeCertificate, HasNoLargeCertificate};
+ghost use Rattle.wy_engine.specs.Judgement.{HasFirst, IsNumbered, RunsPrograms, running};
 
+use crate::certifying::{certify_trees, recheck_trees};
 use crate::checking::{check_trees, report_trees};
 use crate::formatting::write_form;
 use crate::parsing::parse_all;
@@ -15,6 +17,7 @@ use std::alloc::Global;
 use wy_device::device::Device;
 use wy_machine::devices::Devices;
 use wy_settings::{Command, CommandLine, sample_number, texts_among};
+use wy_text::limit::LimitName;
 use wy_text::sink::Sink;
 use wy_text::text::Text;
 
@@ -35,8 +38,22 @@ fn way_of(command: Command, files: &[String]) -> Mode
     }
 }
 
+/// Whether the first file of a command is to be a certificate, and has more bytes than one may have. It takes no memory.
+fn has_large_certificate(command: Command, files: &[Text]) -> bool
+    ensures large { IsTrue result → (command ≡ Command.Recheck) × HasLargeCertificate files.now }
+    ensures none { IsFalse result → HasNoLargeCertificate command files.now }
+{
+    match (command, files.split_first()) {
+        (Command::Recheck, Some((certificate, _texts))) => {
+            certificate.as_bytes().len() as u64 > LimitName::CertificateBytes.number()
+        }
+        _ => false,
+    }
+}
+
 /// Does with texts what a command asks: parses them, and then checks their program, reports what it may do, runs it,
-/// judges it by a policy, which is the first text, or writes the canonical form of the one text.
+/// judges it by a policy or rechecks it by a certificate, which is the first text, writes a certificate of it, or writes the canonical
+/// form of the one text.
 pub fn answer<O: Sink, E: Sink, D: Device>(
     alloc: Global,
     asked: CommandLine<'_>,
@@ -48,10 +65,13 @@ pub fn answer<O: Sink, E: Sink, D: Device>(
     requires few { length texts.now ≤ 64 }
     requires fits { takes asked.command (map string_bytes asked.files.now) ≡ true }
     requires one { asked.command ≡ Command.Format → length texts.now ≡ 1 }
-    requires some { asked.command ≡ Command.Policy → 1 ≤ length texts.now }
+    requires some { HasFirst asked.command → 1 ≤ length texts.now }
     requires in_order { IsInOrder (states D.state devices.old) }
     ensures { Answered (record { command = asked.entry.command; steps = asked.entry.steps; depth = asked.entry.depth; files = map string_bytes asked.entry.files.now }) texts.now (O.state out.old) (O.state out.new) (E.state report.old) (E.state report.new) (states D.state devices.old) (states D.state devices.new) result }
 {
+    if has_large_certificate(asked.command, texts) {
+        return Status::Limit(LimitName::CertificateBytes);
+    }
     let trees = match parse_all(alloc, texts_among(asked.command, texts)) {
         Ok(trees) => trees,
         Err(end) => return end,
@@ -70,5 +90,7 @@ pub fn answer<O: Sink, E: Sink, D: Device>(
         Command::Sample => run_trees(alloc, trees.as_slice(), manner, out, report, devices),
         Command::Format => write_form(alloc, &trees[0], out),
         Command::Policy => permit_trees(alloc, trees.as_slice(), texts[0].as_bytes(), out),
+        Command::Certify => certify_trees(alloc, trees.as_slice(), out),
+        Command::Recheck => recheck_trees(alloc, trees.as_slice(), texts[0].as_bytes(), out),
     }
 }

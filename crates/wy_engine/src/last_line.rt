@@ -4,12 +4,13 @@ ghost use Rattle.wy_authority.specs.Report.{atom_text};
 ghost use Rattle.wy_device.specs.Operation.{method_text};
 ghost use Rattle.wy_device.specs.Traps.{trap_text};
 ghost use Rattle.wy_machine.specs.TrapKinds.{trap_meant};
-ghost use Rattle.wy_engine.specs.LastLine.{denial_line, fault_text, file_word, lacks_text, last_line, limit_line, place_text, row_text, syntax_text};
+ghost use Rattle.wy_engine.specs.LastLine.{denial_line, fault_text, file_word, lacks_text, last_line, limit_line, place_text, row_text, scope_text, syntax_text, test_text, unproved_line};
 
 use crate::status::{Status, SyntaxKind};
 use std::alloc::Global;
 use wy_device::operation::OpName;
 use wy_machine::run_end::TrapKind;
+use wy_proving::CertTest;
 use wy_text::fault::{AtomName, Fault, Place};
 use wy_text::limit::LimitName;
 use wy_text::text::{Memory, Text};
@@ -128,7 +129,7 @@ fn trap_word(kind: TrapKind) -> &'static str
     }
 }
 
-/// Adds a bound of a run, behind what it is called.
+/// Adds a number that ends the line, as a bound of a run, behind what it is called.
 fn push_bound(alloc: Global, line: &mut Vec<u8>, called: &[u8], number: u64) -> Result<(), Memory>
     ensures { OnOk result (line.new.items ≡ line.old.items ++ (called.now ++ (decimal number ++ codes "\n"))) }
 {
@@ -166,6 +167,59 @@ fn push_denial(
     push_atom(line, atom)?;
     line.extend_from_slice(b"\n")?;
     Ok(())
+}
+
+/// The word for a test of a certificate.
+fn test_word(test: CertTest) -> &'static str
+    ensures { result.now ≡ test_text test }
+{
+    match test {
+        CertTest::Scopes => "C-Scopes",
+        CertTest::Types => "C-Types",
+        CertTest::Pairs => "C-Pairs",
+        CertTest::Plain => "C-Plain",
+        CertTest::Lines => "C-Lines",
+        CertTest::Nodes => "C-Nodes",
+    }
+}
+
+/// Adds where the first file is no certificate.
+fn push_bad_certificate(
+    alloc: Global,
+    line: &mut Vec<u8>,
+    names: &[String],
+    at: u64,
+) -> Result<(), Memory>
+    ensures { OnOk result (line.new.items ≡ line.old.items ++ (file_word (map string_bytes names.now) 1 ++ (codes ": bad certificate at " ++ (decimal at ++ codes "\n")))) }
+{
+    line.extend_from_slice(word_of(names, 1).as_bytes())?;
+    push_bound(alloc, line, b": bad certificate at ", at)
+}
+
+/// Adds that the certificate, which is the first file, does not prove a scope.
+fn push_scope(alloc: Global, line: &mut Vec<u8>, names: &[String], scope: u32) -> Result<(), Memory>
+    ensures { OnOk result (line.new.items ≡ line.old.items ++ scope_text (map string_bytes names.now) scope) }
+{
+    line.extend_from_slice(word_of(names, 1).as_bytes())?;
+    line.extend_from_slice(b": unproved ")?;
+    push_number(alloc, line, scope)
+}
+
+/// Adds what the certificate does not prove: a scope, a test, and the number at which it fails.
+fn push_unproved(
+    alloc: Global,
+    line: &mut Vec<u8>,
+    names: &[String],
+    scope: u32,
+    test: CertTest,
+    index: u64,
+) -> Result<(), Memory>
+    ensures { OnOk result (line.new.items ≡ line.old.items ++ unproved_line (map string_bytes names.now) scope test index) }
+{
+    push_scope(alloc, line, names, scope)?;
+    line.extend_from_slice(b" ")?;
+    line.extend_from_slice(test_word(test).as_bytes())?;
+    push_bound(alloc, line, b" ", index)
 }
 
 /// Adds the operation of a grant that failed.
@@ -241,6 +295,10 @@ fn push_last_line(
         Status::DeviceFailed { grant, op } => push_failed(line, grant, *op)?,
         Status::Unwritten => line.extend_from_slice(b"unwritten\n")?,
         Status::Memory => line.extend_from_slice(b"no memory\n")?,
+        Status::BadCert { at } => push_bad_certificate(alloc, line, words.names, *at)?,
+        Status::Unproved { scope, test, index } => {
+            push_unproved(alloc, line, words.names, *scope, *test, *index)?
+        }
         Status::Denied {
             line: row,
             instance,

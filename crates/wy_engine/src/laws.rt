@@ -1,5 +1,6 @@
 //! Laws of the definitions of this crate. No function here does anything: what it says is its clause.
 
+ghost use Rattle.wy_engine.specs.CertifiedProved.{CertifiedIsProved};
 ghost use Rattle.wy_engine.specs.Completeness.{AcceptedTextsEnd};
 ghost use Rattle.wy_engine.specs.FormatAgain.{FormatAgain};
 ghost use Rattle.wy_engine.specs.MarkFiles.{MarksAreInFiles};
@@ -7,6 +8,7 @@ ghost use Rattle.wy_engine.specs.ProgramLaws.{AcceptedRunAsMeant};
 ghost use Rattle.wy_engine.specs.ValsInOrder.{ValsStandInOrder};
 
 use wy_canonical::trees_have_words;
+use wy_certify::certificates_prove;
 use wy_code::laws::spent_takes_all;
 use wy_layout::laws::tokens_name_their_file;
 use wy_lower::laws::{accepted_code_follows, accepted_is_never_stuck, marks_are_of_the_program};
@@ -15,7 +17,7 @@ use wy_names::laws::marks_are_of_the_items;
 use wy_parser::laws::marks_are_of_the_tokens;
 use wy_sound::laws::events_are_bounded;
 use wy_sound::telling::{allowed_is_reported, instances_are_told, used_is_allowed};
-use wy_well_formed::{resolved_keeps_all, resolved_vals_are_in_order};
+use wy_well_formed::{resolved_is_core, resolved_keeps_all, resolved_vals_are_in_order};
 
 /// What `format` wrote is written again: the canonical form of a file's tree has one tree, and prints as the same text,
 /// unless it passes a limit of layout.
@@ -44,13 +46,21 @@ pub fn accepted_run_as_meant()
 
 /// A call finds no excuse. Where no part of the outside counted a fault and no limit is passed, an accepted program that
 /// `run`, `trace`, `sample` or `observe` runs, with a bound of at least four steps for each node that its meaning evaluates and four
-/// more, ends, traps or goes too deep as its meaning does; and texts that `check`, `authority`, `format` or `policy` do not
-/// stop come to their good end. Only want of memory may come in the place of these.
+/// more, ends, traps or goes too deep as its meaning does; and texts that `check`, `authority`, `format`, `policy`, `certify` or
+/// `recheck` do not stop come to their good end. Only want of memory may come in the place of these.
 pub fn accepted_texts_end()
     ensures { AcceptedTextsEnd }
 {
     accepted_run_as_meant();
     spent_takes_all();
+}
+
+/// What `certify` writes of texts, `recheck` proves of them: a certificate that is written of an accepted program proves it.
+pub fn certified_is_proved()
+    ensures { CertifiedIsProved }
+{
+    resolved_is_core();
+    certificates_prove();
 }
 
 /// The types that judging gives of a scope's `val`s stand in the order of the `val`s in the texts: of two the one of the

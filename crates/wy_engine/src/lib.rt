@@ -1,9 +1,10 @@
 //! The top call: it reads the files that the words name, judges them, prints the authority of what it
 //! accepts, and runs or traces it on the devices that were handed in; or it says whether they are accepted, or keep to a
-//! policy, or writes that authority, or a file's canonical form.
+//! policy, or are proved by a certificate, or writes that authority, a certificate, or a file's canonical form.
 #![tactic(auto)]
 
 pub mod answering;
+pub mod certifying;
 pub mod checking;
 pub mod formatting;
 pub mod judging;

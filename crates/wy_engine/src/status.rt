@@ -1,5 +1,6 @@
 use wy_device::operation::OpName;
 use wy_machine::run_end::TrapKind;
+use wy_proving::CertTest;
 use wy_text::fault::{AtomName, Fault, Place};
 use wy_text::limit::LimitName;
 use wy_text::text::Text;
@@ -54,6 +55,18 @@ pub enum Status {
     Unwritten,
     /// Memory was wanting.
     Memory,
+    /// The first file is no certificate: so many of its bytes can stand, and not one more.
+    BadCert {
+        at: u64,
+    },
+    /// The first file is a certificate that does not prove the program. The test is the first that fails, in the first scope where
+    /// one does; the index is the number of the type, pair, rule or node at which it fails, from 0. Where the certificate has not
+    /// one part for each scope, both numbers are 0.
+    Unproved {
+        scope: u32,
+        test: CertTest,
+        index: u64,
+    },
     /// The program does not keep to its policy. The instance, or `main`, is the first that may do more than the policy
     /// allows it. It goes by the row of this line, 0 where there is none, and the atom is the first of its authority that the
     /// row does not allow.
@@ -89,6 +102,8 @@ impl Status {
             Status::DeviceFailed { .. } => 9,
             Status::Unwritten => 10,
             Status::Memory => 11,
+            Status::BadCert { .. } => 14,
+            Status::Unproved { .. } => 15,
             Status::Denied { .. } => 16,
             Status::BadPolicy { .. } => 17,
         }

@@ -14,8 +14,10 @@ use crate::laws::accepted_run_as_meant;
 use crate::reading::{Stop, read_all};
 use crate::status::Status;
 use std::alloc::Global;
+use wy_certify::certificates_have_one_size;
 use wy_device::device::Device;
 use wy_machine::devices::Devices;
+use wy_proving::laws::proved_is_accepted;
 use wy_sample::sample;
 use wy_settings::{
     Command, CommandLine, SettingsRefusal, USUAL_DEPTH, USUAL_STEPS, sample_number, settings,
@@ -41,7 +43,9 @@ fn takes_files(command: Command) -> bool
         | Command::Trace
         | Command::Format
         | Command::Policy
-        | Command::Observe => true,
+        | Command::Observe
+        | Command::Certify
+        | Command::Recheck => true,
         Command::Sample => false,
     }
 }
@@ -93,6 +97,8 @@ fn settle<S: Shelf, O: Sink, E: Sink, D: Device>(
     }) }
 {
     resolved_is_core();
+    certificates_have_one_size();
+    proved_is_accepted();
     accepted_run_as_meant();
     if line.files.len() > MOST_FILES {
         return Status::Limit(LimitName::Files);
@@ -100,7 +106,7 @@ fn settle<S: Shelf, O: Sink, E: Sink, D: Device>(
     if !takes_files(line.command) {
         return answer_sample(alloc, line, out, report, devices);
     }
-    match read_all(alloc, shelf, line.files) {
+    match read_all(alloc, shelf, line.command, line.files) {
         Err(Stop::Unread(file)) => Status::Unread(file),
         Err(Stop::Memory) => Status::Memory,
         Ok(texts) => answer(alloc, line, texts.as_slice(), out, report, devices),
@@ -162,7 +168,9 @@ fn status_of(refusal: SettingsRefusal) -> Status
 /// run to `out`; `sample` runs the program that its number makes, reads no file, and writes a line that sums it up to `out`
 /// where the run ended; `format` writes the canonical form of its one file to `out`; `policy` judges the files behind its first as
 /// `check` does, and says on `out` that their program keeps to the policy that the first is, where it does; `observe` does as `run` does, and writes
-/// to `out` behind it what was used of each instance. The report ends with a line that says how the call ended, unless all was done (docs/LANGUAGE.md, "The command line",
+/// to `out` behind it what was used of each instance; `certify` judges as `check` does, and writes a certificate of what is accepted to
+/// `out`; `recheck` says on `out` that the program of the files behind the first is proved by the certificate that the first is, where it
+/// is, and judges them by nothing else. The report ends with a line that says how the call ended, unless all was done (docs/LANGUAGE.md, "The command line",
 /// "Authority and report" and "Statuses").
 ///
 /// The devices are of the four kinds in their order, which `devices` gives.

@@ -52,6 +52,21 @@ no_observed : settings_of (codes "observe" ∷ []) ≡ None
 unfolding clap_on_literals
 no_observed = refl
 
+certify_words : settings_of (codes "certify" ∷ codes "a.wy" ∷ []) ≡ Some (usual command.Certify (codes "a.wy" ∷ []))
+unfolding clap_on_literals
+certify_words = refl
+
+recheck_words : settings_of (codes "recheck" ∷ codes "c" ∷ codes "a.wy" ∷ []) ≡ Some (usual command.Recheck (codes "c" ∷ codes "a.wy" ∷ []))
+unfolding clap_on_literals
+recheck_words = refl
+
+recheck_texts : texts_among command.Recheck (codes "c" ∷ codes "a.wy" ∷ []) ≡ codes "a.wy" ∷ []
+recheck_texts = refl
+
+one_certificate : settings_of (codes "recheck" ∷ codes "c" ∷ []) ≡ None
+unfolding clap_on_literals
+one_certificate = refl
+
 no_words : settings_of [] ≡ None
 unfolding clap_on_literals
 no_words = refl

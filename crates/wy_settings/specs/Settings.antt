@@ -71,7 +71,9 @@ command_named word =
     (if bytes_eq word (codes "trace") then Some command.Trace else
     (if bytes_eq word (codes "sample") then Some command.Sample else
     (if bytes_eq word (codes "format") then Some command.Format else
-    (if bytes_eq word (codes "policy") then Some command.Policy else (if bytes_eq word (codes "observe") then Some command.Observe else None)))))))
+    (if bytes_eq word (codes "policy") then Some command.Policy else
+    (if bytes_eq word (codes "observe") then Some command.Observe else
+    (if bytes_eq word (codes "certify") then Some command.Certify else (if bytes_eq word (codes "recheck") then Some command.Recheck else None)))))))))
 
 abbrev pub most_sample : ℕ
 most_sample = 200
@@ -87,7 +89,8 @@ sample_number [] = None
 sample_number (word ∷ []) = from_one (number_up_to most_sample word)
 sample_number (word ∷ other ∷ words) = None
 
--- whether a command takes these files: `sample` its number, `format` one file, `policy` two or more, and each other one or more
+-- whether a command takes these files: `sample` its number, `format` one file, `policy` and `recheck` two or more, and each other
+-- one or more
 abbrev pub takes : Command → List (List ℕ) → Bool
 takes command.Check files = nat_le 1 (length files)
 takes command.Authority files = nat_le 1 (length files)
@@ -97,10 +100,14 @@ takes command.Sample files = is_some (sample_number files)
 takes command.Format files = length files == 1
 takes command.Policy files = nat_le 2 (length files)
 takes command.Observe files = nat_le 1 (length files)
+takes command.Certify files = nat_le 1 (length files)
+takes command.Recheck files = nat_le 2 (length files)
 
--- the texts among the files of a command, or their words: all, and for `policy` those behind the first, which is the policy
+-- the texts among the files of a command, or their words: all, and for `policy` and `recheck` those behind the first, which is the
+-- policy or the certificate
 abbrev pub texts_among : {X : Type 0} → Command → List X → List X
 texts_among command.Policy (policy ∷ texts) = texts
+texts_among command.Recheck (certificate ∷ texts) = texts
 texts_among command files = files
 
 -- the number of an option, which is the usual one where the option is not there

@@ -20,6 +20,10 @@ pub enum Command {
     Policy,
     /// As `Run`, and write behind it which atoms each instance used.
     Observe,
+    /// Judge the files, and write a certificate that proves their program.
+    Certify,
+    /// Say whether the first file is a certificate that proves the program of those behind it.
+    Recheck,
 }
 
 /// A command, how many steps a run may take, how many calls on objects may be open in it at once, and the file words.

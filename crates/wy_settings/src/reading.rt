@@ -36,6 +36,8 @@ fn command_of(word: &str) -> Option<Command>
         "format" => Some(Command::Format),
         "policy" => Some(Command::Policy),
         "observe" => Some(Command::Observe),
+        "certify" => Some(Command::Certify),
+        "recheck" => Some(Command::Recheck),
         _ => None,
     }
 }
@@ -59,21 +61,25 @@ fn takes(command: Command, files: &[String]) -> bool
     ensures { result ≡ takes command (map string_bytes files.now) }
 {
     match command {
-        Command::Check | Command::Authority | Command::Run | Command::Trace | Command::Observe =>
-            files.len() >= 1,
+        Command::Check
+        | Command::Authority
+        | Command::Run
+        | Command::Trace
+        | Command::Observe
+        | Command::Certify => files.len() >= 1,
         Command::Sample => sample_number(files).is_some(),
         Command::Format => files.len() == 1,
-        Command::Policy => files.len() >= 2,
+        Command::Policy | Command::Recheck => files.len() >= 2,
     }
 }
 
-/// The texts among the files of a command, or their words: all, and for `policy` those behind the first, which is the
-/// policy. It takes no memory.
+/// The texts among the files of a command, or their words: all, and for `policy` and `recheck` those behind the first, which
+/// is the policy or the certificate. It takes no memory.
 pub fn texts_among<X>(command: Command, files: &[X]) -> &[X]
     ensures { result.now ≡ texts_among command files.now }
 {
     match (command, files) {
-        (Command::Policy, [_, texts @ ..]) => texts,
+        (Command::Policy | Command::Recheck, [_, texts @ ..]) => texts,
         _ => files,
     }
 }

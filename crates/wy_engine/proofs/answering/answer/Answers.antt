@@ -4,13 +4,19 @@ use Rattle.wy_syntax.specs.Views.{file_tree}
 use Rattle.wy_settings.specs.Settings.{texts_among}
 use Rattle.wy_settings.specs.declared.command_line.Command.TheVariants as command
 use Rattle.wy_engine.specs.FileTrees.{HaveTrees}
-use Rattle.wy_engine.proofs.Doing.{as_many, did_check, did_format, did_none, did_policy, did_report, did_run, runs_as}
+use Rattle.wy_engine.proofs.Doing.{as_many, did_certify, did_check, did_format, did_large, did_none, did_policy, did_recheck, did_report, did_run, first_as, runs_as}
 use Rattle.wy_engine.proofs.OneItem.{one_mapped}
 use Rattle.wy_engine.proofs.TextsAmong.{all_texts}
 use Rattle.wy_engine.proofs.answering.answer.Goals as goal
 
+pub returns-then-has_large_certificate : goal.returns-then-has_large_certificate
+returns-then-has_large_certificate g c =
+    let large = c.has_large_certificate.ensures.large c.if-has_large_certificate.true in
+    did_large _ c.args.texts.now _ _ _ large.0 large.1
+
 pub returns-in-Err : goal.returns-in-Err
-returns-in-Err g c = did_none _ c.args.texts.now _ _ _ c.in-Err.end (rw c.texts_among.ensures at c.in-Err.ensures.none)
+returns-in-Err g c =
+    did_none _ c.args.texts.now _ _ _ c.in-Err.end (c.has_large_certificate.ensures.none c.if-has_large_certificate.false) (rw c.texts_among.ensures at c.in-Err.ensures.none)
 
 pub returns-in-Check : goal.returns-in-Check
 returns-in-Check g c = did_check _ c.args.texts.now (map file_tree c.in-Ok.trees.items) _ _ _ _ _ c.in-Check.is (rw c.texts_among.ensures at c.in-Ok.ensures.trees) (rw (← c.as_slice.ensures.value) c.check_trees.ensures)
@@ -59,7 +65,16 @@ returns-in-Format g c =
     (one_mapped file_tree c.in-Ok.trees.items c.index.result.now (omega arith) (omega arith) c.index.ensures)
     c.write_form.ensures
 
+pub returns-in-Policy : goal.returns-in-Policy
+returns-in-Policy g c =
+    did_policy _ c.args.texts.now c.as_bytes.result.now _ (map file_tree c.in-Ok.trees.items) _ _ _ _ _ c.in-Policy.is (c.requires.some (first_as c.in-Policy.is tt)) (c.as_bytes.ensures ∙ c.index-texts-0.is)
+    (rw c.texts_among.ensures at c.in-Ok.ensures.trees) (rw (← c.as_slice-in-Policy.ensures.value) c.permit_trees.ensures)
+
+pub returns-in-Certify : goal.returns-in-Certify
+returns-in-Certify g c =
+    did_certify _ c.args.texts.now (map file_tree c.in-Ok.trees.items) _ _ _ _ _ c.in-Certify.is (rw c.texts_among.ensures at c.in-Ok.ensures.trees) (rw (← c.as_slice-in-Certify.ensures.value) c.certify_trees.ensures)
+
 pub returns : goal.returns
 returns g c =
-    did_policy _ c.args.texts.now c.as_bytes.result.now _ (map file_tree c.in-Ok.trees.items) _ _ _ _ _ c.in-Policy.is (c.requires.some c.in-Policy.is) (c.as_bytes.ensures ∙ c.index-texts-0.is)
-    (rw c.texts_among.ensures at c.in-Ok.ensures.trees) (rw (← c.as_slice-in-Policy.ensures.value) c.permit_trees.ensures)
+    did_recheck _ c.args.texts.now c.as_bytes-in-Recheck.result.now _ (map file_tree c.in-Ok.trees.items) _ _ _ _ _ c.in-Recheck.is (c.requires.some (first_as c.in-Recheck.is tt)) (c.as_bytes-in-Recheck.ensures ∙ c.index-texts-0-in-Recheck.is)
+    (c.has_large_certificate.ensures.none c.if-has_large_certificate.false) (rw c.texts_among.ensures at c.in-Ok.ensures.trees) (rw (← c.as_slice-in-Recheck.ensures.value) c.recheck_trees.ensures)

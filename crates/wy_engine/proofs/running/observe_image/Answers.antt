@@ -1,10 +1,10 @@
-use Rattle.std.proofs.Common.{◌≡◌, ◌∙◌, List, ap, map, sym, subst}
+use Rattle.std.proofs.Common.{◌≡◌, ◌∙◌, ap, map}
 use Rattle.wy_effects.specs.Members.{Apart}
 use Rattle.wy_machine.specs.Observing.{instance_names}
 use Rattle.wy_meaning.specs.Used.{UsedState}
 use Rattle.wy_meaning.specs.declared.used.Account.{Account}
-use Rattle.wy_policy.specs.Used.{used_sets, used_text}
-use Rattle.wy_engine.specs.Running.{ThenObserved, begun}
+use Rattle.wy_policy.specs.Used.{used_sets}
+use Rattle.wy_engine.specs.Running.{begun}
 use Rattle.wy_engine.proofs.NamesInCode.{kept_sets}
 use Rattle.wy_engine.proofs.running.observe_image.Goals as goal
 

@@ -1,4 +1,4 @@
-use Rattle.std.proofs.Common.{◌≡◌, ◌≢◌, rules, refl}
+use Rattle.std.proofs.Common.{◌≡◌, ◌≢◌, refl}
 use Rattle.wy_machine.specs.declared.run_end.RunEnd.{RunEnd}
 use Rattle.wy_engine.specs.Running.{behind, observed}
 use Rattle.wy_engine.specs.declared.status.Status.{Status}
@@ -19,6 +19,8 @@ behind_other status.Spent run other = refl
 behind_other (status.DeviceFailed grant op) run other = refl
 behind_other status.Unwritten run other = refl
 behind_other status.Memory run other = refl
+behind_other (status.BadCert at) run other = refl
+behind_other (status.Unproved scope test index) run other = refl
 behind_other (status.Denied line instance atom) run other = refl
 behind_other (status.BadPolicy line) run other = refl
 

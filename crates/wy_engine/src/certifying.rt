@@ -1,0 +1,69 @@
+//! Certificates: one is written of a program that is accepted, and whether one proves a program is found out.
+
+ghost use Rattle.std.specs.Prelude.{◌≡◌, map};
+ghost use Rattle.wy_syntax.specs.Views.{file_tree};
+ghost use Rattle.wy_engine.specs.Answering.{CertifiesTrees, RechecksTrees, certify_status, recheck_status};
+
+use crate::checking::judge_trees;
+use crate::judging::names_status;
+use crate::status::Status;
+use crate::writing::write_out;
+use std::alloc::Global;
+use wy_certify::{CertifyRefusal, certify};
+use wy_names::resolve;
+use wy_recheck::{CertRefusal, recheck};
+use wy_syntax::items::Tree;
+use wy_text::sink::Sink;
+use wy_well_formed::resolved_is_core;
+
+/// The status of a call that writes no certificate. It takes no memory.
+fn certify_status(why: CertifyRefusal) -> Status
+    ensures { result ≡ certify_status why }
+{
+    match why {
+        CertifyRefusal::Limit(name) => Status::Limit(name),
+        CertifyRefusal::Memory => Status::Memory,
+    }
+}
+
+/// Judges trees, and writes a certificate of their program to `out`, where it is accepted (docs/LANGUAGE.md, "Certificates").
+pub fn certify_trees<O: Sink>(alloc: Global, trees: &[Tree], out: &mut O) -> Status
+    ensures { CertifiesTrees (map file_tree trees.now) (O.state out.old) (O.state out.new) result }
+{
+    resolved_is_core();
+    let accepted = match judge_trees(alloc, trees) {
+        Ok(accepted) => accepted,
+        Err(end) => return end,
+    };
+    match certify(alloc, &accepted.core) {
+        Ok(text) => write_out(out, text.as_bytes()),
+        Err(why) => certify_status(why),
+    }
+}
+
+/// The status of a call whose certificate does not prove the program. It takes no memory.
+fn recheck_status(why: CertRefusal) -> Status
+    ensures { result ≡ recheck_status why }
+{
+    match why {
+        CertRefusal::BadCert(at) => Status::BadCert { at },
+        CertRefusal::Unproved { scope, test, index } => Status::Unproved { scope, test, index },
+        CertRefusal::Memory => Status::Memory,
+    }
+}
+
+/// Finds out what the names in trees stand for, and says on `out` that bytes are a certificate which proves their program, where they
+/// are. The program is judged by nothing else (docs/LANGUAGE.md, "Certificates").
+pub fn recheck_trees<O: Sink>(alloc: Global, trees: &[Tree], bytes: &[u8], out: &mut O) -> Status
+    ensures { RechecksTrees bytes.now (map file_tree trees.now) (O.state out.old) (O.state out.new) result }
+{
+    resolved_is_core();
+    let core = match resolve(alloc, trees) {
+        Ok(core) => core,
+        Err(why) => return names_status(why),
+    };
+    match recheck(alloc, &core, bytes) {
+        Ok(()) => write_out(out, b"proved\n"),
+        Err(why) => recheck_status(why),
+    }
+}
