@@ -9,6 +9,10 @@ mod authority_table;
 #[cfg(test)]
 mod canonical_table;
 #[cfg(test)]
+mod certificates;
+#[cfg(test)]
+mod certificates_table;
+#[cfg(test)]
 mod checking;
 #[cfg(test)]
 mod checking_table;

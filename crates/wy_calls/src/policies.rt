@@ -84,7 +84,7 @@ fn a_file_that_is_not_read_is_named_the_policy_too(rt: HostRuntime) -> Result<()
 }
 
 /// Bytes: a front, and so many times a line.
-fn lines(alloc: Global, front: &[u8], line: &[u8], count: usize) -> Result<Vec<u8>, Fail> {
+pub fn lines(alloc: Global, front: &[u8], line: &[u8], count: usize) -> Result<Vec<u8>, Fail> {
     let mut bytes = Vec::new(alloc);
     bytes.extend_from_slice(front)?;
     for _ in 0..count {

@@ -3,7 +3,7 @@ use std::alloc::Global;
 use std::test::Fail;
 
 /// Words that are no command line.
-static FAULTY: [&[&str]; 31] = [
+static FAULTY: [&[&str]; 35] = [
     &[],
     &["check"],
     &["check", "-b.wy"],
@@ -35,6 +35,10 @@ static FAULTY: [&[&str]; 31] = [
     &["policy", "--steps", "9", "b.wy"],
     &["observe"],
     &["observe", "--depth", "9"],
+    &["certify"],
+    &["certify", "--steps", "9"],
+    &["recheck"],
+    &["recheck", "b.wy"],
 ];
 
 /// Whether a call with these words, over a shelf with an empty `b.wy`, ends with the status of the number and the

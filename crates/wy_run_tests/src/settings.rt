@@ -77,12 +77,13 @@ fn other_words_have_none(rt: HostRuntime) -> Result<(), Fail> {
 }
 
 #[test]
-fn the_first_file_is_no_text_of_policy_alone(rt: HostRuntime) -> Result<(), Fail> {
+fn the_first_file_of_policy_and_recheck_is_no_text(rt: HostRuntime) -> Result<(), Fail> {
     let files = ["a", "b", "c"];
     let behind = texts_among(Command::Policy, files.as_slice());
     assert_eq!(rt; behind, ["b", "c"].as_slice());
+    assert_eq!(rt; texts_among(Command::Recheck, files.as_slice()), behind);
     assert_eq!(rt;
-        texts_among(Command::Check, files.as_slice()),
+        texts_among(Command::Certify, files.as_slice()),
         files.as_slice()
     );
     assert_eq!(rt; texts_among(Command::Policy, behind).len(), 1);
