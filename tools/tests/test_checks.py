@@ -9,12 +9,14 @@ from support import TOP, ToolTest
 
 COPIED = ("README.md", "CHANGELOG.md", "LICENSE", "VERSION", "crates.txt", "docs", "editors", "examples", "bench", "dist", "tools")
 SOURCES = ("wy_text/src/fault.rt", "wy_text/src/limit.rt", "wy_engine/src/last_line.rt", "wy_calls/src/examples_table.rt")
-# Answers each call as the program does that it is compared with: by the report beside the files, or not at all; and each policy allows
-# all, but one that allows `main` nothing.
+# Answers each call as the program does that it is compared with: by the report beside the files, or not at all; each policy allows
+# all, but one that allows `main` nothing; and a certificate, which is the first file's text, proves all but where it has a word `lag`.
 STAND_IN = """#!/bin/sh
 case $1 in
   authority) cat "$(dirname "$2")/report.txt" ;;
   policy) ! grep -q '^main: -' "$2" && echo allowed ;;
+  certify) cat "$2" ;;
+  recheck) ! grep -qw lag "$2" && echo proved ;;
   *) exit 1 ;;
 esac
 """
@@ -62,7 +64,8 @@ class Checks(ToolTest):
         self.change("examples/plugin/policy.pol", "main: console.Out", "main: -")
         status, said = self.check("check_examples", "--program", f"{self.room}/program")
         self.assertEqual(status, 1)
-        for wanted in ("examples_table.rt: log.wy", "crates/wy_cli/data/b.wy", "one row for hello", "plugin: it does not keep to its policy"):
+        wrong = ("plugin: it does not keep to its policy", "logger: its certificate does not prove it")
+        for wanted in ("examples_table.rt: log.wy", "crates/wy_cli/data/b.wy", "one row for hello", *wrong):
             self.assertIn(wanted, said)
 
     def test_pages(self):

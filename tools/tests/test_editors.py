@@ -13,7 +13,7 @@ import unittest
 
 from support import HELLO, PROGRAM, TOP, ToolTest, needs_program
 
-COMMANDS = ["check", "authority", "run", "trace", "sample", "format", "policy", "observe"]
+COMMANDS = ["check", "authority", "run", "trace", "sample", "format", "policy", "observe", "certify", "recheck"]
 VIM = """set nocompatible
 set runtimepath^={top}/editors/vim
 filetype plugin on
@@ -93,6 +93,8 @@ class Shells(ToolTest):
         self.assertEqual(self.complete("run", "--d"), ["--depth"])
         self.assertEqual(self.complete("run", ""), ["x.wy", "src"])
         self.assertEqual((self.complete("sample", ""), self.complete("run", "--steps", "")), ([], []))
+        self.assertEqual(sorted(self.complete("recheck", "")), ["notes.txt", "src", "x.wy"])
+        self.assertEqual(self.complete("recheck", "notes.txt", ""), ["x.wy", "src"])
 
     @needs("zsh")
     def test_zsh(self):

@@ -29,3 +29,5 @@ class Explain(ToolTest):
         self.assertIn("file words", self.tool("explain", "check", *["x.wy"] * 65).stderr)
         self.assertIn("is not there", self.tool("explain", "check", "none.wy").stderr)
         self.assertIn("no command line", self.tool("explain", "nothing").stderr)
+        self.write("x.wy", HELLO)
+        self.assertIn("is no certificate", self.tool("explain", "recheck", "x.wy", "x.wy").stderr)
