@@ -214,4 +214,5 @@ def main() -> None:
             before = (amount, seconds)
 
 
-main()
+if __name__ == "__main__":
+    main()
