@@ -1,17 +1,13 @@
 -- Code written by hand: what runs, and what is stuck.
 use Rattle.std.proofs.Common.{codes, ◌≡◌, ℕ, pos, List, [], ◌∷◌, map, true, false, refl}
 use Rattle.wy_text.specs.declared.fault.Place.{Place}
-use Rattle.wy_device.specs.Operation.{kind_named}
-use Rattle.wy_device.specs.Operators.{operate}
+use Rattle.wy_device.specs.Operators.{operate_within}
 use Rattle.wy_device.specs.RunEnds.{RunEnd, Ended, Trap, TooDeep, Spent, Wrong}
 use Rattle.wy_device.specs.Tapes.{Tapes}
 use Rattle.wy_device.specs.Traps.{BadName}
 use Rattle.wy_device.specs.declared.deed.Event.{Event}
 use Rattle.wy_device.specs.declared.deed.Event.TheVariants.{Enter, Leave}
-use Rattle.wy_code.specs.declared.primitive.Primitive.{Primitive}
-use Rattle.wy_code.specs.declared.primitive.Primitive.TheVariants.{Console, Folder, Clock, Random}
-use Rattle.wy_code.specs.Primitives.{device_of, operations_of}
-use Rattle.wy_device.specs.declared.operation.OpName.{OpName}
+use Rattle.wy_device.specs.declared.primitive.Primitive.TheVariants.{Folder}
 use Rattle.wy_code.specs.declared.instruction.Constant.TheVariants as constant
 use Rattle.wy_code.specs.declared.instruction.Operator.TheVariants as operator
 use Rattle.wy_code.specs.declared.instruction.Instruction.{Instruction}
@@ -61,17 +57,17 @@ run_entered = Enter (codes "main") (codes "run")
 -- an object captures a slot; its method adds its argument to its field, and what it captured
 calls_are : ran (code_with 5 (int 7 ∷ Store 1 ∷ int 1 ∷ New 1 ∷ int 2 ∷ Call 1 1 ∷ Finish ∷ []) (Get 1 ∷ Load 1 ∷ Op operator.Add ∷ Set 1 ∷ Get 0 ∷ Get 1 ∷ Op operator.Add ∷ Return ∷ []))
     ≡ record { end = Ended; events = run_entered ∷ Enter (codes "main") (codes "new1.go") ∷ Leave ∷ Leave ∷ []; taken = 15 }
-unfolding run_entered operate step steps machine
+unfolding run_entered operate_within step steps machine
 calls_are = refl
 
 jumps_are : map (λ b. (ran (code_with 4 (Push (constant.Truth b) ∷ JumpFalse 5 ∷ int 1 ∷ Drop ∷ Jump 6 ∷ Finish ∷ int 1 ∷ Finish ∷ []) [])).taken) (true ∷ false ∷ []) ≡ 7 ∷ 3 ∷ []
-unfolding operate step steps machine
+unfolding operate_within step steps machine
 jumps_are = refl
 
 -- a call on an object is too deep before the method is looked for, and a file's name is bad before the tape is asked
 first_causes_are : (ran (code_with 4 (int 1 ∷ New 1 ∷ int 2 ∷ Call 1 1 ∷ []) (Load 0 ∷ int 3 ∷ Call 9 1 ∷ []))).end ∷ ends 4 (Push (constant.Grant 0) ∷ Push (constant.Text 0) ∷ Call 0 1 ∷ []) ∷ []
     ≡ TooDeep ∷ Trap BadName here ∷ []
-unfolding operate step steps machine
+unfolding operate_within step steps machine
 first_causes_are = refl
 
 -- stuck: a missing operand, one more operand than the body has slots for, a value of a wrong kind, a slot, a method,
@@ -82,15 +78,10 @@ stuck_are : ends 4 (Drop ∷ []) ∷ ends 3 (int 1 ∷ int 2 ∷ []) ∷ ends 4 
     ≡ Wrong ∷ Wrong ∷ Wrong ∷ Wrong ∷
     Wrong ∷ Wrong ∷ Wrong ∷
     Wrong ∷ Wrong ∷ Wrong ∷ Wrong ∷ Wrong ∷ []
-unfolding operate step steps machine
+unfolding operate_within step steps machine
 stuck_are = refl
 
 -- the last step that a run may take is the one before it is spent
 spent_is : machine (code_with 4 (int 1 ∷ Finish ∷ []) []) 1 1 no_tapes ≡ record { end = Spent; events = run_entered ∷ []; taken = 1 }
 unfolding run_entered step steps machine
 spent_is = refl
-
--- each operation of a primitive type asks a device of the type's kind
-operations_are_the_devices : map (λ (t : Primitive). map kind_named (operations_of t)) (Console ∷ Folder ∷ Clock ∷ Random ∷ [])
-    ≡ map (λ (t : Primitive). map (λ (o : OpName). device_of t) (operations_of t)) (Console ∷ Folder ∷ Clock ∷ Random ∷ [])
-operations_are_the_devices = refl

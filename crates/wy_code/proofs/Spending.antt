@@ -8,10 +8,9 @@ use Rattle.wy_device.specs.declared.operation.Answer.{Answer}
 use Rattle.wy_device.specs.declared.operation.Answer.TheVariants as answer
 use Rattle.wy_device.specs.declared.operation.Op.{Op}
 use Rattle.wy_device.specs.Operators.{Computed, GivesNumber, GivesTruth, Builds, Traps, Misfits}
-use Rattle.wy_device.specs.Requests.{has_good_name, answers_text, Told, Answers, Fails, Waits, asked}
+use Rattle.wy_device.specs.Requests.{operation_of, has_good_name, answers_text, Told, Answers, Fails, Waits, asked}
 use Rattle.wy_device.specs.RunEnds.{TooDeep, Spent, Wrong}
 use Rattle.wy_device.specs.Traps.{most_texts, most_objects}
-use Rattle.wy_code.specs.Primitives.{operation_of}
 use Rattle.wy_code.specs.declared.code.Body.{Body}
 use Rattle.wy_code.specs.declared.code.Code.{Code}
 use Rattle.wy_code.specs.declared.code.Grant.{Grant as CodeGrant}

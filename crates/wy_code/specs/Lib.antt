@@ -3,6 +3,5 @@ pub mod Machine
 pub mod Marks
 pub mod Named
 pub mod Operations
-pub mod Primitives
 pub mod Running
 pub mod Stores

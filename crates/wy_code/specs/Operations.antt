@@ -9,13 +9,12 @@ use Rattle.wy_device.specs.declared.deed.Event.TheVariants.{Deed}
 use Rattle.wy_device.specs.Operation.{name_of}
 use Rattle.wy_device.specs.Operators as meant
 use Rattle.wy_device.specs.Operators.{Operand, Bytes, Computed, GivesNumber, GivesTruth, Builds, Traps, Misfits, operate}
-use Rattle.wy_device.specs.Requests.{has_good_name, answers_text, Told, Answers, Fails, Waits, asked}
+use Rattle.wy_device.specs.Requests.{operation_of, has_good_name, answers_text, Told, Answers, Fails, Waits, asked}
 use Rattle.wy_device.specs.RunEnds.{Trap, DeviceFailed, Waiting, Wrong}
 use Rattle.wy_device.specs.Traps.{most_texts, BadName, Crowded}
 use Rattle.wy_code.specs.declared.instruction.Operator.{Operator}
 use Rattle.wy_code.specs.declared.instruction.Operator.TheVariants.{Negate, Not, Add, Subtract, Multiply, Divide, Remainder, Join, Less, LessOrEqual, Greater, GreaterOrEqual, Equal, NotEqual, Size, Part, Code, Byte, Show}
 use Rattle.wy_code.specs.declared.code.Grant.{Grant as CodeGrant}
-use Rattle.wy_code.specs.Primitives.{operation_of}
 use Rattle.wy_code.specs.Stores.{Word, Int, Truth, Nothing, Text, Store, Reply, Replies, Ends, replied, ended, operand, with_text, text_built}
 
 -- an operator of the code among the operators of the language

@@ -1,5 +1,5 @@
 use crate::instruction::Placed;
-use crate::primitive::Primitive;
+use wy_device::primitive::Primitive;
 use wy_text::list::Items;
 use wy_text::text::Text;
 

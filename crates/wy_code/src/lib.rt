@@ -5,4 +5,3 @@
 pub mod code;
 pub mod instruction;
 pub mod laws;
-pub mod primitive;

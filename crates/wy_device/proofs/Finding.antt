@@ -1,6 +1,6 @@
 -- What is found first in a list, after an item was set or pushed.
 use Rattle.std.proofs.Common.{◌≡◌, ◌≤◌, ◌<◌, ◌+◌, ℕ, zero, suc, Bool, true, false, cond, List, [], ◌∷◌, ◌++◌, Some, None, length, get_or, set, refl, ap, arith}
-use Rattle.std.specs.Prelude.{find, position, not}
+use Rattle.std.specs.Prelude.{filter, find, position, not}
 use Rattle.std.specs.List.{position_or_len}
 use Rattle.std.proofs.lemmas.Bool.Decides.{nat_tests}
 
@@ -41,3 +41,23 @@ module _ {X : Type 0} (test : X → Bool) where
 
   pub none_passes : (xs : List X) → position test xs ≡ None → NonePasses xs
   none_passes xs e = record { none = grind (arith, nat_tests) }
+
+  -- what fails the test stays, and nothing passes it then
+  pub find-filter_none : (xs : List X) → find test (filter (λ x. not (test x)) xs) ≡ None
+  find-filter_none [] = refl
+  find-filter_none (x ∷ xs) =
+      elim (test x) as (λ b. test x ≡ b → find test (cond (not b) (x ∷ filter (λ x. not (test x)) xs) (filter (λ x. not (test x)) xs)) ≡ None) [
+        | true ↦ λ e. find-filter_none xs
+        | false ↦ λ e. rw e (find-filter_none xs)
+      ] refl
+
+  -- where only what fails this test is taken away, the same is found
+  pub find-filter_other : (other : X → Bool) → ((x : X) → other x ≡ true → test x ≡ false) → (xs : List X)
+      → find test (filter (λ x. not (other x)) xs) ≡ find test xs
+  find-filter_other other apart [] = refl
+  find-filter_other other apart (x ∷ xs) =
+      elim (other x) as (λ b. other x ≡ b → find test (cond (not b) (x ∷ filter (λ x. not (other x)) xs) (filter (λ x. not (other x)) xs))
+      ≡ cond (test x) (Some x) (find test xs)) [
+        | true ↦ λ e. rw (apart x e) (find-filter_other other apart xs)
+        | false ↦ λ e. ap (cond (test x) (Some x)) (find-filter_other other apart xs)
+      ] refl

@@ -1,3 +1,4 @@
+mod Examples
 pub mod Finding
 pub mod Naming
 pub mod Putting

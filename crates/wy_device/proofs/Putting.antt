@@ -1,14 +1,14 @@
--- A file put among the files of a folder.
+-- A file put among the files of a folder, and taken from them.
 use Rattle.std.proofs.Common.{◌≡◌, ℕ, true, false, List, [], ◌∷◌, ◌++◌, Some, None, get_or, set, refl, sym, ◌∙◌, ap}
-use Rattle.std.specs.Prelude.{position}
+use Rattle.std.specs.Prelude.{filter, not, position}
 use Rattle.std.specs.Option.{option_map}
 use Rattle.std.specs.Cmp.{first_so, second_so}
 use Rattle.std.specs.Cmp.Derive.{both_true}
 use Rattle.std.proofs.lemmas.List.Quantifiers.{position-Some}
 use Rattle.std.proofs.lemmas.Slice.Eq.{bytes_eq-Decides}
 use Rattle.wy_device.specs.declared.folder_files.FolderFile.{FolderFile}
-use Rattle.wy_device.specs.FolderFiles.{is_file, Puts}
-use Rattle.wy_device.proofs.Finding.{find-set_other, find-set_first, find-push_other, find-push_first, none_passes}
+use Rattle.wy_device.specs.FolderFiles.{is_file, Puts, Removes}
+use Rattle.wy_device.proofs.Finding.{find-set_other, find-set_first, find-push_other, find-push_first, find-filter_none, find-filter_other, none_passes}
 
 same_file : (grant name : List ℕ) (file : FolderFile) → is_file grant name file ≡ true → (file.grant ≡ grant) × (file.name ≡ name)
 same_file grant name file e =
@@ -43,4 +43,11 @@ puts-push files file e = record {
   there = ap (option_map (λ f. f.text)) (find-push_first (is_file file.grant file.name) files file (none_passes _ files e) (itself file));
   others = λ g n apart. ap (option_map (λ f. f.text)) (find-push_other (is_file g n) files file
       (other_file g n file.grant file.name file refl refl apart));
+}
+
+pub removes-filter : (files : List FolderFile) (grant name : List ℕ) → Removes files grant name (filter (λ file. not (is_file grant name file)) files)
+removes-filter files grant name = record {
+  gone = ap (option_map (λ f. f.text)) (find-filter_none (is_file grant name) files);
+  others = λ g n apart. ap (option_map (λ f. f.text)) (find-filter_other (is_file g n) (is_file grant name)
+      (λ file at. let same = same_file grant name file at in other_file g n grant name file same.0 same.1 apart) files);
 }

@@ -3,13 +3,14 @@ use Rattle.std.specs.Prelude.{◌≡◌, ℕ, ◌≤◌, List, [], ◌∷◌, Op
 use Rattle.wy_device.specs.declared.operation.Kind.{Kind}
 use Rattle.wy_device.specs.declared.operation.Op.{Op}
 use Rattle.wy_device.specs.declared.operation.OpName.{OpName}
-use Rattle.wy_device.specs.declared.operation.OpName.TheVariants.{ConsoleRead, ConsoleWrite, FolderRead, FolderHas, FolderWrite, FolderAppend, FolderNames, ClockNow, RandomWord}
+use Rattle.wy_device.specs.declared.operation.OpName.TheVariants.{ConsoleRead, ConsoleWrite, FolderRead, FolderHas, FolderWrite, FolderAppend, FolderNames, ClockNow, RandomWord, FolderRemove}
 use Rattle.wy_device.specs.declared.operation.Answer.{Answer}
 use Rattle.wy_device.specs.declared.operation.Answer.TheVariants.{Bytes, Truth, Number, Unit as Done}
 use Rattle.wy_device.specs.declared.deed.Deed.{Deed}
 use Rattle.wy_device.specs.declared.device.DeviceError.{DeviceError}
 use Rattle.wy_device.specs.declared.device.DeviceError.TheVariants.{Failed, Memory}
 use Rattle.wy_device.specs.Operation.{name_of}
+use Rattle.wy_device.specs.Traps.{text_limit}
 use Rattle.wy_text.specs.Outside.{next_count}
 
 -- a device's kind, its deeds, where it tells them, and its count of faults
@@ -45,13 +46,14 @@ IsNumber Done = ⊥
 abbrev pub IsAnswerNamed : OpName → Answer → Type 0
 IsAnswerNamed ConsoleRead answer = IsBytesUpTo 65536 answer
 IsAnswerNamed ConsoleWrite answer = answer ≡ Done
-IsAnswerNamed FolderRead answer = IsBytesUpTo 1048576 answer
+IsAnswerNamed FolderRead answer = IsBytesUpTo text_limit answer
 IsAnswerNamed FolderHas answer = IsTruth answer
 IsAnswerNamed FolderWrite answer = answer ≡ Done
 IsAnswerNamed FolderAppend answer = answer ≡ Done
-IsAnswerNamed FolderNames answer = IsBytesUpTo 1048576 answer
+IsAnswerNamed FolderNames answer = IsBytesUpTo text_limit answer
 IsAnswerNamed ClockNow answer = IsNumber answer
 IsAnswerNamed RandomWord answer = IsNumber answer
+IsAnswerNamed FolderRemove answer = answer ≡ Done
 
 -- an answer of the operation's kind, within its length
 abbrev pub IsAnswerOf : Op → Answer → Type 0

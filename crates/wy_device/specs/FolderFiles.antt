@@ -1,5 +1,5 @@
 -- The files of a folder in memory: for each grant a map from names to texts.
-use Rattle.std.specs.Prelude.{◌≡◌, ◌↔◌, ℕ, List, [], ◌∷◌, ◌++◌, Bool, ◌&&◌, Option, Some, IsSome, unwrap_or, Contains, find, bytes_eq}
+use Rattle.std.specs.Prelude.{◌≡◌, ◌↔◌, ℕ, List, [], ◌∷◌, ◌++◌, Bool, ◌&&◌, Option, Some, None, IsSome, unwrap_or, Contains, find, bytes_eq}
 use Rattle.std.specs.Cmp.Lexicographic.{slice_cmp}
 use Rattle.std.specs.List.{flat_map}
 use Rattle.std.specs.List.Sorted.{IsStrictlySortedBy}
@@ -22,6 +22,11 @@ text_or_empty files grant name = unwrap_or (text_in files grant name) []
 -- the name has this text in the grant's folder now, and every other name, and every other grant's, has what it had
 pub record Puts (old : List FolderFile) (grant name text : List ℕ) (new : List FolderFile) : Type 0 where
   pub there : text_in new grant name ≡ Some text
+  pub others : (g n : List ℕ) → ((g ≡ grant) × (n ≡ name) → ⊥) → text_in new g n ≡ text_in old g n
+
+-- the name is not there in the grant's folder now, and every other name, and every other grant's, has what it had
+pub record Removes (old : List FolderFile) (grant name : List ℕ) (new : List FolderFile) : Type 0 where
+  pub gone : text_in new grant name ≡ None
   pub others : (g n : List ℕ) → ((g ≡ grant) × (n ≡ name) → ⊥) → text_in new g n ≡ text_in old g n
 
 -- the names in a grant's folder, each once, in byte order

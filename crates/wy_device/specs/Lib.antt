@@ -1,6 +1,7 @@
 pub mod Deeds
 pub mod Device
 pub mod Devices
+pub mod Editions
 pub mod Events
 pub mod FolderFiles
 pub mod MemClock
@@ -9,6 +10,7 @@ pub mod MemFolder
 pub mod MemRandom
 pub mod Operation
 pub mod Operators
+pub mod Primitives
 pub mod Requests
 pub mod RunEnds
 pub mod Tapes

@@ -4,7 +4,7 @@ use Rattle.std.specs.Prelude.{codes, ℕ, List}
 use Rattle.wy_device.specs.declared.operation.Kind.{Kind}
 use Rattle.wy_device.specs.declared.operation.Kind.TheVariants.{Console, Folder, Clock, Random}
 use Rattle.wy_device.specs.declared.operation.Op.{Op}
-use Rattle.wy_device.specs.declared.operation.Op.TheVariants.{ConsoleRead, ConsoleWrite, FolderRead, FolderHas, FolderWrite, FolderAppend, FolderNames, ClockNow, RandomWord}
+use Rattle.wy_device.specs.declared.operation.Op.TheVariants.{ConsoleRead, ConsoleWrite, FolderRead, FolderHas, FolderWrite, FolderAppend, FolderNames, ClockNow, RandomWord, FolderRemove}
 use Rattle.wy_device.specs.declared.operation.OpName.{OpName}
 use Rattle.wy_device.specs.declared.operation.OpName.TheVariants as name
 
@@ -19,6 +19,7 @@ name_of (FolderAppend file text) = name.FolderAppend
 name_of FolderNames = name.FolderNames
 name_of ClockNow = name.ClockNow
 name_of RandomWord = name.RandomWord
+name_of (FolderRemove file) = name.FolderRemove
 
 -- the kind of device that has an operation
 abbrev pub kind_named : OpName → Kind
@@ -31,6 +32,7 @@ kind_named name.FolderAppend = Folder
 kind_named name.FolderNames = Folder
 kind_named name.ClockNow = Clock
 kind_named name.RandomWord = Random
+kind_named name.FolderRemove = Folder
 
 abbrev pub kind_of : Op → Kind
 kind_of op = kind_named (name_of op)
@@ -46,6 +48,7 @@ method_text name.FolderAppend = codes "append"
 method_text name.FolderNames = codes "names"
 method_text name.ClockNow = codes "now"
 method_text name.RandomWord = codes "word"
+method_text name.FolderRemove = codes "remove"
 
 -- the member of the primitive type that is the operation's effect
 abbrev pub member_named : OpName → List ℕ
@@ -58,6 +61,7 @@ member_named name.FolderAppend = codes "Append"
 member_named name.FolderNames = codes "List"
 member_named name.ClockNow = codes "Tick"
 member_named name.RandomWord = codes "Draw"
+member_named name.FolderRemove = codes "Remove"
 
 abbrev pub member_of : Op → List ℕ
 member_of op = member_named (name_of op)

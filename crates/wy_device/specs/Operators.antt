@@ -1,7 +1,7 @@
 -- What the operators and the operations on texts give, and when they trap. (docs/LANGUAGE.md, "Operations")
 use Rattle.std.specs.Prelude.{ℕ, ◌-◌, ◌^◌, ◌==◌, nat_lt, nat_le, ℤ, pos, negsuc, ◌+ℤ◌, ◌-ℤ◌, ◌*ℤ◌, neg_ℤ, int_lt, int_le, int_div, int_rem, Bool, true, false, not, ◌&&◌, List, [], ◌∷◌, ◌++◌, length, take, drop, slice_get, Option, Some, None, bytes_eq, if◌then◌else◌}
 use Rattle.std.specs.Fmt.{signed_decimal}
-use Rattle.wy_device.specs.Traps.{TrapKind, Overflow, ZeroDivisor, BadPart, LongText}
+use Rattle.wy_device.specs.Traps.{TrapKind, Overflow, ZeroDivisor, BadPart, LongText, text_limit}
 
 -- all operators but `&&` and `||`, which evaluate their right side only where it is needed
 pub data Operator : Type 0 where
@@ -60,11 +60,9 @@ quotient_of x y = if is_zero y then Traps ZeroDivisor else within_range (int_div
 abbrev pub remainder_of : ℤ → ℤ → Computed
 remainder_of x y = if is_zero y then Traps ZeroDivisor else GivesNumber (int_rem x y)
 
-abbrev pub most_bytes : ℕ
-most_bytes = 1048576
-
-abbrev pub joined : List ℕ → List ℕ → Computed
-joined s t = if nat_le (length (s ++ t)) most_bytes then Builds (s ++ t) else Traps LongText
+-- one text and then the other, where a text has so many bytes at most
+abbrev pub joined : ℕ → List ℕ → List ℕ → Computed
+joined most s t = if nat_le (length (s ++ t)) most then Builds (s ++ t) else Traps LongText
 
 -- the bytes from one place up to before another
 abbrev pub part_of : List ℕ → ℤ → ℤ → Computed
@@ -131,24 +129,28 @@ abbrev pub on_text_and_numbers : (List ℕ → ℤ → ℤ → Computed) → Lis
 on_text_and_numbers f (Bytes s ∷ Number a ∷ Number b ∷ []) = f s a b
 on_text_and_numbers f _ = Misfits
 
--- what an operator gives for its operands
-unfoldable pub operate : Operator → List Operand → Computed
-operate Negate xs = on_number (λ x. within_range (neg_ℤ x)) xs
-operate Not xs = on_truth (λ x. GivesTruth (not x)) xs
-operate Add xs = on_numbers (λ x y. within_range (x +ℤ y)) xs
-operate Subtract xs = on_numbers (λ x y. within_range (x -ℤ y)) xs
-operate Multiply xs = on_numbers (λ x y. within_range (x *ℤ y)) xs
-operate Divide xs = on_numbers quotient_of xs
-operate Remainder xs = on_numbers remainder_of xs
-operate Join xs = on_texts joined xs
-operate Less xs = on_numbers (λ x y. GivesTruth (int_lt x y)) xs
-operate LessOrEqual xs = on_numbers (λ x y. GivesTruth (int_le x y)) xs
-operate Greater xs = on_numbers (λ x y. GivesTruth (int_lt y x)) xs
-operate GreaterOrEqual xs = on_numbers (λ x y. GivesTruth (int_le y x)) xs
-operate Equal xs = on_two (compared (λ same. same)) xs
-operate NotEqual xs = on_two (compared not) xs
-operate Size xs = on_text (λ s. GivesNumber (pos (length s))) xs
-operate Part xs = on_text_and_numbers part_of xs
-operate Code xs = on_text_and_number byte_at xs
-operate Byte xs = on_number one_byte xs
-operate Show xs = on_number (λ x. Builds (signed_decimal x)) xs
+-- what an operator gives for its operands, where a text has so many bytes at most
+unfoldable pub operate_within : ℕ → Operator → List Operand → Computed
+operate_within most Negate xs = on_number (λ x. within_range (neg_ℤ x)) xs
+operate_within most Not xs = on_truth (λ x. GivesTruth (not x)) xs
+operate_within most Add xs = on_numbers (λ x y. within_range (x +ℤ y)) xs
+operate_within most Subtract xs = on_numbers (λ x y. within_range (x -ℤ y)) xs
+operate_within most Multiply xs = on_numbers (λ x y. within_range (x *ℤ y)) xs
+operate_within most Divide xs = on_numbers quotient_of xs
+operate_within most Remainder xs = on_numbers remainder_of xs
+operate_within most Join xs = on_texts (joined most) xs
+operate_within most Less xs = on_numbers (λ x y. GivesTruth (int_lt x y)) xs
+operate_within most LessOrEqual xs = on_numbers (λ x y. GivesTruth (int_le x y)) xs
+operate_within most Greater xs = on_numbers (λ x y. GivesTruth (int_lt y x)) xs
+operate_within most GreaterOrEqual xs = on_numbers (λ x y. GivesTruth (int_le y x)) xs
+operate_within most Equal xs = on_two (compared (λ same. same)) xs
+operate_within most NotEqual xs = on_two (compared not) xs
+operate_within most Size xs = on_text (λ s. GivesNumber (pos (length s))) xs
+operate_within most Part xs = on_text_and_numbers part_of xs
+operate_within most Code xs = on_text_and_number byte_at xs
+operate_within most Byte xs = on_number one_byte xs
+operate_within most Show xs = on_number (λ x. Builds (signed_decimal x)) xs
+
+-- and what it gives on a machine
+abbrev pub operate : Operator → List Operand → Computed
+operate o xs = operate_within text_limit o xs

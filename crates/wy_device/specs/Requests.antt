@@ -2,22 +2,18 @@
 -- answers. (docs/LANGUAGE.md, "Operations on grants")
 use Rattle.std.specs.Prelude.{ℕ, ◌==◌, nat_le, Bool, true, false, not, ◌&&◌, ◌||◌, List, [], ◌∷◌, length, Option, Some, None, bytes_eq, if◌then◌else◌}
 use Rattle.wy_device.specs.Operation.{name_of, kind_of, method_text}
+use Rattle.wy_device.specs.Primitives.{operations_of}
 use Rattle.wy_device.specs.Tapes.{Tapes}
+use Rattle.wy_device.specs.Traps.{text_limit}
 use Rattle.wy_device.specs.declared.operation.Kind.{Kind}
 use Rattle.wy_device.specs.declared.operation.Kind.TheVariants.{Console, Folder, Clock, Random}
 use Rattle.wy_device.specs.declared.operation.Op.{Op}
-use Rattle.wy_device.specs.declared.operation.Op.TheVariants.{ConsoleRead, ConsoleWrite, FolderRead, FolderHas, FolderWrite, FolderAppend, FolderNames, ClockNow, RandomWord}
+use Rattle.wy_device.specs.declared.operation.Op.TheVariants.{ConsoleRead, ConsoleWrite, FolderRead, FolderHas, FolderWrite, FolderAppend, FolderNames, ClockNow, RandomWord, FolderRemove}
 use Rattle.wy_device.specs.declared.operation.OpName.{OpName}
 use Rattle.wy_device.specs.declared.operation.OpName.TheVariants as name
 use Rattle.wy_device.specs.declared.operation.Answer.{Answer}
 use Rattle.wy_device.specs.declared.operation.Answer.TheVariants.{Bytes, Truth, Number, Unit as Done}
-
--- the operations of a kind of device
-abbrev pub operations_of : Kind → List OpName
-operations_of Console = name.ConsoleRead ∷ name.ConsoleWrite ∷ []
-operations_of Folder = name.FolderRead ∷ name.FolderHas ∷ name.FolderWrite ∷ name.FolderAppend ∷ name.FolderNames ∷ []
-operations_of Clock = name.ClockNow ∷ []
-operations_of Random = name.RandomWord ∷ []
+use Rattle.wy_device.specs.declared.primitive.Primitive.{Primitive}
 
 abbrev pub operation_called : List ℕ → List OpName → Option OpName
 operation_called method [] = None
@@ -34,15 +30,16 @@ operation_on name.FolderAppend (file ∷ text ∷ []) = Some (FolderAppend file 
 operation_on name.FolderNames [] = Some FolderNames
 operation_on name.ClockNow [] = Some ClockNow
 operation_on name.RandomWord [] = Some RandomWord
+operation_on name.FolderRemove (file ∷ []) = Some (FolderRemove file)
 operation_on _ _ = None
 
 abbrev pub operation_given : Option OpName → List (List ℕ) → Option Op
 operation_given None texts = None
 operation_given (Some o) texts = operation_on o texts
 
--- what a method of a kind of device asks for
-abbrev pub operation_of : Kind → List ℕ → List (List ℕ) → Option Op
-operation_of kind method texts = operation_given (operation_called method (operations_of kind)) texts
+-- what a method of a primitive type asks for
+abbrev pub operation_of : Primitive → List ℕ → List (List ℕ) → Option Op
+operation_of primitive method texts = operation_given (operation_called method (operations_of primitive)) texts
 
 -- `a` to `z`, `0` to `9`, `.`, `_` and `-`
 abbrev pub is_name_byte : ℕ → Bool
@@ -68,6 +65,7 @@ has_good_name (ConsoleWrite text) = true
 has_good_name FolderNames = true
 has_good_name ClockNow = true
 has_good_name RandomWord = true
+has_good_name (FolderRemove file) = is_file_name file
 
 -- the operation is answered by a text
 abbrev pub answers_text : Op → Bool
@@ -80,6 +78,7 @@ answers_text (FolderWrite file text) = false
 answers_text (FolderAppend file text) = false
 answers_text ClockNow = false
 answers_text RandomWord = false
+answers_text (FolderRemove file) = false
 
 abbrev pub is_text_up_to : ℕ → Answer → Bool
 is_text_up_to most (Bytes text) = nat_le (length text) most
@@ -105,17 +104,18 @@ is_done (Bytes text) = false
 is_done (Truth truth) = false
 is_done (Number number) = false
 
--- the answer is of the operation's kind, and within its length
-abbrev pub fits_operation : OpName → Answer → Bool
-fits_operation name.ConsoleRead answer = is_text_up_to 65536 answer
-fits_operation name.ConsoleWrite answer = is_done answer
-fits_operation name.FolderRead answer = is_text_up_to 1048576 answer
-fits_operation name.FolderHas answer = is_truth answer
-fits_operation name.FolderWrite answer = is_done answer
-fits_operation name.FolderAppend answer = is_done answer
-fits_operation name.FolderNames answer = is_text_up_to 1048576 answer
-fits_operation name.ClockNow answer = is_number answer
-fits_operation name.RandomWord answer = is_number answer
+-- the answer is of the operation's kind, and within its length, where a text has so many bytes at most
+abbrev pub fits_within : ℕ → OpName → Answer → Bool
+fits_within most name.ConsoleRead answer = is_text_up_to 65536 answer
+fits_within most name.ConsoleWrite answer = is_done answer
+fits_within most name.FolderRead answer = is_text_up_to most answer
+fits_within most name.FolderHas answer = is_truth answer
+fits_within most name.FolderWrite answer = is_done answer
+fits_within most name.FolderAppend answer = is_done answer
+fits_within most name.FolderNames answer = is_text_up_to most answer
+fits_within most name.ClockNow answer = is_number answer
+fits_within most name.RandomWord answer = is_number answer
+fits_within most name.FolderRemove answer = is_done answer
 
 -- an answer, or a failure, and the tapes after it; or there is none that the operation can take
 pub data Told : Type 0 where
@@ -135,11 +135,15 @@ with_tape Folder tape tapes = record tapes { folder = tape }
 with_tape Clock tape tapes = record tapes { clock = tape }
 with_tape Random tape tapes = record tapes { random = tape }
 
-abbrev pub told_by : OpName → Kind → List (Option Answer) → Tapes → Told
-told_by o kind [] tapes = Waits
-told_by o kind (None ∷ tape) tapes = Fails (with_tape kind tape tapes)
-told_by o kind (Some answer ∷ tape) tapes = if fits_operation o answer then Answers answer (with_tape kind tape tapes) else Waits
+abbrev pub told_by : ℕ → OpName → Kind → List (Option Answer) → Tapes → Told
+told_by most o kind [] tapes = Waits
+told_by most o kind (None ∷ tape) tapes = Fails (with_tape kind tape tapes)
+told_by most o kind (Some answer ∷ tape) tapes = if fits_within most o answer then Answers answer (with_tape kind tape tapes) else Waits
 
--- what the tape of the operation's kind tells
+-- what the tape of the operation's kind tells, where a text has so many bytes at most
+abbrev pub asked_within : ℕ → Op → Tapes → Told
+asked_within most op tapes = told_by most (name_of op) (kind_of op) (tape_of (kind_of op) tapes) tapes
+
+-- and what it tells a machine
 abbrev pub asked : Op → Tapes → Told
-asked op tapes = told_by (name_of op) (kind_of op) (tape_of (kind_of op) tapes) tapes
+asked op tapes = asked_within text_limit op tapes

@@ -19,6 +19,10 @@ trap_text LongText = codes "LongText"
 trap_text BadName = codes "BadName"
 trap_text Crowded = codes "Crowded"
 
+-- how many bytes a text of a run may have
+abbrev pub text_limit : ℕ
+text_limit = 4194304
+
 -- how many objects made by `new`, and how many texts built, a run may have
 abbrev pub most_objects : ℕ
 most_objects = 4194304

@@ -2,7 +2,7 @@
 
 ghost use Rattle.std.specs.Prelude.{◌≡◌, ◌<◌, IfOk, bytes_eq, map, position, vec_len, vec_capacity};
 ghost use Rattle.std.specs.Option.{option_copied};
-ghost use Rattle.wy_device.specs.FolderFiles.{is_file, text_in, Puts, AreNames, in_lines, Lists};
+ghost use Rattle.wy_device.specs.FolderFiles.{is_file, text_in, Puts, Removes, AreNames, in_lines, Lists};
 
 use std::alloc::Global;
 use std::collections::BTreeSet;
@@ -87,6 +87,13 @@ pub fn put(files: &mut Vec<FolderFile>, file: FolderFile)
             };
         }
     }
+}
+
+/// Takes away each file of this name in this grant's folder.
+pub fn remove(files: &mut Vec<FolderFile>, grant: &Text, name: &Text)
+    ensures { Removes files.old.items grant.now name.now files.new.items }
+{
+    files.retain(|file| !file.is_at(grant, name));
 }
 
 fn names_in<'a>(

@@ -12,4 +12,5 @@ pub mod mem_console;
 pub mod mem_folder;
 pub mod mem_random;
 pub mod operation;
+pub mod primitive;
 pub mod shut;

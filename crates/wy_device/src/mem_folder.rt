@@ -3,14 +3,15 @@
 ghost use Rattle.std.specs.Prelude.{◌≡◌, ◌≤◌, ◌<◌, ◌++◌, ◌⊎◌, [], length, is_some, Some, IfOk, OnOk, OnErr, Err, Contains};
 ghost use Rattle.wy_text.specs.Outside.{gained, next_count, Rose};
 ghost use Rattle.wy_device.specs.Device.{DeviceState, IsAnswerOf, deed_done, deed_failed, faults_after};
-ghost use Rattle.wy_device.specs.FolderFiles.{text_in, text_or_empty, Puts};
+ghost use Rattle.wy_device.specs.FolderFiles.{text_in, text_or_empty, Puts, Removes};
 ghost use Rattle.wy_device.specs.MemFolder.{Answers, Leaves, AnswersTooMuch};
 ghost use Rattle.wy_device.specs.Operation.{kind_of};
+ghost use Rattle.wy_device.specs.Traps.{text_limit};
 
 use crate::call_record::CallRecord;
 use crate::deed::DeedList;
 use crate::device::{Device, DeviceError};
-use crate::folder_files::{FolderFile, FolderList, copied, listing, put, text_of};
+use crate::folder_files::{FolderFile, FolderList, copied, listing, put, remove, text_of};
 use crate::operation::{Answer, Kind, Op};
 use std::alloc::Global;
 use std::marker::Model;
@@ -18,7 +19,7 @@ use wy_text::list::CallList;
 use wy_text::text::{Memory, Text, from_bytes};
 
 /// How many bytes a text has at most, and so an answer of a folder.
-pub const LONGEST_TEXT: usize = 1_048_576;
+pub const LONGEST_TEXT: usize = 4_194_304;
 
 /// A folder in memory. It fails at the calls that it was told to fail, and where a text is longer than an answer may be.
 /// Of two files of one grant and name the first counts.
@@ -66,9 +67,9 @@ impl MemFolder {
 
     /// Answers a text and notes the deed, or fails where it is longer than an answer may be.
     fn answer_text(&mut self, grant: &Text, op: &Op, text: Text) -> Result<Answer, DeviceError>
-        ensures answer { IfOk result (λ a. (a ≡ Answer.Bytes text) × (length text ≤ 1048576)) }
+        ensures answer { IfOk result (λ a. (a ≡ Answer.Bytes text) × (length text ≤ text_limit)) }
         ensures noted { IfOk result (λ a. self.new ≡ record self.old { deeds = self.old.deeds ++ deed_done grant.now op.now a }) }
-        ensures too_long { result ≡ Err DeviceError.Failed → 1048576 < length text }
+        ensures too_long { result ≡ Err DeviceError.Failed → text_limit < length text }
         ensures failed { result ≡ Err DeviceError.Failed → self.new ≡ record self.old {
           deeds = self.old.deeds ++ deed_failed grant.now op.now;
           faults = next_count self.old.faults;
@@ -107,6 +108,21 @@ impl MemFolder {
         self.files.reserve(1)?;
         let answer = self.kept.answer(grant, op, Answer::Unit)?;
         put(&mut self.files, file);
+        Ok(answer)
+    }
+
+    /// Takes away the file of a name, where it is there, and notes the deed.
+    fn remove_file(&mut self, grant: &Text, op: &Op, name: &Text) -> Result<Answer, Memory>
+        ensures answer { IfOk result (λ a. a ≡ Answer.Unit) }
+        ensures removes { OnOk result (Removes self.old.files grant.now name.now self.new.files) }
+        ensures noted { IfOk result (λ a. self.new ≡ record self.old {
+          files = self.new.files;
+          deeds = self.old.deeds ++ deed_done grant.now op.now a;
+        }) }
+        ensures err { OnErr result (self.new ≡ self.old) }
+    {
+        let answer = self.kept.answer(grant, op, Answer::Unit)?;
+        remove(&mut self.files, grant, name);
         Ok(answer)
     }
 }
@@ -167,6 +183,7 @@ impl Device for MemFolder {
                 let text = listing(self.alloc, self.files.as_slice(), grant)?;
                 self.answer_text(grant, op, text)
             }
+            Op::FolderRemove(name) => Ok(self.remove_file(grant, op, name)?),
             _ => unreachable!(),
         }
     }

@@ -5,7 +5,7 @@ ghost use Rattle.wy_device.specs.Operation.{member_named, method_text, name_of};
 
 use wy_text::text::{Memory, Text};
 
-/// The four kinds of device, one for each primitive type (docs/LANGUAGE.md, "Primitive types").
+/// The four kinds of device. A folder serves grants of two primitive types (docs/LANGUAGE.md, "Primitive types").
 #[derive(Clone, Copy, PartialEq, Eq)]
 pub enum Kind {
     Console,
@@ -26,6 +26,7 @@ pub enum Op {
     FolderNames,
     ClockNow,
     RandomWord,
+    FolderRemove(Text),
 }
 
 /// An operation without its arguments.
@@ -40,6 +41,7 @@ pub enum OpName {
     FolderNames,
     ClockNow,
     RandomWord,
+    FolderRemove,
 }
 
 /// What a device answers: bytes, a truth value, a number, or that it is done.
@@ -66,6 +68,7 @@ impl Op {
             Op::FolderNames => Op::FolderNames,
             Op::ClockNow => Op::ClockNow,
             Op::RandomWord => Op::RandomWord,
+            Op::FolderRemove(name) => Op::FolderRemove(name.copy()?),
         })
     }
 
@@ -83,6 +86,7 @@ impl Op {
             Op::FolderNames => OpName::FolderNames,
             Op::ClockNow => OpName::ClockNow,
             Op::RandomWord => OpName::RandomWord,
+            Op::FolderRemove(_) => OpName::FolderRemove,
         }
     }
 }
@@ -102,6 +106,7 @@ impl OpName {
             OpName::FolderNames => "names",
             OpName::ClockNow => "now",
             OpName::RandomWord => "word",
+            OpName::FolderRemove => "remove",
         }
     }
 
@@ -120,6 +125,7 @@ impl OpName {
             OpName::FolderNames => "List",
             OpName::ClockNow => "Tick",
             OpName::RandomWord => "Draw",
+            OpName::FolderRemove => "Remove",
         }
     }
 }

@@ -9,19 +9,19 @@ use Rattle.wy_device.specs.declared.deed.Event.{Event}
 use Rattle.wy_device.specs.declared.operation.Answer.{Answer}
 use Rattle.wy_device.specs.declared.operation.Answer.TheVariants as answer
 use Rattle.wy_device.specs.declared.operation.Op.{Op}
-use Rattle.wy_device.specs.declared.operation.Op.TheVariants.{ConsoleRead, ConsoleWrite, FolderRead, FolderHas, FolderWrite, FolderAppend, FolderNames, ClockNow, RandomWord}
+use Rattle.wy_device.specs.declared.operation.Op.TheVariants.{ConsoleRead, ConsoleWrite, FolderRead, FolderHas, FolderWrite, FolderAppend, FolderNames, ClockNow, RandomWord, FolderRemove}
 use Rattle.wy_device.specs.declared.operation.OpName.{OpName}
 use Rattle.wy_device.specs.declared.operation.OpName.TheVariants as name
 use Rattle.wy_device.specs.Device.{IsAnswerNamed, IsAnswerOf, IsBytesUpTo, IsTruth, IsNumber}
 use Rattle.wy_device.specs.Devices.{DevicesState, device_of}
 use Rattle.wy_device.specs.Events.{DidExactly}
 use Rattle.wy_device.specs.Operation.{name_of, kind_of}
-use Rattle.wy_device.specs.Requests.{operation_called, has_good_name, answers_text, fits_operation, is_text_up_to, is_truth, is_number, is_done, Told, Answers, Fails, Waits, asked}
-use Rattle.wy_code.specs.Primitives.{operations_of}
+use Rattle.wy_device.specs.Requests.{operation_called, has_good_name, answers_text, fits_within, is_text_up_to, is_truth, is_number, is_done, Told, Answers, Fails, Waits, asked}
+use Rattle.wy_device.specs.Primitives.{operations_of}
 use Rattle.wy_device.specs.RunEnds as ends
 use Rattle.wy_device.specs.Tapes.{Tapes, spliced}
 use Rattle.wy_device.specs.Traps as device
-use Rattle.wy_device.specs.Traps.{most_texts, BadName as TrapBadName, Crowded as TrapCrowded}
+use Rattle.wy_device.specs.Traps.{text_limit, most_texts, BadName as TrapBadName, Crowded as TrapCrowded}
 use Rattle.wy_code.specs.declared.code.Code.{Code}
 use Rattle.wy_code.specs.declared.code.Grant.{Grant as CodeGrant}
 use Rattle.wy_code.specs.Operations.{deed_event, word_answered, answered, requested, requested_of, texts_named, performed}
@@ -65,22 +65,23 @@ number_fits (answer.Truth b) h = absurd h
 number_fits (answer.Number n) h = refl
 number_fits answer.Unit h = absurd h
 
-answer_fits : (o : OpName) (a : Answer) → IsAnswerNamed o a → fits_operation o a ≡ true
+answer_fits : (o : OpName) (a : Answer) → IsAnswerNamed o a → fits_within text_limit o a ≡ true
 answer_fits name.ConsoleRead a h = up_to 65536 a h
 answer_fits name.ConsoleWrite a h = ap is_done h
-answer_fits name.FolderRead a h = up_to 1048576 a h
+answer_fits name.FolderRead a h = up_to text_limit a h
 answer_fits name.FolderHas a h = truth_fits a h
 answer_fits name.FolderWrite a h = ap is_done h
 answer_fits name.FolderAppend a h = ap is_done h
-answer_fits name.FolderNames a h = up_to 1048576 a h
+answer_fits name.FolderNames a h = up_to text_limit a h
 answer_fits name.ClockNow a h = number_fits a h
 answer_fits name.RandomWord a h = number_fits a h
+answer_fits name.FolderRemove a h = ap is_done h
 
 -- the tape tells what the deed was answered
 asked_is : (op : Op) (grant : List ℕ) (a : Answer) → IsAnswerOf op a → (more : Tapes) → asked op (spliced (tapes_of (deed_event grant op (Some a))) more) ≡ Answers a more
 asked_is op grant a h more = of_op op (answer_fits (name_of op) a h)
   where
-    of_op : (op : Op) → fits_operation (name_of op) a ≡ true → asked op (spliced (tapes_of (deed_event grant op (Some a))) more) ≡ Answers a more
+    of_op : (op : Op) → fits_within text_limit (name_of op) a ≡ true → asked op (spliced (tapes_of (deed_event grant op (Some a))) more) ≡ Answers a more
     of_op ConsoleRead e = ap (λ b. if b then Answers a more else Waits) e
     of_op (ConsoleWrite text) e = ap (λ b. if b then Answers a more else Waits) e
     of_op (FolderRead file) e = ap (λ b. if b then Answers a more else Waits) e
@@ -90,6 +91,7 @@ asked_is op grant a h more = of_op op (answer_fits (name_of op) a h)
     of_op FolderNames e = ap (λ b. if b then Answers a more else Waits) e
     of_op ClockNow e = ap (λ b. if b then Answers a more else Waits) e
     of_op RandomWord e = ap (λ b. if b then Answers a more else Waits) e
+    of_op (FolderRemove file) e = ap (λ b. if b then Answers a more else Waits) e
 
 asked_fails : (op : Op) (grant : List ℕ) (more : Tapes) → asked op (spliced (tapes_of (deed_event grant op None)) more) ≡ Fails more
 asked_fails ConsoleRead grant more = refl
@@ -101,6 +103,7 @@ asked_fails (FolderAppend file text) grant more = refl
 asked_fails FolderNames grant more = refl
 asked_fails ClockNow grant more = refl
 asked_fails RandomWord grant more = refl
+asked_fails (FolderRemove file) grant more = refl
 
 ------------------------------------------------------------
 -- Requests
@@ -342,10 +345,11 @@ module _ (code : Code) (w w1 : StoreState) where
   pub answer_received : (o : OpName) (n : Option ℕ) → HasPlace code w w1 (is_answered_by_text o) n → (a : Answer) → IsAnswerNamed o a → word_received n a ≡ None → ⊥
   answer_received name.ConsoleRead n place a h e = bytes_fit 65536 n place a h e
   answer_received name.ConsoleWrite n place a h e = unit_fit n place a h e
-  answer_received name.FolderRead n place a h e = bytes_fit 1048576 n place a h e
+  answer_received name.FolderRead n place a h e = bytes_fit text_limit n place a h e
   answer_received name.FolderHas n place a h e = truth_fit n place a h e
   answer_received name.FolderWrite n place a h e = unit_fit n place a h e
   answer_received name.FolderAppend n place a h e = unit_fit n place a h e
-  answer_received name.FolderNames n place a h e = bytes_fit 1048576 n place a h e
+  answer_received name.FolderNames n place a h e = bytes_fit text_limit n place a h e
   answer_received name.ClockNow n place a h e = number_fit n place a h e
   answer_received name.RandomWord n place a h e = number_fit n place a h e
+  answer_received name.FolderRemove n place a h e = unit_fit n place a h e

@@ -9,7 +9,7 @@ use Rattle.wy_device.specs.declared.operation.Answer.{Answer}
 use Rattle.wy_device.specs.declared.operation.Answer.TheVariants as answer
 use Rattle.wy_device.specs.declared.operation.Op.{Op}
 use Rattle.wy_device.specs.Operators as meant
-use Rattle.wy_device.specs.Requests.{has_good_name, answers_text, Told, Answers, Fails, Waits, asked}
+use Rattle.wy_device.specs.Requests.{operation_of, has_good_name, answers_text, Told, Answers, Fails, Waits, asked}
 use Rattle.wy_device.specs.RunEnds as ends
 use Rattle.wy_device.specs.Tapes.{Tapes}
 use Rattle.wy_device.specs.Traps.{most_texts, most_objects, BadName, Crowded}
@@ -25,7 +25,6 @@ use Rattle.wy_code.specs.declared.instruction.Instruction.TheVariants.{Push, Loa
 use Rattle.wy_code.specs.declared.instruction.Operator.{Operator}
 use Rattle.wy_code.specs.declared.instruction.Placed.{Placed}
 use Rattle.wy_code.specs.Operations.{deed_event, answered, requested, requested_of, performed, operated, computed, operator_meant, operand_count, texts_named}
-use Rattle.wy_code.specs.Primitives.{operation_of}
 use Rattle.wy_code.specs.Stores as word
 use Rattle.wy_code.specs.Stores.{Word, Int, Truth, Text, Object, Grant, Thing, Store, found, value_at, value_set, with_text, object_made, operand, replied, ended}
 use Rattle.wy_code.specs.Machine as machine

@@ -3,8 +3,8 @@ use Rattle.std.proofs.Common.{◌≡◌, ℕ, ◌<◌, Bool, true, false, not, �
 use Rattle.std.proofs.lemmas.Option.{same_Some}
 use Rattle.std.specs.Prelude.{if◌then◌else◌}
 use Rattle.wy_text.specs.declared.fault.Place.{Place}
-use Rattle.wy_code.specs.declared.primitive.Primitive.{Primitive}
-use Rattle.wy_code.specs.Primitives.{operations_of}
+use Rattle.wy_device.specs.declared.primitive.Primitive.{Primitive}
+use Rattle.wy_device.specs.Primitives.{operations_of}
 use Rattle.wy_device.specs.declared.operation.Op.{Op}
 use Rattle.wy_device.specs.declared.operation.OpName.{OpName}
 use Rattle.wy_device.specs.declared.operation.OpName.TheVariants as name
@@ -39,6 +39,8 @@ named_first name.FolderRead (Some file) (Some []) op e = ap has_good_name (same_
 named_first name.FolderRead (Some file) (Some (x ∷ xs)) op e = cc
 named_first name.FolderHas (Some file) (Some []) op e = ap has_good_name (same_Some _ _ e)
 named_first name.FolderHas (Some file) (Some (x ∷ xs)) op e = cc
+named_first name.FolderRemove (Some file) (Some []) op e = ap has_good_name (same_Some _ _ e)
+named_first name.FolderRemove (Some file) (Some (x ∷ xs)) op e = cc
 named_first name.FolderWrite (Some file) (Some []) op e = cc
 named_first name.FolderWrite (Some file) (Some (text ∷ [])) op e = ap has_good_name (same_Some _ _ e)
 named_first name.FolderWrite (Some file) (Some (x ∷ y ∷ xs)) op e = cc
@@ -82,6 +84,9 @@ answered_by name.FolderRead (x ∷ y ∷ xs) op e = cc
 answered_by name.FolderHas [] op e = cc
 answered_by name.FolderHas (file ∷ []) op e = ap answers_text (same_Some _ _ e)
 answered_by name.FolderHas (x ∷ y ∷ xs) op e = cc
+answered_by name.FolderRemove [] op e = cc
+answered_by name.FolderRemove (file ∷ []) op e = ap answers_text (same_Some _ _ e)
+answered_by name.FolderRemove (x ∷ y ∷ xs) op e = cc
 answered_by name.FolderWrite [] op e = cc
 answered_by name.FolderWrite (x ∷ []) op e = cc
 answered_by name.FolderWrite (file ∷ text ∷ []) op e = ap answers_text (same_Some _ _ e)

@@ -2,7 +2,7 @@
 use Rattle.std.proofs.Common.{◌≡◌, ℤ, pos, negsuc, Bool, true, false, List, [], ◌∷◌, refl, not, subst, sym}
 use Rattle.std.specs.Prelude.{⊤, if◌then◌else◌, neg_ℤ, ◌+ℤ◌, ◌-ℤ◌, ◌*ℤ◌, int_div, int_rem, slice_get, Option, Some, None, ℕ}
 use Rattle.wy_device.specs.Traps.{Overflow, ZeroDivisor}
-use Rattle.wy_device.specs.Operators.{Operand, Number, Truth, Bytes, Other, Computed, GivesNumber, GivesTruth, Builds, Traps, Misfits, operate, is_int, is_zero, within_range, quotient_of, remainder_of, byte_found, byte_at, compared, on_numbers, on_two, on_number, on_truth, on_text, on_text_and_number}
+use Rattle.wy_device.specs.Operators.{Operand, Number, Truth, Bytes, Other, Computed, GivesNumber, GivesTruth, Builds, Traps, Misfits, operate, operate_within, is_int, is_zero, within_range, quotient_of, remainder_of, byte_found, byte_at, compared, on_numbers, on_two, on_number, on_truth, on_text, on_text_and_number}
 use Rattle.wy_code.specs.declared.instruction.Operator.{Operator}
 use Rattle.wy_code.specs.declared.instruction.Operator.TheVariants as operator
 use Rattle.wy_code.specs.Operations.{operator_meant}
@@ -127,7 +127,7 @@ no_text c bytes e h = subst IsNoText (sym e) h
 
 -- an operator that gives a text is one of the four
 pub only_builders : (o : Operator) (xs : List Operand) (bytes : List ℕ) → Builds bytes ≡ operate (operator_meant o) xs → builds_text o ≡ true
-unfolding operate
+unfolding operate_within
 only_builders operator.Negate xs bytes e = absurd (no_text _ bytes e (on_number_plain _ (λ x. ranged (neg_ℤ x)) xs))
 only_builders operator.Not xs bytes e = absurd (no_text _ bytes e (on_truth_plain _ (λ x. tt) xs))
 only_builders operator.Add xs bytes e = absurd (no_text _ bytes e (on_numbers_plain _ (λ x y. ranged (x +ℤ y)) xs))

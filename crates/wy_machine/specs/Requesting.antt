@@ -12,12 +12,12 @@ use Rattle.wy_machine.specs.States.{store_of}
 use Rattle.wy_machine.specs.StoreStates.{StoreState}
 use Rattle.wy_device.specs.declared.operation.Answer.{Answer}
 use Rattle.wy_device.specs.declared.operation.Answer.TheVariants as answer
-use Rattle.wy_code.specs.declared.primitive.Primitive.{Primitive}
-use Rattle.wy_code.specs.Primitives.{operations_of, operation_of}
+use Rattle.wy_device.specs.Primitives.{operations_of}
+use Rattle.wy_device.specs.declared.primitive.Primitive.{Primitive}
 use Rattle.wy_device.specs.declared.operation.Op.{Op}
 use Rattle.wy_device.specs.declared.operation.OpName.{OpName}
 use Rattle.wy_device.specs.declared.operation.OpName.TheVariants as name
-use Rattle.wy_device.specs.Requests.{operation_called, operation_on, is_file_name}
+use Rattle.wy_device.specs.Requests.{operation_called, operation_of, operation_on, is_file_name}
 use Rattle.wy_code.specs.Stores.{Word, Int, Truth, Nothing, Text, Grant, Store, operand}
 
 -- texts after these, where they are there
@@ -55,6 +55,7 @@ is_well_named name.ConsoleWrite first = true
 is_well_named name.FolderNames first = true
 is_well_named name.ClockNow first = true
 is_well_named name.RandomWord first = true
+is_well_named name.FolderRemove first = names_file first
 
 -- an operation of this name is answered by a text
 abbrev pub is_answered_by_text : OpName → Bool
@@ -67,6 +68,7 @@ is_answered_by_text name.FolderWrite = false
 is_answered_by_text name.FolderAppend = false
 is_answered_by_text name.ClockNow = false
 is_answered_by_text name.RandomWord = false
+is_answered_by_text name.FolderRemove = false
 
 -- why an operation with this first text is refused before memory is taken for it, where so many texts are built: the
 -- text is no file's name, or one text too many would be built

@@ -63,6 +63,7 @@ impl<D: Device> Devices<D> {
             Op::FolderNames => self.folder.perform(grant, op),
             Op::ClockNow => self.clock.perform(grant, op),
             Op::RandomWord => self.random.perform(grant, op),
+            Op::FolderRemove(_) => self.folder.perform(grant, op),
         }
     }
 

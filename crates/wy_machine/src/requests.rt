@@ -2,7 +2,7 @@
 
 ghost use Rattle.std.specs.Prelude.{◌≡◌, ◌≢◌, ◌∷◌, [], length, IfOk, MatchOption, Some, None};
 ghost use Rattle.wy_code.specs.Operations.{texts_named};
-ghost use Rattle.wy_code.specs.Primitives.{operations_of};
+ghost use Rattle.wy_device.specs.Primitives.{operations_of};
 ghost use Rattle.wy_device.specs.Requests as requests;
 ghost use Rattle.wy_device.specs.Tapes.{Tapes};
 ghost use Rattle.wy_machine.specs.Requesting.{first_text, names_file, is_well_named, is_answered_by_text, refused};
@@ -14,9 +14,9 @@ use crate::store::Store;
 use crate::texts::text_named;
 use crate::word::Word;
 use wy_code::code::Code;
-use wy_code::primitive::Primitive;
 use wy_device::file_name::is_file_name;
 use wy_device::operation::{Op, OpName};
+use wy_device::primitive::Primitive;
 use wy_text::text::{Memory, Text};
 
 /// Whether the first of these words names a text that is a file's name.
@@ -43,7 +43,8 @@ pub fn answers_text(operation: OpName) -> bool
         | OpName::FolderWrite
         | OpName::FolderAppend
         | OpName::ClockNow
-        | OpName::RandomWord => false,
+        | OpName::RandomWord
+        | OpName::FolderRemove => false,
     }
 }
 
@@ -52,8 +53,11 @@ fn is_well_named(code: &Code, store: &Store, operation: OpName, arguments: &[Wor
     ensures { (tapes : Tapes) → result ≡ is_well_named operation (first_text (store_of code.now store.now tapes) arguments.now) }
 {
     match operation {
-        OpName::FolderRead | OpName::FolderHas | OpName::FolderWrite | OpName::FolderAppend =>
-            names_file(code, store, arguments),
+        OpName::FolderRead
+        | OpName::FolderHas
+        | OpName::FolderWrite
+        | OpName::FolderAppend
+        | OpName::FolderRemove => names_file(code, store, arguments),
         OpName::ConsoleRead
         | OpName::ConsoleWrite
         | OpName::FolderNames
@@ -111,6 +115,17 @@ pub fn operation_called(primitive: Primitive, method: &[u8]) -> Option<OpName>
         ),
         Primitive::Clock => first_called(method, &[OpName::ClockNow]),
         Primitive::Random => first_called(method, &[OpName::RandomWord]),
+        Primitive::FullFolder => first_called(
+            method,
+            &[
+                OpName::FolderRead,
+                OpName::FolderHas,
+                OpName::FolderWrite,
+                OpName::FolderAppend,
+                OpName::FolderNames,
+                OpName::FolderRemove,
+            ],
+        ),
     }
 }
 
@@ -187,6 +202,10 @@ pub fn operation_on(name: OpName, texts: Vec<Text>) -> Option<Op>
         },
         OpName::FolderHas => match one(texts) {
             Some(file) => Some(Op::FolderHas(file)),
+            None => None,
+        },
+        OpName::FolderRemove => match one(texts) {
+            Some(file) => Some(Op::FolderRemove(file)),
             None => None,
         },
         OpName::FolderWrite => match two(texts) {

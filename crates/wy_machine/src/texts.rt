@@ -7,6 +7,7 @@ ghost use Rattle.wy_code.specs.Stores.{operand};
 ghost use Rattle.wy_device.specs.Operators.{on_text, on_texts, on_text_and_number, on_text_and_numbers, part_of, byte_at, GivesNumber};
 ghost use Rattle.wy_device.specs.Operators as meant;
 ghost use Rattle.wy_device.specs.Tapes.{Tapes};
+ghost use Rattle.wy_device.specs.Traps.{text_limit};
 ghost use Rattle.wy_machine.specs.Computing.{computed_meant, same_operand};
 ghost use Rattle.wy_machine.specs.States.{store_of};
 
@@ -60,7 +61,7 @@ pub fn size(code: &Code, store: &Store, x: Word) -> Computed
 }
 
 fn join_texts(s: &Text, t: &Text) -> Result<Computed, Memory>
-    ensures { IfOk result (λ c. computed_meant c ≡ meant.joined s.now t.now) }
+    ensures { IfOk result (λ c. computed_meant c ≡ meant.joined text_limit s.now t.now) }
 {
     if s.as_bytes().len() + t.as_bytes().len() <= LONGEST_TEXT {
         let text = s.joined(t)?;
@@ -73,7 +74,7 @@ fn join_texts(s: &Text, t: &Text) -> Result<Computed, Memory>
 /// Two texts joined.
 pub fn joined(code: &Code, store: &Store, x: Word, y: Word) -> Result<Computed, Memory>
     ensures { IfOk result (λ c. (tapes : Tapes) →
-        computed_meant c ≡ on_texts meant.joined (operand (store_of code.now store.now tapes) x ∷ operand (store_of code.now store.now tapes) y ∷ [])) }
+        computed_meant c ≡ on_texts (meant.joined text_limit) (operand (store_of code.now store.now tapes) x ∷ operand (store_of code.now store.now tapes) y ∷ [])) }
 {
     match text_named(code, store, x) {
         Some(s) => match text_named(code, store, y) {

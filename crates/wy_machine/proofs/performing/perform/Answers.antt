@@ -1,6 +1,6 @@
 use Rattle.std.proofs.Common.{ap, sym, ◌∙◌}
 use Rattle.wy_device.specs.Requests.{operation_called}
-use Rattle.wy_code.specs.Primitives.{operations_of}
+use Rattle.wy_device.specs.Primitives.{operations_of}
 use Rattle.wy_machine.proofs.DeedSteps.{grant_there, method_named, operation_there}
 use Rattle.wy_machine.proofs.Refusals.{asked_by_none}
 use Rattle.wy_machine.proofs.performing.perform.Goals as goal
