@@ -49,6 +49,7 @@ grants_first p r =
 pub accepted_is_lowerable : AcceptedIsLowerable
 accepted_is_lowerable p r a = record {
   core = r.keeps.core;
+  edition = refl;
   made = λ k s e. subst (λ (ls : List ℕ). Apart ls) (sym (scope_made s)) (r.keeps.once s (In-slice_get p.scopes k s e));
   bare = λ k s e. r.keeps.captures s (In-slice_get p.scopes k s e);
   instances = module_started p r a;

@@ -3,7 +3,7 @@ use Rattle.std.proofs.Common.{codes, ◌≡◌, ℕ, zero, suc, pos, List, [], �
 use Rattle.std.specs.Prelude.{slice_get}
 use Rattle.std.specs.Fmt.{digits}
 use Rattle.wy_types.specs.Program.{Program}
-use Rattle.wy_code.specs.declared.primitive.Primitive.TheVariants as primitive
+use Rattle.wy_device.specs.declared.primitive.Primitive.TheVariants as primitive
 use Rattle.wy_code.specs.declared.instruction.Constant.TheVariants as constant
 use Rattle.wy_code.specs.declared.instruction.Operator.TheVariants as operator
 use Rattle.wy_code.specs.declared.instruction.Instruction.{Instruction}

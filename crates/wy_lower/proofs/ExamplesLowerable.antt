@@ -72,6 +72,7 @@ three_files_grants = (
 three_files_lowerable : IsCore three_files → Lowerable three_files (starts_of three_files three_files_started)
 three_files_lowerable core = record {
   core = core;
+  edition = refl;
   made = three_files_made;
   bare = three_files_bare;
   instances = three_files_instances;

@@ -3,7 +3,7 @@
 use Rattle.std.proofs.Common.{codes, ◌≡◌, ℕ, pos, ◌+◌, List, [], ◌∷◌, Option, Some, None, true, false, refl}
 use Rattle.std.specs.Fmt.{digits}
 use Rattle.wy_types.specs.Program.{Program}
-use Rattle.wy_device.specs.Operators.{operate}
+use Rattle.wy_device.specs.Operators.{operate_within}
 use Rattle.wy_device.specs.RunEnds.{Spent}
 use Rattle.wy_device.specs.Tapes.{Tapes}
 use Rattle.wy_device.specs.declared.operation.Answer.{Answer}
@@ -45,97 +45,97 @@ abbrev answered : List ℕ → Option Answer
 answered text = Some (answer.Bytes text)
 
 empty_runs : RunsIn 10 1 empty [] no_tapes
-unfolding digits give stop node tick told settle added bind whole eval eval_value eval_all eval_block open_calls perform operate fill_all begin meaning listing value_listing values_listing block_listing fields_listing operands value_operands values_operands block_operands fields_operands lowered step steps machine
+unfolding digits give stop node tick told settle added bind whole eval eval_value eval_all eval_block open_calls perform operate_within fill_all begin meaning listing value_listing values_listing block_listing fields_listing operands value_operands values_operands block_operands fields_operands lowered step steps machine
 empty_runs = record { whole = refl; exact = refl; short = refl }
 
 hello_runs : RunsIn 10 3 hello [] (console_tape (done ∷ []))
-unfolding digits give stop node tick told settle added bind whole eval eval_value eval_all eval_block open_calls perform operate fill_all begin meaning listing value_listing values_listing block_listing fields_listing operands value_operands values_operands block_operands fields_operands lowered step steps machine
+unfolding digits give stop node tick told settle added bind whole eval eval_value eval_all eval_block open_calls perform operate_within fill_all begin meaning listing value_listing values_listing block_listing fields_listing operands value_operands values_operands block_operands fields_operands lowered step steps machine
 hello_runs = record { whole = refl; exact = refl; short = refl }
 
 logger_runs : RunsIn 10 9 logger logger_started (folder_tape (done ∷ []))
-unfolding digits give stop node tick told settle added bind whole eval eval_value eval_all eval_block open_calls perform operate fill_all begin meaning listing value_listing values_listing block_listing fields_listing operands value_operands values_operands block_operands fields_operands lowered step steps machine
+unfolding digits give stop node tick told settle added bind whole eval eval_value eval_all eval_block open_calls perform operate_within fill_all begin meaning listing value_listing values_listing block_listing fields_listing operands value_operands values_operands block_operands fields_operands lowered step steps machine
 logger_runs = record { whole = refl; exact = refl; short = refl }
 
 kept_callback_runs : RunsIn 10 37 kept_callback kept_callback_started (folder_tape (done ∷ done ∷ []))
-unfolding digits give stop node tick told settle added bind whole eval eval_value eval_all eval_block open_calls perform operate fill_all begin meaning listing value_listing values_listing block_listing fields_listing operands value_operands values_operands block_operands fields_operands lowered step steps machine
+unfolding digits give stop node tick told settle added bind whole eval eval_value eval_all eval_block open_calls perform operate_within fill_all begin meaning listing value_listing values_listing block_listing fields_listing operands value_operands values_operands block_operands fields_operands lowered step steps machine
 kept_callback_runs = record { whole = refl; exact = refl; short = refl }
 
 readonly_runs : RunsIn 10 13 readonly readonly_started (folder_tape (answered (codes "q") ∷ []))
-unfolding digits give stop node tick told settle added bind whole eval eval_value eval_all eval_block open_calls perform operate fill_all begin meaning listing value_listing values_listing block_listing fields_listing operands value_operands values_operands block_operands fields_operands lowered step steps machine
+unfolding digits give stop node tick told settle added bind whole eval eval_value eval_all eval_block open_calls perform operate_within fill_all begin meaning listing value_listing values_listing block_listing fields_listing operands value_operands values_operands block_operands fields_operands lowered step steps machine
 readonly_runs = record { whole = refl; exact = refl; short = refl }
 
 escaping_object_runs : RunsIn 10 12 escaping_object escaping_started (folder_tape (done ∷ []))
-unfolding digits give stop node tick told settle added bind whole eval eval_value eval_all eval_block open_calls perform operate fill_all begin meaning listing value_listing values_listing block_listing fields_listing operands value_operands values_operands block_operands fields_operands lowered step steps machine
+unfolding digits give stop node tick told settle added bind whole eval eval_value eval_all eval_block open_calls perform operate_within fill_all begin meaning listing value_listing values_listing block_listing fields_listing operands value_operands values_operands block_operands fields_operands lowered step steps machine
 escaping_object_runs = record { whole = refl; exact = refl; short = refl }
 
 overflow_runs : RunsIn 10 6 overflow [] (console_tape (done ∷ done ∷ []))
-unfolding digits give stop node tick told settle added bind whole eval eval_value eval_all eval_block open_calls perform operate fill_all begin meaning listing value_listing values_listing block_listing fields_listing operands value_operands values_operands block_operands fields_operands lowered step steps machine
+unfolding digits give stop node tick told settle added bind whole eval eval_value eval_all eval_block open_calls perform operate_within fill_all begin meaning listing value_listing values_listing block_listing fields_listing operands value_operands values_operands block_operands fields_operands lowered step steps machine
 overflow_runs = record { whole = refl; exact = refl; short = refl }
 
 zero_divisor_runs : RunsIn 10 6 zero_divisor [] (console_tape (done ∷ done ∷ []))
-unfolding digits give stop node tick told settle added bind whole eval eval_value eval_all eval_block open_calls perform operate fill_all begin meaning listing value_listing values_listing block_listing fields_listing operands value_operands values_operands block_operands fields_operands lowered step steps machine
+unfolding digits give stop node tick told settle added bind whole eval eval_value eval_all eval_block open_calls perform operate_within fill_all begin meaning listing value_listing values_listing block_listing fields_listing operands value_operands values_operands block_operands fields_operands lowered step steps machine
 zero_divisor_runs = record { whole = refl; exact = refl; short = refl }
 
 least_remainder_runs : RunsIn 10 11 least_remainder [] (console_tape (done ∷ done ∷ []))
-unfolding digits give stop node tick told settle added bind whole eval eval_value eval_all eval_block open_calls perform operate fill_all begin meaning listing value_listing values_listing block_listing fields_listing operands value_operands values_operands block_operands fields_operands lowered step steps machine
+unfolding digits give stop node tick told settle added bind whole eval eval_value eval_all eval_block open_calls perform operate_within fill_all begin meaning listing value_listing values_listing block_listing fields_listing operands value_operands values_operands block_operands fields_operands lowered step steps machine
 least_remainder_runs = record { whole = refl; exact = refl; short = refl }
 
 -- at depth 0, 1 and 3
 deep_0_runs : RunsIn 0 6 deep deep_started (console_tape (done ∷ []))
-unfolding digits give stop node tick told settle added bind whole eval eval_value eval_all eval_block open_calls perform operate fill_all begin meaning listing value_listing values_listing block_listing fields_listing operands value_operands values_operands block_operands fields_operands lowered step steps machine
+unfolding digits give stop node tick told settle added bind whole eval eval_value eval_all eval_block open_calls perform operate_within fill_all begin meaning listing value_listing values_listing block_listing fields_listing operands value_operands values_operands block_operands fields_operands lowered step steps machine
 deep_0_runs = record { whole = refl; exact = refl; short = refl }
 
 deep_1_runs : RunsIn 1 8 deep deep_started (console_tape (done ∷ []))
-unfolding digits give stop node tick told settle added bind whole eval eval_value eval_all eval_block open_calls perform operate fill_all begin meaning listing value_listing values_listing block_listing fields_listing operands value_operands values_operands block_operands fields_operands lowered step steps machine
+unfolding digits give stop node tick told settle added bind whole eval eval_value eval_all eval_block open_calls perform operate_within fill_all begin meaning listing value_listing values_listing block_listing fields_listing operands value_operands values_operands block_operands fields_operands lowered step steps machine
 deep_1_runs = record { whole = refl; exact = refl; short = refl }
 
 deep_3_runs : RunsIn 3 12 deep deep_started (console_tape (done ∷ []))
-unfolding digits give stop node tick told settle added bind whole eval eval_value eval_all eval_block open_calls perform operate fill_all begin meaning listing value_listing values_listing block_listing fields_listing operands value_operands values_operands block_operands fields_operands lowered step steps machine
+unfolding digits give stop node tick told settle added bind whole eval eval_value eval_all eval_block open_calls perform operate_within fill_all begin meaning listing value_listing values_listing block_listing fields_listing operands value_operands values_operands block_operands fields_operands lowered step steps machine
 deep_3_runs = record { whole = refl; exact = refl; short = refl }
 
 receiver_first_runs : RunsIn 10 17 receiver_first receiver_first_started (record { console = done ∷ done ∷ []; folder = []; clock = Some (answer.Number (pos 7)) ∷ []; random = [] })
-unfolding digits give stop node tick told settle added bind whole eval eval_value eval_all eval_block open_calls perform operate fill_all begin meaning listing value_listing values_listing block_listing fields_listing operands value_operands values_operands block_operands fields_operands lowered step steps machine
+unfolding digits give stop node tick told settle added bind whole eval eval_value eval_all eval_block open_calls perform operate_within fill_all begin meaning listing value_listing values_listing block_listing fields_listing operands value_operands values_operands block_operands fields_operands lowered step steps machine
 receiver_first_runs = record { whole = refl; exact = refl; short = refl }
 
 three_files_runs : RunsIn 10 73 three_files three_files_started (record { console = done ∷ []; folder = answered (codes "x") ∷ done ∷ done ∷ []; clock = []; random = [] })
-unfolding digits give stop node tick told settle added bind whole eval eval_value eval_all eval_block open_calls perform operate fill_all begin meaning listing value_listing values_listing block_listing fields_listing operands value_operands values_operands block_operands fields_operands lowered step steps machine
+unfolding digits give stop node tick told settle added bind whole eval eval_value eval_all eval_block open_calls perform operate_within fill_all begin meaning listing value_listing values_listing block_listing fields_listing operands value_operands values_operands block_operands fields_operands lowered step steps machine
 three_files_runs = record { whole = refl; exact = refl; short = refl }
 
 three_files_without_a_file_runs : RunsIn 10 75 three_files three_files_started (record { console = done ∷ []; folder = answered [] ∷ done ∷ done ∷ []; clock = []; random = [] })
-unfolding digits give stop node tick told settle added bind whole eval eval_value eval_all eval_block open_calls perform operate fill_all begin meaning listing value_listing values_listing block_listing fields_listing operands value_operands values_operands block_operands fields_operands lowered step steps machine
+unfolding digits give stop node tick told settle added bind whole eval eval_value eval_all eval_block open_calls perform operate_within fill_all begin meaning listing value_listing values_listing block_listing fields_listing operands value_operands values_operands block_operands fields_operands lowered step steps machine
 three_files_without_a_file_runs = record { whole = refl; exact = refl; short = refl }
 
 counter_runs : RunsIn 10 35 counter [] (console_tape (done ∷ []))
-unfolding digits give stop node tick told settle added bind whole eval eval_value eval_all eval_block open_calls perform operate fill_all begin meaning listing value_listing values_listing block_listing fields_listing operands value_operands values_operands block_operands fields_operands lowered step steps machine
+unfolding digits give stop node tick told settle added bind whole eval eval_value eval_all eval_block open_calls perform operate_within fill_all begin meaning listing value_listing values_listing block_listing fields_listing operands value_operands values_operands block_operands fields_operands lowered step steps machine
 counter_runs = record { whole = refl; exact = refl; short = refl }
 
 nested_runs : RunsIn 10 20 nested nested_started (console_tape (done ∷ []))
-unfolding digits give stop node tick told settle added bind whole eval eval_value eval_all eval_block open_calls perform operate fill_all begin meaning listing value_listing values_listing block_listing fields_listing operands value_operands values_operands block_operands fields_operands lowered step steps machine
+unfolding digits give stop node tick told settle added bind whole eval eval_value eval_all eval_block open_calls perform operate_within fill_all begin meaning listing value_listing values_listing block_listing fields_listing operands value_operands values_operands block_operands fields_operands lowered step steps machine
 nested_runs = record { whole = refl; exact = refl; short = refl }
 
 bad_name_runs : RunsIn 10 2 bad_name [] (folder_tape (answered [] ∷ []))
-unfolding digits give stop node tick told settle added bind whole eval eval_value eval_all eval_block open_calls perform operate fill_all begin meaning listing value_listing values_listing block_listing fields_listing operands value_operands values_operands block_operands fields_operands lowered step steps machine
+unfolding digits give stop node tick told settle added bind whole eval eval_value eval_all eval_block open_calls perform operate_within fill_all begin meaning listing value_listing values_listing block_listing fields_listing operands value_operands values_operands block_operands fields_operands lowered step steps machine
 bad_name_runs = record { whole = refl; exact = refl; short = refl }
 
 samples_runs : RunsIn 10 35 (samples true) [] (console_tape (done ∷ done ∷ []))
-unfolding digits give stop node tick told settle added bind whole eval eval_value eval_all eval_block open_calls perform operate fill_all begin meaning listing value_listing values_listing block_listing fields_listing operands value_operands values_operands block_operands fields_operands lowered step steps machine
+unfolding digits give stop node tick told settle added bind whole eval eval_value eval_all eval_block open_calls perform operate_within fill_all begin meaning listing value_listing values_listing block_listing fields_listing operands value_operands values_operands block_operands fields_operands lowered step steps machine
 samples_runs = record { whole = refl; exact = refl; short = refl }
 
 samples_trap_runs : RunsIn 10 29 (samples false) [] (console_tape (done ∷ done ∷ []))
-unfolding digits give stop node tick told settle added bind whole eval eval_value eval_all eval_block open_calls perform operate fill_all begin meaning listing value_listing values_listing block_listing fields_listing operands value_operands values_operands block_operands fields_operands lowered step steps machine
+unfolding digits give stop node tick told settle added bind whole eval eval_value eval_all eval_block open_calls perform operate_within fill_all begin meaning listing value_listing values_listing block_listing fields_listing operands value_operands values_operands block_operands fields_operands lowered step steps machine
 samples_trap_runs = record { whole = refl; exact = refl; short = refl }
 
 -- a write that fails, one with no answer, and one before an answer that is not a write's
 failed_runs : RunsIn 10 2 hello [] (console_tape (None ∷ []))
-unfolding digits give stop node tick told settle added bind whole eval eval_value eval_all eval_block open_calls perform operate fill_all begin meaning listing value_listing values_listing block_listing fields_listing operands value_operands values_operands block_operands fields_operands lowered step steps machine
+unfolding digits give stop node tick told settle added bind whole eval eval_value eval_all eval_block open_calls perform operate_within fill_all begin meaning listing value_listing values_listing block_listing fields_listing operands value_operands values_operands block_operands fields_operands lowered step steps machine
 failed_runs = record { whole = refl; exact = refl; short = refl }
 
 waiting_runs : RunsIn 10 2 hello [] no_tapes
-unfolding digits give stop node tick told settle added bind whole eval eval_value eval_all eval_block open_calls perform operate fill_all begin meaning listing value_listing values_listing block_listing fields_listing operands value_operands values_operands block_operands fields_operands lowered step steps machine
+unfolding digits give stop node tick told settle added bind whole eval eval_value eval_all eval_block open_calls perform operate_within fill_all begin meaning listing value_listing values_listing block_listing fields_listing operands value_operands values_operands block_operands fields_operands lowered step steps machine
 waiting_runs = record { whole = refl; exact = refl; short = refl }
 
 misfit_runs : RunsIn 10 2 hello [] (console_tape (Some (answer.Truth true) ∷ []))
-unfolding digits give stop node tick told settle added bind whole eval eval_value eval_all eval_block open_calls perform operate fill_all begin meaning listing value_listing values_listing block_listing fields_listing operands value_operands values_operands block_operands fields_operands lowered step steps machine
+unfolding digits give stop node tick told settle added bind whole eval eval_value eval_all eval_block open_calls perform operate_within fill_all begin meaning listing value_listing values_listing block_listing fields_listing operands value_operands values_operands block_operands fields_operands lowered step steps machine
 misfit_runs = record { whole = refl; exact = refl; short = refl }
 
 -- a step before its last one the logger has done its deed
@@ -147,10 +147,10 @@ logger_spent : runs 10 9 logger logger_started (folder_tape (done ∷ []))
           did (codes "disk") (FolderAppend (codes "log") (codes "a")) done ∷ left ∷ [];
       taken = 9;
     }
-unfolding digits give stop node tick told settle added bind whole eval eval_value eval_all eval_block open_calls perform operate fill_all begin meaning listing value_listing values_listing block_listing fields_listing operands value_operands values_operands block_operands fields_operands lowered step steps machine
+unfolding digits give stop node tick told settle added bind whole eval eval_value eval_all eval_block open_calls perform operate_within fill_all begin meaning listing value_listing values_listing block_listing fields_listing operands value_operands values_operands block_operands fields_operands lowered step steps machine
 logger_spent = refl
 
 -- with no step at all the first body is entered
 logger_at_first : runs 10 0 logger logger_started no_tapes ≡ record { end = Spent; events = entered (codes "lg") (codes "init") ∷ []; taken = 0 }
-unfolding digits give stop node tick told settle added bind whole eval eval_value eval_all eval_block open_calls perform operate fill_all begin meaning listing value_listing values_listing block_listing fields_listing operands value_operands values_operands block_operands fields_operands lowered step steps machine
+unfolding digits give stop node tick told settle added bind whole eval eval_value eval_all eval_block open_calls perform operate_within fill_all begin meaning listing value_listing values_listing block_listing fields_listing operands value_operands values_operands block_operands fields_operands lowered step steps machine
 logger_at_first = refl

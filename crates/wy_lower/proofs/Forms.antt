@@ -107,7 +107,7 @@ module _ (p : Program) (s : Starts) (ok : Lowerable p s) (has : HasGrants p s) (
     go_on_runs : (place : Place) (o : BinaryOperator) (at : ℕ) (xs : List Placed) (left need : ℕ) → Stands b at (binary_listing place o at xs y) end →
         RightRuns need → HasRoom stack (two_operands o left need) → 0 < left →
         (v : Value) (z : Word) (w : World) (m : Store) (slots : List Word) → Same m.texts v z → Ready p s i x sight w0 m0 w m slots →
-        Does p s i x sight w0 m0 g n b callers end stack (state x b callers (at + length xs) slots (z ∷ stack) m) (go_on place o v right w)
+        Does p s i x sight w0 m0 g n b callers end stack (state x b callers (at + length xs) slots (z ∷ stack) m) (go_on s.edition place o v right w)
     go_on_runs place binary.And at xs left need stands run room some v z w m slots h r =
         let t = rest_stands b at xs _ end stands in
         choose_runs p s i x sight w0 m0 g n b callers end stack _ w m slots r place _ _ v z _ _ h
@@ -138,7 +138,7 @@ module _ (p : Program) (s : Starts) (ok : Lowerable p s) (has : HasGrants p s) (
         (z ∷ stack) (omega arith))
         (λ u w2 c f.
         operator_runs p s i x sight w0 m0 g n b callers end stack _ w2 c.store c.slots
-        (ready_since p s i x sight w0 m0 w m w2 c.store c.slots r.later f.ready) place _ (v ∷ u ∷ []) (z ∷ c.word ∷ [])
+        (ready_since p s i x sight w0 m0 w m w2 c.store c.slots r.later f.ready) ok.edition place _ (v ∷ u ∷ []) (z ∷ c.word ∷ [])
         (more_same v z (u ∷ []) (c.word ∷ []) (same_stays m.texts c.store.texts f.ready.later.texts v z h)
         (more_same u c.word [] [] f.same none_same)) refl
         (room_left c.store.texts w2 sight c.slots stack _ f.ready.holds room (omega arith)) (rest_stands b _ (y (at + length xs)) _ end t))
@@ -200,7 +200,7 @@ module _ (p : Program) (s : Starts) (ok : Lowerable p s) (has : HasGrants p s) (
         node_runs _ _ _ _ _ _
         (bind_runs _ _ _ _ _ _ _ _ _ (expr_runs e sight seen f (inner_allowed p s sc i sight _ _ _ al) at _
         (first_stands b at _ _ end h) w0 m0 w m slots r stack room)
-        (λ v w c q. unary_runs p s i x sight w0 m0 g n b callers end stack _ w c.store c.slots q.ready place o (v ∷ []) (c.word ∷ [])
+        (λ v w c q. unary_runs p s i x sight w0 m0 g n b callers end stack _ w c.store c.slots q.ready ok.edition place o (v ∷ []) (c.word ∷ [])
         (more_same v c.word [] [] q.same none_same) refl
         (room_left c.store.texts w sight c.slots stack _ q.ready.holds room (some_operands p sc owner e seen f)) (rest_stands b at _ _ end h)))
     expr_runs (Binary place o y z) sight seen f al at end h w0 m0 w m slots r stack room =
@@ -217,7 +217,7 @@ module _ (p : Program) (s : Starts) (ok : Lowerable p s) (has : HasGrants p s) (
         node_runs _ _ _ _ _ _
         (bind_runs _ _ _ _ _ _ _ _ _ (all_run es sight seen f.1 (inner_allowed p s sc i sight _ _ _ al) at _
         (first_stands b at _ _ end h) w0 m0 w m slots r stack room)
-        (λ vs w c q. text_runs p s i x sight w0 m0 g n b callers end stack _ w c.store c.slots q.ready place o vs c.words q.same (q.count ∙ f.0)
+        (λ vs w c q. text_runs p s i x sight w0 m0 g n b callers end stack _ w c.store c.slots q.ready ok.edition place o vs c.words q.same (q.count ∙ f.0)
         (room_left c.store.texts w sight c.slots stack _ q.ready.holds room (some_operands p sc owner (TextCall place o es) seen f))
         (rest_stands b at _ _ end h)))
     expr_runs (Call place e name es) sight seen f al at end h w0 m0 w m slots r stack room =

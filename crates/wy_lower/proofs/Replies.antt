@@ -5,8 +5,8 @@ use Rattle.wy_types.specs.Program.{Program}
 use Rattle.wy_device.specs.declared.deed.Event.{Event}
 use Rattle.wy_device.specs.declared.operation.Answer.{Answer}
 use Rattle.wy_device.specs.declared.operation.Answer.TheVariants as answer
-use Rattle.wy_device.specs.declared.operation.Kind.{Kind}
 use Rattle.wy_device.specs.declared.operation.Op.{Op}
+use Rattle.wy_device.specs.Editions.{Edition, current}
 use Rattle.wy_device.specs.Operators.{Computed, GivesNumber, GivesTruth, Builds, Traps, Misfits, operate}
 use Rattle.wy_device.specs.Requests.{operation_of, has_good_name, answers_text, Told, Answers as AnswersWith, Fails, Waits, asked}
 use Rattle.wy_device.specs.RunEnds.{RunEnd, Trap, Waiting, Wrong}
@@ -19,9 +19,6 @@ use Rattle.wy_meaning.specs.Operating.{computed, operated}
 use Rattle.wy_meaning.specs.Performing.{text_of, with_text as with_first_text, texts_of, value_answered, answered, requested, requested_of, perform}
 use Rattle.wy_meaning.specs.Results.{Result, stop, told, settle}
 use Rattle.wy_code.specs.declared.code.Grant.{Grant as CodeGrant}
-use Rattle.wy_code.specs.declared.primitive.Primitive.{Primitive}
-use Rattle.wy_code.specs.declared.primitive.Primitive.TheVariants.{Console, Folder, Clock, Random}
-use Rattle.wy_code.specs.Primitives.{device_of, operation_of as code_operation}
 use Rattle.wy_code.specs.declared.instruction.Operator.{Operator as CodeOperator}
 use Rattle.wy_code.specs.Stores as word
 use Rattle.wy_code.specs.Stores.{Word, Store, Replies, Ends as EndsRun}
@@ -57,18 +54,9 @@ texts_are_named m vs zs (more_same v z us ys h r) =
     ∙ ap (with_first (text_of v)) (texts_are_named m us ys r)
     ∙ first_with (text_of v) (texts_of us)
 
--- the code's grant has the name that the program's has, and a primitive type that asks for its kind of device
-pub record HasGrant (y : GrantIs) (o : Option CodeGrant) : Type 0 where
-  pub primitive : Primitive
-  pub device : device_of primitive ≡ y.kind
-  pub is : o ≡ Some (record { name = y.name; primitive = primitive })
-
--- a primitive type has the operations of its device
-same_operation : (t : Primitive) (method : List ℕ) (ts : List (List ℕ)) → code_operation t method ts ≡ operation_of (device_of t) method ts
-same_operation Console method ts = refl
-same_operation Folder method ts = refl
-same_operation Clock method ts = refl
-same_operation Random method ts = refl
+-- the code's grant has the name and the primitive type that the program's has
+abbrev pub HasGrant : GrantIs → Option CodeGrant → Type 0
+HasGrant y o = o ≡ Some (record { name = y.name; primitive = y.primitive })
 
 module _ (p : Program) (s : Starts) (i : Inside) (x : ℕ) (sight : Sight) (w0 : World) (m0 : Store) (slots : List Word) where
   -- the machine replies as the result says, with a word for its value
@@ -125,12 +113,13 @@ module _ (p : Program) (s : Starts) (i : Inside) (x : ℕ) (sight : Sight) (w0 :
     computed_fits place (Traps kind) = stopped_answers _ slots (Trap kind place) w
     computed_fits place Misfits = wrong_answers _ slots w _
 
-    pub operated_fits : (place : Place) (o : CodeOperator) (vs : List Value) (zs : List Word) → SameAll m.texts vs zs →
-        Fits (settle (operated place (Some (operator_meant o)) vs w)) (code.operated place o zs m)
-    operated_fits place o vs zs h =
-        subst (λ c. Fits (settle (operated place (Some (operator_meant o)) vs w)) (code.computed place m (operate (operator_meant o) c)))
+    pub operated_fits : s.edition ≡ current → (place : Place) (o : CodeOperator) (vs : List Value) (zs : List Word) → SameAll m.texts vs zs →
+        Fits (settle (operated s.edition place (Some (operator_meant o)) vs w)) (code.operated place o zs m)
+    operated_fits now place o vs zs h =
+        subst (λ (d : Edition). Fits (settle (operated d place (Some (operator_meant o)) vs w)) (code.operated place o zs m)) (sym now)
+        (subst (λ c. Fits (settle (operated current place (Some (operator_meant o)) vs w)) (code.computed place m (operate (operator_meant o) c)))
         (sym (operands_are m vs zs h))
-        (computed_fits place _)
+        (computed_fits place _))
 
     ------------------------------------------------------------
     -- Operations on grants
@@ -157,7 +146,7 @@ module _ (p : Program) (s : Starts) (i : Inside) (x : ℕ) (sight : Sight) (w0 :
     either_fits false q q' a a' h k = k
 
     -- where the meaning is of some operation
-    asked_fits : (place : Place) (grant : List ℕ) (op : Op) → Fits (requested place grant w (Some op)) (code.requested place grant m (Some op))
+    asked_fits : (place : Place) (grant : List ℕ) (op : Op) → Fits (requested current place grant w (Some op)) (code.requested place grant m (Some op))
     asked_fits place grant op =
         either_fits (not (has_good_name op)) _ _ _ _ (stop_fits (Trap BadName place) w)
         (subst (λ (k : ℕ).
@@ -169,34 +158,33 @@ module _ (p : Program) (s : Starts) (i : Inside) (x : ℕ) (sight : Sight) (w0 :
         (told_fits grant op (asked op w.tapes)))))
 
     -- the machine has the grant, and the method's name
-    pub performed_fits : (place : Place) (g : Option GrantIs) (h : Option CodeGrant) (method : List ℕ) (name : Option (List ℕ)) (vs : List Value)
-        (zs : List Word) → SameAll m.texts vs zs → ((y : GrantIs) → g ≡ Some y → HasGrant y h) → name ≡ Some method →
-        Fits (perform place g method vs w) (code.performed place h name zs m)
+    pub performed_fits : s.edition ≡ current → (place : Place) (g : Option GrantIs) (h : Option CodeGrant) (method : List ℕ)
+        (name : Option (List ℕ)) (vs : List Value) (zs : List Word) → SameAll m.texts vs zs → ((y : GrantIs) → g ≡ Some y → HasGrant y h) →
+        name ≡ Some method → Fits (perform s.edition place g method vs w) (code.performed place h name zs m)
     unfolding perform
-    performed_fits place g h method name vs zs same grant there = of_grant g refl
+    performed_fits now place g h method name vs zs same grant there =
+        subst (λ (d : Edition). Fits (requested_of d place g method w (texts_of vs)) (code.performed place h name zs m)) (sym now) (of_grant g refl)
       where
-        of_op : (y : GrantIs) (t : Primitive) → device_of t ≡ y.kind → (ts : List (List ℕ)) (op : Option Op) → operation_of y.kind method ts ≡ op →
-            Fits (requested place y.name w op) (code.requested_of place (record { name = y.name; primitive = t }) m name (Some ts))
-        of_op y t d ts None e = wrong_fits w _
-        of_op y t d ts (Some op) e =
-            subst (λ o. Fits (requested place y.name w (Some op)) (code.requested_of place (record { name = y.name; primitive = t }) m o (Some ts)))
-            (sym there)
-            (subst (λ o. Fits (requested place y.name w (Some op)) (code.requested place y.name m o))
-            (sym (same_operation t method ts ∙ ap (λ (k : Kind). operation_of k method ts) d ∙ e)) (asked_fits place y.name op))
+        of_op : (y : GrantIs) (ts : List (List ℕ)) (op : Option Op) → operation_of y.primitive method ts ≡ op →
+            Fits (requested current place y.name w op) (code.requested_of place (record { name = y.name; primitive = y.primitive }) m name (Some ts))
+        of_op y ts None e = wrong_fits w _
+        of_op y ts (Some op) e =
+            subst (λ o. Fits (requested current place y.name w (Some op))
+            (code.requested_of place (record { name = y.name; primitive = y.primitive }) m o (Some ts))) (sym there)
+            (subst (λ o. Fits (requested current place y.name w (Some op)) (code.requested place y.name m o)) (sym e) (asked_fits place y.name op))
 
-        of_texts : (y : GrantIs) (t : Primitive) → device_of t ≡ y.kind → (o : Option (List (List ℕ))) → texts_named m zs ≡ o →
-            Fits (requested_of place (Some y) method w o)
-            (code.requested_of place (record { name = y.name; primitive = t }) m name (texts_named m zs))
-        of_texts y t d None e = wrong_fits w _
-        of_texts y t d (Some ts) e =
-            subst (λ o. Fits (requested place y.name w (operation_of y.kind method ts))
-            (code.requested_of place (record { name = y.name; primitive = t }) m name o)) (sym e) (of_op y t d ts _ refl)
+        of_texts : (y : GrantIs) (o : Option (List (List ℕ))) → texts_named m zs ≡ o →
+            Fits (requested_of current place (Some y) method w o)
+            (code.requested_of place (record { name = y.name; primitive = y.primitive }) m name (texts_named m zs))
+        of_texts y None e = wrong_fits w _
+        of_texts y (Some ts) e =
+            subst (λ o. Fits (requested current place y.name w (operation_of y.primitive method ts))
+            (code.requested_of place (record { name = y.name; primitive = y.primitive }) m name o)) (sym e) (of_op y ts _ refl)
 
-        of_grant : (o : Option GrantIs) → g ≡ o → Fits (requested_of place o method w (texts_of vs)) (code.performed place h name zs m)
+        of_grant : (o : Option GrantIs) → g ≡ o → Fits (requested_of current place o method w (texts_of vs)) (code.performed place h name zs m)
         of_grant None e = wrong_fits w _
         of_grant (Some y) e =
-            let c = grant y e in
-            subst (λ c. Fits (requested_of place (Some y) method w (texts_of vs)) (code.performed place c name zs m)) (sym c.is)
-            (subst (λ o. Fits (requested_of place (Some y) method w o)
-            (code.requested_of place (record { name = y.name; primitive = c.primitive }) m name (texts_named m zs))) (texts_are_named m vs zs same)
-            (of_texts y c.primitive c.device _ refl))
+            subst (λ c. Fits (requested_of current place (Some y) method w (texts_of vs)) (code.performed place c name zs m)) (sym (grant y e))
+            (subst (λ o. Fits (requested_of current place (Some y) method w o)
+            (code.requested_of place (record { name = y.name; primitive = y.primitive }) m name (texts_named m zs))) (texts_are_named m vs zs same)
+            (of_texts y _ refl))

@@ -8,6 +8,7 @@ use Rattle.wy_types.specs.declared.code.TextOperator.{TextOperator}
 use Rattle.wy_types.specs.declared.code.TextOperator.TheVariants as text
 use Rattle.wy_types.specs.Core.{text_arity}
 use Rattle.wy_types.specs.Program.{Program}
+use Rattle.wy_device.specs.Editions.{current}
 use Rattle.wy_meaning.specs.Values.{Value, World}
 use Rattle.wy_meaning.specs.Starts.{Starts, GrantIs, grant_of}
 use Rattle.wy_meaning.specs.Eval.{Sight, Calls, choose, apply}
@@ -80,29 +81,29 @@ module _ (p : Program) (s : Starts) (i : Inside) (x : ℕ) (sight : Sight) (w0 :
         push_runs (here stack) v (word_of c) h
         (acts x b callers g n at place (Push c) end slots stack m code ∙ pushes x b callers end slots stack m (word_of c) [] room)
 
-    pub operator_runs : (place : Place) (o : Operator) (vs : List Value) (zs : List Word) → SameAll m.texts vs zs → length zs ≡ operand_count o →
+    pub operator_runs : s.edition ≡ current → (place : Place) (o : Operator) (vs : List Value) (zs : List Word) → SameAll m.texts vs zs → length zs ≡ operand_count o →
         length slots + length stack < b.slots → Stands b at (one place (Operate o)) end →
-        Does (here (pile zs stack)) (tick (settle (operated place (Some (operator_meant o)) vs w)))
-    operator_runs place o vs zs h many room code =
+        Does (here (pile zs stack)) (tick (settle (operated s.edition place (Some (operator_meant o)) vs w)))
+    operator_runs now place o vs zs h many room code =
         answer_runs x b callers (Fine p s i x sight w0 m0) slots g n end stack m (here (pile zs stack)) room _ _
-        (operated_fits p s i x sight w0 m0 slots w m r place o vs zs h)
+        (operated_fits p s i x sight w0 m0 slots w m r now place o vs zs h)
         (acts x b callers g n at place (Operate o) end slots (pile zs stack) m code
         ∙ ap (λ t. on_taken t (state x b callers end slots (pile zs stack) m) (λ us u. push_reply (machine.operated place o us u.store) u))
         (takes zs stack (operand_count o) many))
 
-    pub unary_runs : (place : Place) (o : UnaryOperator) (vs : List Value) (zs : List Word) → SameAll m.texts vs zs → length zs ≡ 1 →
+    pub unary_runs : s.edition ≡ current → (place : Place) (o : UnaryOperator) (vs : List Value) (zs : List Word) → SameAll m.texts vs zs → length zs ≡ 1 →
         length slots + length stack < b.slots → Stands b at (one place (Operate (unary_code o))) end →
-        Does (here (pile zs stack)) (tick (settle (operated place (Some (unary_operator o)) vs w)))
-    unary_runs place o vs zs h many room code =
-        subst (λ c. Does (here (pile zs stack)) (tick (settle (operated place (Some c) vs w)))) (unary_meant o)
-        (operator_runs place (unary_code o) vs zs h (many ∙ sym (unary_count o)) room code)
+        Does (here (pile zs stack)) (tick (settle (operated s.edition place (Some (unary_operator o)) vs w)))
+    unary_runs now place o vs zs h many room code =
+        subst (λ c. Does (here (pile zs stack)) (tick (settle (operated s.edition place (Some c) vs w)))) (unary_meant o)
+        (operator_runs now place (unary_code o) vs zs h (many ∙ sym (unary_count o)) room code)
 
-    pub text_runs : (place : Place) (o : TextOperator) (vs : List Value) (zs : List Word) → SameAll m.texts vs zs → length zs ≡ text_arity o →
+    pub text_runs : s.edition ≡ current → (place : Place) (o : TextOperator) (vs : List Value) (zs : List Word) → SameAll m.texts vs zs → length zs ≡ text_arity o →
         length slots + length stack < b.slots → Stands b at (one place (Operate (text_code o))) end →
-        Does (here (pile zs stack)) (tick (settle (operated place (Some (text_operator o)) vs w)))
-    text_runs place o vs zs h many room code =
-        subst (λ c. Does (here (pile zs stack)) (tick (settle (operated place (Some c) vs w)))) (text_meant o)
-        (operator_runs place (text_code o) vs zs h (many ∙ sym (text_count o)) room code)
+        Does (here (pile zs stack)) (tick (settle (operated s.edition place (Some (text_operator o)) vs w)))
+    text_runs now place o vs zs h many room code =
+        subst (λ c. Does (here (pile zs stack)) (tick (settle (operated s.edition place (Some c) vs w)))) (text_meant o)
+        (operator_runs now place (text_code o) vs zs h (many ∙ sym (text_count o)) room code)
 
     -- a test is popped, and one of two sides goes on
     pub choose_runs : (place : Place) (to : ℕ) (next : ℕ) (v : Value) (z : Word) (fa fb : World → Result Value) → Same m.texts v z →
@@ -140,9 +141,10 @@ pub record CallsRun (p : Program) (s : Starts) (n d : ℕ) (calls : Calls) : Typ
       Does p s i x sight w0 m0 (lowered p s) n b callers end stack (state x b callers at slots (pile zs (word.Object a ∷ stack)) m)
       (tick (calls a name vs w))
 
--- the code has the program's grants
+-- the code has the program's grants, whose types are those of the current edition
 pub record HasGrants (p : Program) (s : Starts) : Type 0 where
-  pub grants : (k : ℕ) (y : GrantIs) → grant_of p k ≡ Some y → HasGrant y (slice_get (lowered p s).grants k)
+  pub edition : s.edition ≡ current
+  pub grants : (k : ℕ) (y : GrantIs) → grant_of s.edition p k ≡ Some y → HasGrant y (slice_get (lowered p s).grants k)
 
 module _ (p : Program) (s : Starts) (has : HasGrants p s) (n d : ℕ) (calls : Calls) (ok : CallsRun p s n d calls) (i : Inside) (x : ℕ) (sight : Sight)
     (w0 : World) (m0 : Store) (b : Body) (callers : List Frame) (at end : ℕ) (stack : List Word) (w : World) (m : Store) (slots : List Word)
@@ -152,12 +154,12 @@ module _ (p : Program) (s : Starts) (has : HasGrants p s) (n d : ℕ) (calls : C
       SameAll m.texts vs zs → length zs ≡ k → Stands b at (one place (Call (number_in (method_table p) name) k)) end →
       slice_get (lowered p s).methods (number_in (method_table p) name) ≡ Some name →
       Does p s i x sight w0 m0 (lowered p s) n b callers end stack (state x b callers at slots (pile zs (z ∷ stack)) m)
-      (tick (apply p calls place v name vs w))
+      (tick (apply p s calls place v name vs w))
   apply_runs place v z name k vs zs (same_object a) same many code named =
       ok.by i x sight w0 m0 b callers at end stack w m slots r deep place a name k vs zs same many code
   apply_runs place v z name k vs zs (same_grant a) same many code named =
       answer_runs x b callers (Fine p s i x sight w0 m0) slots (lowered p s) n end stack m _ room _ _
-      (performed_fits p s i x sight w0 m0 slots w m r place (grant_of p a) (slice_get (lowered p s).grants a) name
+      (performed_fits p s i x sight w0 m0 slots w m r has.edition place (grant_of s.edition p a) (slice_get (lowered p s).grants a) name
       (slice_get (lowered p s).methods (number_in (method_table p) name)) vs zs same (has.grants a) named)
       (acts x b callers (lowered p s) n at place _ end slots (pile zs (word.Grant a ∷ stack)) m code
       ∙ ap (λ t. on_taken t (state x b callers end slots (pile zs (word.Grant a ∷ stack)) m)

@@ -6,6 +6,7 @@ use Rattle.wy_types.specs.Code.{Expr, New}
 use Rattle.wy_types.specs.Core.{IsCore, literal_captures}
 use Rattle.wy_types.specs.Program.{Program, Scope}
 pub use Rattle.wy_rules.specs.OwnNames.{GrantsStandFirst}
+use Rattle.wy_device.specs.Editions.{current}
 use Rattle.wy_meaning.specs.Starts.{Started, Starts, scope_names, last_scope}
 use Rattle.wy_lower.specs.Lowering.{is_program}
 use Rattle.wy_lower.specs.Parts.{scope_parts}
@@ -32,6 +33,7 @@ pub record IsModuleStarted (p : Program) (i : Started) : Type 0 where
 
 pub record Lowerable (p : Program) (s : Starts) : Type 0 where
   pub core : IsCore p
+  pub edition : s.edition ≡ current
   -- an object literal is made by one `new`, and a module's own object captures nothing
   pub made : (k : ℕ) (scope : Scope) → slice_get p.scopes k ≡ Some scope → Apart (literals_made scope)
   pub bare : (k : ℕ) (scope : Scope) → slice_get p.scopes k ≡ Some scope → literal_captures (slice_get scope.literals 0) ≡ []

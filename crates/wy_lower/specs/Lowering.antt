@@ -9,8 +9,6 @@ use Rattle.wy_types.specs.declared.resolved.Origin.TheVariants as origin
 use Rattle.wy_types.specs.declared.resolved.OwnName.{OwnName}
 use Rattle.wy_types.specs.declared.resolved.ScopeKind.{ScopeKind}
 use Rattle.wy_types.specs.declared.resolved.ScopeKind.TheVariants as kind
-use Rattle.wy_types.specs.declared.types.TypeRef.{TypeRef}
-use Rattle.wy_types.specs.declared.types.TypeRef.TheVariants.{Int, Bool as Truth, Text, Unit as Nothing, Named, At, Own}
 use Rattle.wy_types.specs.Core.{literal_captures, block_vals, start_vals}
 use Rattle.wy_types.specs.Program.{Program, Scope, Body, Start, Init, Run}
 use Rattle.wy_code.specs.declared.code.Argument.{Argument}
@@ -23,11 +21,11 @@ use Rattle.wy_code.specs.declared.code.Literal as l
 use Rattle.wy_code.specs.declared.code.Method as m
 use Rattle.wy_code.specs.declared.code.Scope as s
 use Rattle.wy_code.specs.declared.code.Source.{Source}
-use Rattle.wy_code.specs.declared.primitive.Primitive.{Primitive}
-use Rattle.wy_code.specs.declared.primitive.Primitive.TheVariants as primitive
+use Rattle.wy_device.specs.Editions.{current}
+use Rattle.wy_device.specs.declared.primitive.Primitive.{Primitive}
 use Rattle.wy_code.specs.declared.instruction.Placed.{Placed}
 use Rattle.wy_code.specs.declared.instruction.Instruction.TheVariants.{Return, Finish}
-use Rattle.wy_meaning.specs.Starts.{Started, Starts, scope_names, last_scope}
+use Rattle.wy_meaning.specs.Starts.{Started, Starts, primitive_of_type, scope_names, last_scope}
 use Rattle.wy_meaning.specs.Eval.{body_text}
 use Rattle.wy_lower.specs.Parts.{block_parts, scopes_parts, texts_in, calls_in, make_literal, each_once, number_in}
 use Rattle.wy_lower.specs.Inside.{Inside, capture_sources}
@@ -175,30 +173,12 @@ scopes_code p starts first (s ∷ ss) =
 ------------------------------------------------------------
 -- Grants, instances, the whole
 
--- the primitive types have the first numbers among the declared ones
-abbrev pub primitive_numbered : ℕ → Option Primitive
-primitive_numbered d =
-    if nat_eq d 0 then Some primitive.Console
-    else if nat_eq d 1 then Some primitive.Folder
-    else if nat_eq d 2 then Some primitive.Clock
-    else if nat_eq d 3 then Some primitive.Random
-    else None
-
-abbrev pub primitive_of_type : TypeRef → Option Primitive
-primitive_of_type (Named d members) = primitive_numbered d
-primitive_of_type Int = None
-primitive_of_type Truth = None
-primitive_of_type Text = None
-primitive_of_type Nothing = None
-primitive_of_type (At d bound) = None
-primitive_of_type (Own l) = None
-
 abbrev pub grant_of_type : List ℕ → Option Primitive → List g.Grant
 grant_of_type name None = []
 grant_of_type name (Some t) = record { name = name; primitive = t } ∷ []
 
 abbrev pub grant_code : Origin → OwnName → List g.Grant
-grant_code origin.Grant n = grant_of_type n.name (primitive_of_type n.typ)
+grant_code origin.Grant n = grant_of_type n.name (primitive_of_type current n.typ)
 grant_code (origin.Parameter bare) n = []
 grant_code (origin.Use m) n = []
 grant_code (origin.Instance m arguments) n = []

@@ -4,14 +4,15 @@ ghost use Rattle.std.specs.Prelude.{◌≡◌, ◌++◌, ◌∷◌, [], List, �
 ghost use Rattle.std.specs.List.{position_from};
 ghost use Rattle.indexmap.specs.IndexMap.{get};
 ghost use Rattle.wy_types.specs.declared.linked.Instance as linked;
-ghost use Rattle.wy_meaning.specs.Starts.{numbered_from, main_actual, main_actuals, started_of};
-ghost use Rattle.wy_lower.specs.Lowering.{primitive_numbered, primitive_of_type, grant_code, grants_code, argument_of, instance_code};
+ghost use Rattle.wy_device.specs.Editions.{current, primitive_numbered};
+ghost use Rattle.wy_meaning.specs.Starts.{numbered_from, main_actual, main_actuals, primitive_of_type, started_of};
+ghost use Rattle.wy_lower.specs.Lowering.{grant_code, grants_code, argument_of, instance_code};
 
 use crate::indexes::word;
 use indexmap::IndexMap;
 use std::alloc::Global;
 use wy_code::code::{Argument, Grant, Instance};
-use wy_code::primitive::Primitive;
+use wy_device::primitive::Primitive;
 use wy_text::list::Items;
 use wy_text::text::{Memory, Text, from_bytes};
 use wy_types::linked::{Actual, Linked};
@@ -106,26 +107,21 @@ pub(crate) fn main_actuals(
 
 /// The primitive type of a number.
 fn primitive_numbered(number: u16) -> Option<Primitive>
-    ensures { result ≡ primitive_numbered number }
+    ensures { result ≡ primitive_numbered current number }
 {
-    if number == 0 {
-        return Some(Primitive::Console);
-    }
-    if number == 1 {
-        return Some(Primitive::Folder);
-    }
-    if number == 2 {
-        return Some(Primitive::Clock);
-    }
-    if number == 3 {
-        return Some(Primitive::Random);
-    }
-    None
+    let primitives = [
+        Primitive::Console,
+        Primitive::Folder,
+        Primitive::Clock,
+        Primitive::Random,
+        Primitive::FullFolder,
+    ];
+    primitives.get(usize::from(number)).copied()
 }
 
 /// The primitive type that a type is.
 fn primitive_of_type(typ: &TypeRef) -> Option<Primitive>
-    ensures { result ≡ primitive_of_type typ.now }
+    ensures { result ≡ primitive_of_type current typ.now }
 {
     match typ {
         TypeRef::Named { decl, members: _ } => primitive_numbered(*decl),

@@ -3,6 +3,7 @@ use Rattle.std.proofs.Common.{◌≡◌, ◌↔◌, ℕ, true, refl, length}
 use Rattle.std.proofs.lemmas.Bool.{le-leb, leb-true}
 use Rattle.wy_device.specs.Device.{IsBytesUpTo, IsTruth, IsNumber}
 use Rattle.wy_device.specs.Requests.{is_text_up_to, is_truth, is_number, is_done}
+use Rattle.wy_device.specs.Traps.{text_limit}
 use Rattle.wy_device.specs.declared.operation.Answer.{Answer}
 use Rattle.wy_device.specs.declared.operation.Answer.TheVariants.{Bytes, Truth, Number, Unit as Done}
 use Rattle.wy_device.specs.declared.operation.OpName.TheVariants as name
@@ -35,10 +36,11 @@ number_fits (Truth b) = (λ e. absurd cc, λ h. absurd h)
 pub takes_what_fits : TakesWhatFits
 takes_what_fits name.ConsoleRead a = up_to 65536 a
 takes_what_fits name.ConsoleWrite a = done_fits a
-takes_what_fits name.FolderRead a = up_to 1048576 a
+takes_what_fits name.FolderRead a = up_to text_limit a
 takes_what_fits name.FolderHas a = truth_fits a
 takes_what_fits name.FolderWrite a = done_fits a
 takes_what_fits name.FolderAppend a = done_fits a
-takes_what_fits name.FolderNames a = up_to 1048576 a
+takes_what_fits name.FolderNames a = up_to text_limit a
 takes_what_fits name.ClockNow a = number_fits a
 takes_what_fits name.RandomWord a = number_fits a
+takes_what_fits name.FolderRemove a = done_fits a

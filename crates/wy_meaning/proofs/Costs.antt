@@ -10,7 +10,8 @@ use Rattle.wy_types.specs.Program.{Program, Start, Init, Run}
 use Rattle.wy_device.specs.declared.deed.Event.{Event}
 use Rattle.wy_device.specs.declared.deed.Event.TheVariants.{Leave}
 use Rattle.wy_device.specs.declared.operation.Op.{Op}
-use Rattle.wy_device.specs.Requests.{operation_of, has_good_name, answers_text, Told, Answers, Fails, Waits, asked}
+use Rattle.wy_device.specs.Editions.{Edition}
+use Rattle.wy_device.specs.Requests.{operation_of, has_good_name, answers_text, Told, Answers, Fails, Waits, asked_within}
 use Rattle.wy_device.specs.RunEnds.{RunEnd, Wrong, Waiting, Trap}
 use Rattle.wy_device.specs.Tapes.{Tapes}
 use Rattle.wy_device.specs.Traps.{most_texts, BadName, Crowded}
@@ -111,20 +112,20 @@ either_within : (b : Bool) (r s : Result Value) → Within 1 1 r → Within 1 1 
 either_within true r s x y = x
 either_within false r s x y = y
 
-requested_within : (place : Place) (grant : List ℕ) (w : World) (op : Option Op) → Within 1 1 (requested place grant w op)
-requested_within place grant w None = stop_within 1 1 Wrong w
-requested_within place grant w (Some op) =
+requested_within : (edition : Edition) (place : Place) (grant : List ℕ) (w : World) (op : Option Op) → Within 1 1 (requested edition place grant w op)
+requested_within edition place grant w None = stop_within 1 1 Wrong w
+requested_within edition place grant w (Some op) =
     either_within (not (has_good_name op)) _ _ (stop_within 1 1 (Trap BadName place) w)
-    (either_within (answers_text op && not (nat_lt w.built most_texts)) _ _ (stop_within 1 1 (Trap Crowded place) w) (answered_within grant op w (asked op w.tapes)))
+    (either_within (answers_text op && not (nat_lt w.built most_texts)) _ _ (stop_within 1 1 (Trap Crowded place) w) (answered_within grant op w (asked_within edition.longest op w.tapes)))
 
-requested_of_within : (place : Place) (g : Option GrantIs) (method : List ℕ) (w : World) (texts : Option (List (List ℕ))) → Within 1 1 (requested_of place g method w texts)
-requested_of_within place None method w texts = stop_within 1 1 Wrong w
-requested_of_within place (Some g) method w None = stop_within 1 1 Wrong w
-requested_of_within place (Some g) method w (Some texts) = requested_within place g.name w (operation_of g.kind method texts)
+requested_of_within : (edition : Edition) (place : Place) (g : Option GrantIs) (method : List ℕ) (w : World) (texts : Option (List (List ℕ))) → Within 1 1 (requested_of edition place g method w texts)
+requested_of_within edition place None method w texts = stop_within 1 1 Wrong w
+requested_of_within edition place (Some g) method w None = stop_within 1 1 Wrong w
+requested_of_within edition place (Some g) method w (Some texts) = requested_within edition place g.name w (operation_of g.primitive method texts)
 
-perform_within : (place : Place) (g : Option GrantIs) (method : List ℕ) (vs : List Value) (w : World) → Within 1 1 (perform place g method vs w)
+perform_within : (edition : Edition) (place : Place) (g : Option GrantIs) (method : List ℕ) (vs : List Value) (w : World) → Within 1 1 (perform edition place g method vs w)
 unfolding perform
-perform_within place g method vs w = requested_of_within place g method w (texts_of vs)
+perform_within edition place g method vs w = requested_of_within edition place g method w (texts_of vs)
 
 ------------------------------------------------------------
 -- Expressions
@@ -145,15 +146,15 @@ choose_within h s (Grant n) fa fb w x y = stop_within h s Wrong w
 RightWithin : (World → Result Value) → Type 0
 RightWithin right = (w : World) → Within 0 1 (right w)
 
-and_within : (place : Place) (v : Value) (right : World → Result Value) (w : World) → RightWithin right → Within 5 1 (go_on place binary.And v right w)
+and_within : (edition : Edition) (place : Place) (v : Value) (right : World → Result Value) (w : World) → RightWithin right → Within 5 1 (go_on edition place binary.And v right w)
 unfolding RightWithin
-and_within place v right w ok = tick_within 4 1 _ (choose_within 4 1 v _ _ w
+and_within edition place v right w ok = tick_within 4 1 _ (choose_within 4 1 v _ _ w
     (bind_within 0 1 4 1 2 (omega arith) (omega arith) _ _ (ok w) (λ u w. tick_within 1 1 _ (give_within 1 1 u w (omega arith))))
     (less_within 2 1 4 1 _ (omega arith) (omega arith) (tick_within 1 1 _ (give_within 1 1 (Truth false) w (omega arith)))))
 
-or_within : (place : Place) (v : Value) (right : World → Result Value) (w : World) → RightWithin right → Within 5 1 (go_on place binary.Or v right w)
+or_within : (edition : Edition) (place : Place) (v : Value) (right : World → Result Value) (w : World) → RightWithin right → Within 5 1 (go_on edition place binary.Or v right w)
 unfolding RightWithin
-or_within place v right w ok = tick_within 4 1 _ (choose_within 4 1 v _ _ w
+or_within edition place v right w ok = tick_within 4 1 _ (choose_within 4 1 v _ _ w
     (less_within 3 1 4 1 _ (omega arith) (omega arith) (tick_within 2 1 _ (tick_within 1 1 _ (give_within 1 1 (Truth true) w (omega arith)))))
     (less_within 0 1 4 1 _ (omega arith) (omega arith) (ok w)))
 
@@ -161,19 +162,19 @@ operated_within : (right : World → Result Value) (reply : Value → World → 
 unfolding RightWithin
 operated_within right reply w ok = bind_within 0 1 5 1 2 (omega arith) (omega arith) _ _ (ok w) (λ u w. settled_within (reply u w))
 
-go_on_within : (place : Place) (o : BinaryOperator) (v : Value) (right : World → Result Value) (w : World) → RightWithin right → Within 5 1 (go_on place o v right w)
-go_on_within place binary.And v right w ok = and_within place v right w ok
-go_on_within place binary.Or v right w ok = or_within place v right w ok
-go_on_within place o v right w ok = operated_within right _ w ok
+go_on_within : (edition : Edition) (place : Place) (o : BinaryOperator) (v : Value) (right : World → Result Value) (w : World) → RightWithin right → Within 5 1 (go_on edition place o v right w)
+go_on_within edition place binary.And v right w ok = and_within edition place v right w ok
+go_on_within edition place binary.Or v right w ok = or_within edition place v right w ok
+go_on_within edition place o v right w ok = operated_within right _ w ok
 
-apply_within : (p : Program) (calls : Calls) → CallsWithin calls → (place : Place) (v : Value) (method : List ℕ) (vs : List Value) (w : World) → Within 1 1 (apply p calls place v method vs w)
+apply_within : (p : Program) (s : Starts) (calls : Calls) → CallsWithin calls → (place : Place) (v : Value) (method : List ℕ) (vs : List Value) (w : World) → Within 1 1 (apply p s calls place v method vs w)
 unfolding CallsWithin
-apply_within p calls ok place (Object a) method vs w = less_within 0 0 1 1 (calls a method vs w) (omega arith) (omega arith) (ok a method vs w)
-apply_within p calls ok place (Grant g) method vs w = perform_within place (grant_of p g) method vs w
-apply_within p calls ok place (Int n) method vs w = stop_within 1 1 Wrong w
-apply_within p calls ok place (Truth n) method vs w = stop_within 1 1 Wrong w
-apply_within p calls ok place Nothing method vs w = stop_within 1 1 Wrong w
-apply_within p calls ok place (Text b) method vs w = stop_within 1 1 Wrong w
+apply_within p s calls ok place (Object a) method vs w = less_within 0 0 1 1 (calls a method vs w) (omega arith) (omega arith) (ok a method vs w)
+apply_within p s calls ok place (Grant g) method vs w = perform_within s.edition place (grant_of s.edition p g) method vs w
+apply_within p s calls ok place (Int n) method vs w = stop_within 1 1 Wrong w
+apply_within p s calls ok place (Truth n) method vs w = stop_within 1 1 Wrong w
+apply_within p s calls ok place Nothing method vs w = stop_within 1 1 Wrong w
+apply_within p s calls ok place (Text b) method vs w = stop_within 1 1 Wrong w
 
 module _ (p : Program) (s : Starts) (calls : Calls) (ok : CallsWithin calls) where
   mutual
@@ -190,13 +191,13 @@ module _ (p : Program) (s : Starts) (calls : Calls) (ok : CallsWithin calls) whe
         node_within 0 1 _ (bind_within 0 1 4 1 2 (omega arith) (omega arith) _ _ (expr_within x sight w) (λ v w. settled_within _))
     expr_within (Binary place o x y) sight w =
         node_within 0 1 _
-        (bind_within 0 1 4 1 5 (omega arith) (omega arith) _ _ (expr_within x sight w) (λ v w. go_on_within place o v (eval p s calls sight y) w (λ w. expr_within y sight w)))
+        (bind_within 0 1 4 1 5 (omega arith) (omega arith) _ _ (expr_within x sight w) (λ v w. go_on_within s.edition place o v (eval p s calls sight y) w (λ w. expr_within y sight w)))
     expr_within (TextCall place o xs) sight w =
         node_within 0 1 _ (bind_within 0 0 4 1 2 (omega arith) (omega arith) _ _ (all_within xs sight w) (λ vs w. settled_within _))
     expr_within (Call place x method xs) sight w =
         node_within 0 1 _
         (bind_within 0 1 4 1 3 (omega arith) (omega arith) _ _ (expr_within x sight w)
-        (λ v w. bind_within 0 0 3 1 2 (omega arith) (omega arith) _ _ (all_within xs sight w) (λ vs w. tick_within 1 1 _ (apply_within p calls ok place v method vs w))))
+        (λ v w. bind_within 0 0 3 1 2 (omega arith) (omega arith) _ _ (all_within xs sight w) (λ vs w. tick_within 1 1 _ (apply_within p s calls ok place v method vs w))))
     expr_within (New place l xs) sight w =
         node_within 0 1 _ (bind_within 0 0 4 1 2 (omega arith) (omega arith) _ _ (all_within xs sight w) (λ vs w. settled_within _))
     expr_within (Ascribe place x t) sight w = node_within 0 1 _ (less_within 0 1 4 1 _ (omega arith) (omega arith) (value_within x sight w))

@@ -15,6 +15,7 @@ use Rattle.wy_device.specs.declared.deed.Event.TheVariants.{Enter, Deed, Leave}
 use Rattle.wy_device.specs.declared.operation.Answer.{Answer}
 use Rattle.wy_device.specs.declared.operation.Answer.TheVariants as answer
 use Rattle.wy_device.specs.declared.operation.Op.{Op}
+use Rattle.wy_device.specs.Editions.{Edition}
 use Rattle.wy_device.specs.Operators.{Operator, Computed, GivesNumber, GivesTruth, Builds, Traps, Misfits}
 use Rattle.wy_device.specs.Requests.{operation_of, has_good_name, answers_text, Told, Answers, Fails, Waits}
 use Rattle.wy_device.specs.RunEnds.{RunEnd, Ended, Trap, TooDeep, DeviceFailed, Waiting, Spent, Wrong}
@@ -128,9 +129,9 @@ computed_closed place w (Builds bytes) = either_closed (nat_lt w.built most_text
 computed_closed place w (Traps kind) = stopped_closed (Trap kind place) tt w
 computed_closed place w Misfits = stopped_closed Wrong tt w
 
-operated_closed : (place : Place) (o : Option Operator) (vs : List Value) (w : World) → Closed (operated place o vs w)
-operated_closed place None vs w = stopped_closed Wrong tt w
-operated_closed place (Some o) vs w = computed_closed place w _
+operated_closed : (edition : Edition) (place : Place) (o : Option Operator) (vs : List Value) (w : World) → Closed (operated edition place o vs w)
+operated_closed edition place None vs w = stopped_closed Wrong tt w
+operated_closed edition place (Some o) vs w = computed_closed place w _
 
 set_closed : (a i : ℕ) (v : Value) (w : World) (t : Option Thing) → Closed (field_set a i v w t)
 set_closed a i v w None = stopped_closed Wrong tt w
@@ -181,20 +182,20 @@ either_ends : {A : Type 0} (b : Bool) (r s : Result A) → EndsSo r → EndsSo s
 either_ends true r s x y = x
 either_ends false r s x y = y
 
-requested_ends : (place : Place) (grant : List ℕ) (w : World) (op : Option Op) → EndsSo (requested place grant w op)
-requested_ends place grant w None = stop_ends Wrong tt w
-requested_ends place grant w (Some op) =
+requested_ends : (edition : Edition) (place : Place) (grant : List ℕ) (w : World) (op : Option Op) → EndsSo (requested edition place grant w op)
+requested_ends edition place grant w None = stop_ends Wrong tt w
+requested_ends edition place grant w (Some op) =
     either_ends (not (has_good_name op)) _ _ (stop_ends (Trap BadName place) tt w)
     (either_ends (answers_text op && not (nat_lt w.built most_texts)) _ _ (stop_ends (Trap Crowded place) tt w) (answered_ends grant op w _))
 
-requested_of_ends : (place : Place) (g : Option GrantIs) (method : List ℕ) (w : World) (texts : Option (List (List ℕ))) → EndsSo (requested_of place g method w texts)
-requested_of_ends place None method w texts = stop_ends Wrong tt w
-requested_of_ends place (Some g) method w None = stop_ends Wrong tt w
-requested_of_ends place (Some g) method w (Some texts) = requested_ends place g.name w (operation_of g.kind method texts)
+requested_of_ends : (edition : Edition) (place : Place) (g : Option GrantIs) (method : List ℕ) (w : World) (texts : Option (List (List ℕ))) → EndsSo (requested_of edition place g method w texts)
+requested_of_ends edition place None method w texts = stop_ends Wrong tt w
+requested_of_ends edition place (Some g) method w None = stop_ends Wrong tt w
+requested_of_ends edition place (Some g) method w (Some texts) = requested_ends edition place g.name w (operation_of g.primitive method texts)
 
-perform_ends : (place : Place) (g : Option GrantIs) (method : List ℕ) (vs : List Value) (w : World) → EndsSo (perform place g method vs w)
+perform_ends : (edition : Edition) (place : Place) (g : Option GrantIs) (method : List ℕ) (vs : List Value) (w : World) → EndsSo (perform edition place g method vs w)
 unfolding perform
-perform_ends place g method vs w = requested_of_ends place g method w (texts_of vs)
+perform_ends edition place g method vs w = requested_of_ends edition place g method w (texts_of vs)
 
 ------------------------------------------------------------
 -- Expressions
@@ -221,27 +222,27 @@ left_ends : (f : World → Result Value) → Ending f → Ending (λ w. bind (f 
 unfolding Ending
 left_ends f x w = bind_ends _ (λ v w. tick_ends _ (give_ends v w)) (f w) (x w)
 
-both_ends : (place : Place) (o : BinaryOperator) (v : Value) (right : World → Result Value) → Ending right →
-    Ending (λ w. bind (right w) (λ u w. tick (settle (operated place (binary_operator o) (v ∷ u ∷ []) w))))
+both_ends : (edition : Edition) (place : Place) (o : BinaryOperator) (v : Value) (right : World → Result Value) → Ending right →
+    Ending (λ w. bind (right w) (λ u w. tick (settle (operated edition place (binary_operator o) (v ∷ u ∷ []) w))))
 unfolding Ending
-both_ends place o v right x w = bind_ends _ (λ u w. settled_ends _ (operated_closed place (binary_operator o) (v ∷ u ∷ []) w)) (right w) (x w)
+both_ends edition place o v right x w = bind_ends _ (λ u w. settled_ends _ (operated_closed edition place (binary_operator o) (v ∷ u ∷ []) w)) (right w) (x w)
 
-go_on_ends : (place : Place) (o : BinaryOperator) (v : Value) (right : World → Result Value) (w : World) → Ending right → EndsSo (go_on place o v right w)
+go_on_ends : (edition : Edition) (place : Place) (o : BinaryOperator) (v : Value) (right : World → Result Value) (w : World) → Ending right → EndsSo (go_on edition place o v right w)
 unfolding Ending
-go_on_ends place binary.And v right w ok =
+go_on_ends edition place binary.And v right w ok =
     tick_ends _ (choose_ends v _ _ w (left_ends right ok) (λ w. tick_ends _ (give_ends (Truth false) w)))
-go_on_ends place binary.Or v right w ok =
+go_on_ends edition place binary.Or v right w ok =
     tick_ends _ (choose_ends v _ _ w (λ w. tick_ends _ (tick_ends _ (give_ends (Truth true) w))) ok)
-go_on_ends place o v right w ok = both_ends place o v right ok w
+go_on_ends edition place o v right w ok = both_ends edition place o v right ok w
 
-apply_ends : (p : Program) (calls : Calls) → CallsEnd calls → (place : Place) (v : Value) (method : List ℕ) (vs : List Value) (w : World) → EndsSo (apply p calls place v method vs w)
+apply_ends : (p : Program) (s : Starts) (calls : Calls) → CallsEnd calls → (place : Place) (v : Value) (method : List ℕ) (vs : List Value) (w : World) → EndsSo (apply p s calls place v method vs w)
 unfolding CallsEnd
-apply_ends p calls ok place (Object a) method vs w = ok a method vs w
-apply_ends p calls ok place (Grant g) method vs w = perform_ends place (grant_of p g) method vs w
-apply_ends p calls ok place (Int n) method vs w = stop_ends Wrong tt w
-apply_ends p calls ok place (Truth n) method vs w = stop_ends Wrong tt w
-apply_ends p calls ok place Nothing method vs w = stop_ends Wrong tt w
-apply_ends p calls ok place (Text b) method vs w = stop_ends Wrong tt w
+apply_ends p s calls ok place (Object a) method vs w = ok a method vs w
+apply_ends p s calls ok place (Grant g) method vs w = perform_ends s.edition place (grant_of s.edition p g) method vs w
+apply_ends p s calls ok place (Int n) method vs w = stop_ends Wrong tt w
+apply_ends p s calls ok place (Truth n) method vs w = stop_ends Wrong tt w
+apply_ends p s calls ok place Nothing method vs w = stop_ends Wrong tt w
+apply_ends p s calls ok place (Text b) method vs w = stop_ends Wrong tt w
 
 module _ (p : Program) (s : Starts) (calls : Calls) (ok : CallsEnd calls) where
   mutual
@@ -255,14 +256,14 @@ module _ (p : Program) (s : Starts) (calls : Calls) (ok : CallsEnd calls) where
     expr_ends (This place) sight w = node_ends _ (settled_ends _ (found_closed _ w))
     expr_ends (Name place name) sight w = node_ends _ (settled_ends _ (found_closed (value_of_name s sight w name) w))
     expr_ends (Unary place o x) sight w =
-        node_ends _ (bind_ends _ (λ v w. settled_ends _ (operated_closed place (Some (unary_operator o)) (v ∷ []) w)) _ (expr_ends x sight w))
+        node_ends _ (bind_ends _ (λ v w. settled_ends _ (operated_closed s.edition place (Some (unary_operator o)) (v ∷ []) w)) _ (expr_ends x sight w))
     expr_ends (Binary place o x y) sight w =
-        node_ends _ (bind_ends _ (λ v w. go_on_ends place o v (eval p s calls sight y) w (λ w. expr_ends y sight w)) _ (expr_ends x sight w))
+        node_ends _ (bind_ends _ (λ v w. go_on_ends s.edition place o v (eval p s calls sight y) w (λ w. expr_ends y sight w)) _ (expr_ends x sight w))
     expr_ends (TextCall place o xs) sight w =
-        node_ends _ (bind_ends _ (λ vs w. settled_ends _ (operated_closed place (Some (text_operator o)) vs w)) _ (all_ends xs sight w))
+        node_ends _ (bind_ends _ (λ vs w. settled_ends _ (operated_closed s.edition place (Some (text_operator o)) vs w)) _ (all_ends xs sight w))
     expr_ends (Call place x method xs) sight w =
         node_ends _
-        (bind_ends _ (λ v w. bind_ends _ (λ vs w. tick_ends _ (apply_ends p calls ok place v method vs w)) _ (all_ends xs sight w)) _ (expr_ends x sight w))
+        (bind_ends _ (λ v w. bind_ends _ (λ vs w. tick_ends _ (apply_ends p s calls ok place v method vs w)) _ (all_ends xs sight w)) _ (expr_ends x sight w))
     expr_ends (New place l xs) sight w =
         node_ends _
         (bind_ends _ (λ vs w. settled_ends _ (new_closed place sight l vs w (literal_in (scope_of_instance p s sight.instance) l))) _ (all_ends xs sight w))

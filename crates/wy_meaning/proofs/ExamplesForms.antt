@@ -10,9 +10,9 @@ use Rattle.wy_types.specs.declared.code.TextOperator.{TextOperator}
 use Rattle.wy_types.specs.declared.code.TextOperator.TheVariants as text
 use Rattle.wy_types.specs.declared.types.TypeRef.TheVariants.{Unit as UnitType}
 use Rattle.wy_types.specs.Code.{Expr, Unary, Binary, TextCall, New, Ascribe, Plain, If, none}
-use Rattle.wy_device.specs.Operators.{Bytes, Join, Builds, Traps, operate}
+use Rattle.wy_device.specs.Operators.{Bytes, Join, Builds, Traps, operate, operate_within}
 use Rattle.wy_device.specs.RunEnds.{Trap}
-use Rattle.wy_device.specs.Traps.{TrapKind, Overflow, ZeroDivisor, BadPart, LongText, BadName, Crowded}
+use Rattle.wy_device.specs.Traps.{TrapKind, Overflow, ZeroDivisor, BadPart, LongText, BadName, Crowded, text_limit}
 use Rattle.wy_meaning.specs.Values.{Value, Int, Truth, Text, World, Outcome, Gives, Stops}
 use Rattle.wy_meaning.specs.Eval.{eval, eval_value, eval_all, eval_block, open_calls}
 use Rattle.wy_meaning.specs.Performing.{perform}
@@ -79,7 +79,7 @@ sums_are : answers_of (
     ≡ gives (Int (pos 5)) 3 3 ∷ traps Overflow 3 3 ∷ gives (Int (minus 1)) 3 3 ∷
     gives (Int (minus 1)) 3 3 ∷ traps Overflow 3 3 ∷
     gives (Int (minus 12)) 3 3 ∷ traps Overflow 3 3 ∷ []
-unfolding give stop node tick told settle added bind whole eval eval_value eval_all eval_block open_calls perform operate
+unfolding give stop node tick told settle added bind whole eval eval_value eval_all eval_block open_calls perform operate_within
 sums_are = refl
 
 -- division goes toward zero, the remainder has the dividend's sign
@@ -89,12 +89,12 @@ quotients_are : answers_of (
     of_two binary.Remainder (n least) (n (minus 1)) ∷ [])
     ≡ gives (Int (minus 3)) 3 3 ∷ traps ZeroDivisor 3 3 ∷ traps Overflow 3 3 ∷
     gives (Int (minus 1)) 3 3 ∷ gives (Int (pos 1)) 3 3 ∷ traps ZeroDivisor 3 3 ∷ gives (Int (pos 0)) 3 3 ∷ []
-unfolding give stop node tick told settle added bind whole eval eval_value eval_all eval_block open_calls perform operate
+unfolding give stop node tick told settle added bind whole eval eval_value eval_all eval_block open_calls perform operate_within
 quotients_are = refl
 
 negations_are : answers_of (Unary (at 4 9) unary.Negate (n (pos 5)) ∷ Unary (at 4 9) unary.Negate (n least) ∷ Unary (at 4 9) unary.Not (truth true) ∷ [])
     ≡ gives (Int (minus 5)) 2 2 ∷ traps Overflow 2 2 ∷ gives (Truth false) 2 2 ∷ []
-unfolding give stop node tick told settle added bind whole eval eval_value eval_all eval_block open_calls perform operate
+unfolding give stop node tick told settle added bind whole eval eval_value eval_all eval_block open_calls perform operate_within
 negations_are = refl
 
 comparisons_are : answers_of (
@@ -104,7 +104,7 @@ comparisons_are : answers_of (
     ≡ gives (Truth true) 3 3 ∷ gives (Truth true) 3 3 ∷ gives (Truth true) 3 3 ∷
     gives (Truth false) 3 3 ∷ gives (Truth true) 3 3 ∷
     gives (Truth true) 3 3 ∷ gives (Truth false) 3 3 ∷ []
-unfolding give stop node tick told settle added bind whole eval eval_value eval_all eval_block open_calls perform operate
+unfolding give stop node tick told settle added bind whole eval eval_value eval_all eval_block open_calls perform operate_within
 comparisons_are = refl
 
 -- the right side is evaluated only where it is needed: a zero divisor there does no harm
@@ -116,7 +116,7 @@ and_or_are : answers_of (
     of_two binary.Or (truth true) bad ∷ of_two binary.Or (truth false) bad ∷ of_two binary.Or (truth false) (truth true) ∷ [])
     ≡ gives (Truth false) 2 3 ∷ traps ZeroDivisor 7 6 ∷ gives (Truth false) 3 4 ∷
     gives (Truth true) 2 4 ∷ traps ZeroDivisor 7 6 ∷ gives (Truth true) 3 3 ∷ []
-unfolding give stop node tick told settle added bind whole eval eval_value eval_all eval_block open_calls perform operate
+unfolding give stop node tick told settle added bind whole eval eval_value eval_all eval_block open_calls perform operate_within
 and_or_are = refl
 
 -- a choice counts one node, an ascription one and no instruction
@@ -124,7 +124,7 @@ choices_are : map (λ v. answer_of (eval_value setting setting_starts (open_call
     If somewhere (truth true) (last (n (pos 1))) (last (n (pos 2))) ∷ If somewhere (truth false) (last (n (pos 1))) (last (n (pos 2))) ∷
     Plain (Ascribe somewhere (Plain (n (pos 1))) UnitType) ∷ [])
     ≡ gives (Int (pos 1)) 3 4 ∷ gives (Int (pos 2)) 3 3 ∷ gives (Int (pos 1)) 2 1 ∷ []
-unfolding give stop node tick told settle added bind whole eval eval_value eval_all eval_block open_calls perform operate
+unfolding give stop node tick told settle added bind whole eval eval_value eval_all eval_block open_calls perform operate_within
 choices_are = refl
 
 texts_are : answers_of (
@@ -136,7 +136,7 @@ texts_are : answers_of (
     gives (Text (codes "bc")) 4 4 ∷ gives (Text []) 4 4 ∷
     gives (Int (pos 98)) 3 3 ∷ gives (Text (codes "A")) 2 2 ∷
     gives (Text (codes "-120")) 2 2 ∷ gives (Text (codes "0")) 2 2 ∷ []
-unfolding digits give stop node tick told settle added bind whole eval eval_value eval_all eval_block open_calls perform operate
+unfolding digits give stop node tick told settle added bind whole eval eval_value eval_all eval_block open_calls perform operate_within
 texts_are = refl
 
 -- places outside a text, and bytes outside 0 to 255
@@ -148,13 +148,13 @@ bad_parts_are : answers_of (
     ≡ traps BadPart 4 4 ∷ traps BadPart 4 4 ∷ traps BadPart 4 4 ∷
     traps BadPart 3 3 ∷ traps BadPart 3 3 ∷
     traps BadPart 2 2 ∷ traps BadPart 2 2 ∷ []
-unfolding give stop node tick told settle added bind whole eval eval_value eval_all eval_block open_calls perform operate
+unfolding give stop node tick told settle added bind whole eval eval_value eval_all eval_block open_calls perform operate_within
 bad_parts_are = refl
 
--- texts that are joined to more than 1,048,576 bytes
-long_texts_trap : (s t : List ℕ) → 1048576 < length (s ++ t) → operate Join (Bytes s ∷ Bytes t ∷ []) ≡ Traps LongText
-unfolding operate
-long_texts_trap s t long = too_long (nat_le (length (s ++ t)) 1048576) (lt-leb _ _ long)
+-- texts that are joined to more bytes than a text may have
+long_texts_trap : (s t : List ℕ) → text_limit < length (s ++ t) → operate Join (Bytes s ∷ Bytes t ∷ []) ≡ Traps LongText
+unfolding operate_within
+long_texts_trap s t long = too_long (nat_le (length (s ++ t)) text_limit) (lt-leb _ _ long)
   where
     too_long : (b : Bool) → b ≡ false → (if b then Builds (s ++ t) else Traps LongText) ≡ Traps LongText
     too_long b e = ap (λ (b : Bool). if b then Builds (s ++ t) else Traps LongText) e
@@ -167,20 +167,20 @@ crowded_texts_are : map (λ e. answer_of (evaluated_in (with_made 0 4194304) e))
     ≡ traps Crowded 3 3 ∷ traps Crowded 4 4 ∷
     traps Crowded 2 2 ∷ traps Crowded 2 2 ∷ traps BadPart 2 2 ∷
     traps Crowded 2 2 ∷ traps Crowded 3 3 ∷ []
-unfolding digits give stop node tick told settle added bind whole eval eval_value eval_all eval_block open_calls perform operate
+unfolding digits give stop node tick told settle added bind whole eval eval_value eval_all eval_block open_calls perform operate_within
 crowded_texts_are = refl
 
 last_text_is : answer_of (evaluated_in (with_made 0 4194303) (of_text text.Byte (n (pos 65) ∷ []))) ≡ gives (Text (codes "A")) 2 2
-unfolding give stop node tick told settle added bind whole eval eval_value eval_all eval_block open_calls perform operate
+unfolding give stop node tick told settle added bind whole eval eval_value eval_all eval_block open_calls perform operate_within
 last_text_is = refl
 
 crowded_objects_are : answer_of (evaluated_in (with_made 4194304 0) (New (at 4 9) 1 none)) ≡ traps Crowded 1 1
-unfolding give stop node tick told settle added bind whole eval eval_value eval_all eval_block open_calls perform operate
+unfolding give stop node tick told settle added bind whole eval eval_value eval_all eval_block open_calls perform operate_within
 crowded_objects_are = refl
 
 -- a name that is no file's traps before all else, and before the tape is asked
 bad_names_are : map (λ name. answer_of (evaluated_in (with_made 0 4194304) (call_at (at 4 9) (own 1) (codes "read") (quoted name ∷ [])))) (
     codes "../x" ∷ codes ".a" ∷ codes "A" ∷ [] ∷ [])
     ≡ traps BadName 3 3 ∷ traps BadName 3 3 ∷ traps BadName 3 3 ∷ traps BadName 3 3 ∷ []
-unfolding give stop node tick told settle added bind whole eval eval_value eval_all eval_block open_calls perform operate
+unfolding give stop node tick told settle added bind whole eval eval_value eval_all eval_block open_calls perform operate_within
 bad_names_are = refl

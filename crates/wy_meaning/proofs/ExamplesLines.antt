@@ -4,11 +4,11 @@ use Rattle.std.specs.Fmt.{digits}
 use Rattle.wy_device.specs.RunEnds.{Ended, Trap, TooDeep, DeviceFailed, Spent}
 use Rattle.wy_device.specs.Traps.{Overflow, ZeroDivisor, BadName}
 use Rattle.wy_device.specs.declared.operation.Answer.TheVariants as answer
-use Rattle.wy_device.specs.declared.operation.Op.TheVariants.{ConsoleRead, ConsoleWrite, FolderRead, FolderHas, FolderWrite, FolderAppend, FolderNames, ClockNow, RandomWord}
+use Rattle.wy_device.specs.declared.operation.Op.TheVariants.{ConsoleRead, ConsoleWrite, FolderRead, FolderHas, FolderWrite, FolderAppend, FolderNames, ClockNow, RandomWord, FolderRemove}
 use Rattle.wy_device.specs.declared.operation.OpName.TheVariants as name
 use Rattle.wy_meaning.specs.EndLines.{end_line}
 use Rattle.wy_meaning.specs.EventLines.{event_line, event_lines}
-use Rattle.wy_device.specs.Operators.{operate}
+use Rattle.wy_device.specs.Operators.{operate_within}
 use Rattle.wy_meaning.specs.Eval.{eval, eval_value, eval_all, eval_block, open_calls}
 use Rattle.wy_meaning.specs.Performing.{perform}
 use Rattle.wy_meaning.specs.Results.{give, stop, node, tick, told, settle, added, bind, whole}
@@ -28,12 +28,14 @@ deed_lines : map event_line (
     did (codes "disk") (FolderHas (codes "in")) (Some (answer.Truth false)) ∷
     did (codes "disk") (FolderWrite (codes "x") (codes "say \"a\"")) (Some answer.Unit) ∷
     did (codes "disk") (FolderAppend (codes "x") (92 ∷ 0 ∷ 255 ∷ [])) None ∷ did (codes "disk") FolderNames (Some (answer.Bytes (codes "a\nb\n"))) ∷
+    did (codes "disk") (FolderRemove (codes "x")) (Some answer.Unit) ∷
     did (codes "clock") ClockNow (Some (answer.Number (pos 7))) ∷ did (codes "dice") RandomWord (Some (answer.Number (negsuc 11))) ∷ [])
     ≡ codes "deed console.read() = \"a\\tb\\n\"\n" ∷ codes "deed console.read() = failed\n" ∷
     codes "deed disk.read(\"in\") = \"\"\n" ∷ codes "deed disk.has(\"in\") = true\n" ∷
     codes "deed disk.has(\"in\") = false\n" ∷
     codes "deed disk.write(\"x\", \"say \\\"a\\\"\") = ()\n" ∷
     codes "deed disk.append(\"x\", \"\\\\\\x00\\xff\") = failed\n" ∷ codes "deed disk.names() = \"a\\nb\\n\"\n" ∷
+    codes "deed disk.remove(\"x\") = ()\n" ∷
     codes "deed clock.now() = 7\n" ∷ codes "deed dice.word() = -12\n" ∷ []
 unfolding digits
 deed_lines = refl
@@ -51,5 +53,5 @@ end_lines = refl
 -- the trace of a whole program
 receiver_first_trace : event_lines (meaning 10 receiver_first (starts_of receiver_first receiver_first_started) (record { console = Some answer.Unit ∷ Some answer.Unit ∷ []; folder = []; clock = Some (answer.Number (pos 7)) ∷ []; random = [] })).events
     ≡ codes "enter g init\nleave\nenter main run\nenter g get\ndeed console.write(\"1\") = ()\nleave\ndeed clock.now() = 7\nenter g new1.put\ndeed console.write(\"7\") = ()\nleave\nleave\n"
-unfolding digits give stop node tick told settle added bind whole eval eval_value eval_all eval_block open_calls perform operate fill_all begin meaning
+unfolding digits give stop node tick told settle added bind whole eval eval_value eval_all eval_block open_calls perform operate_within fill_all begin meaning
 receiver_first_trace = refl

@@ -2,7 +2,7 @@
 use Rattle.std.proofs.Common.{codes, ◌≡◌, ℕ, pos, List, [], ◌∷◌, ◌++◌, Option, Some, None, true, false, refl}
 use Rattle.std.specs.Fmt.{digits}
 use Rattle.wy_types.specs.Program.{Program}
-use Rattle.wy_device.specs.Operators.{operate}
+use Rattle.wy_device.specs.Operators.{operate_within}
 use Rattle.wy_device.specs.RunEnds.{Ended, Trap, TooDeep, DeviceFailed, Waiting}
 use Rattle.wy_device.specs.Tapes.{Tapes}
 use Rattle.wy_device.specs.Traps.{Overflow, ZeroDivisor, BadName}
@@ -26,12 +26,12 @@ abbrev done : Option Answer
 done = Some answer.Unit
 
 empty_is : means empty [] no_tapes ≡ record { end = Ended; events = entered (codes "main") (codes "run") ∷ left ∷ []; nodes = 2; steps = 2 }
-unfolding give stop node tick told settle added bind whole eval eval_value eval_all eval_block open_calls perform operate fill_all begin meaning
+unfolding give stop node tick told settle added bind whole eval eval_value eval_all eval_block open_calls perform operate_within fill_all begin meaning
 empty_is = refl
 
 hello_is : means hello [] (console_tape (done ∷ []))
     ≡ record { end = Ended; events = entered (codes "main") (codes "run") ∷ did (codes "console") (ConsoleWrite (codes "hello\n")) done ∷ left ∷ []; nodes = 4; steps = 4 }
-unfolding give stop node tick told settle added bind whole eval eval_value eval_all eval_block open_calls perform operate fill_all begin meaning
+unfolding give stop node tick told settle added bind whole eval eval_value eval_all eval_block open_calls perform operate_within fill_all begin meaning
 hello_is = refl
 
 logger_is : means logger logger_started (folder_tape (done ∷ []))
@@ -43,7 +43,7 @@ logger_is : means logger logger_started (folder_tape (done ∷ []))
       nodes = 10;
       steps = 10;
     }
-unfolding give stop node tick told settle added bind whole eval eval_value eval_all eval_block open_calls perform operate fill_all begin meaning
+unfolding give stop node tick told settle added bind whole eval eval_value eval_all eval_block open_calls perform operate_within fill_all begin meaning
 logger_is = refl
 
 -- the callback that the plain module was handed first, and then the one that it keeps
@@ -59,7 +59,7 @@ kept_callback_is : means kept_callback kept_callback_started (folder_tape (done 
       nodes = 34;
       steps = 38;
     }
-unfolding digits give stop node tick told settle added bind whole eval eval_value eval_all eval_block open_calls perform operate fill_all begin meaning
+unfolding digits give stop node tick told settle added bind whole eval eval_value eval_all eval_block open_calls perform operate_within fill_all begin meaning
 kept_callback_is = refl
 
 readonly_is : means readonly readonly_started (folder_tape (Some (answer.Bytes (codes "q")) ∷ []))
@@ -72,7 +72,7 @@ readonly_is : means readonly readonly_started (folder_tape (Some (answer.Bytes (
       nodes = 14;
       steps = 14;
     }
-unfolding give stop node tick told settle added bind whole eval eval_value eval_all eval_block open_calls perform operate fill_all begin meaning
+unfolding give stop node tick told settle added bind whole eval eval_value eval_all eval_block open_calls perform operate_within fill_all begin meaning
 readonly_is = refl
 
 escaping_is : means escaping_object escaping_started (folder_tape (done ∷ []))
@@ -84,7 +84,7 @@ escaping_is : means escaping_object escaping_started (folder_tape (done ∷ []))
       nodes = 13;
       steps = 13;
     }
-unfolding digits give stop node tick told settle added bind whole eval eval_value eval_all eval_block open_calls perform operate fill_all begin meaning
+unfolding digits give stop node tick told settle added bind whole eval eval_value eval_all eval_block open_calls perform operate_within fill_all begin meaning
 escaping_is = refl
 
 abbrev wrote : List ℕ → Event
@@ -93,17 +93,17 @@ wrote text = did (codes "console") (ConsoleWrite text) done
 -- the quotient of the least Int by -1 traps before the second write, and so does a zero divisor; the remainder is 0
 overflow_is : means overflow [] (console_tape (done ∷ done ∷ []))
     ≡ record { end = Trap Overflow (at 5 34); events = entered (codes "main") (codes "run") ∷ wrote (codes "a") ∷ []; nodes = 8; steps = 7 }
-unfolding give stop node tick told settle added bind whole eval eval_value eval_all eval_block open_calls perform operate fill_all begin meaning
+unfolding give stop node tick told settle added bind whole eval eval_value eval_all eval_block open_calls perform operate_within fill_all begin meaning
 overflow_is = refl
 
 zero_divisor_is : means zero_divisor [] (console_tape (done ∷ done ∷ []))
     ≡ record { end = Trap ZeroDivisor (at 5 15); events = entered (codes "main") (codes "run") ∷ wrote (codes "a") ∷ []; nodes = 8; steps = 7 }
-unfolding give stop node tick told settle added bind whole eval eval_value eval_all eval_block open_calls perform operate fill_all begin meaning
+unfolding give stop node tick told settle added bind whole eval eval_value eval_all eval_block open_calls perform operate_within fill_all begin meaning
 zero_divisor_is = refl
 
 least_remainder_is : means least_remainder [] (console_tape (done ∷ done ∷ []))
     ≡ record { end = Ended; events = entered (codes "main") (codes "run") ∷ wrote (codes "a") ∷ wrote (codes "b") ∷ left ∷ []; nodes = 11; steps = 12 }
-unfolding give stop node tick told settle added bind whole eval eval_value eval_all eval_block open_calls perform operate fill_all begin meaning
+unfolding give stop node tick told settle added bind whole eval eval_value eval_all eval_block open_calls perform operate_within fill_all begin meaning
 least_remainder_is = refl
 
 abbrev deep_at : ℕ → Course
@@ -114,16 +114,16 @@ deep_events calls = entered (codes "l") (codes "init") ∷ left ∷ entered (cod
 
 -- with no call open at once, with one, and with three
 deep_0_is : deep_at 0 ≡ record { end = TooDeep; events = deep_events []; nodes = 7; steps = 7 }
-unfolding give stop node tick told settle added bind whole eval eval_value eval_all eval_block open_calls perform operate fill_all begin meaning
+unfolding give stop node tick told settle added bind whole eval eval_value eval_all eval_block open_calls perform operate_within fill_all begin meaning
 deep_0_is = refl
 
 deep_1_is : deep_at 1 ≡ record { end = TooDeep; events = deep_events (entered (codes "l") (codes "go") ∷ []); nodes = 10; steps = 9 }
-unfolding give stop node tick told settle added bind whole eval eval_value eval_all eval_block open_calls perform operate fill_all begin meaning
+unfolding give stop node tick told settle added bind whole eval eval_value eval_all eval_block open_calls perform operate_within fill_all begin meaning
 deep_1_is = refl
 
 deep_3_is : deep_at 3
     ≡ record { end = TooDeep; events = deep_events (entered (codes "l") (codes "go") ∷ entered (codes "l") (codes "go") ∷ entered (codes "l") (codes "go") ∷ []); nodes = 16; steps = 13 }
-unfolding give stop node tick told settle added bind whole eval eval_value eval_all eval_block open_calls perform operate fill_all begin meaning
+unfolding give stop node tick told settle added bind whole eval eval_value eval_all eval_block open_calls perform operate_within fill_all begin meaning
 deep_3_is = refl
 
 -- the receiver's write comes before the argument's question
@@ -136,7 +136,7 @@ receiver_first_is : means receiver_first receiver_first_started (record { consol
       nodes = 17;
       steps = 18;
     }
-unfolding digits give stop node tick told settle added bind whole eval eval_value eval_all eval_block open_calls perform operate fill_all begin meaning
+unfolding digits give stop node tick told settle added bind whole eval eval_value eval_all eval_block open_calls perform operate_within fill_all begin meaning
 receiver_first_is = refl
 
 abbrev answered : List ℕ → Option Answer
@@ -159,25 +159,25 @@ three_files_with text =
     means three_files three_files_started (record { console = done ∷ []; folder = answered text ∷ done ∷ done ∷ []; clock = []; random = [] })
 
 three_files_is : three_files_with (codes "x") ≡ record { end = Ended; events = three_files_events (codes "x") (codes "x"); nodes = 69; steps = 74 }
-unfolding digits give stop node tick told settle added bind whole eval eval_value eval_all eval_block open_calls perform operate fill_all begin meaning
+unfolding digits give stop node tick told settle added bind whole eval eval_value eval_all eval_block open_calls perform operate_within fill_all begin meaning
 three_files_is = refl
 
 three_files_without_a_file_is : three_files_with [] ≡ record { end = Ended; events = three_files_events [] (codes "empty"); nodes = 69; steps = 76 }
-unfolding digits give stop node tick told settle added bind whole eval eval_value eval_all eval_block open_calls perform operate fill_all begin meaning
+unfolding digits give stop node tick told settle added bind whole eval eval_value eval_all eval_block open_calls perform operate_within fill_all begin meaning
 three_files_without_a_file_is = refl
 
 -- a failed write is the last event; with no answer left, or before one that is not a write's, the run waits
 failed_is : means hello [] (console_tape (None ∷ []))
     ≡ record { end = DeviceFailed (codes "console") name.ConsoleWrite; events = entered (codes "main") (codes "run") ∷ did (codes "console") (ConsoleWrite (codes "hello\n")) None ∷ []; nodes = 4; steps = 3 }
-unfolding give stop node tick told settle added bind whole eval eval_value eval_all eval_block open_calls perform operate fill_all begin meaning
+unfolding give stop node tick told settle added bind whole eval eval_value eval_all eval_block open_calls perform operate_within fill_all begin meaning
 failed_is = refl
 
 waiting_is : means hello [] no_tapes ≡ record { end = Waiting; events = entered (codes "main") (codes "run") ∷ []; nodes = 4; steps = 3 }
-unfolding give stop node tick told settle added bind whole eval eval_value eval_all eval_block open_calls perform operate fill_all begin meaning
+unfolding give stop node tick told settle added bind whole eval eval_value eval_all eval_block open_calls perform operate_within fill_all begin meaning
 waiting_is = refl
 
 misfit_is : means hello [] (console_tape (Some (answer.Truth true) ∷ [])) ≡ record { end = Waiting; events = entered (codes "main") (codes "run") ∷ []; nodes = 4; steps = 3 }
-unfolding give stop node tick told settle added bind whole eval eval_value eval_all eval_block open_calls perform operate fill_all begin meaning
+unfolding give stop node tick told settle added bind whole eval eval_value eval_all eval_block open_calls perform operate_within fill_all begin meaning
 misfit_is = refl
 
 -- a field is read where a method runs, with the value that it has then
@@ -190,7 +190,7 @@ counter_is : means counter [] (console_tape (done ∷ []))
       nodes = 32;
       steps = 36;
     }
-unfolding digits give stop node tick told settle added bind whole eval eval_value eval_all eval_block open_calls perform operate fill_all begin meaning
+unfolding digits give stop node tick told settle added bind whole eval eval_value eval_all eval_block open_calls perform operate_within fill_all begin meaning
 counter_is = refl
 
 nested_is : means nested nested_started (console_tape (done ∷ []))
@@ -202,19 +202,19 @@ nested_is : means nested nested_started (console_tape (done ∷ []))
       nodes = 21;
       steps = 21;
     }
-unfolding digits give stop node tick told settle added bind whole eval eval_value eval_all eval_block open_calls perform operate fill_all begin meaning
+unfolding digits give stop node tick told settle added bind whole eval eval_value eval_all eval_block open_calls perform operate_within fill_all begin meaning
 nested_is = refl
 
 bad_name_is : means bad_name [] (folder_tape (Some (answer.Bytes []) ∷ [])) ≡ record { end = Trap BadName (at 4 18); events = entered (codes "main") (codes "run") ∷ []; nodes = 5; steps = 3 }
-unfolding give stop node tick told settle added bind whole eval eval_value eval_all eval_block open_calls perform operate fill_all begin meaning
+unfolding give stop node tick told settle added bind whole eval eval_value eval_all eval_block open_calls perform operate_within fill_all begin meaning
 bad_name_is = refl
 
 samples_is : means (samples true) [] (console_tape (done ∷ done ∷ []))
     ≡ record { end = Ended; events = entered (codes "main") (codes "run") ∷ wrote (codes "bcA98-3") ∷ wrote (codes "y") ∷ left ∷ []; nodes = 32; steps = 36 }
-unfolding digits give stop node tick told settle added bind whole eval eval_value eval_all eval_block open_calls perform operate fill_all begin meaning
+unfolding digits give stop node tick told settle added bind whole eval eval_value eval_all eval_block open_calls perform operate_within fill_all begin meaning
 samples_is = refl
 
 samples_trap : means (samples false) [] (console_tape (done ∷ done ∷ []))
     ≡ record { end = Trap ZeroDivisor (at 7 9); events = entered (codes "main") (codes "run") ∷ wrote (codes "bcA98-3") ∷ []; nodes = 33; steps = 30 }
-unfolding digits give stop node tick told settle added bind whole eval eval_value eval_all eval_block open_calls perform operate fill_all begin meaning
+unfolding digits give stop node tick told settle added bind whole eval eval_value eval_all eval_block open_calls perform operate_within fill_all begin meaning
 samples_trap = refl

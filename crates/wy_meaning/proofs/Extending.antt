@@ -9,6 +9,7 @@ use Rattle.wy_types.specs.Code.{Expr, Number, Quoted, Truth as TruthOf, Nothing 
 use Rattle.wy_types.specs.Program.{Program, Start, Init, Run}
 use Rattle.wy_device.specs.declared.deed.Event.{Event}
 use Rattle.wy_device.specs.declared.deed.Event.TheVariants.{Leave}
+use Rattle.wy_device.specs.Editions.{Edition}
 use Rattle.wy_device.specs.RunEnds.{Ended, Wrong, Waiting, TooDeep}
 use Rattle.wy_device.specs.Tapes.{Tapes}
 use Rattle.wy_meaning.specs.Values.{Value, Int, Truth, Nothing, Text, Object, Grant, Thing, World, Outcome, Gives, Stops, Reply}
@@ -47,22 +48,22 @@ module _ (u : Tapes) where
   unfolding Goes
   both_longer reply same right x w = bind_longer u _ (λ v w. settled_longer u _ _ (same v w)) _ _ (x w)
 
-  go_on_longer : (place : Place) (o : BinaryOperator) (v : Value) (right : World → Result Value) (w : World) → Goes right → Longer u (go_on place o v right w) (go_on place o v right (longer u w))
+  go_on_longer : (edition : Edition) (place : Place) (o : BinaryOperator) (v : Value) (right : World → Result Value) (w : World) → Goes right → Longer u (go_on edition place o v right w) (go_on edition place o v right (longer u w))
   unfolding Goes
-  go_on_longer place binary.And v right w ok =
+  go_on_longer edition place binary.And v right w ok =
       tick_longer u _ _ (choose_longer v _ _ w (left_longer right ok) (λ w. tick_longer u _ _ (give_longer u (Truth false) w)))
-  go_on_longer place binary.Or v right w ok =
+  go_on_longer edition place binary.Or v right w ok =
       tick_longer u _ _ (choose_longer v _ _ w (λ w. tick_longer u _ _ (tick_longer u _ _ (give_longer u (Truth true) w))) ok)
-  go_on_longer place o v right w ok = both_longer (λ x w. operated place (binary_operator o) (v ∷ x ∷ []) w) (λ x w. operated_same u place (binary_operator o) (v ∷ x ∷ []) w) right ok w
+  go_on_longer edition place o v right w ok = both_longer (λ x w. operated edition place (binary_operator o) (v ∷ x ∷ []) w) (λ x w. operated_same u edition place (binary_operator o) (v ∷ x ∷ []) w) right ok w
 
-  apply_longer : (p : Program) (calls : Calls) → CallsGo calls → (place : Place) (v : Value) (method : List ℕ) (vs : List Value) (w : World) → Longer u (apply p calls place v method vs w) (apply p calls place v method vs (longer u w))
+  apply_longer : (p : Program) (s : Starts) (calls : Calls) → CallsGo calls → (place : Place) (v : Value) (method : List ℕ) (vs : List Value) (w : World) → Longer u (apply p s calls place v method vs w) (apply p s calls place v method vs (longer u w))
   unfolding CallsGo
-  apply_longer p calls ok place (Object a) method vs w = ok a method vs w
-  apply_longer p calls ok place (Grant g) method vs w = perform_longer u place (grant_of p g) method vs w
-  apply_longer p calls ok place (Int n) method vs w = stop_longer u Wrong w
-  apply_longer p calls ok place (Truth b) method vs w = stop_longer u Wrong w
-  apply_longer p calls ok place Nothing method vs w = stop_longer u Wrong w
-  apply_longer p calls ok place (Text b) method vs w = stop_longer u Wrong w
+  apply_longer p s calls ok place (Object a) method vs w = ok a method vs w
+  apply_longer p s calls ok place (Grant g) method vs w = perform_longer u s.edition place (grant_of s.edition p g) method vs w
+  apply_longer p s calls ok place (Int n) method vs w = stop_longer u Wrong w
+  apply_longer p s calls ok place (Truth b) method vs w = stop_longer u Wrong w
+  apply_longer p s calls ok place Nothing method vs w = stop_longer u Wrong w
+  apply_longer p s calls ok place (Text b) method vs w = stop_longer u Wrong w
 
   module _ (p : Program) (s : Starts) (calls : Calls) (ok : CallsGo calls) where
     mutual
@@ -76,14 +77,14 @@ module _ (u : Tapes) where
       expr_longer (This place) sight w = node_longer u _ _ (settled_longer u _ _ (found_same u _ w))
       expr_longer (Name place name) sight w = node_longer u _ _ (settled_longer u _ _ (name_same u s sight w name))
       expr_longer (Unary place o x) sight w =
-          node_longer u _ _ (bind_longer u _ (λ v w. settled_longer u _ _ (operated_same u place (Some (unary_operator o)) (v ∷ []) w)) _ _ (expr_longer x sight w))
+          node_longer u _ _ (bind_longer u _ (λ v w. settled_longer u _ _ (operated_same u s.edition place (Some (unary_operator o)) (v ∷ []) w)) _ _ (expr_longer x sight w))
       expr_longer (Binary place o x y) sight w =
-          node_longer u _ _ (bind_longer u _ (λ v w. go_on_longer place o v (eval p s calls sight y) w (λ w. expr_longer y sight w)) _ _ (expr_longer x sight w))
+          node_longer u _ _ (bind_longer u _ (λ v w. go_on_longer s.edition place o v (eval p s calls sight y) w (λ w. expr_longer y sight w)) _ _ (expr_longer x sight w))
       expr_longer (TextCall place o xs) sight w =
-          node_longer u _ _ (bind_longer u _ (λ vs w. settled_longer u _ _ (operated_same u place (Some (text_operator o)) vs w)) _ _ (all_longer xs sight w))
+          node_longer u _ _ (bind_longer u _ (λ vs w. settled_longer u _ _ (operated_same u s.edition place (Some (text_operator o)) vs w)) _ _ (all_longer xs sight w))
       expr_longer (Call place x method xs) sight w =
           node_longer u _ _
-          (bind_longer u _ (λ v w. bind_longer u _ (λ vs w. tick_longer u _ _ (apply_longer p calls ok place v method vs w)) _ _ (all_longer xs sight w)) _ _ (expr_longer x sight w))
+          (bind_longer u _ (λ v w. bind_longer u _ (λ vs w. tick_longer u _ _ (apply_longer p s calls ok place v method vs w)) _ _ (all_longer xs sight w)) _ _ (expr_longer x sight w))
       expr_longer (New place l xs) sight w =
           node_longer u _ _
           (bind_longer u _ (λ vs w. settled_longer u _ _ (new_same u place sight l vs w (literal_in (scope_of_instance p s sight.instance) l))) _ _ (all_longer xs sight w))

@@ -13,3 +13,4 @@ pub mod Programs
 pub mod Rows
 pub mod Taking
 pub mod UsedLemmas
+pub mod Widening

@@ -12,9 +12,10 @@ use Rattle.wy_device.specs.declared.operation.Kind.{Kind}
 use Rattle.wy_device.specs.declared.operation.Kind.TheVariants.{Console, Folder, Clock, Random}
 use Rattle.wy_device.specs.declared.operation.Op.{Op}
 use Rattle.wy_device.specs.declared.operation.OpName.{OpName}
+use Rattle.wy_device.specs.Editions.{Edition}
 use Rattle.wy_device.specs.Operation.{name_of, kind_of}
 use Rattle.wy_device.specs.Operators.{Operator, Computed, GivesNumber, GivesTruth, Builds, Traps, Misfits}
-use Rattle.wy_device.specs.Requests.{operation_of, has_good_name, answers_text, Told, Answers, Fails, Waits, asked, told_by, tape_of, with_tape, fits_operation}
+use Rattle.wy_device.specs.Requests.{operation_of, has_good_name, answers_text, Told, Answers, Fails, Waits, asked_within, told_by, tape_of, with_tape, fits_within}
 use Rattle.wy_device.specs.RunEnds.{RunEnd, DeviceFailed, Wrong, Waiting, Trap}
 use Rattle.wy_device.specs.Tapes.{Tapes, spliced}
 use Rattle.wy_device.specs.Traps.{most_texts, most_objects, BadName, Crowded}
@@ -176,9 +177,9 @@ module _ (u : Tapes) where
   computed_same place w (Traps kind) = stopped_same (Trap kind place) w
   computed_same place w Misfits = stopped_same Wrong w
 
-  pub operated_same : (place : Place) (o : Option Operator) (vs : List Value) (w : World) → SameReply u (operated place o vs w) (operated place o vs (longer u w))
-  operated_same place None vs w = stopped_same Wrong w
-  operated_same place (Some o) vs w = computed_same place w _
+  pub operated_same : (edition : Edition) (place : Place) (o : Option Operator) (vs : List Value) (w : World) → SameReply u (operated edition place o vs w) (operated edition place o vs (longer u w))
+  operated_same edition place None vs w = stopped_same Wrong w
+  operated_same edition place (Some o) vs w = computed_same place w _
 
   set_same : (a i : ℕ) (v : Value) (w : World) (t : Option Thing) → SameReply u (field_set a i v w t) (field_set a i v (longer u w) t)
   set_same a i v w None = stopped_same Wrong w
@@ -251,14 +252,14 @@ module _ (u : Tapes) where
   told_fits true a kind rest t = subst (λ (x : Tapes). ToldMore (Answers a (with_tape kind rest t)) (Answers a x)) (sym (spliced_with kind rest t)) (more_answers a (with_tape kind rest t))
   told_fits false a kind rest t = more_waits Waits
 
-  told_more : (o : OpName) (kind : Kind) (tape : List (Option Answer)) (t : Tapes) → ToldMore (told_by o kind tape t) (told_by o kind (tape ++ tape_of kind u) (spliced t u))
-  told_more o kind [] t = more_waits _
-  told_more o kind (None ∷ tape) t = subst (λ (x : Tapes). ToldMore (Fails (with_tape kind tape t)) (Fails x)) (sym (spliced_with kind tape t)) (more_fails (with_tape kind tape t))
-  told_more o kind (Some a ∷ tape) t = told_fits (fits_operation o a) a kind tape t
+  told_more : (most : ℕ) (o : OpName) (kind : Kind) (tape : List (Option Answer)) (t : Tapes) → ToldMore (told_by most o kind tape t) (told_by most o kind (tape ++ tape_of kind u) (spliced t u))
+  told_more most o kind [] t = more_waits _
+  told_more most o kind (None ∷ tape) t = subst (λ (x : Tapes). ToldMore (Fails (with_tape kind tape t)) (Fails x)) (sym (spliced_with kind tape t)) (more_fails (with_tape kind tape t))
+  told_more most o kind (Some a ∷ tape) t = told_fits (fits_within most o a) a kind tape t
 
-  asked_more : (op : Op) (t : Tapes) → ToldMore (asked op t) (asked op (spliced t u))
-  asked_more op t =
-      subst (λ (tape : List (Option Answer)). ToldMore (asked op t) (told_by (name_of op) (kind_of op) tape (spliced t u))) (sym (tape_spliced (kind_of op) t)) (told_more (name_of op) (kind_of op) (tape_of (kind_of op) t) t)
+  asked_more : (most : ℕ) (op : Op) (t : Tapes) → ToldMore (asked_within most op t) (asked_within most op (spliced t u))
+  asked_more most op t =
+      subst (λ (tape : List (Option Answer)). ToldMore (asked_within most op t) (told_by most (name_of op) (kind_of op) tape (spliced t u))) (sym (tape_spliced (kind_of op) t)) (told_more most (name_of op) (kind_of op) (tape_of (kind_of op) t) t)
 
   answered_longer : (grant : List ℕ) (op : Op) (w : World) (x y : Told) → ToldMore x y → Longer u (answered grant op w x) (answered grant op (longer u w) y)
   unfolding stop
@@ -266,17 +267,17 @@ module _ (u : Tapes) where
   answered_longer grant op w x y (more_fails t) = told_longer _ _ _ (stop_longer (DeviceFailed grant (name_of op)) (record w { tapes = t }))
   answered_longer grant op w x y (more_waits z) = record { by = ((λ e. ((answered grant op (longer u w) z).events, refl)), λ ne. absurd (ne refl)) }
 
-  requested_longer : (place : Place) (grant : List ℕ) (w : World) (op : Option Op) → Longer u (requested place grant w op) (requested place grant (longer u w) op)
-  requested_longer place grant w None = stop_longer Wrong w
-  requested_longer place grant w (Some op) =
+  requested_longer : (edition : Edition) (place : Place) (grant : List ℕ) (w : World) (op : Option Op) → Longer u (requested edition place grant w op) (requested edition place grant (longer u w) op)
+  requested_longer edition place grant w None = stop_longer Wrong w
+  requested_longer edition place grant w (Some op) =
       either_longer (not (has_good_name op)) _ _ _ _ (stop_longer (Trap BadName place) w)
-      (either_longer (answers_text op && not (nat_lt w.built most_texts)) _ _ _ _ (stop_longer (Trap Crowded place) w) (answered_longer grant op w _ _ (asked_more op w.tapes)))
+      (either_longer (answers_text op && not (nat_lt w.built most_texts)) _ _ _ _ (stop_longer (Trap Crowded place) w) (answered_longer grant op w _ _ (asked_more edition.longest op w.tapes)))
 
-  requested_of_longer : (place : Place) (g : Option GrantIs) (method : List ℕ) (w : World) (texts : Option (List (List ℕ))) → Longer u (requested_of place g method w texts) (requested_of place g method (longer u w) texts)
-  requested_of_longer place None method w texts = stop_longer Wrong w
-  requested_of_longer place (Some g) method w None = stop_longer Wrong w
-  requested_of_longer place (Some g) method w (Some texts) = requested_longer place g.name w (operation_of g.kind method texts)
+  requested_of_longer : (edition : Edition) (place : Place) (g : Option GrantIs) (method : List ℕ) (w : World) (texts : Option (List (List ℕ))) → Longer u (requested_of edition place g method w texts) (requested_of edition place g method (longer u w) texts)
+  requested_of_longer edition place None method w texts = stop_longer Wrong w
+  requested_of_longer edition place (Some g) method w None = stop_longer Wrong w
+  requested_of_longer edition place (Some g) method w (Some texts) = requested_longer edition place g.name w (operation_of g.primitive method texts)
 
-  pub perform_longer : (place : Place) (g : Option GrantIs) (method : List ℕ) (vs : List Value) (w : World) → Longer u (perform place g method vs w) (perform place g method vs (longer u w))
+  pub perform_longer : (edition : Edition) (place : Place) (g : Option GrantIs) (method : List ℕ) (vs : List Value) (w : World) → Longer u (perform edition place g method vs w) (perform edition place g method vs (longer u w))
   unfolding perform
-  perform_longer place g method vs w = requested_of_longer place g method w (texts_of vs)
+  perform_longer edition place g method vs w = requested_of_longer edition place g method w (texts_of vs)

@@ -18,10 +18,11 @@ use Rattle.wy_device.specs.declared.operation.Answer.TheVariants as answer
 use Rattle.wy_device.specs.declared.operation.Kind.{Kind}
 use Rattle.wy_device.specs.declared.operation.Kind.TheVariants.{Console, Folder, Clock, Random}
 use Rattle.wy_device.specs.declared.operation.Op.{Op}
+use Rattle.wy_device.specs.Editions.{Edition}
 use Rattle.wy_device.specs.Events.{deeds_of, same_kind}
 use Rattle.wy_device.specs.Operation.{name_of, kind_of}
 use Rattle.wy_device.specs.Operators.{Operator, Computed, GivesNumber, GivesTruth, Builds, Traps, Misfits}
-use Rattle.wy_device.specs.Requests.{operation_of, has_good_name, answers_text, fits_operation, Told, Answers, Fails, Waits, asked, told_by, tape_of, with_tape}
+use Rattle.wy_device.specs.Requests.{operation_of, has_good_name, answers_text, fits_within, Told, Answers, Fails, Waits, asked_within, told_by, tape_of, with_tape}
 use Rattle.wy_device.specs.RunEnds.{RunEnd, Wrong, Waiting, Trap, TooDeep}
 use Rattle.wy_device.specs.Tapes.{Tapes, answers}
 use Rattle.wy_device.specs.Traps.{most_texts, most_objects, BadName, Crowded}
@@ -43,8 +44,8 @@ record Takes {A : Type 0} (tapes : Tapes) (r : Result A) : Type 0 where
   by : (kind : Kind) → tape_of kind tapes ≡ taken kind r.events ++ tape_of kind r.world.tapes
 
 -- a reply that takes no answer
-record Still (t : Tapes) (r : Reply) : Type 0 where
-  tapes : r.world.tapes ≡ t
+pub record Still (t : Tapes) (r : Reply) : Type 0 where
+  pub tapes : r.world.tapes ≡ t
 
 deeds_added : (kind : Kind) (events later : List Event) → taken kind (events ++ later) ≡ taken kind events ++ taken kind later
 deeds_added kind [] later = refl
@@ -119,20 +120,20 @@ either_still : (b : Bool) (t : Tapes) (r s : Reply) → Still t r → Still t s 
 either_still true t r s x y = x
 either_still false t r s x y = y
 
-found_still : (o : Option Value) (w : World) → Still w.tapes (found o w)
+pub found_still : (o : Option Value) (w : World) → Still w.tapes (found o w)
 found_still None w = stopped_still Wrong w
 found_still (Some v) w = replied_still v w
 
-computed_still : (place : Place) (w : World) (x : Computed) → Still w.tapes (computed place w x)
+pub computed_still : (place : Place) (w : World) (x : Computed) → Still w.tapes (computed place w x)
 computed_still place w (GivesNumber n) = replied_still (Int n) w
 computed_still place w (GivesTruth b) = replied_still (Truth b) w
 computed_still place w (Builds bytes) = either_still (nat_lt w.built most_texts) w.tapes _ _ (record { tapes = refl }) (record { tapes = refl })
 computed_still place w (Traps kind) = stopped_still (Trap kind place) w
 computed_still place w Misfits = stopped_still Wrong w
 
-operated_still : (place : Place) (o : Option Operator) (vs : List Value) (w : World) → Still w.tapes (operated place o vs w)
-operated_still place None vs w = stopped_still Wrong w
-operated_still place (Some o) vs w = computed_still place w _
+operated_still : (edition : Edition) (place : Place) (o : Option Operator) (vs : List Value) (w : World) → Still w.tapes (operated edition place o vs w)
+operated_still edition place None vs w = stopped_still Wrong w
+operated_still edition place (Some o) vs w = computed_still place w _
 
 set_still : (a i : ℕ) (v : Value) (w : World) (t : Option Thing) → Still w.tapes (field_set a i v w t)
 set_still a i v w None = stopped_still Wrong w
@@ -142,12 +143,12 @@ write_still : (this : Option ℕ) (i : ℕ) (v : Value) (w : World) → Still w.
 write_still None i v w = stopped_still Wrong w
 write_still (Some a) i v w = set_still a i v w (slice_get w.objects a)
 
-assigned_still : (sight : Sight) (name : Binding) (v : Value) (w : World) → Still w.tapes (assigned sight name v w)
+pub assigned_still : (sight : Sight) (name : Binding) (v : Value) (w : World) → Still w.tapes (assigned sight name v w)
 assigned_still sight (to.Field i) v w = write_still sight.this i v w
 assigned_still sight (to.Variable x) v w = stopped_still Wrong w
 assigned_still sight (to.Own k) v w = stopped_still Wrong w
 
-filled_still : (a : ℕ) (v : Value) (w : World) (t : Option Thing) → Still w.tapes (field_added a v w t)
+pub filled_still : (a : ℕ) (v : Value) (w : World) (t : Option Thing) → Still w.tapes (field_added a v w t)
 filled_still a v w None = stopped_still Wrong w
 filled_still a v w (Some t) = record { tapes = refl }
 
@@ -155,7 +156,7 @@ with_still : (place : Place) (sight : Sight) (l : ℕ) (fields : List Value) (w 
 with_still place sight l fields w None = stopped_still Wrong w
 with_still place sight l fields w (Some captured) = either_still (nat_lt w.made most_objects) w.tapes _ _ (record { tapes = refl }) (record { tapes = refl })
 
-new_still : (place : Place) (sight : Sight) (l : ℕ) (fields : List Value) (w : World) (o : Option Literal) → Still w.tapes (object_new place sight l fields w o)
+pub new_still : (place : Place) (sight : Sight) (l : ℕ) (fields : List Value) (w : World) (o : Option Literal) → Still w.tapes (object_new place sight l fields w o)
 new_still place sight l fields w None = stopped_still Wrong w
 new_still place sight l fields w (Some literal) =
     either_still (nat_eq (length fields) (length literal.fields)) w.tapes _ _ (with_still place sight l fields w (captured_from sight.variables literal.captures)) (stopped_still Wrong w)
@@ -167,7 +168,7 @@ settled_takes t r x = tick_takes t _ (settle_takes t r x)
 ------------------------------------------------------------
 -- Operations on grants
 
-answer_still : (a : Answer) (w : World) → Still w.tapes (value_answered a w)
+pub answer_still : (a : Answer) (w : World) → Still w.tapes (value_answered a w)
 answer_still (answer.Bytes text) w = record { tapes = refl }
 answer_still (answer.Truth b) w = replied_still (Truth b) w
 answer_still (answer.Number n) w = replied_still (Int n) w
@@ -202,7 +203,7 @@ one_answer kind d = of (same_kind kind (kind_of d.op))
     of false = refl
 
 -- what the tapes tell: the first answer of the operation's kind
-data IsTold (op : Op) (t : Tapes) : Told → Type 0 where
+pub data IsTold (op : Op) (t : Tapes) : Told → Type 0 where
   tells : (a : Answer) (rest : List (Option Answer)) → tape_of (kind_of op) t ≡ Some a ∷ rest → IsTold op t (Answers a (with_tape (kind_of op) rest t))
   tells_failure : (rest : List (Option Answer)) → tape_of (kind_of op) t ≡ None ∷ rest → IsTold op t (Fails (with_tape (kind_of op) rest t))
   tells_nothing : IsTold op t Waits
@@ -212,13 +213,13 @@ fits_told : (op : Op) (t : Tapes) (a : Answer) (rest : List (Option Answer)) (b 
 fits_told op t a rest true e = tells a rest e
 fits_told op t a rest false e = tells_nothing
 
-is_told : (op : Op) (t : Tapes) → IsTold op t (asked op t)
-is_told op t = of (tape_of (kind_of op) t) refl
+pub is_told : (most : ℕ) (op : Op) (t : Tapes) → IsTold op t (asked_within most op t)
+is_told most op t = of (tape_of (kind_of op) t) refl
   where
-    of : (tape : List (Option Answer)) → tape_of (kind_of op) t ≡ tape → IsTold op t (told_by (name_of op) (kind_of op) tape t)
+    of : (tape : List (Option Answer)) → tape_of (kind_of op) t ≡ tape → IsTold op t (told_by most (name_of op) (kind_of op) tape t)
     of [] e = tells_nothing
     of (None ∷ rest) e = tells_failure rest e
-    of (Some a ∷ rest) e = fits_told op t a rest (fits_operation (name_of op) a) e
+    of (Some a ∷ rest) e = fits_told op t a rest (fits_within most (name_of op) a) e
 
 deed_takes : {A : Type 0} (d : DeedRecord) (t : Tapes) (rest : List (Option Answer)) (r : Result A) → tape_of (kind_of d.op) t ≡ d.answer ∷ rest →
     r.events ≡ [] → r.world.tapes ≡ with_tape (kind_of d.op) rest t → Takes t (told (Deed d) r)
@@ -242,20 +243,20 @@ either_takes : {A : Type 0} (b : Bool) (t : Tapes) (r s : Result A) → Takes t 
 either_takes true t r s x y = x
 either_takes false t r s x y = y
 
-requested_takes : (place : Place) (grant : List ℕ) (w : World) (op : Option Op) → Takes w.tapes (requested place grant w op)
-requested_takes place grant w None = stop_takes Wrong w
-requested_takes place grant w (Some op) =
+requested_takes : (edition : Edition) (place : Place) (grant : List ℕ) (w : World) (op : Option Op) → Takes w.tapes (requested edition place grant w op)
+requested_takes edition place grant w None = stop_takes Wrong w
+requested_takes edition place grant w (Some op) =
     either_takes (not (has_good_name op)) w.tapes _ _ (stop_takes (Trap BadName place) w)
-    (either_takes (answers_text op && not (nat_lt w.built most_texts)) w.tapes _ _ (stop_takes (Trap Crowded place) w) (answered_takes grant op w _ (is_told op w.tapes)))
+    (either_takes (answers_text op && not (nat_lt w.built most_texts)) w.tapes _ _ (stop_takes (Trap Crowded place) w) (answered_takes grant op w _ (is_told edition.longest op w.tapes)))
 
-requested_of_takes : (place : Place) (g : Option GrantIs) (method : List ℕ) (w : World) (texts : Option (List (List ℕ))) → Takes w.tapes (requested_of place g method w texts)
-requested_of_takes place None method w texts = stop_takes Wrong w
-requested_of_takes place (Some g) method w None = stop_takes Wrong w
-requested_of_takes place (Some g) method w (Some texts) = requested_takes place g.name w (operation_of g.kind method texts)
+requested_of_takes : (edition : Edition) (place : Place) (g : Option GrantIs) (method : List ℕ) (w : World) (texts : Option (List (List ℕ))) → Takes w.tapes (requested_of edition place g method w texts)
+requested_of_takes edition place None method w texts = stop_takes Wrong w
+requested_of_takes edition place (Some g) method w None = stop_takes Wrong w
+requested_of_takes edition place (Some g) method w (Some texts) = requested_takes edition place g.name w (operation_of g.primitive method texts)
 
-perform_takes : (place : Place) (g : Option GrantIs) (method : List ℕ) (vs : List Value) (w : World) → Takes w.tapes (perform place g method vs w)
+perform_takes : (edition : Edition) (place : Place) (g : Option GrantIs) (method : List ℕ) (vs : List Value) (w : World) → Takes w.tapes (perform edition place g method vs w)
 unfolding perform
-perform_takes place g method vs w = requested_of_takes place g method w (texts_of vs)
+perform_takes edition place g method vs w = requested_of_takes edition place g method w (texts_of vs)
 
 ------------------------------------------------------------
 -- Expressions
@@ -282,27 +283,27 @@ left_takes : (f : World → Result Value) → Taking f → Taking (λ w. bind (f
 unfolding Taking
 left_takes f x w = bind_takes w.tapes _ (λ v w. tick_takes w.tapes _ (give_takes v w)) (f w) (x w)
 
-both_takes : (place : Place) (o : BinaryOperator) (v : Value) (right : World → Result Value) → Taking right →
-    Taking (λ w. bind (right w) (λ u w. tick (settle (operated place (binary_operator o) (v ∷ u ∷ []) w))))
+both_takes : (edition : Edition) (place : Place) (o : BinaryOperator) (v : Value) (right : World → Result Value) → Taking right →
+    Taking (λ w. bind (right w) (λ u w. tick (settle (operated edition place (binary_operator o) (v ∷ u ∷ []) w))))
 unfolding Taking
-both_takes place o v right x w = bind_takes w.tapes _ (λ u w. settled_takes w.tapes _ (operated_still place (binary_operator o) (v ∷ u ∷ []) w)) (right w) (x w)
+both_takes edition place o v right x w = bind_takes w.tapes _ (λ u w. settled_takes w.tapes _ (operated_still edition place (binary_operator o) (v ∷ u ∷ []) w)) (right w) (x w)
 
-go_on_takes : (place : Place) (o : BinaryOperator) (v : Value) (right : World → Result Value) (w : World) → Taking right → Takes w.tapes (go_on place o v right w)
+go_on_takes : (edition : Edition) (place : Place) (o : BinaryOperator) (v : Value) (right : World → Result Value) (w : World) → Taking right → Takes w.tapes (go_on edition place o v right w)
 unfolding Taking
-go_on_takes place binary.And v right w ok =
+go_on_takes edition place binary.And v right w ok =
     tick_takes w.tapes _ (choose_takes v _ _ w (left_takes right ok) (λ w. tick_takes w.tapes _ (give_takes (Truth false) w)))
-go_on_takes place binary.Or v right w ok =
+go_on_takes edition place binary.Or v right w ok =
     tick_takes w.tapes _ (choose_takes v _ _ w (λ w. tick_takes w.tapes _ (tick_takes w.tapes _ (give_takes (Truth true) w))) ok)
-go_on_takes place o v right w ok = both_takes place o v right ok w
+go_on_takes edition place o v right w ok = both_takes edition place o v right ok w
 
-apply_takes : (p : Program) (calls : Calls) → CallsTake calls → (place : Place) (v : Value) (method : List ℕ) (vs : List Value) (w : World) → Takes w.tapes (apply p calls place v method vs w)
+apply_takes : (p : Program) (s : Starts) (calls : Calls) → CallsTake calls → (place : Place) (v : Value) (method : List ℕ) (vs : List Value) (w : World) → Takes w.tapes (apply p s calls place v method vs w)
 unfolding CallsTake
-apply_takes p calls ok place (Object a) method vs w = ok a method vs w
-apply_takes p calls ok place (Grant g) method vs w = perform_takes place (grant_of p g) method vs w
-apply_takes p calls ok place (Int n) method vs w = stop_takes Wrong w
-apply_takes p calls ok place (Truth n) method vs w = stop_takes Wrong w
-apply_takes p calls ok place Nothing method vs w = stop_takes Wrong w
-apply_takes p calls ok place (Text b) method vs w = stop_takes Wrong w
+apply_takes p s calls ok place (Object a) method vs w = ok a method vs w
+apply_takes p s calls ok place (Grant g) method vs w = perform_takes s.edition place (grant_of s.edition p g) method vs w
+apply_takes p s calls ok place (Int n) method vs w = stop_takes Wrong w
+apply_takes p s calls ok place (Truth n) method vs w = stop_takes Wrong w
+apply_takes p s calls ok place Nothing method vs w = stop_takes Wrong w
+apply_takes p s calls ok place (Text b) method vs w = stop_takes Wrong w
 
 module _ (p : Program) (s : Starts) (calls : Calls) (ok : CallsTake calls) where
   mutual
@@ -316,14 +317,14 @@ module _ (p : Program) (s : Starts) (calls : Calls) (ok : CallsTake calls) where
     expr_takes (This place) sight w = node_takes w.tapes _ (settled_takes w.tapes _ (found_still _ w))
     expr_takes (Name place name) sight w = node_takes w.tapes _ (settled_takes w.tapes _ (found_still (value_of_name s sight w name) w))
     expr_takes (Unary place o x) sight w =
-        node_takes w.tapes _ (bind_takes w.tapes _ (λ v w. settled_takes w.tapes _ (operated_still place (Some (unary_operator o)) (v ∷ []) w)) _ (expr_takes x sight w))
+        node_takes w.tapes _ (bind_takes w.tapes _ (λ v w. settled_takes w.tapes _ (operated_still s.edition place (Some (unary_operator o)) (v ∷ []) w)) _ (expr_takes x sight w))
     expr_takes (Binary place o x y) sight w =
-        node_takes w.tapes _ (bind_takes w.tapes _ (λ v w. go_on_takes place o v (eval p s calls sight y) w (λ w. expr_takes y sight w)) _ (expr_takes x sight w))
+        node_takes w.tapes _ (bind_takes w.tapes _ (λ v w. go_on_takes s.edition place o v (eval p s calls sight y) w (λ w. expr_takes y sight w)) _ (expr_takes x sight w))
     expr_takes (TextCall place o xs) sight w =
-        node_takes w.tapes _ (bind_takes w.tapes _ (λ vs w. settled_takes w.tapes _ (operated_still place (Some (text_operator o)) vs w)) _ (all_takes xs sight w))
+        node_takes w.tapes _ (bind_takes w.tapes _ (λ vs w. settled_takes w.tapes _ (operated_still s.edition place (Some (text_operator o)) vs w)) _ (all_takes xs sight w))
     expr_takes (Call place x method xs) sight w =
         node_takes w.tapes _
-        (bind_takes w.tapes _ (λ v w. bind_takes w.tapes _ (λ vs w. tick_takes w.tapes _ (apply_takes p calls ok place v method vs w)) _ (all_takes xs sight w)) _ (expr_takes x sight w))
+        (bind_takes w.tapes _ (λ v w. bind_takes w.tapes _ (λ vs w. tick_takes w.tapes _ (apply_takes p s calls ok place v method vs w)) _ (all_takes xs sight w)) _ (expr_takes x sight w))
     expr_takes (New place l xs) sight w =
         node_takes w.tapes _
         (bind_takes w.tapes _ (λ vs w. settled_takes w.tapes _ (new_still place sight l vs w (literal_in (scope_of_instance p s sight.instance) l))) _ (all_takes xs sight w))

@@ -15,6 +15,7 @@ use Rattle.wy_types.specs.Code as code
 use Rattle.wy_types.specs.Code.{Expr, Number, Quoted, Truth as TruthOf, Nothing as NothingOf, This, Name, Unary, Binary, TextCall, Call, New, Ascribe, Assign, Plain, If, Values, none, more, Block, Last, Then, Val}
 use Rattle.wy_types.specs.Program.{Program, Scope, Body}
 use Rattle.wy_device.specs.declared.deed.Event.TheVariants.{Enter}
+use Rattle.wy_device.specs.Editions.{Edition}
 use Rattle.wy_device.specs.RunEnds.{TooDeep, Wrong}
 use Rattle.wy_meaning.specs.Values.{Value, Int, Truth, Nothing, Text, Object, Grant, Named, value_named, Thing, World, Reply, stopped, found, object_of, field_in, object_made, write_field}
 use Rattle.wy_meaning.specs.Starts.{Started, Starts, all_started, actual_of, scope_of_instance, literal_in, grant_of}
@@ -94,21 +95,21 @@ choose (Truth false) first second w = second w
 choose _ first second w = stop Wrong w
 
 -- the rest of a binary operation, whose left side has its value
-abbrev pub go_on : Place → BinaryOperator → Value → (World → Result Value) → World → Result Value
-go_on place And v right w =
+abbrev pub go_on : Edition → Place → BinaryOperator → Value → (World → Result Value) → World → Result Value
+go_on edition place And v right w =
     tick (choose v (λ w. bind (right w) (λ u w. tick (give u w))) (λ w. tick (give (Truth false) w)) w)
-go_on place Or v right w =
+go_on edition place Or v right w =
     tick (choose v (λ w. tick (tick (give (Truth true) w))) right w)
-go_on place o v right w = bind (right w) (λ u w. tick (settle (operated place (binary_operator o) (v ∷ u ∷ []) w)))
+go_on edition place o v right w = bind (right w) (λ u w. tick (settle (operated edition place (binary_operator o) (v ∷ u ∷ []) w)))
 
 -- a call on an object, or an operation on a grant
-abbrev pub apply : Program → Calls → Place → Value → List ℕ → List Value → World → Result Value
-apply p calls place (Object a) method vs w = calls a method vs w
-apply p calls place (Grant g) method vs w = perform place (grant_of p g) method vs w
-apply p calls place (Int n) method vs w = stop Wrong w
-apply p calls place (Truth b) method vs w = stop Wrong w
-apply p calls place Nothing method vs w = stop Wrong w
-apply p calls place (Text bytes) method vs w = stop Wrong w
+abbrev pub apply : Program → Starts → Calls → Place → Value → List ℕ → List Value → World → Result Value
+apply p s calls place (Object a) method vs w = calls a method vs w
+apply p s calls place (Grant g) method vs w = perform s.edition place (grant_of s.edition p g) method vs w
+apply p s calls place (Int n) method vs w = stop Wrong w
+apply p s calls place (Truth b) method vs w = stop Wrong w
+apply p s calls place Nothing method vs w = stop Wrong w
+apply p s calls place (Text bytes) method vs w = stop Wrong w
 
 module _ (p : Program) (s : Starts) (calls : Calls) where
   unfoldable mutual
@@ -120,12 +121,12 @@ module _ (p : Program) (s : Starts) (calls : Calls) where
     eval sight (This place) w = node (tick (settle (found (object_value sight.this) w)))
     eval sight (Name place name) w = node (tick (settle (found (value_of_name s sight w name) w)))
     eval sight (Unary place o x) w =
-        node (bind (eval sight x w) (λ v w. tick (settle (operated place (Some (unary_operator o)) (v ∷ []) w))))
-    eval sight (Binary place o x y) w = node (bind (eval sight x w) (λ v w. go_on place o v (eval sight y) w))
+        node (bind (eval sight x w) (λ v w. tick (settle (operated s.edition place (Some (unary_operator o)) (v ∷ []) w))))
+    eval sight (Binary place o x y) w = node (bind (eval sight x w) (λ v w. go_on s.edition place o v (eval sight y) w))
     eval sight (TextCall place o xs) w =
-        node (bind (eval_all sight xs w) (λ vs w. tick (settle (operated place (Some (text_operator o)) vs w))))
+        node (bind (eval_all sight xs w) (λ vs w. tick (settle (operated s.edition place (Some (text_operator o)) vs w))))
     eval sight (Call place x method xs) w =
-        node (bind (eval sight x w) (λ v w. bind (eval_all sight xs w) (λ vs w. tick (apply p calls place v method vs w))))
+        node (bind (eval sight x w) (λ v w. bind (eval_all sight xs w) (λ vs w. tick (apply p s calls place v method vs w))))
     eval sight (New place l xs) w =
         node (bind (eval_all sight xs w) (λ vs w. tick (settle (object_new place sight l vs w (literal_in (scope_of_instance p s sight.instance) l)))))
     eval sight (Ascribe place x t) w = node (eval_value sight x w)

@@ -4,7 +4,7 @@ use Rattle.std.specs.Fmt.{signed_decimal}
 use Rattle.wy_text.specs.Quoted.{quoted_form}
 use Rattle.wy_device.specs.Operation.{name_of, method_text}
 use Rattle.wy_device.specs.declared.operation.Op.{Op}
-use Rattle.wy_device.specs.declared.operation.Op.TheVariants.{ConsoleRead, ConsoleWrite, FolderRead, FolderHas, FolderWrite, FolderAppend, FolderNames, ClockNow, RandomWord}
+use Rattle.wy_device.specs.declared.operation.Op.TheVariants.{ConsoleRead, ConsoleWrite, FolderRead, FolderHas, FolderWrite, FolderAppend, FolderNames, ClockNow, RandomWord, FolderRemove}
 use Rattle.wy_device.specs.declared.operation.Answer.{Answer}
 use Rattle.wy_device.specs.declared.operation.Answer.TheVariants as answer
 use Rattle.wy_device.specs.declared.deed.Deed.{Deed as DeedRecord}
@@ -22,6 +22,7 @@ arguments (FolderAppend file text) = file ∷ text ∷ []
 arguments FolderNames = []
 arguments ClockNow = []
 arguments RandomWord = []
+arguments (FolderRemove file) = file ∷ []
 
 -- texts between quotes, with commas between them
 abbrev pub arguments_text : List (List ℕ) → List ℕ

@@ -12,3 +12,4 @@ pub mod Start
 pub mod Starts
 pub mod Used
 pub mod Values
+pub mod Widening

@@ -7,7 +7,8 @@ use Rattle.wy_types.specs.declared.code.BinaryOperator.{BinaryOperator}
 use Rattle.wy_types.specs.declared.code.BinaryOperator.TheVariants as binary
 use Rattle.wy_types.specs.declared.code.TextOperator.{TextOperator}
 use Rattle.wy_types.specs.declared.code.TextOperator.TheVariants as text
-use Rattle.wy_device.specs.Operators.{Operator, Negate, Not, Add, Subtract, Multiply, Divide, Remainder, Join, Less, LessOrEqual, Greater, GreaterOrEqual, Equal, NotEqual, Size, Part, Code, Byte, Show, Operand, Number, Truth as TruthOperand, Bytes, Other, Computed, GivesNumber, GivesTruth, Builds, Traps, Misfits, operate}
+use Rattle.wy_device.specs.Editions.{Edition}
+use Rattle.wy_device.specs.Operators.{Operator, Negate, Not, Add, Subtract, Multiply, Divide, Remainder, Join, Less, LessOrEqual, Greater, GreaterOrEqual, Equal, NotEqual, Size, Part, Code, Byte, Show, Operand, Number, Truth as TruthOperand, Bytes, Other, Computed, GivesNumber, GivesTruth, Builds, Traps, Misfits, operate_within}
 use Rattle.wy_device.specs.RunEnds.{Trap, Wrong}
 use Rattle.wy_meaning.specs.Values.{Value, Int, Truth, Nothing, Text, Object, Grant, World, Reply, replied, stopped, text_built}
 
@@ -55,6 +56,6 @@ computed place w (Traps kind) = stopped (Trap kind place) w
 computed place w Misfits = stopped Wrong w
 
 -- what an operator gives for values, at its mark
-abbrev pub operated : Place → Option Operator → List Value → World → Reply
-operated place None vs w = stopped Wrong w
-operated place (Some o) vs w = computed place w (operate o (map operand vs))
+abbrev pub operated : Edition → Place → Option Operator → List Value → World → Reply
+operated edition place None vs w = stopped Wrong w
+operated edition place (Some o) vs w = computed place w (operate_within edition.longest o (map operand vs))

@@ -7,8 +7,9 @@ use Rattle.wy_device.specs.declared.operation.Answer.{Answer}
 use Rattle.wy_device.specs.declared.operation.Answer.TheVariants as answer
 use Rattle.wy_device.specs.declared.deed.Deed.{Deed as DeedRecord}
 use Rattle.wy_device.specs.declared.deed.Event.TheVariants.{Deed}
+use Rattle.wy_device.specs.Editions.{Edition}
 use Rattle.wy_device.specs.Operation.{name_of}
-use Rattle.wy_device.specs.Requests.{operation_of, has_good_name, answers_text, Told, Answers, Fails, Waits, asked}
+use Rattle.wy_device.specs.Requests.{operation_of, has_good_name, answers_text, Told, Answers, Fails, Waits, asked_within}
 use Rattle.wy_device.specs.RunEnds.{Trap, DeviceFailed, Waiting, Wrong}
 use Rattle.wy_device.specs.Traps.{most_texts, BadName, Crowded}
 use Rattle.wy_meaning.specs.Values.{Value, Int, Truth, Nothing, Text, Object, Grant, World, replied, Reply}
@@ -49,18 +50,18 @@ answered grant op w (Fails tapes) = told (Deed (deed grant op None)) (stop (Devi
 answered grant op w Waits = stop Waiting w
 
 -- a name that is no file's traps first, then one text too many; then the device is asked
-abbrev pub requested : Place → List ℕ → World → Option Op → Result Value
-requested place grant w None = stop Wrong w
-requested place grant w (Some op) =
+abbrev pub requested : Edition → Place → List ℕ → World → Option Op → Result Value
+requested edition place grant w None = stop Wrong w
+requested edition place grant w (Some op) =
     if not (has_good_name op) then stop (Trap BadName place) w
     else if answers_text op && not (nat_lt w.built most_texts) then stop (Trap Crowded place) w
-    else answered grant op w (asked op w.tapes)
+    else answered grant op w (asked_within edition.longest op w.tapes)
 
-abbrev pub requested_of : Place → Option GrantIs → List ℕ → World → Option (List (List ℕ)) → Result Value
-requested_of place None method w texts = stop Wrong w
-requested_of place (Some g) method w None = stop Wrong w
-requested_of place (Some g) method w (Some texts) = requested place g.name w (operation_of g.kind method texts)
+abbrev pub requested_of : Edition → Place → Option GrantIs → List ℕ → World → Option (List (List ℕ)) → Result Value
+requested_of edition place None method w texts = stop Wrong w
+requested_of edition place (Some g) method w None = stop Wrong w
+requested_of edition place (Some g) method w (Some texts) = requested edition place g.name w (operation_of g.primitive method texts)
 
 -- the method of a grant with these arguments
-unfoldable pub perform : Place → Option GrantIs → List ℕ → List Value → World → Result Value
-perform place grant method vs w = requested_of place grant method w (texts_of vs)
+unfoldable pub perform : Edition → Place → Option GrantIs → List ℕ → List Value → World → Result Value
+perform edition place grant method vs w = requested_of edition place grant method w (texts_of vs)

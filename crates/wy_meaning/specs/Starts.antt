@@ -1,8 +1,8 @@
 -- The instances of a program in the order in which they start, and what they and `main` are handed.
 -- (docs/LANGUAGE.md, "Starting a program")
-use Rattle.std.specs.Prelude.{codes, ℕ, ◌+◌, List, [], ◌∷◌, ◌++◌, nat_eq, Option, Some, None, slice_get, bytes_eq, if◌then◌else◌}
-use Rattle.wy_device.specs.declared.operation.Kind.{Kind}
-use Rattle.wy_device.specs.declared.operation.Kind.TheVariants as kind
+use Rattle.std.specs.Prelude.{codes, ℕ, ◌+◌, List, [], ◌∷◌, ◌++◌, Option, Some, None, slice_get, bytes_eq, if◌then◌else◌}
+use Rattle.wy_device.specs.Editions.{Edition, current, primitive_numbered}
+use Rattle.wy_device.specs.declared.primitive.Primitive.{Primitive}
 use Rattle.wy_types.specs.declared.types.TypeRef.{TypeRef}
 use Rattle.wy_types.specs.declared.types.TypeRef.TheVariants.{Int, Bool, Text, Unit as Nothing, Named, At, Own}
 use Rattle.wy_types.specs.declared.linked.Actual.{Actual}
@@ -21,8 +21,10 @@ pub record Started : Type 0 where
   pub scope : ℕ
   pub actuals : List Actual
 
--- the instances in start order, and then `main`, which is the program itself
+-- the edition of the language that the program runs in, the instances in start order, and then `main`, which is the
+-- program itself
 pub record Starts : Type 0 where
+  pub edition : Edition
   pub instances : List Started
   pub main : Started
 
@@ -62,6 +64,7 @@ last_scope (s ∷ t ∷ rest) = last_scope (t ∷ rest) + 1
 -- a program's instances with `main` after them
 abbrev pub starts_of : Program → List Started → Starts
 starts_of p started = record {
+  edition = current;
   instances = started;
   main = record {
     name = codes "main";
@@ -97,44 +100,36 @@ abbrev pub literal_in : Option Scope → ℕ → Option Literal
 literal_in None l = None
 literal_in (Some s) l = slice_get s.literals l
 
--- a grant's name and kind
+-- a grant's name and primitive type
 pub record GrantIs : Type 0 where
   pub name : List ℕ
-  pub kind : Kind
+  pub primitive : Primitive
 
-abbrev pub kind_numbered : ℕ → Option Kind
-kind_numbered d =
-    if nat_eq d 0 then Some kind.Console
-    else if nat_eq d 1 then Some kind.Folder
-    else if nat_eq d 2 then Some kind.Clock
-    else if nat_eq d 3 then Some kind.Random
-    else None
+-- the primitive type that a type is: those have the first numbers among the declared ones
+abbrev pub primitive_of_type : Edition → TypeRef → Option Primitive
+primitive_of_type edition (Named d members) = primitive_numbered edition d
+primitive_of_type edition Int = None
+primitive_of_type edition Bool = None
+primitive_of_type edition Text = None
+primitive_of_type edition Nothing = None
+primitive_of_type edition (At d bound) = None
+primitive_of_type edition (Own l) = None
 
--- the kind of device that a primitive type asks for
-abbrev pub kind_of_type : TypeRef → Option Kind
-kind_of_type (Named d members) = kind_numbered d
-kind_of_type Int = None
-kind_of_type Bool = None
-kind_of_type Text = None
-kind_of_type Nothing = None
-kind_of_type (At d bound) = None
-kind_of_type (Own l) = None
+abbrev pub grant_of_primitive : List ℕ → Option Primitive → Option GrantIs
+grant_of_primitive name None = None
+grant_of_primitive name (Some primitive) = Some (record { name = name; primitive = primitive })
 
-abbrev pub grant_of_kind : List ℕ → Option Kind → Option GrantIs
-grant_of_kind name None = None
-grant_of_kind name (Some kind) = Some (record { name = name; kind = kind })
+abbrev pub grant_from : Edition → Origin → OwnName → Option GrantIs
+grant_from edition origin.Grant n = grant_of_primitive n.name (primitive_of_type edition n.typ)
+grant_from edition (origin.Parameter bare) n = None
+grant_from edition (origin.Use m) n = None
+grant_from edition (origin.Instance m arguments) n = None
+grant_from edition (origin.Import m arguments bound) n = None
 
-abbrev pub grant_from : Origin → OwnName → Option GrantIs
-grant_from origin.Grant n = grant_of_kind n.name (kind_of_type n.typ)
-grant_from (origin.Parameter bare) n = None
-grant_from (origin.Use m) n = None
-grant_from (origin.Instance m arguments) n = None
-grant_from (origin.Import m arguments bound) n = None
-
-abbrev pub grant_named : Option OwnName → Option GrantIs
-grant_named None = None
-grant_named (Some n) = grant_from n.origin n
+abbrev pub grant_named : Edition → Option OwnName → Option GrantIs
+grant_named edition None = None
+grant_named edition (Some n) = grant_from edition n.origin n
 
 -- the grant of a number: grants are the first own names of the program
-abbrev pub grant_of : Program → ℕ → Option GrantIs
-grant_of p g = grant_named (slice_get (scope_names (slice_get p.scopes (last_scope p.scopes))) g)
+abbrev pub grant_of : Edition → Program → ℕ → Option GrantIs
+grant_of edition p g = grant_named edition (slice_get (scope_names (slice_get p.scopes (last_scope p.scopes))) g)

@@ -31,9 +31,10 @@ fn push_arguments(line: &mut Vec<u8>, op: &Op) -> Result<(), Memory>
 {
     match op {
         Op::ConsoleRead | Op::FolderNames | Op::ClockNow | Op::RandomWord => Ok(()),
-        Op::ConsoleWrite(text) | Op::FolderRead(text) | Op::FolderHas(text) => push_quoted(
-            line, text,
-        ),
+        Op::ConsoleWrite(text)
+        | Op::FolderRead(text)
+        | Op::FolderHas(text)
+        | Op::FolderRemove(text) => push_quoted(line, text),
         Op::FolderWrite(name, text) | Op::FolderAppend(name, text) => push_two(line, name, text),
     }
 }

@@ -13,6 +13,7 @@ use Rattle.wy_types.specs.Signature.{Signature, find_method}
 use Rattle.wy_types.specs.Core.{IsCore, literal_fields, literal_captures}
 use Rattle.wy_rules.specs.GroundTypes.{GroundType, Int as Ints, Bool as Truths, Text as Texts, Nothing as Nothings, Own, ground_methods}
 use Rattle.wy_rules.specs.Typing.{fields_of, field_types}
+use Rattle.wy_device.specs.Editions.{current}
 use Rattle.wy_device.specs.RunEnds.{Trap, Wrong}
 use Rattle.wy_device.specs.Traps.{most_objects, Crowded}
 use Rattle.wy_meaning.specs.Values.{Value, Int as Number, Truth, Nothing, Text, Object, Grant, Thing, World, Reply, replied, stopped, object_made}
@@ -75,13 +76,13 @@ module _ (p : Program) (now : ℕ) where
         (λ v w q. value_below p now w.objects v h.result m.result q st.result) r
         (sound (all_below p now w.objects vs m.params h.params typed st.params)))
 
-    pub apply_sound : (v : Value) → ValueHas p now w.objects v k → Sound p now f w (Valued p now m.result) (apply p calls place v name vs w)
+    pub apply_sound : (v : Value) → ValueHas p now w.objects v k → Sound p now f w (Valued p now m.result) (apply p (program_starts p) calls place v name vs w)
     apply_sound (Object a) q =
         let r = method_below p (Own q.0.instance q.0.literal) k name m q.3 found in
         stands_sound (Own q.0.instance q.0.literal) r.method r.stands (calls a name vs w) (λ t. ok.by a q.0 name vs w r.method q.1 q.2 r.found t wh)
     apply_sound (Grant g) q =
         let r = method_below p (actual_type p (actual.Grant g)) k name m q.1 found in
-        stands_sound (actual_type p (actual.Grant g)) r.method r.stands (perform place (grant_of p g) name vs w)
+        stands_sound (actual_type p (actual.Grant g)) r.method r.stands (perform current place (grant_of current p g) name vs w)
         (λ t. perform_sound p now core g q.0 place name vs w r.method r.found t wh)
     apply_sound (Number n) q = absurd (no_method Ints k name m refl q found)
     apply_sound (Truth b) q = absurd (no_method Truths k name m refl q found)

@@ -24,6 +24,7 @@ use Rattle.wy_meaning.specs.Results.{Result, give, tick, settle, bind}
 use Rattle.wy_meaning.specs.Operating.{binary_operator, operated}
 use Rattle.wy_meaning.specs.Starts.{literal_in, scope_of_instance}
 use Rattle.wy_meaning.specs.Eval.{Sight, Calls, object_value, with_local, object_new, go_on, apply, eval, eval_value, eval_all, eval_block}
+use Rattle.wy_device.specs.Editions.{current}
 use Rattle.wy_sound.specs.Programs.{program_starts}
 use Rattle.wy_sound.proofs.Linked.{IsLinked}
 use Rattle.wy_sound.proofs.Lists.{some_same}
@@ -104,7 +105,7 @@ module _ (p : Program) (linked : IsLinked p) (now : ℕ) (early : now ≤ instan
     strict_sound : (o : BinaryOperator) (j k : GroundType) → IsStrict o → In r (binary_rows o) → OperandsAre j k → WellHeap p now w.objects →
         ValueHas p now w.objects v j → Right k →
         Evaluates f w (kind_at p sight.instance pl r.result)
-        (bind (right w) (λ u w. tick (settle (operated place (binary_operator o) (v ∷ u ∷ []) w))))
+        (bind (right w) (λ u w. tick (settle (operated current place (binary_operator o) (v ∷ u ∷ []) w))))
     strict_sound o j k s i e wh q right_ok =
         bind_sound p now f w (Valued p now k) (Valued p now (kind_at p sight.instance pl r.result)) _ (right w) right_ok
         (λ u w1 x1 wh1 q1. tick_sound p now f w1 _ _ (settle_sound p now f w1 _ _
@@ -122,11 +123,11 @@ module _ (p : Program) (linked : IsLinked p) (now : ℕ) (early : now ≤ instan
 
     and_sound : (j k : GroundType) → In r (two of.Bool of.Bool ∷ []) → OperandsAre j k → WellHeap p now w.objects → ValueHas p now w.objects v j →
         Right k →
-        Evaluates f w (kind_at p sight.instance pl r.result) (go_on place binary.And v right w)
+        Evaluates f w (kind_at p sight.instance pl r.result) (go_on current place binary.And v right w)
     and_sound j k i e wh q right_ok =
         let t = both_truths j k i e in
         let bool : GroundType = kind_at p sight.instance pl of.Bool in
-        subst (λ u. Evaluates f w (kind_at p sight.instance pl u) (go_on place binary.And v right w)) (sym t.2)
+        subst (λ u. Evaluates f w (kind_at p sight.instance pl u) (go_on current place binary.And v right w)) (sym t.2)
         (tick_sound p now f w _ _ (choose_sound p now linked.core f sight.instance pl v _ _ bool w
         (subst (λ (k : GroundType). ValueHas p now w.objects v k) (sym t.0) q)
         (bind_sound p now f w (Valued p now bool) (Valued p now bool) (λ u w. tick (give u w)) (right w)
@@ -136,11 +137,11 @@ module _ (p : Program) (linked : IsLinked p) (now : ℕ) (early : now ≤ instan
 
     or_sound : (j k : GroundType) → In r (two of.Bool of.Bool ∷ []) → OperandsAre j k → WellHeap p now w.objects → ValueHas p now w.objects v j →
         Right k →
-        Evaluates f w (kind_at p sight.instance pl r.result) (go_on place binary.Or v right w)
+        Evaluates f w (kind_at p sight.instance pl r.result) (go_on current place binary.Or v right w)
     or_sound j k i e wh q right_ok =
         let t = both_truths j k i e in
         let bool : GroundType = kind_at p sight.instance pl of.Bool in
-        subst (λ u. Evaluates f w (kind_at p sight.instance pl u) (go_on place binary.Or v right w)) (sym t.2)
+        subst (λ u. Evaluates f w (kind_at p sight.instance pl u) (go_on current place binary.Or v right w)) (sym t.2)
         (tick_sound p now f w _ _ (choose_sound p now linked.core f sight.instance pl v _ _ bool w
         (subst (λ (k : GroundType). ValueHas p now w.objects v k) (sym t.0) q)
         (tick_sound p now f w _ _ (tick_sound p now f w _ _ (give_sound p now f w _ (Truth true) wh (truth_kind p sight.instance pl))))
@@ -148,7 +149,7 @@ module _ (p : Program) (linked : IsLinked p) (now : ℕ) (early : now ≤ instan
 
     go_on_sound : (o : BinaryOperator) (j k : GroundType) → In r (binary_rows o) → OperandsAre j k → WellHeap p now w.objects →
         ValueHas p now w.objects v j → Right k →
-        Evaluates f w (kind_at p sight.instance pl r.result) (go_on place o v right w)
+        Evaluates f w (kind_at p sight.instance pl r.result) (go_on current place o v right w)
     go_on_sound binary.And j k i e wh q g = and_sound j k i e wh q g
     go_on_sound binary.Or j k i e wh q g = or_sound j k i e wh q g
     go_on_sound binary.Add j k i e wh q g = strict_sound binary.Add j k tt i e wh q g
@@ -194,7 +195,7 @@ module _ (p : Program) (linked : IsLinked p) (now : ℕ) (early : now ≤ instan
           (λ r w1 x1 wh1 q1. bind_sound p now f w1 (λ vs w. AllHave p now w.objects vs m.params) (Valued p now t) _ _
           (all_sound ds xs m.params seen sight pl w1 h.5 (left_within (effects_of ds) m.effect (union (effects_of ds) m.effect) f refl rest) fits.1
           (sight_grows p now w.objects w1.objects sight pl owner seen x1 sh) wh1)
-          (λ vs w2 x2 wh2 q2. tick_sound p now f w2 _ _ (subst (λ k. Evaluates f w2 k (apply p calls q r name vs w2)) (sym h.6)
+          (λ vs w2 x2 wh2 q2. tick_sound p now f w2 _ _ (subst (λ k. Evaluates f w2 k (apply p (program_starts p) calls q r name vs w2)) (sym h.6)
           (apply_sound p now linked.core calls ok f q name vs w2 k m h.4 q2
           (right_within (effects_of ds) m.effect (union (effects_of ds) m.effect) f refl rest) wh2 r
           (value_grows p now w1.objects w2.objects r k x2.by q1))))))
@@ -289,7 +290,7 @@ module _ (p : Program) (linked : IsLinked p) (now : ℕ) (early : now ≤ instan
           ExprFits p pl.scope owner seen x × ExprFits p pl.scope owner seen y → SightHas p now w.objects sight pl owner seen →
           WellHeap p now w.objects →
           Evaluates f w (kind_at p sight.instance pl r.result)
-          (bind (eval p (program_starts p) calls sight x w) (λ v w. go_on place op v (eval p (program_starts p) calls sight y) w))
+          (bind (eval p (program_starts p) calls sight x w) (λ v w. go_on current place op v (eval p (program_starts p) calls sight y) w))
       pair_sound (one_more d e (one_more d' e' no_derivations)) place op x y r (j ∷ k ∷ []) seen sight pl w m i h v fits sh wh =
           let rest = right_within e (union e' []) (union e (union e' [])) f refl v in
           bind_sound p now f w (Valued p now j) (Valued p now (kind_at p sight.instance pl r.result)) _ _

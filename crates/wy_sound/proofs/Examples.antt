@@ -11,7 +11,7 @@ use Rattle.wy_types.specs.Code.{If, Values, none, more}
 use Rattle.wy_types.specs.Program.{Program, Scope, Body}
 use Rattle.wy_types.specs.Primitive.{primitive_types, primitive_type}
 use Rattle.wy_types.specs.Ground.{program_visited}
-use Rattle.wy_device.specs.Operators.{operate}
+use Rattle.wy_device.specs.Operators.{operate_within}
 use Rattle.wy_device.specs.RunEnds.{Wrong}
 use Rattle.wy_meaning.specs.Bounds.{Call}
 use Rattle.wy_meaning.specs.Eval.{eval, eval_value, eval_all, eval_block, open_calls}
@@ -84,7 +84,7 @@ capturing = program (
 
 -- nothing keeps the variable for the method
 capturing_is_wrong : (course capturing 5 no_tapes).end ≡ Wrong
-unfolding capturing give stop node tick told settle added bind whole eval eval_value eval_all eval_block open_calls perform operate fill_all begin meaning
+unfolding capturing give stop node tick told settle added bind whole eval eval_value eval_all eval_block open_calls perform operate_within fill_all begin meaning
 capturing_is_wrong = refl
 
 capturing_captures : ModulesCaptureNothing capturing → ⊥
@@ -122,7 +122,7 @@ unfolding stopping stopping_main
 stopping_taken = refl
 
 stopping_is_wrong : (course stopping 5 no_tapes).end ≡ Wrong
-unfolding stopping stopping_main give stop node tick told settle added bind whole eval eval_value eval_all eval_block open_calls perform operate fill_all begin meaning
+unfolding stopping stopping_main give stop node tick told settle added bind whole eval eval_value eval_all eval_block open_calls perform operate_within fill_all begin meaning
 stopping_is_wrong = refl
 
 stopping_stops : HavePlainNames stopping → ⊥

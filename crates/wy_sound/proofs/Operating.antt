@@ -13,9 +13,10 @@ use Rattle.wy_types.specs.declared.code.TextOperator.{TextOperator}
 use Rattle.wy_types.specs.declared.code.TextOperator.TheVariants as text
 use Rattle.wy_types.specs.Program.{Program}
 use Rattle.wy_types.specs.Core.{IsCore}
-use Rattle.wy_device.specs.Operators.{Operator, Add, Subtract, Multiply, Divide, Remainder, Join, Less, LessOrEqual, Greater, GreaterOrEqual, Computed, GivesNumber, GivesTruth, Builds, Traps, Misfits, operate, is_int, within_range, is_zero, quotient_of, remainder_of, most_bytes, joined, part_of, byte_found, byte_at, one_byte, compared, on_numbers, on_two, on_number, on_truth, on_text, on_texts, on_text_and_number, on_text_and_numbers}
+use Rattle.wy_device.specs.Editions.{current}
+use Rattle.wy_device.specs.Operators.{Operator, Add, Subtract, Multiply, Divide, Remainder, Join, Less, LessOrEqual, Greater, GreaterOrEqual, Computed, GivesNumber, GivesTruth, Builds, Traps, Misfits, operate, operate_within, is_int, within_range, is_zero, quotient_of, remainder_of, joined, part_of, byte_found, byte_at, one_byte, compared, on_numbers, on_two, on_number, on_truth, on_text, on_texts, on_text_and_number, on_text_and_numbers}
 use Rattle.wy_device.specs.RunEnds.{Trap}
-use Rattle.wy_device.specs.Traps.{most_texts, Crowded}
+use Rattle.wy_device.specs.Traps.{text_limit, most_texts, Crowded}
 use Rattle.wy_rules.specs.GroundTypes.{GroundType, Int as Ints, Bool as Truths, Text as Texts}
 use Rattle.wy_rules.specs.Operators.{Row, two, unary_rows, binary_rows, text_rows}
 use Rattle.wy_meaning.specs.Values.{Value, Int as Number, Truth, Text, Thing, World, replied, stopped, text_built}
@@ -62,8 +63,8 @@ module _ (p : Program) (core : IsCore p) (now x : ℕ) (pl : Placed p x) where
   remainder_fits : (m n : ℤ) → Fits int (remainder_of m n)
   remainder_fits m n = if_fits int (is_zero n) (Traps _) (GivesNumber (int_rem m n)) tt (number_kind p x pl)
 
-  joined_fits : (s t : List ℕ) → Fits texts (joined s t)
-  joined_fits s t = if_fits texts (nat_le (length (s ++ t)) most_bytes) (Builds (s ++ t)) (Traps _) (text_kind p x pl) tt
+  joined_fits : (s t : List ℕ) → Fits texts (joined text_limit s t)
+  joined_fits s t = if_fits texts (nat_le (length (s ++ t)) text_limit) (Builds (s ++ t)) (Traps _) (text_kind p x pl) tt
 
   part_fits : (s : List ℕ) (a b : ℤ) → Fits texts (part_of s a b)
   part_fits s (pos a) (pos b) = if_fits texts (nat_le a b && nat_le b (length s)) (Builds _) (Traps _) (text_kind p x pl) tt
@@ -182,7 +183,7 @@ module _ (p : Program) (core : IsCore p) (now x : ℕ) (pl : Placed p x) where
     RowFits o r vs = Have vs (map (kind_at p x pl) r.operands) → Fits (kind_at p x pl r.result) (operate o (map operand vs))
 
     unary_fits : (o : UnaryOperator) (r : Row) → In r (unary_rows o) → (vs : List Value) → RowFits (unary_operator o) r vs
-    unfolding operate
+    unfolding operate_within
     unary_fits unary.Negate r (inl e) vs =
         subst (λ r. RowFits (unary_operator unary.Negate) r vs) e (number_fits int (λ x. within_range (neg_ℤ x)) (λ m. range_fits (neg_ℤ m)) vs)
     unary_fits unary.Negate r (inr i) vs = absurd i
@@ -191,7 +192,7 @@ module _ (p : Program) (core : IsCore p) (now x : ℕ) (pl : Placed p x) where
     unary_fits unary.Not r (inr i) vs = absurd i
 
     text_operator_fits : (o : TextOperator) (r : Row) → In r (text_rows o) → (vs : List Value) → RowFits (text_operator o) r vs
-    unfolding operate
+    unfolding operate_within
     text_operator_fits text.Size r (inl e) vs =
         subst (λ r. RowFits (text_operator text.Size) r vs) e (text_fits int (λ s. GivesNumber (pos (length s))) (λ s. number_kind p x pl) vs)
     text_operator_fits text.Size r (inr i) vs = absurd i
@@ -228,7 +229,7 @@ module _ (p : Program) (core : IsCore p) (now x : ℕ) (pl : Placed p x) where
     one_row o s r v u (inr i) f = absurd i
 
     pub binary_fits : (o : BinaryOperator) (r : Row) (v u : Value) → IsStrict o → In r (binary_rows o) → BinaryFits (binary_operator o) r v u
-    unfolding operate
+    unfolding operate_within
     binary_fits binary.Add r v u t i = one_row Add (two of.Int of.Int) r v u i (numbers_fit int _ (λ m n. range_fits (m +ℤ n)) v u)
     binary_fits binary.Subtract r v u t i = one_row Subtract (two of.Int of.Int) r v u i (numbers_fit int _ (λ m n. range_fits (m -ℤ n)) v u)
     binary_fits binary.Multiply r v u t i = one_row Multiply (two of.Int of.Int) r v u i (numbers_fit int _ (λ m n. range_fits (m *ℤ n)) v u)
@@ -270,22 +271,22 @@ module _ (p : Program) (core : IsCore p) (now x : ℕ) (pl : Placed p x) where
 
   pub unary_answers : (o : UnaryOperator) (r : Row) → In r (unary_rows o) → (w : World) (place : Place) (vs : List Value) → WellHeap p now w.objects →
       AllHave p now w.objects vs (map (kind_at p x pl) r.operands) →
-      Answers p now w (Valued p now (kind_at p x pl r.result)) (operated place (Some (unary_operator o)) vs w)
+      Answers p now w (Valued p now (kind_at p x pl r.result)) (operated current place (Some (unary_operator o)) vs w)
   unary_answers o r i w place vs wh q =
       computed_answers w place (kind_at p x pl r.result) (operate (unary_operator o) (map operand vs)) wh (unary_fits w.objects o r i vs q)
 
   pub text_answers : (o : TextOperator) (r : Row) → In r (text_rows o) → (w : World) (place : Place) (vs : List Value) → WellHeap p now w.objects →
       AllHave p now w.objects vs (map (kind_at p x pl) r.operands) →
-      Answers p now w (Valued p now (kind_at p x pl r.result)) (operated place (Some (text_operator o)) vs w)
+      Answers p now w (Valued p now (kind_at p x pl r.result)) (operated current place (Some (text_operator o)) vs w)
   text_answers o r i w place vs wh q =
       computed_answers w place (kind_at p x pl r.result) (operate (text_operator o) (map operand vs)) wh (text_operator_fits w.objects o r i vs q)
 
   pub binary_answers : (o : BinaryOperator) (r : Row) → IsStrict o → In r (binary_rows o) → (w : World) (place : Place) (v u : Value) →
       WellHeap p now w.objects → AllHave p now w.objects (v ∷ u ∷ []) (map (kind_at p x pl) r.operands) →
-      Answers p now w (Valued p now (kind_at p x pl r.result)) (operated place (binary_operator o) (v ∷ u ∷ []) w)
+      Answers p now w (Valued p now (kind_at p x pl r.result)) (operated current place (binary_operator o) (v ∷ u ∷ []) w)
   binary_answers o r s i w place v u wh q = of_operator (binary_operator o) (binary_fits w.objects o r v u s i)
     where
       of_operator : (b : Option Operator) → BinaryFits w.objects b r v u →
-          Answers p now w (Valued p now (kind_at p x pl r.result)) (operated place b (v ∷ u ∷ []) w)
+          Answers p now w (Valued p now (kind_at p x pl r.result)) (operated current place b (v ∷ u ∷ []) w)
       of_operator None f = absurd f
       of_operator (Some b) f = computed_answers w place (kind_at p x pl r.result) (operate b (map operand (v ∷ u ∷ []))) wh (f q)

@@ -1,4 +1,4 @@
--- Operations on grants: a method of a grant's own type is an operation of its kind, which takes texts, gives what it answers, and has the
+-- Operations on grants: a method of a grant's own type is an operation of it, which takes texts, gives what it answers, and has the
 -- atom of the grant with the operation's member as its effect.
 use Rattle.std.proofs.Common.{◌≡◌, codes, ℕ, zero, suc, ◌<◌, Bool, true, false, List, [], ◌∷◌, length, map, replicate, inl, inr, refl, sym, ap, ◌∙◌, subst, Option, Some, arith}
 use Rattle.std.specs.Prelude.{slice_get, slice_index_or, bytes_eq, if◌then◌else◌}
@@ -16,14 +16,15 @@ use Rattle.wy_types.specs.Types.{declared_methods, named_methods}
 use Rattle.wy_rules.specs.GroundTypes.{GroundType, Int as Ints, Bool as Truths, Text as Texts, Nothing as Nothings, Named, type_at, ground_methods}
 use Rattle.wy_authority.specs.Authority.{authority_of}
 use Rattle.wy_authority.specs.Report.{named_atoms}
-use Rattle.wy_device.specs.declared.operation.Kind.{Kind}
-use Rattle.wy_device.specs.declared.operation.Kind.TheVariants.{Console, Folder, Clock, Random}
 use Rattle.wy_device.specs.declared.operation.Op.{Op}
-use Rattle.wy_device.specs.declared.operation.Op.TheVariants.{ConsoleRead, ConsoleWrite, FolderRead, FolderHas, FolderWrite, FolderAppend, FolderNames, ClockNow, RandomWord}
+use Rattle.wy_device.specs.declared.operation.Op.TheVariants.{ConsoleRead, ConsoleWrite, FolderRead, FolderHas, FolderWrite, FolderAppend, FolderNames, ClockNow, RandomWord, FolderRemove}
 use Rattle.wy_device.specs.declared.operation.OpName.{OpName}
 use Rattle.wy_device.specs.declared.operation.OpName.TheVariants as name
+use Rattle.wy_device.specs.declared.primitive.Primitive.{Primitive}
+use Rattle.wy_device.specs.declared.primitive.Primitive.TheVariants.{Console, Folder, Clock, Random}
 use Rattle.wy_device.specs.Operation.{name_of, method_text, member_named}
-use Rattle.wy_device.specs.Requests.{operations_of, operation_called, operation_on}
+use Rattle.wy_device.specs.Primitives.{operations_of}
+use Rattle.wy_device.specs.Requests.{operation_called, operation_on}
 use Rattle.wy_sound.proofs.Linked.{GrantsFit, sets_of}
 use Rattle.wy_sound.proofs.Lists.{some_same, taken_get}
 use Rattle.wy_sound.proofs.BaseTypes.{IsGrant, sets_put, grant_kind}
@@ -42,6 +43,7 @@ arity_of name.FolderAppend = 2
 arity_of name.FolderNames = 0
 arity_of name.ClockNow = 0
 arity_of name.RandomWord = 0
+arity_of name.FolderRemove = 1
 
 abbrev pub answer_kind : OpName → GroundType
 answer_kind name.ConsoleRead = Texts
@@ -53,6 +55,7 @@ answer_kind name.FolderAppend = Nothings
 answer_kind name.FolderNames = Texts
 answer_kind name.ClockNow = Ints
 answer_kind name.RandomWord = Ints
+answer_kind name.FolderRemove = Nothings
 
 -- the number of its member in its type
 abbrev pub member_number : OpName → ℕ
@@ -65,6 +68,7 @@ member_number name.FolderAppend = 2
 member_number name.FolderNames = 3
 member_number name.ClockNow = 0
 member_number name.RandomWord = 0
+member_number name.FolderRemove = 4
 
 -- the method of an operation, with sets put in for its type's members
 abbrev pub operation_method : List (List ℕ) → OpName → Signature GroundType
@@ -76,22 +80,22 @@ operation_method sets o = record {
       answer_kind o;
 }
 
--- the kinds of devices by the numbers of their types
-abbrev pub kind_of_number : ℕ → Kind
-kind_of_number zero = Console
-kind_of_number (suc zero) = Folder
-kind_of_number (suc (suc zero)) = Clock
-kind_of_number (suc (suc (suc d))) = Random
+-- the primitive types by their numbers
+abbrev pub primitive_of_number : ℕ → Primitive
+primitive_of_number zero = Console
+primitive_of_number (suc zero) = Folder
+primitive_of_number (suc (suc zero)) = Clock
+primitive_of_number (suc (suc (suc d))) = Random
 
 -- the methods of a primitive type are its operations
 pub primitive_methods : (p : Program) → IsCore p → (d : ℕ) (sets : List (List ℕ)) → d < 4 →
-    ground_methods p (Named d sets) ≡ map (operation_method sets) (operations_of (kind_of_number d))
+    ground_methods p (Named d sets) ≡ map (operation_method sets) (operations_of (primitive_of_number d))
 primitive_methods p core d sets lt = ap (methods_from sets) (taken_get d 4 p.declarations primitive_types lt core.primitives) ∙ of_number d lt
   where
     methods_from : List (List ℕ) → Option TypeDecl → List (Signature GroundType)
     methods_from sets o = map (mapped_signature (type_at 0) (λ e. e)) (named_methods false sets (declared_methods o))
 
-    of_number : (d : ℕ) → d < 4 → methods_from sets (slice_get primitive_types d) ≡ map (operation_method sets) (operations_of (kind_of_number d))
+    of_number : (d : ℕ) → d < 4 → methods_from sets (slice_get primitive_types d) ≡ map (operation_method sets) (operations_of (primitive_of_number d))
     of_number zero lt = refl
     of_number (suc zero) lt = refl
     of_number (suc (suc zero)) lt = refl
@@ -126,13 +130,14 @@ operation_there name.FolderAppend (s ∷ t ∷ []) e = (FolderAppend s t, refl, 
 operation_there name.FolderNames [] e = (FolderNames, refl, refl)
 operation_there name.ClockNow [] e = (ClockNow, refl, refl)
 operation_there name.RandomWord [] e = (RandomWord, refl, refl)
+operation_there name.FolderRemove (s ∷ []) e = (FolderRemove s, refl, refl)
 operation_there o texts e = absurd (omega (arith, e))
 
 ------------------------------------------------------------
 -- Atoms of operations
 
 -- the members of the primitive types
-pub member_there : (d : ℕ) (o : OpName) → d < 4 → In o (operations_of (kind_of_number d)) →
+pub member_there : (d : ℕ) (o : OpName) → d < 4 → In o (operations_of (primitive_of_number d)) →
     (t : TypeDecl) × (slice_get primitive_types d ≡ Some t) × (slice_get t.members (member_number o) ≡ Some (member_named o))
 member_there zero o lt (inl e) =
     (_, refl, subst (λ (o : OpName). slice_get (codes "In" ∷ codes "Out" ∷ []) (member_number o) ≡ Some (member_named o)) e refl)
@@ -185,7 +190,7 @@ declared_members : (p : Program) (core : IsCore p) (d : ℕ) (t : TypeDecl) → 
 declared_members p core d t lt e = taken_get d 4 p.declarations primitive_types lt core.primitives ∙ e
 
 -- the effect of an operation's method at a grant's sets has the grant's atom of its member
-pub operation_atom : (p : Program) (core : IsCore p) (g : ℕ) (h : IsGrant p g) (o : OpName) → In o (operations_of (kind_of_number h.number)) →
+pub operation_atom : (p : Program) (core : IsCore p) (g : ℕ) (h : IsGrant p g) (o : OpName) → In o (operations_of (primitive_of_number h.number)) →
     GrantsFit p →
     (a : ℕ) × In a (replace (sets_put p h.members) (member_number o ∷ [])) × (atom_named p a ≡ atom_name h.name.name (member_named o))
 operation_atom p core g h o i fit =

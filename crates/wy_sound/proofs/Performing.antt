@@ -15,13 +15,15 @@ use Rattle.wy_device.specs.declared.operation.OpName.{OpName}
 use Rattle.wy_device.specs.declared.operation.OpName.TheVariants as name
 use Rattle.wy_device.specs.declared.operation.Answer.{Answer}
 use Rattle.wy_device.specs.declared.operation.Answer.TheVariants as answer
+use Rattle.wy_device.specs.Editions.{current, primitive_numbered}
 use Rattle.wy_device.specs.Operation.{name_of, kind_of, member_named}
-use Rattle.wy_device.specs.Requests.{operations_of, operation_given, operation_of, has_good_name, answers_text, is_text_up_to, is_truth, is_number, is_done, fits_operation, Answers, Fails, Waits, tape_of, with_tape, told_by, asked}
+use Rattle.wy_device.specs.Primitives.{operations_of}
+use Rattle.wy_device.specs.Requests.{operation_given, operation_of, has_good_name, answers_text, is_text_up_to, is_truth, is_number, is_done, fits_within, Answers, Fails, Waits, tape_of, with_tape, told_by, asked_within}
 use Rattle.wy_device.specs.RunEnds.{Trap, Waiting}
 use Rattle.wy_device.specs.Tapes.{Tapes}
-use Rattle.wy_device.specs.Traps.{most_texts, BadName, Crowded}
+use Rattle.wy_device.specs.Traps.{text_limit, most_texts, BadName, Crowded}
 use Rattle.wy_meaning.specs.Values.{Value, Thing, World}
-use Rattle.wy_meaning.specs.Starts.{scope_names, last_scope, kind_numbered, kind_of_type, grant_of_kind, grant_from, grant_named, grant_of}
+use Rattle.wy_meaning.specs.Starts.{scope_names, last_scope, primitive_of_type, grant_of_primitive, grant_from, grant_named, grant_of}
 use Rattle.wy_meaning.specs.Results.{stop, told, settle}
 use Rattle.wy_meaning.specs.Performing.{texts_of, with_text, text_of, deed, answered, requested, requested_of, perform}
 use Rattle.wy_sound.specs.Arguments.{actual_type, IsThere}
@@ -29,7 +31,7 @@ use Rattle.wy_sound.proofs.Effects.{HasDeed, kept_deed, kept_held}
 use Rattle.wy_sound.specs.TypedHeaps.{AllHave, WellHeap}
 use Rattle.wy_sound.proofs.Heaps.{extends_refl}
 use Rattle.wy_sound.proofs.BaseTypes.{IsGrant, is_grant, grant_kind, sets_put, text_value}
-use Rattle.wy_sound.proofs.Operations.{arity_of, answer_kind, kind_of_number, operation_method, primitive_methods, operation_found, operation_there, operation_atom}
+use Rattle.wy_sound.proofs.Operations.{arity_of, answer_kind, primitive_of_number, operation_method, primitive_methods, operation_found, operation_there, operation_atom}
 use Rattle.wy_sound.proofs.Results.{Sound, Valued, stays_same, stop_sound}
 
 ------------------------------------------------------------
@@ -45,19 +47,21 @@ last_number [] = refl
 last_number (s ∷ []) = refl
 last_number (s ∷ t ∷ ss) = let h = last_number (t ∷ ss) in omega (arith, h)
 
-kind_there : (d : ℕ) → d < 4 → kind_numbered d ≡ Some (kind_of_number d)
-kind_there zero lt = refl
-kind_there (suc zero) lt = refl
-kind_there (suc (suc zero)) lt = refl
-kind_there (suc (suc (suc zero))) lt = refl
-kind_there (suc (suc (suc (suc d)))) lt = absurd (omega arith)
+primitive_there : (d : ℕ) → d < 4 → primitive_numbered current d ≡ Some (primitive_of_number d)
+primitive_there zero lt = refl
+primitive_there (suc zero) lt = refl
+primitive_there (suc (suc zero)) lt = refl
+primitive_there (suc (suc (suc zero))) lt = refl
+primitive_there (suc (suc (suc (suc d)))) lt = absurd (omega arith)
 
-grant_there : (p : Program) (g : ℕ) (h : IsGrant p g) → grant_of p g ≡ Some (record { name = h.name.name; kind = kind_of_number h.number })
+grant_there : (p : Program) (g : ℕ) (h : IsGrant p g) →
+    grant_of current p g ≡ Some (record { name = h.name.name; primitive = primitive_of_number h.number })
 grant_there p g h =
-    ap (λ l. grant_named (slice_get (scope_names (slice_get p.scopes l)) g)) (last_number p.scopes) ∙
-    ap (λ ns. grant_named (slice_get ns g)) (names_same (slice_get p.scopes (length p.scopes - 1))) ∙
-    ap grant_named h.there ∙ ap (λ o. grant_from o h.name) h.origin ∙
-    ap (λ t. grant_of_kind h.name.name (kind_of_type t)) h.typ ∙ ap (grant_of_kind h.name.name) (kind_there h.number h.primitive)
+    ap (λ l. grant_named current (slice_get (scope_names (slice_get p.scopes l)) g)) (last_number p.scopes) ∙
+    ap (λ ns. grant_named current (slice_get ns g)) (names_same (slice_get p.scopes (length p.scopes - 1))) ∙
+    ap (grant_named current) h.there ∙ ap (λ o. grant_from current o h.name) h.origin ∙
+    ap (λ t. grant_of_primitive h.name.name (primitive_of_type current t)) h.typ ∙
+    ap (grant_of_primitive h.name.name) (primitive_there h.number h.primitive)
 
 ------------------------------------------------------------
 -- Answers that an operation takes
@@ -92,16 +96,17 @@ done_answered (answer.Truth truth) e = absurd cc
 done_answered (answer.Number number) e = absurd cc
 done_answered answer.Unit e = refl
 
-fitting_answered : (o : OpName) (a : Answer) → fits_operation o a ≡ true → IsAnsweredAs a (answer_kind o)
+fitting_answered : (o : OpName) (a : Answer) → fits_within text_limit o a ≡ true → IsAnsweredAs a (answer_kind o)
 fitting_answered name.ConsoleRead a e = text_answered 65536 a e
 fitting_answered name.ConsoleWrite a e = done_answered a e
-fitting_answered name.FolderRead a e = text_answered 1048576 a e
+fitting_answered name.FolderRead a e = text_answered text_limit a e
 fitting_answered name.FolderHas a e = truth_answered a e
 fitting_answered name.FolderWrite a e = done_answered a e
 fitting_answered name.FolderAppend a e = done_answered a e
-fitting_answered name.FolderNames a e = text_answered 1048576 a e
+fitting_answered name.FolderNames a e = text_answered text_limit a e
 fitting_answered name.ClockNow a e = number_answered a e
 fitting_answered name.RandomWord a e = number_answered a e
+fitting_answered name.FolderRemove a e = done_answered a e
 
 module _ (p : Program) (now : ℕ) where
   module _ (f : List ℕ) (grant : List ℕ) (op : Op) (has : (a : Option Answer) → HasDeed p f (deed grant op a)) (w : World)
@@ -125,26 +130,26 @@ module _ (p : Program) (now : ℕ) where
     waits_sound = stop_sound p now f w (Valued p now k) Waiting (λ e. cc) wh
 
     told_sound : (o : OpName) (kind : Kind) (tape : List (Option Answer)) (tapes : Tapes) → answer_kind o ≡ k →
-        Sound p now f w (Valued p now k) (answered grant op w (told_by o kind tape tapes))
+        Sound p now f w (Valued p now k) (answered grant op w (told_by text_limit o kind tape tapes))
     told_sound o kind [] tapes e = waits_sound
     told_sound o kind (None ∷ tape) tapes e = failed_sound (with_tape kind tape tapes)
-    told_sound o kind (Some a ∷ tape) tapes e = of_test (fits_operation o a) refl
+    told_sound o kind (Some a ∷ tape) tapes e = of_test (fits_within text_limit o a) refl
       where
-        of_test : (b : Bool) → fits_operation o a ≡ b →
+        of_test : (b : Bool) → fits_within text_limit o a ≡ b →
             Sound p now f w (Valued p now k) (answered grant op w (if b then Answers a (with_tape kind tape tapes) else Waits))
         of_test true t = taken_sound a (with_tape kind tape tapes) (subst (IsAnsweredAs a) e (fitting_answered o a t))
         of_test false t = waits_sound
 
-    requested_sound : (place : Place) → answer_kind (name_of op) ≡ k → Sound p now f w (Valued p now k) (requested place grant w (Some op))
+    requested_sound : (place : Place) → answer_kind (name_of op) ≡ k → Sound p now f w (Valued p now k) (requested current place grant w (Some op))
     requested_sound place e = of_name (not (has_good_name op))
       where
-        of_room : (b : Bool) → Sound p now f w (Valued p now k) (if b then stop (Trap Crowded place) w else answered grant op w (asked op w.tapes))
+        of_room : (b : Bool) → Sound p now f w (Valued p now k) (if b then stop (Trap Crowded place) w else answered grant op w (asked_within text_limit op w.tapes))
         of_room true = stop_sound p now f w (Valued p now k) (Trap Crowded place) (λ e. cc) wh
         of_room false = told_sound (name_of op) (kind_of op) (tape_of (kind_of op) w.tapes) w.tapes e
 
         of_name : (b : Bool) → Sound p now f w (Valued p now k)
             (if b then stop (Trap BadName place) w else if answers_text op && not (nat_lt w.built most_texts) then stop
-            (Trap Crowded place) w else answered grant op w (asked op w.tapes))
+            (Trap Crowded place) w else answered grant op w (asked_within text_limit op w.tapes))
         of_name true = stop_sound p now f w (Valued p now k) (Trap BadName place) (λ e. cc) wh
         of_name false = of_room (answers_text op && not (nat_lt w.built most_texts))
 
@@ -164,28 +169,28 @@ module _ (p : Program) (now : ℕ) where
         (place : Place) (method : List ℕ) (vs : List Value) (w : World) (m : Signature GroundType) →
         find_method method (ground_methods p (actual_type p (actual.Grant g))) ≡ Some m → AllHave p now w.objects vs m.params →
         WellHeap p now w.objects →
-        Sound p now m.effect w (Valued p now m.result) (perform place (grant_of p g) method vs w)
+        Sound p now m.effect w (Valued p now m.result) (perform current place (grant_of current p g) method vs w)
     unfolding perform
     perform_sound g there place method vs w m found q wh =
         let h = is_grant p core now g there in
         let sets : List (List ℕ) = sets_put p h.members in
         let table = ap (ground_methods p) (grant_kind p g h) ∙ primitive_methods p core h.number sets h.primitive in
-        let r = operation_found sets (operations_of (kind_of_number h.number)) method m (ap (find_method method) (sym table) ∙ found) in
+        let r = operation_found sets (operations_of (primitive_of_number h.number)) method m (ap (find_method method) (sym table) ∙ found) in
         let o : OpName = r.0 in
         let t = texts_typed w.objects (arity_of o) vs (subst (λ (m : Signature GroundType). AllHave p now w.objects vs m.params) (sym r.2) q) in
         let u = operation_there o t.0 t.2 in
-        let called : operation_of (kind_of_number h.number) method t.0 ≡ Some u.0 = ap (λ c. operation_given c t.0) r.1 ∙ u.1 in
+        let called : operation_of (primitive_of_number h.number) method t.0 ≡ Some u.0 = ap (λ c. operation_given c t.0) r.1 ∙ u.1 in
         let has : (a : Option Answer) → HasDeed p (operation_method sets o).effect (deed h.name.name u.0 a) = λ a. record {
           atom = λ fit. let s = operation_atom p core g h o r.3 fit in
               (s.0, s.1, s.2 ∙ ap (λ o. let v : AtomName = record { owner = h.name.name; member = member_named o } in v) (sym u.2));
         } in
-        let done : Sound p now (operation_method sets o).effect w (Valued p now (answer_kind o)) (requested place h.name.name w (Some u.0)) =
+        let done : Sound p now (operation_method sets o).effect w (Valued p now (answer_kind o)) (requested current place h.name.name w (Some u.0)) =
         requested_sound (operation_method sets o).effect h.name.name u.0 has w wh (answer_kind o) place (ap answer_kind u.2) in
         subst (λ (m : Signature GroundType). Sound p now m.effect w (Valued p now m.result)
-        (requested_of place (grant_of p g) method w (texts_of vs))) r.2
-        (subst (λ c. Sound p now (operation_method sets o).effect w (Valued p now (answer_kind o)) (requested_of place c method w (texts_of vs)))
+        (requested_of current place (grant_of current p g) method w (texts_of vs))) r.2
+        (subst (λ c. Sound p now (operation_method sets o).effect w (Valued p now (answer_kind o)) (requested_of current place c method w (texts_of vs)))
         (sym (grant_there p g h))
         (subst (λ c. Sound p now (operation_method sets o).effect w (Valued p now (answer_kind o))
-        (requested_of place (Some (record { name = h.name.name; kind = kind_of_number h.number })) method w c)) (sym t.1)
-        (subst (λ c. Sound p now (operation_method sets o).effect w (Valued p now (answer_kind o)) (requested place h.name.name w c))
+        (requested_of current place (Some (record { name = h.name.name; primitive = primitive_of_number h.number })) method w c)) (sym t.1)
+        (subst (λ c. Sound p now (operation_method sets o).effect w (Valued p now (answer_kind o)) (requested current place h.name.name w c))
         (sym called) done)))
