@@ -2,11 +2,14 @@ ghost use Rattle.std.specs.Prelude.{◌≡◌, ◌≤◌, ◌++◌, ◌∷◌, E
 ghost use Rattle.wy_text.specs.Outside.{Rose};
 ghost use Rattle.wy_device.specs.Device.{DeviceState};
 ghost use Rattle.wy_device.specs.Requests as requests;
+ghost use Rattle.wy_device.specs.Traps.{text_limit};
 ghost use Rattle.wy_cli.specs.FolderNames.{ListsFileNames};
 
 use crate::fault::count_fault;
 use crate::listing::listing;
-use crate::plain_file::{append_file, file_names, is_folder, is_plain_file, read_file, write_file};
+use crate::plain_file::{
+    append_file, file_names, is_folder, is_plain_file, read_file, remove_file, write_file,
+};
 use std::alloc::Global;
 use std::io::{self, ErrorKind};
 use std::rt::Files;
@@ -20,10 +23,11 @@ use wy_text::text::{Memory, Text, from_vec};
 
 /// The folders of the machine: a grant's is the one of its name in the base. It tells no deeds.
 ///
-/// `has` is true of plain files alone, and a name that nothing goes by is read as the empty text. An operation
-/// fails where the grant's folder is not there or is a symbolic link, where a name is no file's, where something
-/// else than a plain file is read or written, where a text is longer than an answer may be, and where the machine
-/// refuses. A write that failed may have done a part of its work. (docs/LANGUAGE.md, "Primitive types")
+/// `has` is true of plain files alone, a name that nothing goes by is read as the empty text, and removing it does
+/// nothing. An operation fails where the grant's folder is not there or is a symbolic link, where a name is no file's,
+/// where something else than a plain file is read, written or removed, where a text is longer than an answer may be, and
+/// where the machine refuses. A write that failed may have done a part of its work.
+/// (docs/LANGUAGE.md, "Primitive types")
 #[derive(Drop)]
 pub struct RealFolder<R> {
     alloc: Global,
@@ -72,7 +76,7 @@ impl<R: Files + AllocGlobal + Clone + Drop> RealFolder<R> {
         }
     }
 
-    /// What a write gave. It may have changed something, so each error is a fault.
+    /// What a write or a removal gave. It may have changed something, so each error is a fault.
     fn done(&mut self, outcome: io::Result<()>) -> Result<(), DeviceError>
         ensures counted { self.old.faults ≤ self.new.faults }
         ensures failed { result ≡ Err DeviceError.Failed → Rose self.old.faults self.new.faults }
@@ -86,7 +90,7 @@ impl<R: Files + AllocGlobal + Clone + Drop> RealFolder<R> {
     /// The text of these bytes, of which there are no more than an answer may have.
     fn text_of(&mut self, bytes: Vec<u8>) -> Result<Text, DeviceError>
         ensures text { IfOk result (λ text. text ≡ bytes.items) }
-        ensures short { IfOk result (λ text. length text ≤ 1048576) }
+        ensures short { IfOk result (λ text. length text ≤ text_limit) }
         ensures counted { self.old.faults ≤ self.new.faults }
         ensures failed { result ≡ Err DeviceError.Failed → Rose self.old.faults self.new.faults }
     {
@@ -136,7 +140,7 @@ impl<R: Files + AllocGlobal + Clone + Drop> RealFolder<R> {
     }
 
     fn read(&mut self, grant: &Text, name: &Text) -> Result<Text, DeviceError>
-        ensures short { IfOk result (λ text. length text ≤ 1048576) }
+        ensures short { IfOk result (λ text. length text ≤ text_limit) }
         ensures counted { self.old.faults ≤ self.new.faults }
         ensures failed { result ≡ Err DeviceError.Failed → Rose self.old.faults self.new.faults }
     {
@@ -173,9 +177,18 @@ impl<R: Files + AllocGlobal + Clone + Drop> RealFolder<R> {
         self.done(written)
     }
 
+    fn remove(&mut self, grant: &Text, name: &Text) -> Result<(), DeviceError>
+        ensures counted { self.old.faults ≤ self.new.faults }
+        ensures failed { result ≡ Err DeviceError.Failed → Rose self.old.faults self.new.faults }
+    {
+        let path = self.file_path(grant, name)?;
+        let removed = remove_file(&self.rt, path.as_str());
+        self.done(removed)
+    }
+
     fn names(&mut self, grant: &Text) -> Result<Text, DeviceError>
         ensures listed { IfOk result ListsFileNames }
-        ensures short { IfOk result (λ text. length text ≤ 1048576) }
+        ensures short { IfOk result (λ text. length text ≤ text_limit) }
         ensures counted { self.old.faults ≤ self.new.faults }
         ensures failed { result ≡ Err DeviceError.Failed → Rose self.old.faults self.new.faults }
     {
@@ -214,6 +227,10 @@ impl<R: Files + AllocGlobal + Clone + Drop> Device for RealFolder<R> {
                 Ok(Answer::Unit)
             }
             Op::FolderNames => Ok(Answer::Bytes(self.names(grant)?)),
+            Op::FolderRemove(name) => {
+                self.remove(grant, name)?;
+                Ok(Answer::Unit)
+            }
             _ => unreachable!(),
         }
     }

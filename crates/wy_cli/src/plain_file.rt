@@ -101,6 +101,23 @@ pub fn append_file<R: Files>(rt: &R, path: &str, bytes: &[u8]) -> io::Result<()>
     file.write_all(bytes)
 }
 
+/// Takes away the plain file of this name; nothing where nothing stands there.
+///
+/// Between the look and the removal the machine may put something else there. Then that goes, where it is no folder, and
+/// nothing else: no link is followed.
+pub fn remove_file<R: Files>(rt: &R, path: &str) -> io::Result<()> {
+    let Some(seen) = seen_at(rt, path)? else {
+        return Ok(());
+    };
+    if !seen.is_file() {
+        return Err(io::Error::from(ErrorKind::Unsupported));
+    }
+    match fs::remove_file(rt, path) {
+        Err(error) if error.kind() == ErrorKind::NotFound => Ok(()),
+        removed => removed,
+    }
+}
+
 /// The names of the plain files in a folder that are file names. Whatever else is there is left out.
 pub fn file_names<R: Files + AllocGlobal + Clone + Drop>(
     rt: &R,

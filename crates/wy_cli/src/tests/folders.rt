@@ -7,6 +7,7 @@ use std::os::unix::fs::symlink;
 use std::test::Fail;
 use std::{env, fs, io, process};
 use wy_device::device::Device;
+use wy_device::mem_folder::LONGEST_TEXT;
 use wy_device::operation::{Answer, Kind, Op};
 use wy_text::text::{Memory, Text, from_bytes};
 
@@ -17,6 +18,7 @@ enum Asked {
     Has(&'static str),
     Write(&'static str, &'static str),
     Append(&'static str, &'static str),
+    Remove(&'static str),
     Names,
 }
 
@@ -32,6 +34,7 @@ fn operation(alloc: Global, asked: Asked) -> Result<Op, Memory>
         Asked::Has(name) => Ok(Op::FolderHas(text(alloc, name)?)),
         Asked::Write(name, piece) => Ok(Op::FolderWrite(text(alloc, name)?, text(alloc, piece)?)),
         Asked::Append(name, piece) => Ok(Op::FolderAppend(text(alloc, name)?, text(alloc, piece)?)),
+        Asked::Remove(name) => Ok(Op::FolderRemove(text(alloc, name)?)),
         Asked::Names => Ok(Op::FolderNames),
     }
 }
@@ -63,7 +66,7 @@ fn lay_out(rt: &HostRuntime, base: &str) -> io::Result<()> {
     fs::write(rt, format!(in alloc; "{base}/outside")?, "outside")?;
     fs::write(rt, format!(in alloc; "{base}/disk/Upper")?, "")?;
     fs::write(rt, format!(in alloc; "{base}/disk/.hidden")?, "")?;
-    let long = vec![in alloc; 0u8; 1_048_577]?;
+    let long = vec![in alloc; 0u8; LONGEST_TEXT + 1]?;
     fs::write(rt, format!(in alloc; "{base}/disk/long")?, long.as_slice())?;
     symlink(rt, "../outside", format!(in alloc; "{base}/disk/link")?)?;
     symlink(rt, "../nothing", format!(in alloc; "{base}/disk/gone")?)?;
@@ -82,6 +85,7 @@ fn a_folder_holds_plain_files_and_leads_nowhere_else(rt: HostRuntime) -> Result<
         ("none", Asked::Read("a"), "failed"),
         ("none", Asked::Has("a"), "failed"),
         ("none", Asked::Write("a", "1"), "failed"),
+        ("none", Asked::Remove("a"), "failed"),
         ("linked", Asked::Names, "failed"),
         (".", Asked::Read("outside"), "failed"),
         ("disk", Asked::Names, "long\n"),
@@ -104,6 +108,17 @@ fn a_folder_holds_plain_files_and_leads_nowhere_else(rt: HostRuntime) -> Result<
         ("disk", Asked::Has("folder"), "false"),
         ("disk", Asked::Read("folder"), "failed"),
         ("disk", Asked::Names, "a\nb\nlong\n"),
+        ("linked", Asked::Remove("a"), "failed"),
+        ("disk", Asked::Remove("../outside"), "failed"),
+        ("disk", Asked::Remove("link"), "failed"),
+        ("disk", Asked::Remove("gone"), "failed"),
+        ("disk", Asked::Remove("folder"), "failed"),
+        ("disk", Asked::Names, "a\nb\nlong\n"),
+        ("disk", Asked::Remove("a"), "done"),
+        ("disk", Asked::Has("a"), "false"),
+        ("disk", Asked::Remove("a"), "done"),
+        ("disk", Asked::Remove("long"), "done"),
+        ("disk", Asked::Names, "b\n"),
     ];
     let mut folder = RealFolder::new(alloc, rt.clone()?, String::from_str(alloc, base)?);
     for (grant, asked, expected) in &rows {
@@ -113,6 +128,10 @@ fn a_folder_holds_plain_files_and_leads_nowhere_else(rt: HostRuntime) -> Result<
     let outside = fs::read_to_string(&rt, format!(in alloc; "{base}/outside")?)?;
     assert_eq!(rt; outside.as_str(), "outside");
     assert!(rt; !fs::exists(&rt, format!(in alloc; "{base}/nothing")?)?);
+    for kept in ["link", "gone", "folder", "Upper", ".hidden"] {
+        let path = format!(in alloc; "{base}/disk/{kept}")?;
+        assert!(rt; fs::symlink_metadata(&rt, path).is_ok(), "{kept}");
+    }
     fs::remove_dir_all(&rt, base)?;
     Ok(())
 }
