@@ -128,11 +128,10 @@ fn files_of(alloc: Global, row: &Row) -> Result<FolderList, Memory> {
     Ok(list)
 }
 
-/// The folder of a row, before the call.
-fn folder_of(alloc: Global, row: &Row) -> Result<Handed, Fail>
+/// The folder of a row, before the call, with these files.
+fn folder_of(alloc: Global, row: &Row, files: FolderList) -> Result<Handed, Fail>
     ensures { IfOk result (λ device. (⟦<Handed as Device>⟧.state device).kind ≡ Kind.Folder) }
 {
-    let files = files_of(alloc, row)?;
     let folder = MemFolder::new(alloc, files, fails_of(alloc, row, Part::Folder)?)?;
     let folder: Box<dyn Device> = Box::new(alloc, folder)?;
     Ok(Handed::new(folder))
@@ -166,16 +165,23 @@ fn random_of(alloc: Global, row: &Row) -> Result<Handed, Fail>
     Ok(Handed::new(random))
 }
 
-/// The four devices of a row.
-fn devices_of(alloc: Global, row: &Row) -> Result<Devices<Handed>, Fail>
+/// The four devices of a row, the folder with these files.
+fn devices_over(alloc: Global, row: &Row, files: FolderList) -> Result<Devices<Handed>, Fail>
     ensures { IfOk result (λ all. IsInOrder (states (⟦<Handed as Device>⟧.state) all)) }
 {
     Ok(devices(
         console_of(alloc, row)?,
-        folder_of(alloc, row)?,
+        folder_of(alloc, row, files)?,
         clock_of(alloc, row)?,
         random_of(alloc, row)?,
     ))
+}
+
+/// The four devices of a row.
+fn devices_of(alloc: Global, row: &Row) -> Result<Devices<Handed>, Fail>
+    ensures { IfOk result (λ all. IsInOrder (states (⟦<Handed as Device>⟧.state) all)) }
+{
+    devices_over(alloc, row, files_of(alloc, row)?)
 }
 
 fn copied(deed: &Deed) -> Result<Deed, Memory> {
@@ -304,6 +310,18 @@ fn comes_over<D: Device>(alloc: Global, row: &Row, devices: Devices<D>) -> Resul
 /// Whether what the row says comes of its call.
 fn comes_so(alloc: Global, row: &Row) -> Result<bool, Fail> {
     comes_over(alloc, row, devices_of(alloc, row)?)
+}
+
+/// Whether the row's call over a folder with these files ends as the row says, after so many operations of the folder.
+pub fn ends_over(
+    alloc: Global,
+    row: &Row,
+    files: FolderList,
+    operations: usize,
+) -> Result<bool, Fail> {
+    let mut devices = devices_over(alloc, row, files)?;
+    let ends = ends_so(alloc, row, &mut devices)?;
+    Ok(ends && devices.deeds(Kind::Folder).ok_or("told")?.len() == operations)
 }
 
 /// The number of the first row of which something else comes.

@@ -30,6 +30,7 @@ fn operation(word: &str, name: Text, text: Text) -> Op
         "has" => Op::FolderHas(name),
         "write" => Op::FolderWrite(name, text),
         "append" => Op::FolderAppend(name, text),
+        "remove" => Op::FolderRemove(name),
         _ => Op::FolderNames,
     }
 }
@@ -51,7 +52,7 @@ const FILES: [(&str, &str, &str); 4] = [
 ];
 
 /// Operations on it in order, each with its grant, name and text, and the answer.
-const ASKED: [(&str, &str, &str, &str, &str); 15] = [
+const ASKED: [(&str, &str, &str, &str, &str); 21] = [
     ("d", "read", "b", "", "1"),
     ("d", "read", "c", "", ""),
     ("d", "has", "a", "", "yes"),
@@ -66,6 +67,12 @@ const ASKED: [(&str, &str, &str, &str, &str); 15] = [
     ("e", "names", "", "", "A\na\nb\n"),
     ("f", "names", "", "", ""),
     ("e", "write", "b", "q", "failed"),
+    ("e", "read", "b", "", "xy"),
+    ("d", "remove", "b", "", "done"),
+    ("d", "has", "b", "", "no"),
+    ("d", "remove", "b", "", "done"),
+    ("d", "names", "", "", "a\n"),
+    ("e", "names", "", "", "A\na\nb\n"),
     ("e", "read", "b", "", "xy"),
 ];
 
@@ -106,7 +113,7 @@ fn a_folder_keeps_the_files_of_each_grant(rt: HostRuntime) -> Result<(), Fail> {
     let mut folder = MemFolder::new(alloc, listed(alloc, &FILES)?, fails)?;
     assert_eq!(rt; first_otherwise(alloc, &mut folder, &ASKED)?, None);
     let deeds = folder.deeds().ok_or("told")?;
-    assert_eq!(rt; deeds.len(), 15);
+    assert_eq!(rt; deeds.len(), 21);
     assert!(rt; deeds.get(13).ok_or("a deed")?.answer.is_none());
     Ok(())
 }
