@@ -93,11 +93,12 @@ pub record Tests : Type 1 where
 abbrev over : (TypeRef → List (Signature TypeRef)) → Tests → Reading
 over m Inc = record { Kind = TypeRef; read = λ t. t; effect = λ e. e; methods = m; IsObject = IsObject; Includes = Inc.Includes; Allows = Inc.Allows; Under = Inc.Under }
 
-module _ (m n : TypeRef → List (Signature TypeRef)) (Inc : Tests) (s : Scope) (P : TypeRef → Type 0) (c : IsKept (over m Inc) s P)
-    (agree : (t : TypeRef) → P t → m t ≡ n t) (bases : (t : TypeRef) → (IsObject t → ⊥) → m t ≡ []) where
-  ------------------------------------------------------------
-  -- Subtyping
+------------------------------------------------------------
+-- Subtyping
 
+module _ (m n : TypeRef → List (Signature TypeRef)) (Inc : Tests) (P : TypeRef → Type 0)
+    (params : (t : TypeRef) → P t → (x : Signature TypeRef) → In x (m t) → Each P x.params) (result : (t : TypeRef) → P t → (x : Signature TypeRef) → In x (m t) → P x.result)
+    (agree : (t : TypeRef) → P t → m t ≡ n t) (bases : (t : TypeRef) → (IsObject t → ⊥) → m t ≡ []) where
   module _ (ps : List Two) (closed : (q : Two) → In {X = Two} q ps → IsClosed TypeRef m IsObject Inc.Allows ps q) where
     abbrev Kept : Two → Type 0
     Kept q = In {X = Two} q ps × P q.0 × P q.1
@@ -109,8 +110,8 @@ module _ (m n : TypeRef → List (Signature TypeRef)) (Inc : Tests) (s : Scope) 
     asked_kept q v k r j None e h i = absurd h
     asked_kept q v k r j (Some l) e h (inl f) =
         let Q : Two → Type 0 = Kept in
-        subst Q f (h.result, c.result q.0 k.1 l (find_in r.name (m q.0) l e), c.result q.1 k.2 r j)
-    asked_kept q v k r j (Some l) e h (inr i) = zip_in ps P l.params r.params h.params (c.params q.0 k.1 l (find_in r.name (m q.0) l e)) (c.params q.1 k.2 r j) v i
+        subst Q f (h.result, result q.0 k.1 l (find_in r.name (m q.0) l e), result q.1 k.2 r j)
+    asked_kept q v k r j (Some l) e h (inr i) = zip_in ps P l.params r.params h.params (params q.0 k.1 l (find_in r.name (m q.0) l e)) (params q.1 k.2 r j) v i
 
     goes_on : (q v : Two) → Kept q → In {X = Two} v (next q) → Kept v
     goes_on q v k i =
@@ -151,9 +152,11 @@ module _ (m n : TypeRef → List (Signature TypeRef)) (Inc : Tests) (s : Scope) 
       let l = all_of h.pairs h.closed (a, b) (h.first, f, g) in
       record { pairs = l.list; first = l.new (a, b) (inl refl); closed = closed_over h.pairs h.closed l.list l.each l.closed }
 
-  ------------------------------------------------------------
-  -- Derivations
+------------------------------------------------------------
+-- Derivations
 
+module _ (m n : TypeRef → List (Signature TypeRef)) (Inc : Tests) (s : Scope) (P : TypeRef → Type 0) (c : IsKept (over m Inc) s P)
+    (agree : (t : TypeRef) → P t → m t ≡ n t) (bases : (t : TypeRef) → (IsObject t → ⊥) → m t ≡ []) where
   one_row : (a r : Row) → Each P a.operands → In r (a ∷ []) → Each P r.operands
   one_row a r h (inl e) = subst (λ (v : Row). Each P v.operands) e h
   one_row a r h (inr i) = absurd i
@@ -285,7 +288,7 @@ module _ (m n : TypeRef → List (Signature TypeRef)) (Inc : Tests) (s : Scope) 
           let o = operation_holds x h.0 h.2 g in
           (h.0, h.1, h.2, h.3, all_over ds h.0.operands (map (λ t. t) r.operands) h.4 a (each_id r.operands (o.0 r h.3)) o.1, h.5, h.6)
       value_over (T-Asc q d) (Plain (Ascribe i x u)) t f h a b g = (h.0, value_over d x u f h.1 a (types_right (value_types x) (u ∷ []) g).0 (types_left (value_types x) (u ∷ []) g), h.2)
-      value_over (T-Sub q d k e) x t f h a b g = (h.0, value_over d x k e h.1 a.0 a.1 g, below_over k t a.1 b h.2, h.3)
+      value_over (T-Sub q d k e) x t f h a b g = (h.0, value_over d x k e h.1 a.0 a.1 g, below_over m n Inc P c.params c.result agree bases k t a.1 b h.2, h.3)
       value_over d x t f h a b g = absurd h
 
       all_over : (ds : Derivations TypeRef) (xs : Values) (ts : List TypeRef) → DerivesAll (over m Inc) s locals owner ds xs ts → NamesAll P ds → Each P ts → Each P (values_types xs) → DerivesAll (over n Inc) s locals owner ds xs ts
@@ -301,7 +304,7 @@ module _ (m n : TypeRef → List (Signature TypeRef)) (Inc : Tests) (s : Scope) 
       block_over (T-Val q d k e ds i) (Val j l typ x rest) t f h a b g =
           let r = types_right (written_types typ) (value_types x ++ block_types rest) g in
           (h.0, h.1, val_over typ x k h.2, value_over d x k e h.3 a.0 a.1 (types_left (value_types x) (block_types rest) r), block_over ds rest t i h.4 a.2 b (types_right (value_types x) (block_types rest) r), h.5)
-      block_over (Block-Sub q ds k e) x t f h a b g = (h.0, block_over ds x k e h.1 a.0 a.1 g, below_over k t a.1 b h.2, h.3)
+      block_over (Block-Sub q ds k e) x t f h a b g = (h.0, block_over ds x k e h.1 a.0 a.1 g, below_over m n Inc P c.params c.result agree bases k t a.1 b h.2, h.3)
       block_over d x t f h a b g = absurd h
 
   start_over : (locals : List TypeRef) (st : Start) (d : BodyDerivation TypeRef) → DerivesStart (over m Inc) s locals d st → NamesBody P d → Each P (start_types st) → DerivesStart (over n Inc) s locals d st
@@ -344,7 +347,7 @@ transferred m n Inc w z p s fits agree bases h =
       );
     }
 
-base_methods : (p : Program) (k : ℕ) (t : TypeRef) → (IsObject t → ⊥) → methods_of p k t ≡ []
+pub base_methods : (p : Program) (k : ℕ) (t : TypeRef) → (IsObject t → ⊥) → methods_of p k t ≡ []
 base_methods p k Int o = refl
 base_methods p k Bool o = refl
 base_methods p k Text o = refl
@@ -353,13 +356,13 @@ base_methods p k (Named d es) o = absurd (o tt)
 base_methods p k (At d e) o = absurd (o tt)
 base_methods p k (Own l) o = absurd (o tt)
 
-abbrev plain_tests : Tests
+abbrev pub plain_tests : Tests
 plain_tests = record { Includes = AnyEffect; Allows = AnyEffect; Under = λ f a. Unit {0} }
 
-abbrev tests_over : Bounds → Tests
+abbrev pub tests_over : Bounds → Tests
 tests_over bounds = record { Includes = Within; Allows = IsWithin bounds; Under = IsUnder bounds }
 
-transferred_in : (p other : Program) (k : ℕ) (s : Scope) (plain : Truth) → ScopeFits p s → bounds_of p k ≡ bounds_of other k → AgreesIn p other k s plain → ScopeHolds (reading_of p k plain) s → ScopeHolds (reading_of other k plain) s
+pub transferred_in : (p other : Program) (k : ℕ) (s : Scope) (plain : Truth) → ScopeFits p s → bounds_of p k ≡ bounds_of other k → AgreesIn p other k s plain → ScopeHolds (reading_of p k plain) s → ScopeHolds (reading_of other k plain) s
 transferred_in p other k s true fits same agree h = transferred (methods_of p k) (methods_of other k) plain_tests (plain_lawful p k) (kinds_exact p k true) p s fits agree (base_methods p k) h
 transferred_in p other k s false fits same agree h =
     subst (λ b. ScopeHolds (over (methods_of other k) (tests_over b)) s) same

@@ -18,7 +18,7 @@ use Rattle.wy_rules.proofs.OwnTypes.{own_is}
 use Rattle.wy_rules.proofs.Transferring.{scopes_hold_where_methods_agree}
 
 module _ (i : ℕ) (p other : Program) (k : ℕ) (s : Scope) (w : DiffersAt i p other) (at : slice_get p.scopes k ≡ Some s) (writes : WritesNot i s) where
-  erased_not : (t : TypeRef) → NamesNot i t → NamesNot i (erased t)
+  pub erased_not : (t : TypeRef) → NamesNot i t → NamesNot i (erased t)
   erased_not Int h = tt
   erased_not Bool h = tt
   erased_not Text h = tt
@@ -27,7 +27,7 @@ module _ (i : ℕ) (p other : Program) (k : ℕ) (s : Scope) (w : DiffersAt i p 
   erased_not (At d e) h = h
   erased_not (Own l) h = tt
 
-  put_not : (es : List (List ℕ)) (t : TypeRef) → NamesNot i t → NamesNot i (substituted es t)
+  pub put_not : (es : List (List ℕ)) (t : TypeRef) → NamesNot i t → NamesNot i (substituted es t)
   put_not es Int h = tt
   put_not es Bool h = tt
   put_not es Text h = tt
@@ -71,7 +71,7 @@ module _ (i : ℕ) (p other : Program) (k : ℕ) (s : Scope) (w : DiffersAt i p 
         | false ↦ λ q. own_not l bs (λ v z. h v (inr z)) m q
       ] j
 
-  methods_not : (t : TypeRef) → NamesNot i t → (m : Signature TypeRef) → In m (methods_of p k t) → SignatureNot m
+  pub methods_not : (t : TypeRef) → NamesNot i t → (m : Signature TypeRef) → In m (methods_of p k t) → SignatureNot m
   methods_not Int n m j = absurd j
   methods_not Bool n m j = absurd j
   methods_not Text n m j = absurd j
@@ -99,7 +99,7 @@ module _ (i : ℕ) (p other : Program) (k : ℕ) (s : Scope) (w : DiffersAt i p 
   reached_not Includes Allows Under t (of_argument u h m j v l) = (methods_not u (reached_not Includes Allows Under u h) m j).0 v l
   reached_not Includes Allows Under t (of_result u h m j) = (methods_not u (reached_not Includes Allows Under u h) m j).1
 
-  agree : (t : TypeRef) → NamesNot i t → methods_of p k t ≡ methods_of other k t
+  pub agree : (t : TypeRef) → NamesNot i t → methods_of p k t ≡ methods_of other k t
   agree Int n = refl
   agree Bool n = refl
   agree Text n = refl
@@ -109,7 +109,7 @@ module _ (i : ℕ) (p other : Program) (k : ℕ) (s : Scope) (w : DiffersAt i p 
   agree (At d e) n = ap (λ o. map (mapped_signature (annotated e) (λ f. e)) (declared_methods o)) (w.declarations d n)
   agree (Own l) n = ap (λ ss. methods_of_owner l (scope_bodies (slice_get ss k))) w.scopes
 
-  agrees_in : (plain : Truth) → AgreesIn p other k s plain
+  pub agrees_in : (plain : Truth) → AgreesIn p other k s plain
   agrees_in true = λ t r. agree t (reached_not _ _ _ t r)
   agrees_in false = λ t r. agree t (reached_not _ _ _ t r)
 

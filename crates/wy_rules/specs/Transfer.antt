@@ -14,7 +14,7 @@ use Rattle.wy_types.specs.Written.{block_types}
 use Rattle.wy_types.specs.Reached.{start_types}
 use Rattle.wy_types.specs.Signature.{Signature}
 use Rattle.wy_rules.specs.Typing.{field_types, ScopeHolds}
-use Rattle.wy_rules.specs.Acceptance.{scope_reading}
+use Rattle.wy_rules.specs.Acceptance.{scope_reading, Accepted}
 use Rattle.wy_rules.specs.Reached.{EachReached}
 
 -- another program has the same methods for each type that the scope reaches
@@ -60,3 +60,14 @@ abbrev pub ScopesHoldWithoutType : Type 0
 ScopesHoldWithoutType =
     (i : ℕ) (p other : Program) (k : ℕ) (s : Scope) → DiffersAt i p other → slice_get p.scopes k ≡ Some s → ScopeFits p s → WritesNot i s →
     ScopeHolds (scope_reading p k s) s → ScopeHolds (scope_reading other k s) s
+
+-- .. nor is the type that it is sealed at
+pub record LeavesOut (i : ℕ) (p : Program) (s : Scope) : Type 0 where
+  pub fits : ScopeFits p s
+  pub writes : WritesNot i s
+  pub sealed : (d : ℕ) → s.ascribed ≡ Some d → d ≡ i → ⊥
+
+-- a program none of whose scopes writes the type is accepted where the other one is
+abbrev pub AcceptedWithoutType : Type 0
+AcceptedWithoutType =
+    (i : ℕ) (p other : Program) → DiffersAt i p other → ((k : ℕ) (s : Scope) → slice_get p.scopes k ≡ Some s → LeavesOut i p s) → Accepted p → Accepted other

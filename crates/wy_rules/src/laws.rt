@@ -8,7 +8,7 @@ ghost use Rattle.wy_rules.specs.Rereading.{Erasure, Substitution, Retyping};
 ghost use Rattle.wy_rules.specs.Canonical.{TypesAreToldApart, CanonicalDerivationHolds, ScopesHaveCanonicalDerivations, CanonicalTypesAreLeast};
 ghost use Rattle.wy_rules.specs.Reached.{CanonicalTypesAreReached, ReachedTypesAreCounted, ReachedTypesAreWrittenOrOwn};
 ghost use Rattle.wy_rules.specs.Sparse.{NoSubsumptionAboveAnother};
-ghost use Rattle.wy_rules.specs.Transfer.{ScopesHoldWhereMethodsAgree, ScopesHoldWithoutType};
+ghost use Rattle.wy_rules.specs.Transfer.{ScopesHoldWhereMethodsAgree, ScopesHoldWithoutType, AcceptedWithoutType};
 ghost use Rattle.wy_rules.specs.Judging.{PassingIsAccepted, AcceptedLinesHold};
 ghost use Rattle.wy_rules.specs.GroundTyping.{GroundTyping};
 ghost use Rattle.wy_rules.specs.Refusals.{AcceptedScopesHold, AcceptedHasNoFault};
@@ -176,4 +176,9 @@ pub fn scopes_hold_where_methods_agree()
 /// A scope that does not write a declared type holds in each of two programs that differ in that type alone.
 pub fn scopes_hold_without_type()
     ensures { ScopesHoldWithoutType }
+{}
+
+/// A program of which no scope writes a declared type is accepted in both of two forms that differ in that type alone.
+pub fn accepted_without_type()
+    ensures { AcceptedWithoutType }
 {}
