@@ -14,7 +14,7 @@ use Rattle.wy_symbols.specs.declared.scoping.Opening.{Opening}
 use Rattle.wy_symbols.specs.declared.scoping.Opening.TheVariants.{Members, Nothing, Missing}
 use Rattle.wy_symbols.specs.declared.scoping.Owner.{Owner}
 use Rattle.wy_symbols.specs.Declarations.{ModuleTree, ProgramTree, Declared, declared}
-use Rattle.wy_symbols.specs.Atoms.{all_names, params_owners, grant_owner, use_owner, line_owner}
+use Rattle.wy_symbols.specs.Atoms.{names_over, params_owners, grant_owner, use_owner, line_owner}
 
 ------------------------------------------------------------
 -- The parts of object literals
@@ -110,15 +110,19 @@ types_params (d ∷ ds) = member_params d.members ++ types_params ds
 ------------------------------------------------------------
 -- Atoms
 
--- the abstract members of each type, in the order of the types' numbers
-abbrev pub primitive_counts : List ℕ
-primitive_counts = map (λ (d : core.TypeDecl). length d.members) primitive_types
+-- the abstract members of each type, in the order of the types' numbers: those of a table of primitive types, and of the declared ones
+abbrev pub table_counts : List core.TypeDecl → List ℕ
+table_counts table = map (λ (d : core.TypeDecl). length d.members) table
 
 abbrev pub abstract_counts : List TypeDecl → List ℕ
 abstract_counts types = map (λ (d : TypeDecl). abstract_count d.members) types
 
+abbrev pub type_counts_over : List core.TypeDecl → List TypeDecl → List ℕ
+type_counts_over table types = table_counts table ++ abstract_counts types
+
+-- over today's table
 abbrev pub type_counts : List TypeDecl → List ℕ
-type_counts types = primitive_counts ++ abstract_counts types
+type_counts types = type_counts_over primitive_types types
 
 -- the atoms that an owner opens: an abstract member counts as often as it is written, an owner that opens nothing not at all
 abbrev pub opening_count : List ℕ → Opening → ℕ
@@ -140,29 +144,29 @@ module _ (names : List (List ℕ)) (modules : List ModuleTree) where
       owners_count counts ((map (grant_owner names) g.grants ++ map (use_owner names modules) g.uses) ++ map (line_owner names modules) g.lines)
 
 ------------------------------------------------------------
--- What each limit counts
+-- What each limit counts, over a table of primitive types
 
-abbrev pub counts_of : LimitName → Declared → List ℕ
-counts_of limit.Types d = length d.types ∷ []
-counts_of limit.Modules d = length d.modules ∷ []
-counts_of limit.Grants d = map (λ (g : ProgramTree). length g.grants) d.programs
-counts_of limit.Methods d = map (λ (c : TypeDecl). signature_count c.members) d.types ++ map method_count (all_parts d)
-counts_of limit.Fields d = map field_count (all_parts d)
-counts_of limit.Parameters d =
+abbrev pub counts_over : List core.TypeDecl → LimitName → Declared → List ℕ
+counts_over table limit.Types d = length d.types ∷ []
+counts_over table limit.Modules d = length d.modules ∷ []
+counts_over table limit.Grants d = map (λ (g : ProgramTree). length g.grants) d.programs
+counts_over table limit.Methods d = map (λ (c : TypeDecl). signature_count c.members) d.types ++ map method_count (all_parts d)
+counts_over table limit.Fields d = map field_count (all_parts d)
+counts_over table limit.Parameters d =
     types_params d.types ++ (map (λ (m : ModuleTree). length m.params) d.modules ++ parts_params (all_parts d))
-counts_of limit.Atoms d =
+counts_over table limit.Atoms d =
     abstract_counts d.types ++
-    (map (module_count (all_names d.types) d.modules (type_counts d.types)) d.modules ++
-    map (program_count (all_names d.types) d.modules (type_counts d.types)) d.programs)
-counts_of other d = []
+    (map (module_count (names_over table d.types) d.modules (type_counts_over table d.types)) d.modules ++
+    map (program_count (names_over table d.types) d.modules (type_counts_over table d.types)) d.programs)
+counts_over table other d = []
 
 abbrev pub some_above : ℕ → List ℕ → Bool
 some_above most [] = false
 some_above most (n ∷ ns) = nat_lt most n || some_above most ns
 
 -- some count of the limit passes its number
-abbrev pub passes : LimitName → Declared → Bool
-passes l d = some_above (limit_number l) (counts_of l d)
+abbrev pub passes_over : List core.TypeDecl → LimitName → Declared → Bool
+passes_over table l d = some_above (limit_number l) (counts_over table l d)
 
 -- the limits of this stage, in the order in which they are tried
 abbrev pub early_limits : List LimitName
@@ -171,9 +175,24 @@ early_limits = limit.Types ∷ limit.Modules ∷ limit.Grants ∷ limit.Methods 
 abbrev pub limits : List LimitName
 limits = early_limits ++ limit.Atoms ∷ []
 
+abbrev pub first_passed_over : List core.TypeDecl → List LimitName → Declared → Option LimitName
+first_passed_over table [] d = None
+first_passed_over table (l ∷ ls) d = if passes_over table l d then Some l else first_passed_over table ls d
+
+abbrev pub limit_over : List core.TypeDecl → List t.ItemTree → Option LimitName
+limit_over table items = first_passed_over table limits (declared items)
+
+------------------------------------------------------------
+-- Over today's table
+
+abbrev pub counts_of : LimitName → Declared → List ℕ
+counts_of l d = counts_over primitive_types l d
+
+abbrev pub passes : LimitName → Declared → Bool
+passes l d = passes_over primitive_types l d
+
 abbrev pub first_passed : List LimitName → Declared → Option LimitName
-first_passed [] d = None
-first_passed (l ∷ ls) d = if passes l d then Some l else first_passed ls d
+first_passed ls d = first_passed_over primitive_types ls d
 
 abbrev pub limit_of : List t.ItemTree → Option LimitName
-limit_of items = first_passed limits (declared items)
+limit_of items = limit_over primitive_types items

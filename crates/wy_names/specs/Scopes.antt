@@ -2,6 +2,8 @@
 use Rattle.std.specs.Prelude.{codes, false, List, [], ◌∷◌, ◌++◌, map, None}
 use Rattle.wy_syntax.specs.Trees.{ItemTree}
 use Rattle.wy_types.specs.declared.resolved.ScopeKind.TheVariants as kind
+use Rattle.wy_types.specs.declared.resolved.TypeDecl.{TypeDecl}
+use Rattle.wy_types.specs.Primitive.{primitive_types}
 use Rattle.wy_types.specs.Program as core
 use Rattle.wy_types.specs.Program.{Program, Scope}
 use Rattle.wy_types.specs.Types.{is_plain}
@@ -10,8 +12,8 @@ use Rattle.wy_symbols.specs.declared.refusal.Refusal.{Refusal}
 use Rattle.wy_symbols.specs.declared.scoping.Head.{Head}
 use Rattle.wy_symbols.specs.Least.{refusal_at}
 use Rattle.wy_symbols.specs.Declarations.{ModuleTree, ProgramTree, types_of, modules_of, programs_of, module_names, type_names, repeated}
-use Rattle.wy_symbols.specs.Atoms.{bounds_of_owners, head_names, type_number, set_of, set_refusals, heads_of, primitive_names, owner_names}
-use Rattle.wy_symbols.specs.TypeUses.{declarations_of, declarations_refusals, param_names}
+use Rattle.wy_symbols.specs.Atoms.{bounds_of_owners, head_names, type_number, set_of, set_refusals, heads_over, table_names, owner_names}
+use Rattle.wy_symbols.specs.TypeUses.{declarations_over, declarations_refusals, param_names}
 use Rattle.wy_heads.specs.Lines.{param_refusals, grant_refusals, uses_refusals, lines_refusals}
 use Rattle.wy_bodies.specs.Sight.{outermost, inside}
 use Rattle.wy_bodies.specs.Bodies.{Within, at_start, part_values, tail_block, literal_of, parts_literals, tail_literals, parts_bodies, tail_bodies}
@@ -108,14 +110,14 @@ abbrev pub second_programs : List ProgramTree → List Refusal
 second_programs [] = []
 second_programs (g ∷ gs) = map (λ (h : ProgramTree). refusal_at h.place TwoPrograms) gs
 
--- the refusals that stand at a place, but for cycles
-abbrev pub refusals_of : List ItemTree → List Refusal
-refusals_of items =
+-- the refusals that stand at a place, but for cycles, over a table of primitive types
+abbrev pub refusals_over : List TypeDecl → List ItemTree → List Refusal
+refusals_over table items =
     let types = types_of items in
     let modules = modules_of items in
     let programs = programs_of items in
-    let heads = heads_of types in
-    repeated primitive_names (type_names types) ++
+    let heads = heads_over table types in
+    repeated (table_names table) (type_names types) ++
     (repeated [] (module_names modules) ++
     (declarations_refusals heads types ++
     (modules_refusals heads modules modules ++
@@ -123,8 +125,17 @@ refusals_of items =
     second_programs programs))))
 
 -- the modules in file order and then the program, with the primitive types before the declared ones
-abbrev pub resolved : List ItemTree → ProgramTree → Program
-resolved items g = record {
-  declarations = declarations_of (heads_of (types_of items)) (types_of items);
-  scopes = map (scope_of_module (heads_of (types_of items)) (modules_of items)) (modules_of items) ++ scope_of_program (heads_of (types_of items)) (modules_of items) g ∷ [];
+abbrev pub resolved_over : List TypeDecl → List ItemTree → ProgramTree → Program
+resolved_over table items g = record {
+  declarations = declarations_over table (heads_over table (types_of items)) (types_of items);
+  scopes =
+      map (scope_of_module (heads_over table (types_of items)) (modules_of items)) (modules_of items) ++
+      scope_of_program (heads_over table (types_of items)) (modules_of items) g ∷ [];
 }
+
+-- over today's table
+abbrev pub refusals_of : List ItemTree → List Refusal
+refusals_of items = refusals_over primitive_types items
+
+abbrev pub resolved : List ItemTree → ProgramTree → Program
+resolved items g = resolved_over primitive_types items g

@@ -16,7 +16,7 @@ use Rattle.wy_syntax.specs.declared.items.TypeDecl.{TypeDecl}
 use Rattle.wy_effects.specs.EffSet.{union, replace}
 use Rattle.wy_effects.specs.Bounds.{Bounds}
 use Rattle.wy_types.specs.declared.resolved.TypeDecl as core
-use Rattle.wy_types.specs.Primitive.{primitive_types}
+use Rattle.wy_types.specs.Primitive.{primitive_types, first_declared}
 use Rattle.wy_symbols.specs.declared.refusal.Cause.TheVariants.{Unknown, MemberUnknown}
 use Rattle.wy_symbols.specs.declared.refusal.Refusal.{Refusal}
 use Rattle.wy_symbols.specs.declared.scoping.Meaning.{Meaning}
@@ -98,7 +98,7 @@ params_owners names false ps = map (param_owner names) ps
 -- a primitive type's members
 abbrev pub primitive_opening : Option ℕ → Opening
 primitive_opening None = Missing
-primitive_opening (Some d) = if nat_lt d 4 then Members d else Missing
+primitive_opening (Some d) = if nat_lt d first_declared then Members d else Missing
 
 abbrev pub grant_owner : List (List ℕ) → Grant → Owner
 grant_owner names g = record { name = g.name.text; opening = primitive_opening (type_number names g.kind.text) }
@@ -272,13 +272,23 @@ abstract_members k (n ∷ ns) = abstract_member n k ∷ abstract_members (k + 1)
 abbrev pub primitive_head : core.TypeDecl → Head
 primitive_head d = record { name = d.name; members = abstract_members 0 d.members }
 
--- the names of all types: the primitive ones, and then the declared ones in file order
-abbrev pub primitive_names : List (List ℕ)
-primitive_names = map (λ (d : core.TypeDecl). d.name) primitive_types
+-- the names of all types: those of a table of primitive ones, and then the declared ones in file order
+abbrev pub table_names : List core.TypeDecl → List (List ℕ)
+table_names table = map (λ (d : core.TypeDecl). d.name) table
 
-abbrev pub all_names : List TypeDecl → List (List ℕ)
-all_names types = primitive_names ++ texts (type_names types)
+abbrev pub names_over : List core.TypeDecl → List TypeDecl → List (List ℕ)
+names_over table types = table_names table ++ texts (type_names types)
 
 -- the types with their members, in the same order
+abbrev pub heads_over : List core.TypeDecl → List TypeDecl → List Head
+heads_over table types = map primitive_head table ++ map head types
+
+-- over today's table
+abbrev pub primitive_names : List (List ℕ)
+primitive_names = table_names primitive_types
+
+abbrev pub all_names : List TypeDecl → List (List ℕ)
+all_names types = names_over primitive_types types
+
 abbrev pub heads_of : List TypeDecl → List Head
-heads_of types = map primitive_head primitive_types ++ map head types
+heads_of types = heads_over primitive_types types

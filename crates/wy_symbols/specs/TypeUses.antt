@@ -194,9 +194,13 @@ declaration heads d =
       methods = declared_methods (declaration_scope heads members) d.members;
     }
 
--- the primitive types, and then the declared ones in file order
+-- a table of primitive types, and then the declared ones in file order
+abbrev pub declarations_over : List resolved.TypeDecl → List Head → List TypeDecl → List resolved.TypeDecl
+declarations_over table heads types = table ++ map (declaration heads) types
+
+-- over today's table
 abbrev pub declarations_of : List Head → List TypeDecl → List resolved.TypeDecl
-declarations_of heads types = primitive_types ++ map (declaration heads) types
+declarations_of heads types = declarations_over primitive_types heads types
 
 -- the names of the effect members, and those of the methods
 abbrev pub member_names : List Member → List Name
