@@ -43,7 +43,7 @@ handler_type = declaration (codes "Handler") (codes "Fire" ∷ []) (method (code
 plug_type : TypeDecl
 plug_type =
     declaration (codes "Plug") (codes "Use" ∷ [])
-    (method (codes "keep") (Named 4 ((0 ∷ []) ∷ []) ∷ []) (0 ∷ []) Nothing ∷ method (codes "go") [] (0 ∷ []) Nothing ∷ [])
+    (method (codes "keep") (Named 5 ((0 ∷ []) ∷ []) ∷ []) (0 ∷ []) Nothing ∷ method (codes "go") [] (0 ∷ []) Nothing ∷ [])
 
 app : Scope
 app =
@@ -53,7 +53,7 @@ app =
 
 plug : Scope
 plug =
-    module_of kind.Plain (codes "plug") [] (own (codes "first") (Named 4 []) (Parameter false) ∷ [])
+    module_of kind.Plain (codes "plug") [] (own (codes "first") (Named 5 []) (Parameter false) ∷ [])
     5 [] (body 0 (codes "keep") [] ∷ body 0 (codes "go") [] ∷ [])
 
 with_plug : Program
@@ -62,8 +62,8 @@ with_plug =
     (app ∷ plug ∷
     main_of (atoms_of (codes "disk") folder_members ++ atoms_of (codes "a") (codes "Fire" ∷ []))
     (own (codes "disk") (folder_from 0 1 2 3) Grant ∷
-    own (codes "a") (Named 4 ((4 ∷ []) ∷ [])) (Instance 0 (0 ∷ [])) ∷
-    own (codes "p") (At 5 (2 ∷ 4 ∷ [])) (Import 1 (1 ∷ []) (2 ∷ 4 ∷ [])) ∷ [])
+    own (codes "a") (Named 5 ((4 ∷ []) ∷ [])) (Instance 0 (0 ∷ [])) ∷
+    own (codes "p") (At 6 (2 ∷ 4 ∷ [])) (Import 1 (1 ∷ []) (2 ∷ 4 ∷ [])) ∷ [])
     (2 ∷ 4 ∷ []) (body 1 (codes "fire") (2 ∷ []) ∷ []) ∷ [])
 
 -- of the plain module's instance each body has the ground of the bound, in which `a.Fire` and `disk.Append` are one atom

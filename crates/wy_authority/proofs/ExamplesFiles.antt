@@ -56,7 +56,7 @@ taker_type : TypeDecl
 taker_type = declaration (codes "Taker") (codes "Got" ∷ []) (method (codes "got") (Text ∷ []) (0 ∷ []) Nothing ∷ [])
 
 report_type : TypeDecl
-report_type = declaration (codes "Report") (codes "All" ∷ []) (method (codes "each") (Named 6 ((0 ∷ []) ∷ []) ∷ []) (0 ∷ []) Nothing ∷ [])
+report_type = declaration (codes "Report") (codes "All" ∷ []) (method (codes "each") (Named 7 ((0 ∷ []) ∷ []) ∷ []) (0 ∷ []) Nothing ∷ [])
 
 clean : Scope
 clean = module_of kind.Pure (codes "clean") [] [] 5 [] (body 0 (codes "safe") [] ∷ [])
@@ -64,13 +64,13 @@ clean = module_of kind.Pure (codes "clean") [] [] 5 [] (body 0 (codes "safe") []
 logger : Scope
 logger =
     module_of kind.Resource (codes "logger") (atoms_of (codes "disk") folder_members)
-    (own (codes "disk") (folder_from 0 1 2 3) (Parameter true) ∷ own (codes "clean") (Named 5 []) (Use 0) ∷ [])
+    (own (codes "disk") (folder_from 0 1 2 3) (Parameter true) ∷ own (codes "clean") (Named 6 []) (Use 0) ∷ [])
     4 ((2 ∷ []) ∷ []) (body 0 (codes "log") (2 ∷ []) ∷ [])
 
 reporter : Scope
 reporter =
     module_of kind.Plain (codes "report") []
-    (own (codes "l") (Named 4 []) (Parameter false) ∷ own (codes "d") (Named 1 []) (Parameter false) ∷ [])
+    (own (codes "l") (Named 5 []) (Parameter false) ∷ own (codes "d") (Named 1 []) (Parameter false) ∷ [])
     7 [] (body 0 (codes "each") [] ∷ [])
 
 bound : List ℕ
@@ -84,9 +84,9 @@ main =
     (own (codes "console") (console_from 0 1) Grant ∷
     own (codes "data") (folder_from 2 3 4 5) Grant ∷
     own (codes "logs") (folder_from 6 7 8 9) Grant ∷
-    own (codes "clean") (Named 5 []) (Use 0) ∷
-    own (codes "lg") (Named 4 ((10 ∷ []) ∷ [])) (Instance 1 (2 ∷ [])) ∷
-    own (codes "rep") (At 7 bound) (Import 2 (4 ∷ 1 ∷ []) bound) ∷ [])
+    own (codes "clean") (Named 6 []) (Use 0) ∷
+    own (codes "lg") (Named 5 ((10 ∷ []) ∷ [])) (Instance 1 (2 ∷ [])) ∷
+    own (codes "rep") (At 8 bound) (Import 2 (4 ∷ 1 ∷ []) bound) ∷ [])
     bound (body 1 (codes "got") (1 ∷ []) ∷ [])
 
 three_files : Program

@@ -35,7 +35,7 @@ with_logger =
     program (logger_type ∷ [])
     (logger ∷
     main_of (atoms_of (codes "disk") folder_members ++ atoms_of (codes "lg") (codes "Log" ∷ []))
-    (own (codes "disk") (folder_from 0 1 2 3) Grant ∷ own (codes "lg") (Named 4 ((4 ∷ []) ∷ [])) (Instance 0 (0 ∷ [])) ∷ [])
+    (own (codes "disk") (folder_from 0 1 2 3) Grant ∷ own (codes "lg") (Named 5 ((4 ∷ []) ∷ [])) (Instance 0 (0 ∷ [])) ∷ [])
     (4 ∷ []) [] ∷ [])
 
 logger_report : report_text (authority_of with_logger) ≡
@@ -112,10 +112,10 @@ with_maker : Program
 with_maker =
     program
     (declaration (codes "Item") (codes "Put" ∷ []) (method (codes "put") (Text ∷ []) (0 ∷ []) Nothing ∷ []) ∷
-    declaration (codes "Maker") (codes "Put" ∷ []) (method (codes "make") [] [] (Named 4 ((0 ∷ []) ∷ [])) ∷ []) ∷ [])
+    declaration (codes "Maker") (codes "Put" ∷ []) (method (codes "make") [] [] (Named 5 ((0 ∷ []) ∷ [])) ∷ []) ∷ [])
     (maker ∷
     main_of (atoms_of (codes "disk") folder_members ++ atoms_of (codes "m") (codes "Put" ∷ []))
-    (own (codes "disk") (folder_from 0 1 2 3) Grant ∷ own (codes "m") (Named 5 ((4 ∷ []) ∷ [])) (Instance 0 (0 ∷ [])) ∷ [])
+    (own (codes "disk") (folder_from 0 1 2 3) Grant ∷ own (codes "m") (Named 6 ((4 ∷ []) ∷ [])) (Instance 0 (0 ∷ [])) ∷ [])
     (4 ∷ []) [] ∷ [])
 
 -- the method of the object that leaves its module has a line of its own
@@ -154,7 +154,7 @@ both_type = record { name = codes "Both"; members = codes "Read" ∷ []; bounds 
 two : Scope
 two =
     module_of kind.Resource (codes "two") (atoms_of (codes "l") (codes "Log" ∷ []) ++ atoms_of (codes "m") (codes "Log" ∷ []))
-    (own (codes "l") (Named 4 ((0 ∷ []) ∷ [])) (Parameter true) ∷ own (codes "m") (Named 4 ((1 ∷ []) ∷ [])) (Parameter true) ∷ [])
+    (own (codes "l") (Named 5 ((0 ∷ []) ∷ [])) (Parameter true) ∷ own (codes "m") (Named 5 ((1 ∷ []) ∷ [])) (Parameter true) ∷ [])
     4 ((0 ∷ 1 ∷ []) ∷ []) (body 0 (codes "log") (0 ∷ 1 ∷ []) ∷ [])
 
 with_two : Program
@@ -165,9 +165,9 @@ with_two =
     two ∷
     main_of (atoms_of (codes "x") folder_members ++ (atoms_of (codes "b") (codes "Read" ∷ []) ++ atoms_of (codes "t") (codes "Log" ∷ [])))
     (own (codes "x") (folder_from 0 1 2 3) Grant ∷
-    own (codes "b") (Named 5 ((4 ∷ []) ∷ [])) (Instance 0 (0 ∷ [])) ∷
-    own (codes "i") (At 4 (0 ∷ [])) (Import 1 [] (0 ∷ [])) ∷
-    own (codes "t") (Named 4 ((5 ∷ []) ∷ [])) (Instance 2 (1 ∷ 2 ∷ [])) ∷ [])
+    own (codes "b") (Named 6 ((4 ∷ []) ∷ [])) (Instance 0 (0 ∷ [])) ∷
+    own (codes "i") (At 5 (0 ∷ [])) (Import 1 [] (0 ∷ [])) ∷
+    own (codes "t") (Named 5 ((5 ∷ []) ∷ [])) (Instance 2 (1 ∷ 2 ∷ [])) ∷ [])
     (5 ∷ []) [] ∷ [])
 
 -- `l.Log` stands for what `both` defines for Read, and `m.Log` for the bound
@@ -192,7 +192,7 @@ two_grounds = refl
 pair : Scope
 pair =
     module_of kind.Resource (codes "pair") (atoms_of (codes "a") folder_members ++ (atoms_of (codes "b") folder_members ++ atoms_of (codes "one") (codes "Log" ∷ [])))
-    (own (codes "a") (folder_from 0 1 2 3) (Parameter true) ∷ own (codes "b") (folder_from 4 5 6 7) (Parameter true) ∷ own (codes "one") (Named 4 ((8 ∷ []) ∷ [])) (Instance 0 (1 ∷ [])) ∷ [])
+    (own (codes "a") (folder_from 0 1 2 3) (Parameter true) ∷ own (codes "b") (folder_from 4 5 6 7) (Parameter true) ∷ own (codes "one") (Named 5 ((8 ∷ []) ∷ [])) (Instance 0 (1 ∷ [])) ∷ [])
     4 ((0 ∷ 8 ∷ []) ∷ []) (body 0 (codes "log") (0 ∷ 8 ∷ []) ∷ [])
 
 with_pairs : Program
@@ -201,7 +201,7 @@ with_pairs =
     (logger ∷ pair ∷
     main_of (atoms_of (codes "x") folder_members ++ (atoms_of (codes "y") folder_members ++ (atoms_of (codes "p") (codes "Log" ∷ []) ++ atoms_of (codes "q") (codes "Log" ∷ []))))
     (own (codes "x") (folder_from 0 1 2 3) Grant ∷ own (codes "y") (folder_from 4 5 6 7) Grant ∷
-    own (codes "p") (Named 4 ((8 ∷ []) ∷ [])) (Instance 1 (0 ∷ 1 ∷ [])) ∷ own (codes "q") (Named 4 ((9 ∷ []) ∷ [])) (Instance 1 (1 ∷ 0 ∷ [])) ∷ [])
+    own (codes "p") (Named 5 ((8 ∷ []) ∷ [])) (Instance 1 (0 ∷ 1 ∷ [])) ∷ own (codes "q") (Named 5 ((9 ∷ []) ∷ [])) (Instance 1 (1 ∷ 0 ∷ [])) ∷ [])
     (9 ∷ []) [] ∷ [])
 
 pairs_report : report_text (authority_of with_pairs) ≡
@@ -232,7 +232,7 @@ pairs_arguments = refl
 outer : Scope
 outer =
     module_of kind.Resource (codes "outer") (atoms_of (codes "a") folder_members ++ atoms_of (codes "in") (codes "Log" ∷ []))
-    (own (codes "a") (folder_from 0 1 2 3) (Parameter true) ∷ own (codes "in") (Named 4 ((4 ∷ []) ∷ [])) (Instance 1 (0 ∷ 0 ∷ [])) ∷ [])
+    (own (codes "a") (folder_from 0 1 2 3) (Parameter true) ∷ own (codes "in") (Named 5 ((4 ∷ []) ∷ [])) (Instance 1 (0 ∷ 0 ∷ [])) ∷ [])
     4 ((4 ∷ []) ∷ []) (body 0 (codes "log") (4 ∷ []) ∷ [])
 
 with_outer : Program
@@ -240,7 +240,7 @@ with_outer =
     program (logger_type ∷ [])
     (logger ∷ pair ∷ outer ∷
     main_of (atoms_of (codes "x") folder_members ++ atoms_of (codes "o") (codes "Log" ∷ []))
-    (own (codes "x") (folder_from 0 1 2 3) Grant ∷ own (codes "o") (Named 4 ((4 ∷ []) ∷ [])) (Instance 2 (0 ∷ [])) ∷ []) [] [] ∷ [])
+    (own (codes "x") (folder_from 0 1 2 3) Grant ∷ own (codes "o") (Named 5 ((4 ∷ []) ∷ [])) (Instance 2 (0 ∷ [])) ∷ []) [] [] ∷ [])
 
 outer_report : report_text (authority_of with_outer) ≡
     codes "authority of o.in.one: x.Append\n  init: -\n  log: x.Append\nauthority of o.in: x.Read, x.Append\n  init: -\n  log: x.Read, x.Append\n" ++
@@ -268,10 +268,10 @@ with_users : Program
 with_users =
     program (logger_type ∷ [])
     (module_of kind.Pure (codes "low") [] [] 4 ([] ∷ []) [] ∷
-    module_of kind.Pure (codes "high") (atoms_of (codes "low") (codes "Log" ∷ [])) (own (codes "low") (Named 4 ((0 ∷ []) ∷ [])) (Use 0) ∷ []) 4 ([] ∷ []) [] ∷
-    module_of kind.Resource (codes "user") (atoms_of (codes "high") (codes "Log" ∷ [])) (own (codes "high") (Named 4 ((0 ∷ []) ∷ [])) (Use 1) ∷ []) 4 ((0 ∷ []) ∷ []) [] ∷
+    module_of kind.Pure (codes "high") (atoms_of (codes "low") (codes "Log" ∷ [])) (own (codes "low") (Named 5 ((0 ∷ []) ∷ [])) (Use 0) ∷ []) 4 ([] ∷ []) [] ∷
+    module_of kind.Resource (codes "user") (atoms_of (codes "high") (codes "Log" ∷ [])) (own (codes "high") (Named 5 ((0 ∷ []) ∷ [])) (Use 1) ∷ []) 4 ((0 ∷ []) ∷ []) [] ∷
     main_of (atoms_of (codes "u") (codes "Log" ∷ []) ++ atoms_of (codes "v") (codes "Log" ∷ []))
-    (own (codes "u") (Named 4 ((0 ∷ []) ∷ [])) (Instance 2 []) ∷ own (codes "v") (Named 4 ((1 ∷ []) ∷ [])) (Instance 2 []) ∷ []) [] [] ∷ [])
+    (own (codes "u") (Named 5 ((0 ∷ []) ∷ [])) (Instance 2 []) ∷ own (codes "v") (Named 5 ((1 ∷ []) ∷ [])) (Instance 2 []) ∷ []) [] [] ∷ [])
 
 users_names : map (λ (i : Started). i.name) (start_list with_users) ≡ codes "pure low" ∷ codes "pure high" ∷ codes "u" ∷ codes "v" ∷ []
 unfolding with_users

@@ -3,7 +3,7 @@
 use crate::devices::{BLANK, Row};
 
 /// Each program runs with its report, and does what its text says.
-pub static EXAMPLES: [Row; 4] = [
+pub static EXAMPLES: [Row; 5] = [
     // A log in a folder, of which others can only add lines.
     Row {
         words: &["run", "log.wy", "main.wy"],
@@ -40,6 +40,55 @@ authority of main: disk.Append
         folder: r#"deed disk.append("log", "started\n") = ()
 deed disk.append("log", "done\n") = ()
 "#,
+        ..BLANK
+    },
+    // A full folder, of which one module alone can remove files.
+    Row {
+        words: &["run", "cleaner.wy"],
+        files: &[(
+            "cleaner.wy",
+            r#"// Drafts in a folder that a cleaner removes. The grant is a full folder. Only the cleaner is handed it as one: the writer
+// is handed the same grant as a Folder, which has no `remove`.
+type Writer
+  effect Wrote
+  def draft(name: String, text: String): {Wrote} Unit
+
+type Cleaner
+  effect Cleaned
+  def clean(name: String): {Cleaned} Unit
+
+resource module writer(d: Folder): Writer
+  effect Wrote = {d.Write}
+  def draft(name: String, text: String): {Wrote} Unit = d.write(name, text)
+
+resource module cleaner(d: FullFolder): Cleaner
+  effect Cleaned = {d.Remove}
+  def clean(name: String): {Cleaned} Unit = d.remove(name)
+
+program
+  grant drafts: FullFolder
+  instance w = writer(drafts)
+  instance c = cleaner(drafts)
+  run: {w.Wrote, c.Cleaned}
+    w.draft("first", "one")
+    w.draft("second", "two")
+    c.clean("first")
+"#,
+        )],
+        report: r#"authority of w: drafts.Write
+  init: -
+  draft: drafts.Write
+authority of c: drafts.Remove
+  init: -
+  clean: drafts.Remove
+authority of main: drafts.Write, drafts.Remove
+  run: drafts.Write, drafts.Remove
+"#,
+        folder: r#"deed drafts.write("first", "one") = ()
+deed drafts.write("second", "two") = ()
+deed drafts.remove("first") = ()
+"#,
+        after: &[("drafts", "first", ""), ("drafts", "second", "two")],
         ..BLANK
     },
     // A folder that can only be read, in the place of one that a module would write.

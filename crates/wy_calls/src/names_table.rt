@@ -1,5 +1,5 @@
 /// Texts of one file whose names are refused, with the line and column of the word that is named, and the rule.
-pub static REFUSED: [(&str, u32, u32, &str); 102] = [
+pub static REFUSED: [(&str, u32, u32, &str); 103] = [
     ("type T\n  def f(a: X): {} Unit\n", 2, 12, "Unknown"),
     ("type T\n  def f(): {} X\n", 2, 15, "Unknown"),
     ("type T\n  def f(a: X[A = {}]): {} Unit\n", 2, 12, "Unknown"),
@@ -182,6 +182,7 @@ pub static REFUSED: [(&str, u32, u32, &str); 102] = [
     ("type T\ntype T\n", 2, 6, "Twice"),
     ("type Clock\n", 1, 6, "Twice"),
     ("type Folder\n  effect Read\n", 1, 6, "Twice"),
+    ("type FullFolder\n", 1, 6, "Twice"),
     ("type N\nmodule m: N\nplain module m(): N\n", 3, 14, "Twice"),
     ("type T\n  effect A\n  effect A\n", 3, 10, "Twice"),
     ("type T\n  effect A\n  effect A = {}\n", 3, 10, "Twice"),

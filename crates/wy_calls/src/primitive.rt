@@ -1,5 +1,7 @@
 use crate::devices::first_otherwise;
-use crate::primitive_table::{CLOCKS, CONSOLES, FOLDERS, NAMES, ORDERS, RANDOM_SOURCES};
+use crate::primitive_table::{
+    CLOCKS, CONSOLES, FOLDERS, FULL_FOLDERS, NAMES, ORDERS, RANDOM_SOURCES,
+};
 use std::test::Fail;
 
 #[test]
@@ -11,6 +13,12 @@ fn a_console_gives_its_lines(rt: HostRuntime) -> Result<(), Fail> {
 #[test]
 fn a_folder_keeps_what_it_is_told(rt: HostRuntime) -> Result<(), Fail> {
     assert_eq!(rt; first_otherwise(rt.alloc(), &FOLDERS)?, None);
+    Ok(())
+}
+
+#[test]
+fn a_full_folder_removes_what_it_keeps(rt: HostRuntime) -> Result<(), Fail> {
+    assert_eq!(rt; first_otherwise(rt.alloc(), &FULL_FOLDERS)?, None);
     Ok(())
 }
 

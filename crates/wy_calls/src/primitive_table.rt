@@ -111,6 +111,130 @@ deed disk.write("b", "8") = ()
     },
 ];
 
+const REMOVES: Row = Row {
+    words: &["run", "full.wy"],
+    files: &[(
+        "full.wy",
+        r#"program
+  grant disk: FullFolder
+  run: {disk.Write, disk.Remove}
+    disk.write("x", "1")
+    disk.remove("x")
+    disk.remove("x")
+"#,
+    )],
+    report: "authority of main: disk.Write, disk.Remove\n  run: disk.Write, disk.Remove\n",
+    ..BLANK
+};
+
+/// A full folder can remove what it keeps, and removing what is not there does nothing; removing is an effect of its own,
+/// and no folder but a full one has it.
+pub static FULL_FOLDERS: [Row; 7] = [
+    Row {
+        folder: r#"deed disk.write("x", "1") = ()
+deed disk.remove("x") = ()
+deed disk.remove("x") = ()
+"#,
+        after: &[("disk", "x", "")],
+        ..REMOVES
+    },
+    Row {
+        before: &[("disk", "y", "2"), ("other", "x", "3")],
+        failing: Some((Part::Folder, 2)),
+        number: 9,
+        last: "disk.remove: failed\n",
+        folder: r#"deed disk.write("x", "1") = ()
+deed disk.remove("x") = failed
+"#,
+        after: &[("disk", "x", "1"), ("disk", "y", "2"), ("other", "x", "3")],
+        ..REMOVES
+    },
+    Row {
+        files: &[(
+            "full.wy",
+            r#"program
+  grant disk: FullFolder
+  run: {disk.Read, disk.Append, disk.List, disk.Remove}
+    disk.append("a", disk.read("b"))
+    disk.remove("b")
+    disk.append("names", disk.names())
+    if disk.has("b") then disk.append("names", "b") else ()
+"#,
+        )],
+        before: &[("disk", "b", "2"), ("other", "b", "3")],
+        report: "authority of main: disk.Read, disk.Append, disk.List, disk.Remove
+  run: disk.Read, disk.Append, disk.List, disk.Remove
+",
+        folder: r#"deed disk.read("b") = "2"
+deed disk.append("a", "2") = ()
+deed disk.remove("b") = ()
+deed disk.names() = "a\n"
+deed disk.append("names", "a\n") = ()
+deed disk.has("b") = false
+"#,
+        after: &[("disk", "a", "2"), ("disk", "b", ""), ("other", "b", "3")],
+        ..REMOVES
+    },
+    Row {
+        files: &[(
+            "full.wy",
+            r#"program
+  grant disk: FullFolder
+  run: {disk.Write}
+    disk.write("x", "1")
+    disk.remove("x")
+    disk.remove("x")
+"#,
+        )],
+        number: 4,
+        report: "",
+        last: "full.wy:3:3: refused: T-Body premise 2 lacks disk.Remove\n",
+        ..REMOVES
+    },
+    Row {
+        files: &[(
+            "full.wy",
+            r#"program
+  grant disk: Folder
+  run: {disk.Write}
+    disk.remove("x")
+"#,
+        )],
+        number: 4,
+        report: "",
+        last: "full.wy:4:10: refused: T-Call premise 2\n",
+        ..REMOVES
+    },
+    Row {
+        files: &[(
+            "full.wy",
+            r#"program
+  grant disk: Folder
+  run: {disk.Remove}
+    disk.write("x", "1")
+"#,
+        )],
+        number: 3,
+        report: "",
+        last: "full.wy:3:9: refused: N-Unknown premise 1\n",
+        ..REMOVES
+    },
+    Row {
+        files: &[(
+            "full.wy",
+            r#"program
+  grant disk: FullFolder
+  run: {disk.Remove}
+    disk.remove("a/b")
+"#,
+        )],
+        number: 6,
+        report: "authority of main: disk.Remove\n  run: disk.Remove\n",
+        last: "full.wy:4:10: trap: BadName\n",
+        ..REMOVES
+    },
+];
+
 const BAD_NAME: Row = Row {
     words: &["run", "n.wy"],
     number: 6,

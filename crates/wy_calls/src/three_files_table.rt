@@ -92,6 +92,34 @@ deed logs.append("log", "done\n") = ()
     },
 ];
 
+/// The same, with a full folder where a folder was granted: the bound of the import lacks what it can do besides.
+pub static WIDER: [Row; 1] = [Row {
+    files: &[
+        ("types.wy", TYPES),
+        ("parts.wy", PARTS),
+        (
+            "main.wy",
+            r#"program
+  grant console: Console
+  grant data: FullFolder
+  grant logs: Folder
+  use clean
+  instance lg = logger(logs)
+  import rep = report(lg, data) at {lg.Log, data.Read, data.Write, data.Append, data.List, console.Out}
+  run: {lg.Log, data.Read, data.Write, data.Append, data.List, console.Out}
+    val s = new
+      def got(t: String): {console.Out} Unit = console.write(clean.safe(t))
+    rep.each(s)
+    lg.log("done")
+"#,
+        ),
+    ],
+    number: 4,
+    report: "",
+    last: "main.wy:7:10: refused: I-Import premise 1 lacks data.Remove\n",
+    ..NOTHING
+}];
+
 /// The call before anything was done.
 const NOTHING: Row = Row {
     console: "",

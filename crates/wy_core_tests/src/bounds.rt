@@ -13,7 +13,7 @@ use wy_text::text::Memory;
 use wy_types::resolved::Core;
 use wy_types::types::TypeRef;
 
-/// Types 4 to 6, each with a member `E`, and a program.
+/// Types 5 to 7, each with a member `E`, and a program.
 const PROGRAM: &str = r#"type A
   effect E
   def f(b: B[E = {E}]): {} Unit
@@ -43,7 +43,7 @@ fn polar_core(alloc: Global, module: &str) -> Result<Core, Fail> {
     core_of(alloc, format!(in alloc; "{PROGRAM}{module}")?.as_str())
 }
 
-/// Types from 4 on, so many, each of which goes on by `next` with its member as the effect, the last to the
+/// Types from 5 on, so many, each of which goes on by `next` with its member as the effect, the last to the
 /// first with none; and a program.
 fn ring_core(alloc: Global, number: u32) -> Result<Core, Fail> {
     let mut text = String::new(alloc);
@@ -150,9 +150,9 @@ fn parameters_turn_the_polarity(rt: HostRuntime) -> Result<(), Fail> {
     let alloc = rt.alloc();
     let core = polar_core(alloc, "")?;
     let rows: [(u16, &[u16], &[u16], &[u16]); 3] = [
-        (4, &[7], &[7], &[]),
-        (5, &[7], &[], &[7]),
-        (4, &[3, 7], &[3, 7], &[]),
+        (5, &[7], &[7], &[]),
+        (6, &[7], &[], &[7]),
+        (5, &[3, 7], &[3, 7], &[]),
     ];
     for (decl, atoms, positive, negative) in rows {
         let t = named(alloc, decl, atoms)?;
@@ -166,7 +166,7 @@ fn base_types_and_bounds_have_their_effects(rt: HostRuntime) -> Result<(), Fail>
     let alloc = rt.alloc();
     let core = polar_core(alloc, "")?;
     assert!(rt; has_effects(alloc, &core, &TypeRef::Text, &[], &[])?);
-    let at = bounded(alloc, 4, &[2, 9])?;
+    let at = bounded(alloc, 5, &[2, 9])?;
     assert!(rt; has_effects(alloc, &core, &at, &[2, 9], &[2, 9])?);
     Ok(())
 }
@@ -185,7 +185,7 @@ fn a_bare_type_has_no_effects(rt: HostRuntime) -> Result<(), Fail> {
     let alloc = rt.alloc();
     let core = polar_core(alloc, PLAIN)?;
     let bare = TypeRef::Named {
-        decl: 4,
+        decl: 5,
         members: Items::new(alloc),
     };
     assert!(rt; has_effects(alloc, &core, &bare, &[], &[])?);
@@ -238,7 +238,7 @@ fn is_answered(alloc: Global, t: &TypeRef, atoms: &[u16], wanted: &str) -> Resul
 #[test]
 fn base_types_and_bounds_are_safe(rt: HostRuntime) -> Result<(), Fail> {
     let alloc = rt.alloc();
-    let at = bounded(alloc, 4, &[2, 9])?;
+    let at = bounded(alloc, 5, &[2, 9])?;
     assert!(rt; is_answered(alloc, &TypeRef::Int, &[9], "yes; yes")?);
     assert!(rt; is_answered(alloc, &at, &[9], "yes; yes")?);
     Ok(())
@@ -247,9 +247,9 @@ fn base_types_and_bounds_are_safe(rt: HostRuntime) -> Result<(), Fail> {
 #[test]
 fn a_refusal_has_the_least_atom_and_a_path(rt: HostRuntime) -> Result<(), Fail> {
     let alloc = rt.alloc();
-    let at = bounded(alloc, 4, &[2, 9])?;
+    let at = bounded(alloc, 5, &[2, 9])?;
     assert!(rt; is_answered(alloc, &at, &[1, 2, 10], "1; f:0 1")?);
-    let c = named(alloc, 6, &[7])?;
+    let c = named(alloc, 7, &[7])?;
     assert!(rt; is_answered(alloc, &c, &[7], "h:result 7; h:result f:0 7")?);
     Ok(())
 }
@@ -269,7 +269,7 @@ fn refused(answers: &Option<(Safety, Safety)>) -> Option<(usize, u16)> {
 fn a_ring_is_gone_round_once(rt: HostRuntime) -> Result<(), Fail> {
     let alloc = rt.alloc();
     let core = ring_core(alloc, 1023)?;
-    let first = named(alloc, 4, &[7])?;
+    let first = named(alloc, 5, &[7])?;
     assert!(rt; has_effects(alloc, &core, &first, &[7], &[])?);
     let answer = answers(alloc, &core, &first, &[7])?;
     assert_eq!(rt; refused(&answer), Some((1022, 7)));

@@ -14,7 +14,7 @@ use wy_text::text::{Memory, Text};
 use wy_types::resolved::Core;
 use wy_types::types::TypeRef;
 
-/// Types 4 to 20: `P` and `Q`; `R`; `S0` to `S2` and `U0` to `U2`; two whose `next` differ in their
+/// Types 5 to 21: `P` and `Q`; `R`; `S0` to `S2` and `U0` to `U2`; two whose `next` differ in their
 /// numbers of parameters; one with a member, and one that takes it; two that go on to each other; two that ask for one pair by
 /// both parameters and by the result. Behind them a program.
 const PROGRAM: &str = r#"type P
@@ -161,16 +161,16 @@ fn is_said(
 
 /// Pairs of types without members, and the verdict on each.
 static PAIRS: [(u16, u16, &str); 10] = [
-    (4, 5, "yes"),
-    (5, 4, "yes"),
-    (6, 4, "yes"),
-    (17, 4, "yes"),
-    (4, 18, "yes"),
-    (17, 18, "yes"),
-    (4, 6, "more lacks"),
-    (7, 10, "next:result next:result next:result base"),
-    (19, 20, "twice:0 next:result base"),
-    (13, 14, "next takes others"),
+    (5, 6, "yes"),
+    (6, 5, "yes"),
+    (7, 5, "yes"),
+    (18, 5, "yes"),
+    (5, 19, "yes"),
+    (18, 19, "yes"),
+    (5, 7, "more lacks"),
+    (8, 11, "next:result next:result next:result base"),
+    (20, 21, "twice:0 next:result base"),
+    (14, 15, "next takes others"),
 ];
 
 /// The first pair of bare types on which there is another verdict.
@@ -199,14 +199,14 @@ fn recursive_types_are_subtypes_or_a_path_leads_to_the_pair_that_fails(
 fn a_base_type_is_no_subtype_of_an_object_type(rt: HostRuntime) -> Result<(), Fail> {
     let alloc = rt.alloc();
     let core = core_of_types(alloc, Mode::Annotated)?;
-    let p = named(alloc, 4, None)?;
+    let p = named(alloc, 5, None)?;
     for mode in [Mode::Annotated, Mode::Plain] {
         assert!(rt; is_said(alloc, &core, &TypeRef::Int, &p, mode, "base")?);
     }
     Ok(())
 }
 
-/// Whether this is the verdict on type 16 with these atoms for its member.
+/// Whether this is the verdict on type 17 with these atoms for its member.
 fn is_said_of_users(
     alloc: Global,
     left: &[u16],
@@ -215,8 +215,8 @@ fn is_said_of_users(
     wanted: &str,
 ) -> Result<bool, Fail> {
     let core = core_of_types(alloc, Mode::Annotated)?;
-    let left = named(alloc, 16, Some(left))?;
-    let right = named(alloc, 16, Some(right))?;
+    let left = named(alloc, 17, Some(left))?;
+    let right = named(alloc, 17, Some(right))?;
     is_said(alloc, &core, &left, &right, mode, wanted)
 }
 
@@ -277,9 +277,9 @@ fn one_pair_is_tested_by_itself(rt: HostRuntime) -> Result<(), Fail> {
     let core = core_of_types(alloc, Mode::Annotated)?;
     let member: &[u16] = &[3];
     for (s, t, member, want) in [
-        (6, 4, None, Some(1)),
-        (4, 6, None, None),
-        (16, 16, Some(member), Some(2)),
+        (7, 5, None, Some(1)),
+        (5, 7, None, None),
+        (17, 17, Some(member), Some(2)),
     ] {
         assert_eq!(rt; asked_of(alloc, &core, s, t, member)?, want);
     }
@@ -318,7 +318,7 @@ fn answers(
 fn a_table_unfolds_each_pair_once(rt: HostRuntime) -> Result<(), Fail> {
     let alloc = rt.alloc();
     let core = core_of_types(alloc, Mode::Annotated)?;
-    let asked = [(17, 4), (17, 4), (18, 4), (4, 6), (4, 6), (6, 4)];
+    let asked = [(18, 5), (18, 5), (19, 5), (5, 7), (5, 7), (7, 5)];
     let wanted = [
         (true, 2),
         (true, 2),
@@ -388,7 +388,7 @@ fn asked_twice<L: Ledger>(
 fn what_is_asked_again_takes_no_step(rt: HostRuntime) -> Result<(), Fail> {
     let alloc = rt.alloc();
     let core = core_of_types(alloc, Mode::Annotated)?;
-    let asked = [(4, 5), (5, 4), (6, 4), (4, 6), (7, 10)];
+    let asked = [(5, 6), (6, 5), (7, 5), (5, 7), (8, 11)];
     let again = [
         (true, true),
         (true, true),

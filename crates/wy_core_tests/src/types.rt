@@ -155,9 +155,9 @@ fn distinct_types(alloc: Global) -> Result<Vec<TypeRef>, Memory> {
     types.push(TypeRef::Own { literal: 4 })?;
     let members: [&[&[u16]]; 4] = [&[], &[&[1, 2]], &[&[1, 2], &[]], &[&[1], &[2]]];
     for sets in members {
-        types.push(named(alloc, 4, sets)?)?;
+        types.push(named(alloc, 5, sets)?)?;
     }
-    types.push(bounded(alloc, 4, &[1, 2])?)?;
+    types.push(bounded(alloc, 5, &[1, 2])?)?;
     Ok(types)
 }
 

@@ -6,7 +6,8 @@ use Rattle.wy_effects.specs.AtomTable.{atom_name}
 use Rattle.wy_effects.proofs.Lists.{In-slice_get}
 use Rattle.wy_types.specs.Core.{IsCore, IsPrimitive, OriginFits, ScopeFits, one_grant, origins_count}
 use Rattle.wy_types.specs.Ground.{abstract_names, members_of, names_of, program_number}
-use Rattle.wy_types.specs.Primitive.{clock, console, folder, primitive_types, random}
+use Rattle.wy_types.specs.Primitive.{primitive_types, first_declared}
+use Rattle.wy_sound.proofs.Lists.{taken_get}
 use Rattle.wy_types.specs.Program.{Program, Scope}
 use Rattle.wy_types.specs.declared.resolved.Origin.{Origin}
 use Rattle.wy_types.specs.declared.resolved.Origin.TheVariants.{Grant, Import, Instance, Parameter, Use}
@@ -16,19 +17,19 @@ use Rattle.wy_types.specs.declared.types.TypeRef.{TypeRef}
 use Rattle.wy_types.specs.declared.types.TypeRef.TheVariants.{At, Bool as Truth, Int, Named, Own, Text, Unit as Nothing}
 use Rattle.wy_authority.specs.Authority.{authority_of, grant_atoms, granted}
 
--- a primitive type has four members at most
-few_among : (ds : List TypeDecl) → take 4 ds ≡ primitive_types → (d : ℕ) → d < 4 → length (abstract_names (slice_get ds d)) ≤ 4
-few_among [] e d lt = let q : [] ≡ primitive_types = e in absurd (cc)
-few_among (a ∷ []) e d lt = let q : a ∷ [] ≡ primitive_types = e in absurd (cc)
-few_among (a ∷ b ∷ []) e d lt = let q : a ∷ b ∷ [] ≡ primitive_types = e in absurd (cc)
-few_among (a ∷ b ∷ c ∷ []) e d lt = let q : a ∷ b ∷ c ∷ [] ≡ primitive_types = e in absurd (cc)
-few_among (a ∷ b ∷ c ∷ f ∷ ds) e zero lt = let q : a ∷ b ∷ c ∷ f ∷ [] ≡ primitive_types = e in let is : a ≡ console = cc in subst (λ (x : TypeDecl). length x.members ≤ 4) (sym is) (lit≤ tt)
-few_among (a ∷ b ∷ c ∷ f ∷ ds) e (suc zero) lt = let q : a ∷ b ∷ c ∷ f ∷ [] ≡ primitive_types = e in let is : b ≡ folder = cc in subst (λ (x : TypeDecl). length x.members ≤ 4) (sym is) (lit≤ tt)
-few_among (a ∷ b ∷ c ∷ f ∷ ds) e (suc (suc zero)) lt = let q : a ∷ b ∷ c ∷ f ∷ [] ≡ primitive_types = e in let is : c ≡ clock = cc in subst (λ (x : TypeDecl). length x.members ≤ 4) (sym is) (lit≤ tt)
-few_among (a ∷ b ∷ c ∷ f ∷ ds) e (suc (suc (suc zero))) lt = let q : a ∷ b ∷ c ∷ f ∷ [] ≡ primitive_types = e in let is : f ≡ random = cc in subst (λ (x : TypeDecl). length x.members ≤ 4) (sym is) (lit≤ tt)
-few_among (a ∷ b ∷ c ∷ f ∷ ds) e (suc (suc (suc (suc d)))) lt = absurd (omega (arith, lt))
+-- a primitive type has five members at most
+few_of : (d : ℕ) → d < first_declared → length (abstract_names (slice_get primitive_types d)) ≤ 5
+few_of zero lt = lit≤ tt
+few_of (suc zero) lt = lit≤ tt
+few_of (suc (suc zero)) lt = lit≤ tt
+few_of (suc (suc (suc zero))) lt = lit≤ tt
+few_of (suc (suc (suc (suc zero)))) lt = lit≤ tt
+few_of (suc (suc (suc (suc (suc d))))) lt = absurd (omega (arith, lt))
 
-few_members : (p : Program) → IsCore p → (t : TypeRef) → IsPrimitive t → length (members_of p t) ≤ 4
+few_among : (ds : List TypeDecl) → take first_declared ds ≡ primitive_types → (d : ℕ) → d < first_declared → length (abstract_names (slice_get ds d)) ≤ 5
+few_among ds e d lt = subst (λ (o : Option TypeDecl). length (abstract_names o) ≤ 5) (sym (taken_get d first_declared ds primitive_types lt e)) (few_of d lt)
+
+few_members : (p : Program) → IsCore p → (t : TypeRef) → IsPrimitive t → length (members_of p t) ≤ 5
 few_members p core Int is = absurd is
 few_members p core Truth is = absurd is
 few_members p core Text is = absurd is
@@ -41,11 +42,11 @@ few_members p core (Own l) is = absurd is
 abbrev GrantsArePrimitive : List OwnName → Type 0
 GrantsArePrimitive ns = (k : ℕ) (n : OwnName) → slice_get ns k ≡ Some n → n.origin ≡ Grant → IsPrimitive n.typ
 
-few_granted : (p : Program) → IsCore p → (n : OwnName) (ns : List OwnName) → (n.origin ≡ Grant → IsPrimitive n.typ) → length (grant_atoms p ns) ≤ 4 * origins_count one_grant ns
-    → (o : Origin) → n.origin ≡ o → length (granted p o n ++ grant_atoms p ns) ≤ 4 * (one_grant o + origins_count one_grant ns)
+few_granted : (p : Program) → IsCore p → (n : OwnName) (ns : List OwnName) → (n.origin ≡ Grant → IsPrimitive n.typ) → length (grant_atoms p ns) ≤ 5 * origins_count one_grant ns
+    → (o : Origin) → n.origin ≡ o → length (granted p o n ++ grant_atoms p ns) ≤ 5 * (one_grant o + origins_count one_grant ns)
 few_granted p core n ns primitive rest (Parameter bare) is = omega (arith, rest)
 few_granted p core n ns primitive rest Grant is =
-    let own : length (members_of p n.typ) ≤ 4 = few_members p core n.typ (primitive is) in
+    let own : length (members_of p n.typ) ≤ 5 = few_members p core n.typ (primitive is) in
     let mapped : length (map (atom_name n.name) (members_of p n.typ)) ≡ length (members_of p n.typ) = length-map (members_of p n.typ) (atom_name n.name) in
     let both : length (map (atom_name n.name) (members_of p n.typ) ++ grant_atoms p ns) ≡ length (map (atom_name n.name) (members_of p n.typ)) + length (grant_atoms p ns) = length-append (map (atom_name n.name) (members_of p n.typ)) (grant_atoms p ns) in
     omega (arith, own, mapped, both, rest)
@@ -53,7 +54,7 @@ few_granted p core n ns primitive rest (Use m) is = omega (arith, rest)
 few_granted p core n ns primitive rest (Instance m arguments) is = omega (arith, rest)
 few_granted p core n ns primitive rest (Import m arguments bound) is = omega (arith, rest)
 
-few_grant_atoms : (p : Program) → IsCore p → (ns : List OwnName) → GrantsArePrimitive ns → length (grant_atoms p ns) ≤ 4 * origins_count one_grant ns
+few_grant_atoms : (p : Program) → IsCore p → (ns : List OwnName) → GrantsArePrimitive ns → length (grant_atoms p ns) ≤ 5 * origins_count one_grant ns
 few_grant_atoms p core [] primitive = omega arith
 few_grant_atoms p core (n ∷ ns) primitive =
     few_granted p core n ns (primitive zero n refl) (few_grant_atoms p core ns (λ k m e. primitive (suc k) m e)) n.origin refl
@@ -62,7 +63,7 @@ few_in : (p : Program) → IsCore p → (k : ℕ) (s : Option Scope) → slice_g
 few_in p core k None e = omega arith
 few_in p core k (Some s) e =
     let fits : ScopeFits p s = core.scopes s (In-slice_get p.scopes k s e) in
-    let few : length (grant_atoms p s.names) ≤ 4 * origins_count one_grant s.names = few_grant_atoms p core s.names grant_fits in
+    let few : length (grant_atoms p s.names) ≤ 5 * origins_count one_grant s.names = few_grant_atoms p core s.names grant_fits in
     omega (arith, few, fits.few_grants)
   where
     grant_fits : GrantsArePrimitive s.names

@@ -4,6 +4,7 @@ ghost use Rattle.std.specs.Prelude.{◌≡◌, ◌≤◌, ℕ, List, map, length
 ghost use Rattle.wy_symbols.specs.Declarations.{module_names, texts};
 ghost use Rattle.wy_heads.specs.Counts.{abstract_count, type_counts, abstract_counts, opening_count, owners_count, module_count, program_count, some_above};
 ghost use Rattle.wy_symbols.specs.Lent.{lent_type, lent_program, module_tree};
+ghost use Rattle.wy_types.specs.Primitive.{most_types};
 
 use crate::owners::{module_owners, program_owners};
 use std::alloc::Global;
@@ -29,7 +30,7 @@ fn abstract_count(members: &[Member]) -> usize
 pub fn type_counts(alloc: Global, types: &[&TypeDecl]) -> Result<Vec<usize>, Memory>
     ensures { IfOk result (λ cs. cs.items ≡ type_counts (map lent_type types.now)) }
 {
-    let mut counts = Vec::from_slice(alloc, &[2, 4, 1, 1])?;
+    let mut counts = Vec::from_slice(alloc, &[2, 4, 1, 1, 5])?;
     for decl in types {
         counts.push(abstract_count(decl.members.as_slice()))?;
     }
@@ -88,7 +89,7 @@ pub fn modules_pass(
     modules: &[ModuleView],
     counts: &[usize],
 ) -> Result<bool, Memory>
-    requires few { length types.now ≤ 1028 }
+    requires few { length types.now ≤ most_types }
     requires numbered { numbers.now ≡ texts (module_names (map module_tree modules.now)) }
     ensures { IfOk result (λ b. b ≡ some_above 512 (map (module_count types.now (map module_tree modules.now) counts.now) (map module_tree modules.now))) }
 {
@@ -110,7 +111,7 @@ pub fn programs_pass(
     programs: &[&Program],
     counts: &[usize],
 ) -> Result<bool, Memory>
-    requires few { length types.now ≤ 1028 }
+    requires few { length types.now ≤ most_types }
     requires numbered { numbers.now ≡ texts (module_names (map module_tree modules.now)) }
     ensures { IfOk result (λ b. b ≡ some_above 512 (map (program_count types.now (map module_tree modules.now) counts.now) (map lent_program programs.now))) }
 {

@@ -8,6 +8,7 @@ ghost use Rattle.wy_symbols.specs.Meanings.{abstract_names, meaning_of};
 ghost use Rattle.wy_symbols.specs.Atoms.{defined_member, meaning_set, set_of, set_refusals, atom_scope};
 ghost use Rattle.wy_heads.specs.Lines.{param_refusals, grant_refusals};
 ghost use Rattle.wy_heads.specs.ScopeHeads.{definitions_after, definitions_refusals, definitions_for, start_effect, init_refusals};
+ghost use Rattle.wy_types.specs.Primitive.{most_types};
 
 use crate::owners::grant_opening;
 use std::alloc::Global;
@@ -134,7 +135,7 @@ fn note_param(
 
 /// Notes Unknown at each grant whose type is none of the primitive ones.
 pub fn note_grants(types: &Table, grants: &[Grant], least: &mut Option<Refusal>)
-    requires { length types.now ≤ 1028 }
+    requires { length types.now ≤ most_types }
     ensures { least.new ≡ noted least.old (grant_refusals types.now grants.now) }
 {
     for grant in grants {

@@ -7,6 +7,7 @@ ghost use Rattle.wy_symbols.specs.Declarations.{Declared, module_names, texts};
 ghost use Rattle.wy_heads.specs.Counts.{first_passed, early_limits, limits, passes, type_counts};
 ghost use Rattle.wy_heads.specs.Most.{greatest, types_most, module_params, modules_most, programs_most, grant_counts, first_over, declared_most};
 ghost use Rattle.wy_symbols.specs.Lent.{lent_type, lent_program, module_tree, lent_declared};
+ghost use Rattle.wy_types.specs.Primitive.{most_types};
 
 use crate::atom_counts::{modules_pass, programs_pass, type_counts, types_pass};
 use crate::counts::{Most, module_most, tail_most, with_members};
@@ -126,7 +127,7 @@ fn some_pass(
     modules: &[ModuleView],
     programs: &[&Program],
 ) -> Result<bool, Memory>
-    requires few { length names.now ≤ 1028 }
+    requires few { length names.now ≤ most_types }
     requires named { names.now ≡ all_names (map lent_type types.now) }
     requires numbered { numbers.now ≡ texts (module_names (map module_tree modules.now)) }
     requires counted { counts.now ≡ type_counts (map lent_type types.now) }

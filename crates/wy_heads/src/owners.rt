@@ -6,6 +6,7 @@ ghost use Rattle.wy_symbols.specs.Atoms.{type_number, opened, primitive_opening,
 ghost use Rattle.wy_symbols.specs.Collected.{Adds};
 ghost use Rattle.wy_types.specs.Types.{is_plain};
 ghost use Rattle.wy_symbols.specs.Lent.{module_tree};
+ghost use Rattle.wy_types.specs.Primitive.{most_types};
 
 use std::alloc::Global;
 use wy_symbols::{ModuleView, Opening, Owner, OwnerList, Table};
@@ -13,11 +14,12 @@ use wy_syntax::items::{Grant, Line, Program};
 use wy_syntax::types::{Name, Param, TypeUse};
 use wy_text::list::Items;
 use wy_text::text::{Memory, Text};
+use wy_types::primitive::FIRST_DECLARED;
 use wy_types::resolved::ScopeKind;
 
 /// What a type's name opens: the members of that type.
 fn opened(types: &Table, name: &Text) -> Opening
-    requires { length types.now ≤ 1028 }
+    requires { length types.now ≤ most_types }
     ensures { result ≡ opened (type_number types.now name.now) }
 {
     match types.number(name) {
@@ -30,7 +32,7 @@ fn opened(types: &Table, name: &Text) -> Opening
 
 /// What a parameter opens, in a module that is not plain.
 fn param_opening(types: &Table, use_of: &TypeUse) -> Opening
-    requires { length types.now ≤ 1028 }
+    requires { length types.now ≤ most_types }
     ensures { result ≡ param_opening types.now use_of.now }
 {
     match use_of {
@@ -46,13 +48,13 @@ fn param_opening(types: &Table, use_of: &TypeUse) -> Opening
 
 /// What a grant opens: the members of its primitive type.
 pub fn grant_opening(types: &Table, name: &Text) -> Opening
-    requires { length types.now ≤ 1028 }
+    requires { length types.now ≤ most_types }
     ensures { result ≡ primitive_opening (type_number types.now name.now) }
 {
     match types.number(name) {
         None => Opening::Missing,
         Some(number) => {
-            if number < 4 {
+            if number < FIRST_DECLARED {
                 Opening::Members {
                     decl: number as u16,
                 }
@@ -70,7 +72,7 @@ pub fn module_opening(
     modules: &[ModuleView],
     name: &Text,
 ) -> Opening
-    requires few { length types.now ≤ 1028 }
+    requires few { length types.now ≤ most_types }
     requires numbered { numbers.now ≡ texts (module_names (map module_tree modules.now)) }
     ensures { result ≡ module_opening types.now (map module_tree modules.now) name.now }
 {
@@ -85,7 +87,7 @@ pub fn module_opening(
 
 /// Adds a parameter of a module.
 fn add_param(owners: &mut OwnerList, types: &Table, plain: bool, param: &Param)
-    requires { length types.now ≤ 1028 }
+    requires { length types.now ≤ most_types }
     ensures { Adds (params_owners types.now plain (param.now ∷ [])) owners.old owners.new }
 {
     let opening = if plain {
@@ -98,7 +100,7 @@ fn add_param(owners: &mut OwnerList, types: &Table, plain: bool, param: &Param)
 
 /// Adds the parameters of a module.
 fn add_params(owners: &mut OwnerList, types: &Table, plain: bool, params: &[Param])
-    requires { length types.now ≤ 1028 }
+    requires { length types.now ≤ most_types }
     ensures { Adds (params_owners types.now plain params.now) owners.old owners.new }
 {
     for param in params {
@@ -108,7 +110,7 @@ fn add_params(owners: &mut OwnerList, types: &Table, plain: bool, params: &[Para
 
 /// Adds the grants of a program block.
 fn add_grants(owners: &mut OwnerList, types: &Table, grants: &[Grant])
-    requires { length types.now ≤ 1028 }
+    requires { length types.now ≤ most_types }
     ensures { Adds (map (grant_owner types.now) grants.now) owners.old owners.new }
 {
     for grant in grants {
@@ -124,7 +126,7 @@ fn add_uses(
     modules: &[ModuleView],
     uses: &[Name],
 )
-    requires few { length types.now ≤ 1028 }
+    requires few { length types.now ≤ most_types }
     requires numbered { numbers.now ≡ texts (module_names (map module_tree modules.now)) }
     ensures { Adds (map (use_owner types.now (map module_tree modules.now)) uses.now) owners.old owners.new }
 {
@@ -144,7 +146,7 @@ fn add_line(
     modules: &[ModuleView],
     line: &Line,
 )
-    requires few { length types.now ≤ 1028 }
+    requires few { length types.now ≤ most_types }
     requires numbered { numbers.now ≡ texts (module_names (map module_tree modules.now)) }
     ensures { Adds (line_owner types.now (map module_tree modules.now) line.now ∷ []) owners.old owners.new }
 {
@@ -165,7 +167,7 @@ fn add_lines(
     modules: &[ModuleView],
     lines: &[Line],
 )
-    requires few { length types.now ≤ 1028 }
+    requires few { length types.now ≤ most_types }
     requires numbered { numbers.now ≡ texts (module_names (map module_tree modules.now)) }
     ensures { Adds (map (line_owner types.now (map module_tree modules.now)) lines.now) owners.old owners.new }
 {
@@ -182,7 +184,7 @@ pub fn module_owners(
     modules: &[ModuleView],
     view: &ModuleView,
 ) -> Result<Items<Owner>, Memory>
-    requires few { length types.now ≤ 1028 }
+    requires few { length types.now ≤ most_types }
     requires numbered { numbers.now ≡ texts (module_names (map module_tree modules.now)) }
     ensures { IfOk result (λ os. os ≡ (params_owners types.now (is_plain view.now.kind) view.now.params.now ++ map (use_owner types.now (map module_tree modules.now)) view.now.uses.now) ++ map (line_owner types.now (map module_tree modules.now)) view.now.lines.now) }
 {
@@ -202,7 +204,7 @@ pub fn program_owners(
     modules: &[ModuleView],
     program: &Program,
 ) -> Result<Items<Owner>, Memory>
-    requires few { length types.now ≤ 1028 }
+    requires few { length types.now ≤ most_types }
     requires numbered { numbers.now ≡ texts (module_names (map module_tree modules.now)) }
     ensures { IfOk result (λ os. os ≡ (map (grant_owner types.now) program.now.grants ++ map (use_owner types.now (map module_tree modules.now)) program.now.uses) ++ map (line_owner types.now (map module_tree modules.now)) program.now.lines) }
 {

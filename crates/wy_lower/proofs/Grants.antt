@@ -74,7 +74,8 @@ primitive_kind n (Named zero members) h = (_, refl)
 primitive_kind n (Named (suc zero) members) h = (_, refl)
 primitive_kind n (Named (suc (suc zero)) members) h = (_, refl)
 primitive_kind n (Named (suc (suc (suc zero))) members) h = (_, refl)
-primitive_kind n (Named (suc (suc (suc (suc d)))) members) h = absurd (omega arith)
+primitive_kind n (Named (suc (suc (suc (suc zero)))) members) h = (_, refl)
+primitive_kind n (Named (suc (suc (suc (suc (suc d))))) members) h = absurd (omega arith)
 
 module _ (p : Program) (st : Starts) (ok : Lowerable p st) where
   types : AreOfTypes (scope_names (slice_get p.scopes (last_scope p.scopes)))

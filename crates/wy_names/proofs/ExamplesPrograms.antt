@@ -110,7 +110,7 @@ log_module = record {
   atoms = folder_atoms;
   bounds = replicate 4 None;
   names = record { name = codes "disk"; place = at 5 21; typ = folder; origin = origin.Parameter true } ∷ [];
-  ascribed = Some 4;
+  ascribed = Some 5;
   definitions = (2 ∷ []) ∷ [];
   literals = record { captures = []; fields = record { name = codes "n"; place = at 7 7; mutable = false; typ = ref.Text } ∷ [] } ∷ [];
   start_place = at 5 1;
@@ -133,8 +133,8 @@ plug_module = record {
   place = at 15 14;
   atoms = [];
   bounds = [];
-  names = record { name = codes "l"; place = at 15 19; typ = ref.Named 4 []; origin = origin.Parameter false } ∷ [];
-  ascribed = Some 4;
+  names = record { name = codes "l"; place = at 15 19; typ = ref.Named 5 []; origin = origin.Parameter false } ∷ [];
+  ascribed = Some 5;
   definitions = [];
   literals = record { captures = []; fields = [] } ∷ [];
   start_place = at 15 1;
@@ -158,8 +158,8 @@ program_scope = record {
   bounds = replicate 5 None;
   names =
       record { name = codes "disk"; place = at 10 9; typ = folder; origin = origin.Grant }
-      ∷ record { name = codes "lg"; place = at 11 12; typ = ref.Named 4 ((4 ∷ []) ∷ []); origin = origin.Instance 0 (0 ∷ []) }
-      ∷ record { name = codes "pl"; place = at 12 10; typ = ref.At 4 (4 ∷ []); origin = origin.Import 1 (1 ∷ []) (4 ∷ []) }
+      ∷ record { name = codes "lg"; place = at 11 12; typ = ref.Named 5 ((4 ∷ []) ∷ []); origin = origin.Instance 0 (0 ∷ []) }
+      ∷ record { name = codes "pl"; place = at 12 10; typ = ref.At 5 (4 ∷ []); origin = origin.Import 1 (1 ∷ []) (4 ∷ []) }
       ∷ [];
   ascribed = None;
   definitions = [];

@@ -149,7 +149,7 @@ get = method (codes "get") to.Int
 abbrev holder : Scope
 holder =
     main_of (object ∷ []) (at 4 3)
-    (code.Val (at 5 5) 0 (Some (to.Named 4 [])) (code.Plain (code.New (at 5 22) 1 code.none)) (code.Last (code.Plain (code.Nothing (at 7 5)))))
+    (code.Val (at 5 5) 0 (Some (to.Named 5 [])) (code.Plain (code.New (at 5 22) 1 code.none)) (code.Last (code.Plain (code.Nothing (at 7 5)))))
     (body 1 (at 6 7) get (code.Number (at 6 27) (pos 1)) ∷ [])
 
 abbrev holder_program : Program
@@ -162,7 +162,7 @@ eight_nodes =
 
 -- what is said of it, with these pairs
 abbrev holding : List CertPair → CertScope
-holding pairs = record { types = Own 1 ∷ Named 4 [] ∷ Nothing ∷ Int ∷ []; pairs = pairs; plain = []; locals = 1 ∷ []; nodes = eight_nodes }
+holding pairs = record { types = Own 1 ∷ Named 5 [] ∷ Nothing ∷ Int ∷ []; pairs = pairs; plain = []; locals = 1 ∷ []; nodes = eight_nodes }
 
 -- the object is an item, and so its number a number
 abbrev two_pairs : List CertPair
@@ -185,14 +185,14 @@ holder_types = each (TypeStands holder_program holder) (types_of (holding two_pa
 abbrev Covered : Signature TypeRef → Type 0
 Covered m = HasCover TypeRef (methods_of holder_program 0) IsObject (IsWithin (bounds_of holder_program 0)) (annotated_pairs (holding two_pairs)) (find_method m.name (methods_of holder_program 0 (to.Own 1))) m
 
-covered : (m : Signature TypeRef) → In m (methods_of holder_program 0 (to.Named 4 [])) → Covered m
+covered : (m : Signature TypeRef) → In m (methods_of holder_program 0 (to.Named 5 [])) → Covered m
 covered m i = elim i [
   | inl e ↦ subst Covered e (record { params = tt; effect = λ a j. absurd j; result = inr (inl refl) })
   | inr z ↦ absurd z
 ]
 
 holder_pairs : PairsHold holder_program 0 holder (holding two_pairs)
-holder_pairs = each (PairStands holder_program 0 holder (holding two_pairs)) two_pairs ((to.Own 1, to.Named 4 [], refl, refl, inr (tt, tt, covered)), ((to.Int, to.Int, refl, refl, inl (refl, λ o. o)), tt))
+holder_pairs = each (PairStands holder_program 0 holder (holding two_pairs)) two_pairs ((to.Own 1, to.Named 5 [], refl, refl, inr (tt, tt, covered)), ((to.Int, to.Int, refl, refl, inl (refl, λ o. o)), tt))
 
 holder_proof : ScopeProof holder_program 0 holder (holding two_pairs)
 holder_proof = record {
@@ -202,10 +202,10 @@ holder_proof = record {
   lines = λ r i. absurd i;
   nodes = record {
     number = refl;
-    locals = to.Named 4 [] ∷ [];
+    locals = to.Named 5 [] ∷ [];
     named = refl;
     derived =
-        (annotated_nodes_are_read holder_program 0 holder (to.Named 4 [] ∷ []) (annotated_lists holder_program 0 holder (holding two_pairs))
+        (annotated_nodes_are_read holder_program 0 holder (to.Named 5 [] ∷ []) (annotated_lists holder_program 0 holder (holding two_pairs))
         (λ a b h. listed holder_program 0 holder (holding two_pairs) holder_pairs a b ((pair_listed (annotated_pairs (holding two_pairs)) a b).0 h)) included
         (λ e f. (λ h. same_within [] e f ((included e f).0 h), λ h. (included e f).1 (none_within e f h))) eight_nodes).0 (8, refl);
   };
@@ -233,18 +233,18 @@ smallest_passes = record {
 }
 
 -- T-Sub stands above the initialiser, whose own type is another than the `val`'s
-item_above : SaysStep (annotated_lists holder_program 0 holder (holding two_pairs)) (node by.Sub 5 22 1 1) (sub_step (at 5 22) (to.Own 1) (to.Named 4 []) [])
+item_above : SaysStep (annotated_lists holder_program 0 holder (holding two_pairs)) (node by.Sub 5 22 1 1) (sub_step (at 5 22) (to.Own 1) (to.Named 5 []) [])
 item_above = record { rule = refl; typ = refl; effect = refl; pair = pair_there; stands = λ a g. refl }
   where
-    pair_there : (a b : TypeRef) → ◌≡◌ {A = Option TypeRef} (Some (to.Own 1)) (Some a) → ◌≡◌ {A = Option TypeRef} (Some (to.Named 4 [])) (Some b) →
+    pair_there : (a b : TypeRef) → ◌≡◌ {A = Option TypeRef} (Some (to.Own 1)) (Some a) → ◌≡◌ {A = Option TypeRef} (Some (to.Named 5 [])) (Some b) →
         (annotated_lists holder_program 0 holder (holding two_pairs)).listed a b ≡ true
     pair_there a b g h =
         let left : to.Own 1 ≡ a = cc in
-        let right : to.Named 4 [] ≡ b = cc in
+        let right : to.Named 5 [] ≡ b = cc in
         let there = (annotated_lists holder_program 0 holder (holding two_pairs)).listed in
         subst (λ v. there v b ≡ true) left (subst (λ v. there (to.Own 1) v ≡ true) right refl)
 
-holder_written : IsWrittenOver holder_program 0 holder (holding two_pairs) (to.Named 4 [] ∷ [])
+holder_written : IsWrittenOver holder_program 0 holder (holding two_pairs) (to.Named 5 [] ∷ [])
 holder_written = record {
   named = refl;
   written = (
@@ -267,4 +267,4 @@ smallest_canonical : IsCanonical smallest_program 0 smallest (saying two_nodes)
 smallest_canonical = ([], refl, smallest_written)
 
 holder_canonical : IsCanonical holder_program 0 holder (holding two_pairs)
-holder_canonical = (to.Named 4 [] ∷ [], refl, holder_written)
+holder_canonical = (to.Named 5 [] ∷ [], refl, holder_written)

@@ -64,7 +64,7 @@ logger = record {
   atoms = disk_atoms;
   bounds = replicate 4 None;
   names = record { name = codes "disk"; place = at 4 24; typ = folder; origin = Parameter true } ∷ [];
-  ascribed = Some 4;
+  ascribed = Some 5;
   definitions = (2 ∷ []) ∷ [];
   literals = object ∷ [];
   start_place = at 4 1;
@@ -86,7 +86,7 @@ main_with bounds effect = record {
   bounds = bounds;
   names =
       record { name = codes "disk"; place = second 2 9; typ = folder; origin = Grant } ∷
-      record { name = codes "lg"; place = second 3 12; typ = to.Named 4 ((4 ∷ []) ∷ []); origin = Instance 0 (0 ∷ []) } ∷ [];
+      record { name = codes "lg"; place = second 3 12; typ = to.Named 5 ((4 ∷ []) ∷ []); origin = Instance 0 (0 ∷ []) } ∷ [];
   ascribed = None;
   definitions = [];
   literals = object ∷ [];
@@ -108,7 +108,7 @@ node_there rule line column parts typ effect = record { rule = rule; file = 1; l
 
 abbrev logger_part : CertScope
 logger_part = record {
-  types = Named 1 ((0 ∷ []) ∷ (1 ∷ []) ∷ (2 ∷ []) ∷ (3 ∷ []) ∷ []) ∷ Text ∷ Nothing ∷ Own 0 ∷ Named 4 ((2 ∷ []) ∷ []) ∷ [];
+  types = Named 1 ((0 ∷ []) ∷ (1 ∷ []) ∷ (2 ∷ []) ∷ (3 ∷ []) ∷ []) ∷ Text ∷ Nothing ∷ Own 0 ∷ Named 5 ((2 ∷ []) ∷ []) ∷ [];
   pairs = pair 3 4 ∷ pair 1 1 ∷ pair 2 2 ∷ [];
   plain = [];
   locals = [];
@@ -118,7 +118,7 @@ logger_part = record {
 
 abbrev main_part : CertScope
 main_part = record {
-  types = Named 4 ((4 ∷ []) ∷ []) ∷ Text ∷ Nothing ∷ [];
+  types = Named 5 ((4 ∷ []) ∷ []) ∷ Text ∷ Nothing ∷ [];
   pairs = [];
   plain = [];
   locals = [];
@@ -147,7 +147,7 @@ bounded_effect : nodes_read (logger_program log_bounded (2 ∷ [])) 1 (main_with
 bounded_effect = refl
 
 -- the rules of the module and of the program, by which a failure is numbered
-logger_rules : scope_rules logger ≡ ascription 4 ∷ []
+logger_rules : scope_rules logger ≡ ascription 5 ∷ []
 logger_rules = refl
 
 main_rules : scope_rules (main_with no_bounds (4 ∷ [])) ≡ instance_of 0 (0 ∷ []) ∷ []

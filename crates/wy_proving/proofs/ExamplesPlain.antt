@@ -31,13 +31,13 @@ use Rattle.wy_proving.specs.Unproved.{FailsAt}
 use Rattle.wy_proving.proofs.ExamplesForms.{at, object, method, type_with, body, plain_module, main_of, program, node, pair}
 
 abbrev give : Method
-give = method (codes "give") (to.Named 4 [])
+give = method (codes "give") (to.Named 5 [])
 
 abbrev get : Method
 get = method (codes "get") to.Int
 
 abbrev giver : Scope
-giver = plain_module (codes "giver") 5 (object ∷ []) (at 5 1) (body 0 (at 6 3) give (code.New (at 7 5) 1 code.none) ∷ body 1 (at 8 7) get (code.Number (at 8 24) (pos 1)) ∷ [])
+giver = plain_module (codes "giver") 6 (object ∷ []) (at 5 1) (body 0 (at 6 3) give (code.New (at 7 5) 1 code.none) ∷ body 1 (at 8 7) get (code.Number (at 8 24) (pos 1)) ∷ [])
 
 abbrev giver_program : Program
 giver_program = program (type_with (codes "Item") get ∷ type_with (codes "Giver") give ∷ []) (giver ∷ main_of [] (at 10 3) (code.Last (code.Plain (code.Nothing (at 11 5)))) [] ∷ [])
@@ -47,7 +47,7 @@ six_nodes = node by.Body 5 1 0 0 ∷ node by.New 7 5 0 2 ∷ node by.Sub 7 5 1 3
 
 -- what is said of the module, with these plain pairs
 abbrev saying : List CertPair → CertScope
-saying plain = record { types = Own 0 ∷ Named 5 [] ∷ Own 1 ∷ Named 4 [] ∷ Int ∷ []; pairs = []; plain = plain; locals = []; nodes = six_nodes }
+saying plain = record { types = Own 0 ∷ Named 6 [] ∷ Own 1 ∷ Named 5 [] ∷ Int ∷ []; pairs = []; plain = plain; locals = []; nodes = six_nodes }
 
 -- items and numbers are such, the object is an item, and the module a giver
 abbrev four_pairs : List CertPair
@@ -68,15 +68,15 @@ module_types =
 
 -- the seal is the module's one rule, by its pair, and fails without it
 module_lines : LinesHold giver_program 0 giver (saying four_pairs)
-module_lines = each (RuleStands giver_program 0 giver (saying four_pairs)) (ascription 5 ∷ []) ((inr (inr (inr (inl refl))), tt), tt)
+module_lines = each (RuleStands giver_program 0 giver (saying four_pairs)) (ascription 6 ∷ []) ((inr (inr (inr (inl refl))), tt), tt)
 
 abbrev three_pairs : List CertPair
 three_pairs = pair 3 3 ∷ pair 4 4 ∷ pair 2 3 ∷ []
 
 seal_wanting : FailsAt giver_program 0 giver (saying three_pairs) Lines 0
-seal_wanting = record { element = ascription 5; there = refl; fails = unlisted; before = λ j r l e. absurd (omega (arith, l)) }
+seal_wanting = record { element = ascription 6; there = refl; fails = unlisted; before = λ j r l e. absurd (omega (arith, l)) }
   where
-    unlisted : RuleStands giver_program 0 giver (saying three_pairs) (ascription 5) → ⊥
+    unlisted : RuleStands giver_program 0 giver (saying three_pairs) (ascription 6) → ⊥
     unlisted h = elim h.0 [
       | inl e ↦ absurd (let f = ap (λ (q : Pair). q.0) e in cc)
       | inr i2 ↦ elim i2 [

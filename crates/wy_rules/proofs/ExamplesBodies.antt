@@ -104,7 +104,7 @@ abbrev main : Scope
 main = main_with []
 
 abbrev logger_at : TypeRef
-logger_at = Named 4 ((4 ∷ []) ∷ [])
+logger_at = Named 5 ((4 ∷ []) ∷ [])
 
 logger_itself : IsBelow (annotated_reading q 1) logger_at logger_at
 logger_itself = annotated_subtype (methods_of q 1) ((logger_at, logger_at) ∷ (Text, Text) ∷ (Nothing, Nothing) ∷ []) logger_at logger_at refl refl
@@ -149,7 +149,7 @@ abbrev two_type : TypeDecl
 two_type = declaration (codes "Two") (codes "E" ∷ []) (method (codes "f") [] (0 ∷ []) Nothing ∷ [])
 
 abbrev two_at : ℕ → TypeRef
-two_at a = Named 4 ((a ∷ []) ∷ [])
+two_at a = Named 5 ((a ∷ []) ∷ [])
 
 abbrev f_call : code.Expr
 f_call = code.Call (at 6 25) (own_name (at 6 23) 1) (codes "f") code.none

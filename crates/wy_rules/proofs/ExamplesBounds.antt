@@ -59,10 +59,10 @@ abbrev names : List OwnName
 names = (main_at (2 ∷ [])).names
 
 abbrev handed_a : Handed
-handed_a = record { parameter = own (at 11 19) (codes "first") (Named 4 []) (Parameter false); argument = 1 }
+handed_a = record { parameter = own (at 11 19) (codes "first") (Named 5 []) (Parameter false); argument = 1 }
 
 abbrev handler : TypeRef
-handler = Named 4 ((4 ∷ []) ∷ [])
+handler = Named 5 ((4 ∷ []) ∷ [])
 
 fires : IsEffect TypeRef (methods_of p 2) handler true 4
 fires = (handler, ([], refl, refl), (signature (method (codes "fire") (Text ∷ []) (4 ∷ []) Nothing), inl refl, inl refl))
@@ -113,15 +113,15 @@ abbrev handler_type : TypeDecl
 handler_type = declaration (codes "Handler") (codes "Fire" ∷ []) (method (codes "fire") [] (0 ∷ []) Nothing ∷ [])
 
 abbrev button_type : TypeDecl
-button_type = declaration (codes "Button") (codes "Push" ∷ []) (method (codes "set") (Named 4 ([] ∷ []) ∷ []) (0 ∷ []) Nothing ∷ [])
+button_type = declaration (codes "Button") (codes "Push" ∷ []) (method (codes "set") (Named 5 ([] ∷ []) ∷ []) (0 ∷ []) Nothing ∷ [])
 
 abbrev button : Scope
 button =
-    module_of (head kind.Resource (at 8 17) (codes "button") [] [] 5 ([] ∷ [])) (object [] ∷ []) (at 8 1) [] code.none
-    (body 0 (at 10 3) (method (codes "set") (Named 4 ([] ∷ []) ∷ []) [] Nothing) (last (code.Call (at 10 51) (parameter (at 10 49) 0 0) (codes "fire") code.none)) ∷ [])
+    module_of (head kind.Resource (at 8 17) (codes "button") [] [] 6 ([] ∷ [])) (object [] ∷ []) (at 8 1) [] code.none
+    (body 0 (at 10 3) (method (codes "set") (Named 5 ([] ∷ []) ∷ []) [] Nothing) (last (code.Call (at 10 51) (parameter (at 10 49) 0 0) (codes "fire") code.none)) ∷ [])
 
 abbrev wild : Scope
-wild = module_of (head kind.Plain (at 11 14) (codes "wild") [] (own (at 11 19) (codes "b") (Named 5 []) (Parameter false) ∷ []) 6 []) (object [] ∷ []) (at 11 1) [] code.none []
+wild = module_of (head kind.Plain (at 11 14) (codes "wild") [] (own (at 11 19) (codes "b") (Named 6 []) (Parameter false) ∷ []) 7 []) (object [] ∷ []) (at 11 1) [] code.none []
 
 abbrev bound : List ℕ
 bound = 1 ∷ 4 ∷ []
@@ -129,20 +129,20 @@ bound = 1 ∷ 4 ∷ []
 abbrev main : Scope
 main =
     main_of (folder_atoms (codes "disk") ++ atoms_of (codes "b") (codes "Push" ∷ []))
-    (own (at 13 9) (codes "disk") folder Grant ∷ own (at 14 12) (codes "b") (Named 5 ((4 ∷ []) ∷ [])) (Instance 0 []) ∷ own (at 15 10) (codes "w") (At 6 bound) (Import 1 (1 ∷ []) bound) ∷ [])
+    (own (at 13 9) (codes "disk") folder Grant ∷ own (at 14 12) (codes "b") (Named 6 ((4 ∷ []) ∷ [])) (Instance 0 []) ∷ own (at 15 10) (codes "w") (At 7 bound) (Import 1 (1 ∷ []) bound) ∷ [])
     [] (at 16 3) [] (last (code.Nothing (at 17 5))) []
 
 abbrev q : Program
 q = program (handler_type ∷ button_type ∷ declaration (codes "Quiet") [] [] ∷ []) (button ∷ wild ∷ main ∷ [])
 
 abbrev handed_b : Handed
-handed_b = record { parameter = own (at 11 19) (codes "b") (Named 5 []) (Parameter false); argument = 1 }
+handed_b = record { parameter = own (at 11 19) (codes "b") (Named 6 []) (Parameter false); argument = 1 }
 
 abbrev asked : TypeRef
-asked = Named 5 ((4 ∷ []) ∷ [])
+asked = Named 6 ((4 ∷ []) ∷ [])
 
 abbrev given : TypeRef
-given = Named 4 ([] ∷ [])
+given = Named 5 ([] ∷ [])
 
 -- one parameter is passed on the way to the callback
 asks : Reaches TypeRef (methods_of q 2) asked false given

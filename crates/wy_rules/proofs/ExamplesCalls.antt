@@ -43,7 +43,7 @@ number_refused =
 abbrev unknown_method : code.Block
 unknown_method = last (code.Call (at 10 7) (x 5) (codes "b") code.none)
 
-no_b : (p : code.Block) (m : Signature TypeRef) → find_method (codes "b") (methods_of (lab_program p Nothing) 0 (Named 4 [])) ≡ Some m → ⊥
+no_b : (p : code.Block) (m : Signature TypeRef) → find_method (codes "b") (methods_of (lab_program p Nothing) 0 (Named 5 [])) ≡ Some m → ⊥
 no_b p m e = absurd (cc)
 
 method_refused : IsScopeFault (lab_program unknown_method Nothing) 0 (lab unknown_method Nothing) (fault 7 TCall 2)
@@ -53,8 +53,8 @@ method_refused =
       expected = None;
       atom = None;
       spot = refl;
-      stands_not = λ h. (let k = call_needs (annotated_reading (lab_program unknown_method Nothing) 0) (laws unknown_method Nothing) (lab unknown_method Nothing) [] (Some 0) (at 10 7) (x 5) (codes "b") code.none (Named 4 []) [] l h in no_b unknown_method k.method k.found);
-      premise = ((Named 4 [], [], l, inr (tt, inl (λ h. no_b unknown_method h.0 h.1, refl))), refl);
+      stands_not = λ h. (let k = call_needs (annotated_reading (lab_program unknown_method Nothing) 0) (laws unknown_method Nothing) (lab unknown_method Nothing) [] (Some 0) (at 10 7) (x 5) (codes "b") code.none (Named 5 []) [] l h in no_b unknown_method k.method k.found);
+      premise = ((Named 5 [], [], l, inr (tt, inl (λ h. no_b unknown_method h.0 h.1, refl))), refl);
       place = refl;
       rule = refl;
       lacks = refl;
@@ -66,7 +66,7 @@ method_refused =
 abbrev n_method : Signature TypeRef
 n_method = record { name = codes "n"; params = Int ∷ []; effect = []; result = Int }
 
-found_n : (p : code.Block) (m : Signature TypeRef) → find_method (codes "n") (methods_of (lab_program p Int) 0 (Named 5 [])) ≡ Some m → m ≡ n_method
+found_n : (p : code.Block) (m : Signature TypeRef) → find_method (codes "n") (methods_of (lab_program p Int) 0 (Named 6 [])) ≡ Some m → m ≡ n_method
 found_n p m e = same_method m n_method (sym e)
 
 -- 10      n.n()           it has another number of parameters
@@ -88,10 +88,10 @@ arity_refused =
       atom = None;
       spot = refl;
       stands_not = λ h.
-          let k = call_needs y w s [] (Some 0) (at 10 7) (n 5) (codes "n") code.none (Named 5 []) [] l h in
+          let k = call_needs y w s [] (Some 0) (at 10 7) (n 5) (codes "n") code.none (Named 6 []) [] l h in
           let P : Signature TypeRef → Type 0 = λ m. AllHaveAt (annotated_reading (lab_program no_argument Int) 0) (lab no_argument Int) [] (Some 0) code.none m.params in
           none_too_few y w s [] (Some 0) Int [] (subst P (found_n no_argument k.method k.found) k.arguments);
-      premise = ((Named 5 [], [], l, inr (tt, inr ((n_method, refl), inl (λ h. one_not_none (h n_method refl), refl)))), refl);
+      premise = ((Named 6 [], [], l, inr (tt, inr ((n_method, refl), inl (λ h. one_not_none (h n_method refl), refl)))), refl);
       place = refl;
       rule = refl;
       lacks = refl;
@@ -115,10 +115,10 @@ argument_refused =
       atom = None;
       spot = refl;
       stands_not = λ h.
-          let k = call_needs y w s [] (Some 0) (at 10 7) (n 5) (codes "n") (one (t 9)) (Named 5 []) [] l h in
+          let k = call_needs y w s [] (Some 0) (at 10 7) (n 5) (codes "n") (one (t 9)) (Named 6 []) [] l h in
           let P : Signature TypeRef → Type 0 = λ m. AllHaveAt (annotated_reading (lab_program text_argument Int) 0) (lab text_argument Int) [] (Some 0) (one (t 9)) m.params in
           wrong (subst P (found_n text_argument k.method k.found) k.arguments);
-      premise = ((Named 5 [], [], l, inr (tt, inr ((n_method, refl), inr ((λ m e. let P : Signature TypeRef → Type 0 = λ v. length v.params ≡ 1 in subst P (sym (found_n text_argument m e)) refl), inl (λ h. wrong (h n_method refl), refl))))), refl);
+      premise = ((Named 6 [], [], l, inr (tt, inr ((n_method, refl), inr ((λ m e. let P : Signature TypeRef → Type 0 = λ v. length v.params ≡ 1 in subst P (sym (found_n text_argument m e)) refl), inl (λ h. wrong (h n_method refl), refl))))), refl);
       place = refl;
       rule = refl;
       lacks = refl;
@@ -133,7 +133,7 @@ argument_refused =
 abbrev choice_argument : code.Block
 choice_argument = last (code.Call (at 10 7) (x 5) (codes "b") (code.more (code.If (at 10 9) (c 12) (last (i 19)) (last (t 26))) code.none))
 
-no_target : (m : Signature TypeRef) → IsTarget (annotated_reading (lab_program choice_argument Nothing) 0) (lab choice_argument Nothing) [] (Some 0) (Named 4 []) (codes "b") 1 m → ⊥
+no_target : (m : Signature TypeRef) → IsTarget (annotated_reading (lab_program choice_argument Nothing) 0) (lab choice_argument Nothing) [] (Some 0) (Named 5 []) (codes "b") 1 m → ⊥
 no_target m h = no_b choice_argument m h.found
 
 choice_refused : IsScopeFault (lab_program choice_argument Nothing) 0 (lab choice_argument Nothing) (fault 7 TCall 2)
@@ -141,13 +141,13 @@ choice_refused =
     let l = x_least choice_argument Nothing [] 5 in
     in_body choice_argument Nothing [] (fault 7 TCall 2)
     (inr (
-      record { expected = None; spot = (Named 4 [], [], l, no_target); stands = tt; settles = tt },
+      record { expected = None; spot = (Named 5 [], [], l, no_target); stands = tt; settles = tt },
       inl (record {
         expected = None;
         atom = None;
         spot = refl;
-        stands_not = λ h. (let k = call_needs (annotated_reading (lab_program choice_argument Nothing) 0) (laws choice_argument Nothing) (lab choice_argument Nothing) [] (Some 0) (at 10 7) (x 5) (codes "b") _ (Named 4 []) [] l h in no_b choice_argument k.method k.found);
-        premise = ((Named 4 [], [], l, inr (tt, inl (λ h. no_b choice_argument h.0 h.1, refl))), refl);
+        stands_not = λ h. (let k = call_needs (annotated_reading (lab_program choice_argument Nothing) 0) (laws choice_argument Nothing) (lab choice_argument Nothing) [] (Some 0) (at 10 7) (x 5) (codes "b") _ (Named 5 []) [] l h in no_b choice_argument k.method k.found);
+        premise = ((Named 5 [], [], l, inr (tt, inl (λ h. no_b choice_argument h.0 h.1, refl))), refl);
         place = refl;
         rule = refl;
         lacks = refl;

@@ -37,7 +37,7 @@ logger_canonical = refl
 -- the body of `run` is a call on the instance
 logging_canonical : canonical_over logging 1 (main_with (4 ∷ [])) (locals_of logging 1 (main_with (4 ∷ []))) ≡ record {
   locals = [];
-  start = T-Body (second 4 3) (Result (T-Call (second 5 8) (T-Var (second 5 5)) (Named 4 ((4 ∷ []) ∷ [])) [] (more (T-Lit (second 5 12)) [] none))) (4 ∷ []);
+  start = T-Body (second 4 3) (Result (T-Call (second 5 8) (T-Var (second 5 5)) (Named 5 ((4 ∷ []) ∷ [])) [] (more (T-Lit (second 5 12)) [] none))) (4 ∷ []);
   bodies = [];
 }
 logging_canonical = refl
@@ -67,9 +67,9 @@ logging_canonical = refl
 
 abbrev pick_with : code.Block → Scope
 pick_with block =
-    module_of (head kind.Resource (at 11 17) (codes "pick") [] [] 7 [])
+    module_of (head kind.Resource (at 11 17) (codes "pick") [] [] 8 [])
     (object [] ∷ []) (at 11 1) [] code.none
-    (body 0 (at 12 3) (method (codes "pick") (Bool ∷ Named 5 [] ∷ Named 6 [] ∷ []) [] (Named 4 [])) block ∷ [])
+    (body 0 (at 12 3) (method (codes "pick") (Bool ∷ Named 6 [] ∷ Named 7 [] ∷ []) [] (Named 5 [])) block ∷ [])
 
 abbrev picking : code.Block → Program
 picking block =
@@ -77,7 +77,7 @@ picking block =
     (declaration (codes "A") [] (method (codes "a") [] [] Nothing ∷ []) ∷
     declaration (codes "B") [] (method (codes "a") [] [] Nothing ∷ method (codes "b") [] [] Nothing ∷ []) ∷
     declaration (codes "C") [] (method (codes "a") [] [] Nothing ∷ method (codes "c") [] [] Nothing ∷ []) ∷
-    declaration (codes "Pick") [] (method (codes "pick") (Bool ∷ Named 5 [] ∷ Named 6 [] ∷ []) [] (Named 4 []) ∷ []) ∷ [])
+    declaration (codes "Pick") [] (method (codes "pick") (Bool ∷ Named 6 [] ∷ Named 7 [] ∷ []) [] (Named 5 []) ∷ []) ∷ [])
     (pick_with block ∷ idle ∷ [])
 
 abbrev choice : code.Block
@@ -90,35 +90,35 @@ pick_canonical : canonical_over (picking choice) 0 (pick_with choice) (locals_of
   bodies =
       T-Body (at 12 3)
       (Result
-      (T-If (at 12 41) (T-Var (at 12 44)) [] (Block-Sub (at 12 51) (Result (T-Var (at 12 51))) (Named 5 []) []) [] (Block-Sub (at 12 58) (Result (T-Var (at 12 58))) (Named 6 []) []) []))
+      (T-If (at 12 41) (T-Var (at 12 44)) [] (Block-Sub (at 12 51) (Result (T-Var (at 12 51))) (Named 6 []) []) [] (Block-Sub (at 12 58) (Result (T-Var (at 12 58))) (Named 7 []) []) []))
       [] ∷ [];
 }
 pick_canonical = refl
 
 abbrev kept : code.Block
 kept =
-    code.Val (at 13 9) 0 (Some (Named 4 [])) (code.Plain (parameter (at 13 16) 0 1))
+    code.Val (at 13 9) 0 (Some (Named 5 [])) (code.Plain (parameter (at 13 16) 0 1))
     (code.Val (at 14 9) 1 None (code.Plain (parameter (at 14 13) 0 2)) (last (local (at 15 5) 0)))
 
 -- a `val` has its written type, by T-Sub, or that of its initialiser
 kept_canonical : canonical_over (picking kept) 0 (pick_with kept) (locals_of (picking kept) 0 (pick_with kept)) ≡ record {
-  locals = Named 4 [] ∷ Named 6 [] ∷ [];
+  locals = Named 5 [] ∷ Named 7 [] ∷ [];
   start = T-Body-Init (at 11 1) none;
   bodies =
       T-Body (at 12 3)
-      (T-Val (at 13 9) (T-Sub (at 13 16) (T-Var (at 13 16)) (Named 5 []) []) (Named 4 []) [] (T-Val (at 14 9) (T-Var (at 14 13)) (Named 6 []) [] (Result (T-Var (at 15 5))) []) [])
+      (T-Val (at 13 9) (T-Sub (at 13 16) (T-Var (at 13 16)) (Named 6 []) []) (Named 5 []) [] (T-Val (at 14 9) (T-Var (at 14 13)) (Named 7 []) [] (Result (T-Var (at 15 5))) []) [])
       [] ∷ [];
 }
 kept_canonical = refl
 
 -- .. over another type of the second one: T-Sub stands there too
-widened_canonical : canonical_over (picking kept) 0 (pick_with kept) (Named 4 [] ∷ Named 4 [] ∷ []) ≡ record {
-  locals = Named 4 [] ∷ Named 4 [] ∷ [];
+widened_canonical : canonical_over (picking kept) 0 (pick_with kept) (Named 5 [] ∷ Named 5 [] ∷ []) ≡ record {
+  locals = Named 5 [] ∷ Named 5 [] ∷ [];
   start = T-Body-Init (at 11 1) none;
   bodies =
       T-Body (at 12 3)
-      (T-Val (at 13 9) (T-Sub (at 13 16) (T-Var (at 13 16)) (Named 5 []) []) (Named 4 []) []
-      (T-Val (at 14 9) (T-Sub (at 14 13) (T-Var (at 14 13)) (Named 6 []) []) (Named 4 []) [] (Result (T-Var (at 15 5))) []) [])
+      (T-Val (at 13 9) (T-Sub (at 13 16) (T-Var (at 13 16)) (Named 6 []) []) (Named 5 []) []
+      (T-Val (at 14 9) (T-Sub (at 14 13) (T-Var (at 14 13)) (Named 7 []) []) (Named 5 []) [] (Result (T-Var (at 15 5))) []) [])
       [] ∷ [];
 }
 widened_canonical = refl
@@ -138,7 +138,7 @@ plug_canonical : canonical_over plugged 1 plug (locals_of plugged 1 plug) ≡ re
   start = T-Body-Init (at 11 1) (more (T-Var (at 12 20)) [] none);
   bodies =
       T-Body (at 13 3) (Result (T-Set (at 14 5) (T-Var (at 14 9)))) [] ∷
-      T-Body (at 15 3) (Result (T-Call (at 15 22) (T-Var (at 15 20)) (Named 4 []) [] (more (T-Lit (at 15 27)) [] none))) [] ∷ [];
+      T-Body (at 15 3) (Result (T-Call (at 15 22) (T-Var (at 15 20)) (Named 5 []) [] (more (T-Lit (at 15 27)) [] none))) [] ∷ [];
 }
 plug_canonical = refl
 
@@ -147,10 +147,10 @@ plugged_canonical : canonical_over plugged 2 (main_at bound) (locals_of plugged 
   locals = Own 1 ∷ [];
   start =
       T-Body (at 20 3)
-      (T-Seq (at 21 7) (T-Call (at 21 7) (T-Var (at 21 5)) (At 5 bound) [] none) bound
+      (T-Seq (at 21 7) (T-Call (at 21 7) (T-Var (at 21 5)) (At 6 bound) [] none) bound
       (T-Val (at 22 9) (T-New (at 22 13) none) (Own 1) []
-      (T-Seq (at 24 7) (T-Call (at 24 7) (T-Var (at 24 5)) (At 5 bound) [] (more (T-Sub (at 24 12) (T-Var (at 24 12)) (Own 1) []) [] none)) bound
-      (Result (T-Call (at 25 7) (T-Var (at 25 5)) (At 5 bound) [] none)) bound) bound) bound)
+      (T-Seq (at 24 7) (T-Call (at 24 7) (T-Var (at 24 5)) (At 6 bound) [] (more (T-Sub (at 24 12) (T-Var (at 24 12)) (Own 1) []) [] none)) bound
+      (Result (T-Call (at 25 7) (T-Var (at 25 5)) (At 6 bound) [] none)) bound) bound) bound)
       bound;
   bodies = T-Body (at 23 7) (Result (T-Call (at 23 54) (T-Var (at 23 49)) folder [] (more (T-Lit (at 23 61)) [] (more (T-Var (at 23 66)) [] none)))) (2 ∷ []) ∷ [];
 }
@@ -166,7 +166,7 @@ forms_canonical : canonical_over (lab_program block Text) 0 (lab block Text) (lo
       T-Body (at 9 3)
       (T-Val (at 10 9)
       (T-Op (at 10 21) (two_of Int Int)
-      (more (T-Op (at 10 18) (row (Int ∷ []) Int) (more (T-Var (at 10 19)) [] none)) [] (more (T-Call (at 10 25) (T-Var (at 10 23)) (Named 5 []) [] (more (T-Lit (at 10 27)) [] none)) [] none)))
+      (more (T-Op (at 10 18) (row (Int ∷ []) Int) (more (T-Var (at 10 19)) [] none)) [] (more (T-Call (at 10 25) (T-Var (at 10 23)) (Named 6 []) [] (more (T-Lit (at 10 27)) [] none)) [] none)))
       Int []
       (T-Seq (at 11 5) (T-Set (at 11 5) (T-Var (at 11 9))) []
       (T-Seq (at 12 5)

@@ -21,10 +21,10 @@ use Rattle.wy_rules.proofs.Least.{name_least, choice_parts, last_has, last_at, n
 use Rattle.wy_rules.proofs.Sources.{at, parameter, method}
 
 abbrev A : TypeRef
-A = Named 4 []
+A = Named 5 []
 
 abbrev B : TypeRef
-B = Named 5 []
+B = Named 6 []
 
 abbrev p : Program
 p = pick_program B

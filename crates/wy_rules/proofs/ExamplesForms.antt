@@ -51,7 +51,7 @@ forms_derive = record {
         (T-Val (at 10 9)
         (T-Op (at 10 21) (two_of Int Int)
         (more (T-Op (at 10 18) (row (Int ∷ []) Int) (more (T-Var (at 10 19)) [] none)) []
-        (more (T-Call (at 10 25) (T-Var (at 10 23)) (Named 5 []) [] (more (T-Lit (at 10 27)) [] none)) [] none)))
+        (more (T-Call (at 10 25) (T-Var (at 10 23)) (Named 6 []) [] (more (T-Lit (at 10 27)) [] none)) [] none)))
         Int []
         (T-Seq (at 11 5) (T-Set (at 11 5) (T-Var (at 11 9))) []
         (T-Seq (at 12 5)

@@ -13,7 +13,7 @@ app_methods : ground_methods (plug_program (2 ∷ 4 ∷ [])) (Own 0 0) ≡ signa
 app_methods = refl
 
 -- the import `p`: each method has the ground of the bound, and the callback's type stands at it
-plug_methods : ground_methods (plug_program (2 ∷ 4 ∷ [])) (Own 1 0) ≡ signature (codes "keep") (At 4 (2 ∷ []) ∷ []) (2 ∷ []) ∷ signature (codes "go") [] (2 ∷ []) ∷ []
+plug_methods : ground_methods (plug_program (2 ∷ 4 ∷ [])) (Own 1 0) ≡ signature (codes "keep") (At 5 (2 ∷ []) ∷ []) (2 ∷ []) ∷ signature (codes "go") [] (2 ∷ []) ∷ []
 plug_methods = refl
 
 -- the literal in the program
@@ -21,5 +21,5 @@ literal_methods : ground_methods (plug_program (2 ∷ 4 ∷ [])) (Own 2 1) ≡ s
 literal_methods = refl
 
 -- a declared type with a set of grant atoms
-handler_methods : ground_methods (plug_program (2 ∷ 4 ∷ [])) (Named 4 ((2 ∷ []) ∷ [])) ≡ signature (codes "fire") (Text ∷ []) (2 ∷ []) ∷ []
+handler_methods : ground_methods (plug_program (2 ∷ 4 ∷ [])) (Named 5 ((2 ∷ []) ∷ [])) ≡ signature (codes "fire") (Text ∷ []) (2 ∷ []) ∷ []
 handler_methods = refl

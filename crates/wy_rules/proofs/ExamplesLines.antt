@@ -42,19 +42,19 @@ use Rattle.wy_rules.proofs.Sources.{at, last, method, declaration, own, object, 
 
 -- a module of a kind with these parameters, sealed at E
 abbrev empty : ScopeKind → List ℕ → List OwnName → Scope
-empty k name names = module_of (head k (at 1 1) name [] names 4 []) (object [] ∷ []) (at 1 1) [] code.none []
+empty k name names = module_of (head k (at 1 1) name [] names 5 []) (object [] ∷ []) (at 1 1) [] code.none []
 
 abbrev clock : TypeRef
 clock = Named 2 ((0 ∷ []) ∷ [])
 
 abbrev l_parameter : OwnName
-l_parameter = own (at 1 1) (codes "l") (Named 5 ((0 ∷ []) ∷ [])) (Parameter true)
+l_parameter = own (at 1 1) (codes "l") (Named 6 ((0 ∷ []) ∷ [])) (Parameter true)
 
 abbrev w_parameter : OwnName
-w_parameter = own (at 1 1) (codes "w") (Named 6 ((0 ∷ []) ∷ [])) (Parameter true)
+w_parameter = own (at 1 1) (codes "w") (Named 7 ((0 ∷ []) ∷ [])) (Parameter true)
 
 abbrev plug_parameter : OwnName
-plug_parameter = own (at 1 1) (codes "w") (Named 6 []) (Parameter false)
+plug_parameter = own (at 1 1) (codes "w") (Named 7 []) (Parameter false)
 
 abbrev main_with : TypeRef → Origin → Scope
 main_with typ origin =
@@ -81,7 +81,7 @@ in_main : (typ : TypeRef) (origin : Origin) (f : Fault) → FirstFailing (with_l
 in_main typ origin f h = inr (tt, inr (tt, inr (tt, inr (tt, inl h))))
 
 abbrev E : TypeRef
-E = Named 4 []
+E = Named 5 []
 
 -- a module that is there has its own kind alone
 same_scope : (a b : Scope) → ◌≡◌ {A = Option Scope} (Some a) (Some b) → a ≡ b
@@ -181,14 +181,14 @@ handed_w = record { parameter = w_parameter; argument = 0 }
 abbrev now : List ℕ → TypeRef → Method
 now effect result = method (codes "now") [] effect result
 
-clock_not_W : IsAnnotatedSubtype (with_line E (Instance 2 (0 ∷ []))) 4 clock (Named 6 ((0 ∷ []) ∷ [])) → ⊥
+clock_not_W : IsAnnotatedSubtype (with_line E (Instance 2 (0 ∷ []))) 4 clock (Named 7 ((0 ∷ []) ∷ [])) → ⊥
 clock_not_W h =
-    elim (h.closed (clock, Named 6 ((0 ∷ []) ∷ [])) h.first) [
+    elim (h.closed (clock, Named 7 ((0 ∷ []) ∷ [])) h.first) [
       | inl base ↦ base.1 tt
       | inr object ↦ number_no_truth h (object.2 (signature (now (0 ∷ []) Bool)) (inl refl)).result
     ]
   where
-    number_no_truth : (h : IsAnnotatedSubtype (with_line E (Instance 2 (0 ∷ []))) 4 clock (Named 6 ((0 ∷ []) ∷ []))) → In {X = TypeRef × TypeRef} (Int, Bool) h.pairs → ⊥
+    number_no_truth : (h : IsAnnotatedSubtype (with_line E (Instance 2 (0 ∷ []))) 4 clock (Named 7 ((0 ∷ []) ∷ []))) → In {X = TypeRef × TypeRef} (Int, Bool) h.pairs → ⊥
     number_no_truth h i =
         elim (h.closed (Int, Bool) i) [
           | inl base ↦ (let e : Int ≡ Bool = base.0 in absurd (cc))
@@ -225,10 +225,10 @@ type_refused =
 ------------------------------------------------------------
 -- import i = p() at {}            a pure module isn't imported
 
-pure_import_refused : IsLineFault (with_line (At 4 []) (Import 0 [] [])) (fault MImport 1)
+pure_import_refused : IsLineFault (with_line (At 5 []) (Import 0 [] [])) (fault MImport 1)
 pure_import_refused =
-    let wrong : IsOfKind (with_line (At 4 []) (Import 0 [] [])) kind.Plain 0 → ⊥ = λ h. pure_not_plain (kind_of (At 4 []) (Import 0 [] []) 0 _ kind.Plain refl h) in
-    in_main (At 4 []) (Import 0 [] []) (fault MImport 1) (inl (record {
+    let wrong : IsOfKind (with_line (At 5 []) (Import 0 [] [])) kind.Plain 0 → ⊥ = λ h. pure_not_plain (kind_of (At 5 []) (Import 0 [] []) 0 _ kind.Plain refl h) in
+    in_main (At 5 []) (Import 0 [] []) (fault MImport 1) (inl (record {
       expected = None;
       atom = None;
       spot = refl;
@@ -241,9 +241,9 @@ pure_import_refused =
 
 -- import i = plug() at {}         an argument is wanting
 
-few_handed_refused : IsLineFault (with_line (At 4 []) (Import 3 [] [])) (fault MImport 2)
+few_handed_refused : IsLineFault (with_line (At 5 []) (Import 3 [] [])) (fault MImport 2)
 few_handed_refused =
-    in_main (At 4 []) (Import 3 [] []) (fault MImport 2) (inl (record {
+    in_main (At 5 []) (Import 3 [] []) (fault MImport 2) (inl (record {
       expected = None;
       atom = None;
       spot = refl;
@@ -260,19 +260,19 @@ abbrev handed_plug : Handed
 handed_plug = record { parameter = plug_parameter; argument = 0 }
 
 abbrev q : Program
-q = with_line (At 4 (0 ∷ [])) (Import 3 (0 ∷ []) (0 ∷ []))
+q = with_line (At 5 (0 ∷ [])) (Import 3 (0 ∷ []) (0 ∷ []))
 
 abbrev names : List OwnName
-names = (main_with (At 4 (0 ∷ [])) (Import 3 (0 ∷ []) (0 ∷ []))).names
+names = (main_with (At 5 (0 ∷ [])) (Import 3 (0 ∷ []) (0 ∷ []))).names
 
-bare_clock_not_W : IsPlainSubtype q 4 (Named 2 []) (Named 6 []) → ⊥
+bare_clock_not_W : IsPlainSubtype q 4 (Named 2 []) (Named 7 []) → ⊥
 bare_clock_not_W h =
-    elim (h.closed (Named 2 [], Named 6 []) h.first) [
+    elim (h.closed (Named 2 [], Named 7 []) h.first) [
       | inl base ↦ base.1 tt
       | inr object ↦ number_no_truth h (object.2 (signature (now [] Bool)) (inl refl)).result
     ]
   where
-    number_no_truth : (h : IsPlainSubtype q 4 (Named 2 []) (Named 6 [])) → In {X = TypeRef × TypeRef} (Int, Bool) h.pairs → ⊥
+    number_no_truth : (h : IsPlainSubtype q 4 (Named 2 []) (Named 7 [])) → In {X = TypeRef × TypeRef} (Int, Bool) h.pairs → ⊥
     number_no_truth h i =
         elim (h.closed (Int, Bool) i) [
           | inl base ↦ (let e : Int ≡ Bool = base.0 in absurd (cc))
@@ -281,7 +281,7 @@ bare_clock_not_W h =
 
 plain_type_refused : IsLineFault q (fault IImport 3)
 plain_type_refused =
-    in_main (At 4 (0 ∷ [])) (Import 3 (0 ∷ []) (0 ∷ [])) (fault IImport 3)
+    in_main (At 5 (0 ∷ [])) (Import 3 (0 ∷ []) (0 ∷ [])) (fault IImport 3)
     (inr (
       record { expected = None; spot = refl; stands = record { plain = (_, refl, refl); numbers = refl }; settles = tt },
       inl (record {

@@ -41,7 +41,7 @@ append_call = code.Call (at 6 41) (own_name (at 6 36) 0) (codes "append") (two (
 -- the module, with the effect that `log` declares
 abbrev pub logger_with : List ℕ → Scope
 logger_with effect =
-    module_of (head kind.Resource (at 4 17) (codes "logger") (folder_atoms (codes "disk")) (own (at 4 24) (codes "disk") folder (Parameter true) ∷ []) 4 ((2 ∷ []) ∷ []))
+    module_of (head kind.Resource (at 4 17) (codes "logger") (folder_atoms (codes "disk")) (own (at 4 24) (codes "disk") folder (Parameter true) ∷ []) 5 ((2 ∷ []) ∷ []))
     (object [] ∷ []) (at 4 1) [] code.none
     (body 0 (at 6 3) (method (codes "log") (Text ∷ []) effect Nothing) (last append_call) ∷ [])
 
@@ -55,7 +55,7 @@ log_call = code.Call (second 5 8) (own_name (second 5 5) 1) (codes "log") (one (
 abbrev pub main_with : List ℕ → Scope
 main_with effect =
     main_of (folder_atoms (codes "disk") ++ atoms_of (codes "lg") (codes "Log" ∷ []))
-    (own (second 2 9) (codes "disk") folder Grant ∷ own (second 3 12) (codes "lg") (Named 4 ((4 ∷ []) ∷ [])) (Instance 0 (0 ∷ [])) ∷ [])
+    (own (second 2 9) (codes "disk") folder Grant ∷ own (second 3 12) (codes "lg") (Named 5 ((4 ∷ []) ∷ [])) (Instance 0 (0 ∷ [])) ∷ [])
     [] (second 4 3) effect (last log_call) []
 
 abbrev pub logger_program : List ℕ → List ℕ → Program
@@ -83,7 +83,7 @@ main_derives : ScopeHolds (annotated_reading accepted_program 1) (main_with (4 �
 main_derives = record {
   derivation = record {
     locals = [];
-    start = T-Body (second 4 3) (Result (T-Call (second 5 8) (T-Var (second 5 5)) (Named 4 ((4 ∷ []) ∷ [])) [] (more (T-Lit (second 5 12)) [] none))) (4 ∷ []);
+    start = T-Body (second 4 3) (Result (T-Call (second 5 8) (T-Var (second 5 5)) (Named 5 ((4 ∷ []) ∷ [])) [] (more (T-Lit (second 5 12)) [] none))) (4 ∷ []);
     bodies = [];
   };
   derives = (
@@ -93,10 +93,10 @@ main_derives = record {
 }
 
 -- M-Ascribe: the module's own method has the effect that the module defines
-logger_sealed : SealHolds (annotated_reading accepted_program 0) (logger_with (2 ∷ [])) (Some 4)
+logger_sealed : SealHolds (annotated_reading accepted_program 0) (logger_with (2 ∷ [])) (Some 5)
 logger_sealed =
-    annotated_subtype (methods_of accepted_program 0) ((Own 0, Named 4 ((2 ∷ []) ∷ [])) ∷ (Text, Text) ∷ (Nothing, Nothing) ∷ [])
-    (Own 0) (Named 4 ((2 ∷ []) ∷ [])) refl refl
+    annotated_subtype (methods_of accepted_program 0) ((Own 0, Named 5 ((2 ∷ []) ∷ [])) ∷ (Text, Text) ∷ (Nothing, Nothing) ∷ [])
+    (Own 0) (Named 5 ((2 ∷ []) ∷ [])) refl refl
 
 abbrev handed_disk : Handed
 handed_disk = record { parameter = own (at 4 24) (codes "disk") folder (Parameter true); argument = 0 }

@@ -29,11 +29,11 @@ use Rattle.wy_rules.proofs.Closed.{annotated_subtype}
 use Rattle.wy_rules.proofs.Sources.{at, parameter, own_name, two, last, method, declaration, own, object, body, folder_atoms, folder, head, module_of, idle, program}
 
 abbrev item : TypeRef
-item = Named 4 ((2 ∷ []) ∷ [])
+item = Named 5 ((2 ∷ []) ∷ [])
 
 abbrev maker : Scope
 maker =
-    module_of (head kind.Resource (at 7 17) (codes "maker") (folder_atoms (codes "disk")) (own (at 7 23) (codes "disk") folder (Parameter true) ∷ []) 5 ((2 ∷ []) ∷ []))
+    module_of (head kind.Resource (at 7 17) (codes "maker") (folder_atoms (codes "disk")) (own (at 7 23) (codes "disk") folder (Parameter true) ∷ []) 6 ((2 ∷ []) ∷ []))
     (object [] ∷ object [] ∷ []) (at 7 1) [] code.none
     (body 0 (at 9 3) (method (codes "make") [] [] item) (last (code.New (at 10 5) 1 code.none)) ∷
     body 1 (at 11 7) (method (codes "put") (Text ∷ []) (2 ∷ []) Nothing)
@@ -43,7 +43,7 @@ abbrev p : Program
 p =
     program
     (declaration (codes "Item") (codes "Put" ∷ []) (method (codes "put") (Text ∷ []) (0 ∷ []) Nothing ∷ []) ∷
-    declaration (codes "Maker") (codes "Put" ∷ []) (method (codes "make") [] [] (Named 4 ((0 ∷ []) ∷ [])) ∷ []) ∷ [])
+    declaration (codes "Maker") (codes "Put" ∷ []) (method (codes "make") [] [] (Named 5 ((0 ∷ []) ∷ [])) ∷ []) ∷ [])
     (maker ∷ idle ∷ [])
 
 -- making the object has no effect; its method has
@@ -65,6 +65,6 @@ maker_derives = record {
   );
 }
 
-maker_sealed : SealHolds (annotated_reading p 0) maker (Some 5)
+maker_sealed : SealHolds (annotated_reading p 0) maker (Some 6)
 maker_sealed =
-    annotated_subtype (methods_of p 0) ((Own 0, Named 5 ((2 ∷ []) ∷ [])) ∷ (item, item) ∷ (Text, Text) ∷ (Nothing, Nothing) ∷ []) (Own 0) (Named 5 ((2 ∷ []) ∷ [])) refl refl
+    annotated_subtype (methods_of p 0) ((Own 0, Named 6 ((2 ∷ []) ∷ [])) ∷ (item, item) ∷ (Text, Text) ∷ (Nothing, Nothing) ∷ []) (Own 0) (Named 6 ((2 ∷ []) ∷ [])) refl refl

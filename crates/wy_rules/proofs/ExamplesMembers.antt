@@ -62,7 +62,7 @@ with_bounds bounds s = record {
 }
 
 abbrev quiet : List ℕ → TypeRef
-quiet set = Named 4 (set ∷ [])
+quiet set = Named 5 (set ∷ [])
 
 abbrev f_call : code.Expr
 f_call = code.Call (at 6 24) (own_name (at 6 22) 0) (codes "f") code.none
@@ -70,7 +70,7 @@ f_call = code.Call (at 6 24) (own_name (at 6 22) 0) (codes "f") code.none
 abbrev ask : Scope
 ask =
     with_bounds (Some [] ∷ [])
-    (module_of (head kind.Resource (at 4 17) (codes "ask") (atoms_of (codes "q") (codes "E" ∷ [])) (own (at 4 21) (codes "q") (quiet (0 ∷ [])) (Parameter true) ∷ []) 4 ([] ∷ []))
+    (module_of (head kind.Resource (at 4 17) (codes "ask") (atoms_of (codes "q") (codes "E" ∷ [])) (own (at 4 21) (codes "q") (quiet (0 ∷ [])) (Parameter true) ∷ []) 5 ([] ∷ []))
     (object [] ∷ []) (at 4 1) [] code.none
     (body 0 (at 6 3) (method (codes "f") [] [] Int) (last f_call) ∷ []))
 
@@ -102,7 +102,7 @@ quiet_sealed = (
   respected,
 )
   where
-    respected : DefinitionsRespect p 0 ask (Some 4)
+    respected : DefinitionsRespect p 0 ask (Some 5)
     respected zero b e a i = absurd i
     respected (suc m) b e a i = absurd i
 
@@ -119,7 +119,7 @@ now_call = code.Call (at 6 24) (own_name (at 6 22) 0) (codes "now") code.none
 
 abbrev bad : Scope
 bad =
-    module_of (head kind.Resource (at 4 17) (codes "bad") (atoms_of (codes "c") (codes "Tick" ∷ [])) (own (at 4 21) (codes "c") clock (Parameter true) ∷ []) 4 ((0 ∷ []) ∷ []))
+    module_of (head kind.Resource (at 4 17) (codes "bad") (atoms_of (codes "c") (codes "Tick" ∷ [])) (own (at 4 21) (codes "c") clock (Parameter true) ∷ []) 5 ((0 ∷ []) ∷ []))
     (object [] ∷ []) (at 4 1) [] code.none
     (body 0 (at 6 3) (method (codes "f") [] (0 ∷ []) Int) (last now_call) ∷ [])
 
@@ -129,7 +129,7 @@ r = program (quiet_type ∷ []) (bad ∷ idle ∷ [])
 now_has : Has (annotated_reading r 0) bad [] (Some 0) (code.Plain now_call) Int (0 ∷ [])
 now_has = record { derivation = T-Call (at 6 24) (T-Var (at 6 22)) clock [] none; derives = (_, refl, (refl, refl, refl), tt, refl, tt, refl, refl) }
 
-bad_sealed : SealHolds (annotated_reading r 0) bad (Some 4)
+bad_sealed : SealHolds (annotated_reading r 0) bad (Some 5)
 bad_sealed = annotated_subtype (methods_of r 0) ((Own 0, quiet (0 ∷ [])) ∷ (Int, Int) ∷ []) (Own 0) (quiet (0 ∷ [])) refl refl
 
 -- the clock's atom has no bound
@@ -137,7 +137,7 @@ not_within : IsUnder (bounds_of r 0) [] 0 → ⊥
 not_within h = unbounded_under (bounds_of r 0) (none_bounded 1) [] 0 h
 
 -- the one member's definition has `c.Tick`, which is not within the empty bound
-tick_outside : FirstOutside (declared_bounds r 4) (bounds_of r 0) bad.definitions 0
+tick_outside : FirstOutside (declared_bounds r 5) (bounds_of r 0) bad.definitions 0
 tick_outside = record {
   member = 0;
   bound = [];
@@ -161,7 +161,7 @@ bad_refused = record {
               expected = None;
               atom = Some 0;
               spot = refl;
-              stands_not = λ h. outside_disrespects (declared_bounds r 4) (bounds_of r 0) bad.definitions 0 tick_outside h.1;
+              stands_not = λ h. outside_disrespects (declared_bounds r 5) (bounds_of r 0) bad.definitions 0 tick_outside h.1;
               premise = inr (bad_sealed, refl, refl, tick_outside);
               place = refl;
               rule = refl;
@@ -186,7 +186,7 @@ loud_type = member_type (codes "Loud") (None ∷ [])
 
 abbrev loud : Scope
 loud =
-    module_of (head kind.Resource (at 10 17) (codes "loud") (atoms_of (codes "c") (codes "Tick" ∷ [])) (own (at 10 22) (codes "c") clock (Parameter true) ∷ []) 5 ((0 ∷ []) ∷ []))
+    module_of (head kind.Resource (at 10 17) (codes "loud") (atoms_of (codes "c") (codes "Tick" ∷ [])) (own (at 10 22) (codes "c") clock (Parameter true) ∷ []) 6 ((0 ∷ []) ∷ []))
     (object [] ∷ []) (at 10 1) [] code.none
     (body 0 (at 12 3) (method (codes "f") [] (0 ∷ []) Int) (last now_call) ∷ [])
 
@@ -194,7 +194,7 @@ abbrev main : Scope
 main =
     with_bounds (None ∷ None ∷ Some [] ∷ [])
     (main_of (atoms_of (codes "clock") (codes "Tick" ∷ []) ++ (atoms_of (codes "l") (codes "E" ∷ []) ++ atoms_of (codes "a") (codes "E" ∷ [])))
-    (own (at 14 9) (codes "clock") clock Grant ∷ own (at 15 12) (codes "l") (Named 5 ((1 ∷ []) ∷ [])) (Instance 1 (0 ∷ [])) ∷
+    (own (at 14 9) (codes "clock") clock Grant ∷ own (at 15 12) (codes "l") (Named 6 ((1 ∷ []) ∷ [])) (Instance 1 (0 ∷ [])) ∷
     own (at 16 12) (codes "a") (quiet (2 ∷ [])) (Instance 0 (1 ∷ [])) ∷ [])
     [] (at 17 3) [] (last (code.Nothing (at 18 5))) [])
 
@@ -210,7 +210,7 @@ l_not_within _ e (by_member a i) = i
 l_not_within _ e (by_bound a b g h) = absurd (let f : slice_get (bounds_of l 2) 1 ≡ Some (Some b) = subst (λ v. slice_get (bounds_of l 2) v ≡ Some (Some b)) e g in cc)
 
 -- the argument's member is {l.E}, which is not within the empty bound of the parameter's
-l_outside : FirstOutside (declared_bounds l 4) (bounds_of l 2) ((1 ∷ []) ∷ []) 1
+l_outside : FirstOutside (declared_bounds l 5) (bounds_of l 2) ((1 ∷ []) ∷ []) 1
 l_outside = record {
   member = 0;
   bound = [];
@@ -225,17 +225,17 @@ loud_refused = inl (record {
   expected = None;
   atom = Some 1;
   spot = refl;
-  stands_not = λ h. outside_disrespects (declared_bounds l 4) (bounds_of l 2) ((1 ∷ []) ∷ []) 1 l_outside (h.bounds handed_q (inl refl));
+  stands_not = λ h. outside_disrespects (declared_bounds l 5) (bounds_of l 2) ((1 ∷ []) ∷ []) 1 l_outside (h.bounds handed_q (inl refl));
   premise = inr (
     record {
       resource = (ask, refl, refl);
       numbers = refl;
       members = arguments_hold l 2 main.names (HasMembers l 2 main.names) 0 (1 ∷ []) (members_hold l 2 main.names handed_q ((_, refl), tt), tt);
       types = arguments_hold l 2 main.names (IsArgument l 2 main.names ((1 ∷ []) ∷ [])) 0 (1 ∷ [])
-          (annotated_subtype (methods_of l 2) ((Named 5 ((1 ∷ []) ∷ []), quiet (1 ∷ [])) ∷ (Int, Int) ∷ []) (Named 5 ((1 ∷ []) ∷ [])) (quiet (1 ∷ [])) refl refl, tt);
+          (annotated_subtype (methods_of l 2) ((Named 6 ((1 ∷ []) ∷ []), quiet (1 ∷ [])) ∷ (Int, Int) ∷ []) (Named 6 ((1 ∷ []) ∷ [])) (quiet (1 ∷ [])) refl refl, tt);
     },
     refl,
-    inl ((λ h. outside_disrespects (declared_bounds l 4) (bounds_of l 2) ((1 ∷ []) ∷ []) 1 l_outside h), l_outside),
+    inl ((λ h. outside_disrespects (declared_bounds l 5) (bounds_of l 2) ((1 ∷ []) ∷ []) 1 l_outside h), l_outside),
   );
   place = refl;
   rule = refl;

@@ -30,27 +30,27 @@ choice = code.If (at 9 41) (parameter (at 9 44) 0 0) (code.Last (code.Plain (par
 -- the module, with the result type that `pick` declares
 abbrev pub pick_with : TypeRef → Scope
 pick_with result =
-    module_of (head kind.Resource (at 8 17) (codes "pick") [] [] 6 [])
+    module_of (head kind.Resource (at 8 17) (codes "pick") [] [] 7 [])
     (object [] ∷ []) (at 8 1) [] code.none
-    (body 0 (at 9 3) (method (codes "pick") (Bool ∷ Named 5 [] ∷ Named 4 [] ∷ []) [] result) (code.Last choice) ∷ [])
+    (body 0 (at 9 3) (method (codes "pick") (Bool ∷ Named 6 [] ∷ Named 5 [] ∷ []) [] result) (code.Last choice) ∷ [])
 
 abbrev pub pick_program : TypeRef → Program
 pick_program result =
     program
     (declaration (codes "A") [] (method (codes "a") [] [] Nothing ∷ []) ∷
     declaration (codes "B") [] (method (codes "a") [] [] Nothing ∷ method (codes "b") [] [] Nothing ∷ []) ∷
-    declaration (codes "Pick") [] (method (codes "pick") (Bool ∷ Named 5 [] ∷ Named 4 [] ∷ []) [] (Named 4 []) ∷ []) ∷ [])
+    declaration (codes "Pick") [] (method (codes "pick") (Bool ∷ Named 6 [] ∷ Named 5 [] ∷ []) [] (Named 5 []) ∷ []) ∷ [])
     (pick_with result ∷ idle ∷ [])
 
 -- the first branch has the type A by T-Sub
-pick_derives : ScopeHolds (annotated_reading (pick_program (Named 4 [])) 0) (pick_with (Named 4 []))
+pick_derives : ScopeHolds (annotated_reading (pick_program (Named 5 [])) 0) (pick_with (Named 5 []))
 pick_derives = record {
   derivation = record {
     locals = [];
     start = T-Body-Init (at 8 1) none;
     bodies =
         T-Body (at 9 3)
-        (Result (T-If (at 9 41) (T-Var (at 9 44)) [] (Result (T-Sub (at 9 51) (T-Var (at 9 51)) (Named 5 []) [])) [] (Result (T-Var (at 9 58))) []))
+        (Result (T-If (at 9 41) (T-Var (at 9 44)) [] (Result (T-Sub (at 9 51) (T-Var (at 9 51)) (Named 6 []) [])) [] (Result (T-Var (at 9 58))) []))
         [] ∷ [];
   };
   derives = (
@@ -61,7 +61,7 @@ pick_derives = record {
         (
           refl,
           (refl, refl, refl),
-          (refl, (refl, refl, refl), annotated_subtype (methods_of (pick_program (Named 4 [])) 0) ((Named 5 [], Named 4 []) ∷ (Nothing, Nothing) ∷ []) (Named 5 []) (Named 4 []) refl refl, λ a i. i),
+          (refl, (refl, refl, refl), annotated_subtype (methods_of (pick_program (Named 5 [])) 0) ((Named 6 [], Named 5 []) ∷ (Nothing, Nothing) ∷ []) (Named 6 []) (Named 5 []) refl refl, λ a i. i),
           (refl, refl, refl),
           refl,
         ),

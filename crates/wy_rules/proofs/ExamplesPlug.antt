@@ -55,20 +55,20 @@ handler_type = declaration (codes "Handler") (codes "Fire" ∷ []) (method (code
 abbrev pub plug_type : TypeDecl
 plug_type =
     declaration (codes "Plug") (codes "Use" ∷ [])
-    (method (codes "keep") (Named 4 ((0 ∷ []) ∷ []) ∷ []) (0 ∷ []) Nothing ∷ method (codes "go") [] (0 ∷ []) Nothing ∷ [])
+    (method (codes "keep") (Named 5 ((0 ∷ []) ∷ []) ∷ []) (0 ∷ []) Nothing ∷ method (codes "go") [] (0 ∷ []) Nothing ∷ [])
 
 abbrev pub app : Scope
 app =
-    module_of (head kind.Resource (at 8 17) (codes "app") (folder_atoms (codes "disk")) (own (at 8 21) (codes "disk") folder (Parameter true) ∷ []) 4 ((2 ∷ []) ∷ []))
+    module_of (head kind.Resource (at 8 17) (codes "app") (folder_atoms (codes "disk")) (own (at 8 21) (codes "disk") folder (Parameter true) ∷ []) 5 ((2 ∷ []) ∷ []))
     (object [] ∷ []) (at 8 1) [] code.none
     (body 0 (at 10 3) (method (codes "fire") (Text ∷ []) (2 ∷ []) Nothing)
     (last (code.Call (at 10 43) (own_name (at 10 38) 0) (codes "append") (two (code.Quoted (at 10 50) (codes "f")) (parameter (at 10 55) 0 0)))) ∷ [])
 
 abbrev pub plug : Scope
 plug =
-    module_of (head kind.Plain (at 11 14) (codes "plug") [] (own (at 11 19) (codes "first") (Named 4 []) (Parameter false) ∷ []) 5 [])
-    (object (var_field (at 12 7) (codes "h") (Named 4 []) ∷ []) ∷ []) (at 11 1) [] (one (own_name (at 12 20) 0))
-    (body 0 (at 13 3) (method (codes "keep") (Named 4 [] ∷ []) [] Nothing) (last (code.Assign (at 14 5) (to.Field 0) (code.Plain (parameter (at 14 9) 0 0)))) ∷
+    module_of (head kind.Plain (at 11 14) (codes "plug") [] (own (at 11 19) (codes "first") (Named 5 []) (Parameter false) ∷ []) 6 [])
+    (object (var_field (at 12 7) (codes "h") (Named 5 []) ∷ []) ∷ []) (at 11 1) [] (one (own_name (at 12 20) 0))
+    (body 0 (at 13 3) (method (codes "keep") (Named 5 [] ∷ []) [] Nothing) (last (code.Assign (at 14 5) (to.Field 0) (code.Plain (parameter (at 14 9) 0 0)))) ∷
     body 0 (at 15 3) (method (codes "go") [] [] Nothing) (last (code.Call (at 15 22) (field (at 15 20) 0) (codes "fire") (one (code.Quoted (at 15 27) (codes "go"))))) ∷ [])
 
 abbrev pub go_call : ℕ → code.Expr
@@ -84,8 +84,8 @@ abbrev pub main_at : List ℕ → Scope
 main_at bound =
     main_of (folder_atoms (codes "disk") ++ atoms_of (codes "a") (codes "Fire" ∷ []))
     (own (at 17 9) (codes "disk") folder Grant ∷
-    own (at 18 12) (codes "a") (Named 4 ((4 ∷ []) ∷ [])) (Instance 0 (0 ∷ [])) ∷
-    own (at 19 10) (codes "p") (At 5 bound) (Import 1 (1 ∷ []) bound) ∷ [])
+    own (at 18 12) (codes "a") (Named 5 ((4 ∷ []) ∷ [])) (Instance 0 (0 ∷ [])) ∷
+    own (at 19 10) (codes "p") (At 6 bound) (Import 1 (1 ∷ []) bound) ∷ [])
     (object [] ∷ []) (at 20 3) (2 ∷ 4 ∷ []) run_block
     (body 1 (at 23 7) (method (codes "fire") (Text ∷ []) (2 ∷ []) Nothing)
     (last (code.Call (at 23 54) (own_name (at 23 49) 0) (codes "append") (two (code.Quoted (at 23 61) (codes "g")) (parameter (at 23 66) 0 0)))) ∷ [])
@@ -120,7 +120,7 @@ plug_derives = record {
     start = T-Body-Init (at 11 1) (more (T-Var (at 12 20)) [] none);
     bodies =
         T-Body (at 13 3) (Result (T-Set (at 14 5) (T-Var (at 14 9)))) [] ∷
-        T-Body (at 15 3) (Result (T-Call (at 15 22) (T-Var (at 15 20)) (Named 4 []) [] (more (T-Lit (at 15 27)) [] none))) [] ∷ [];
+        T-Body (at 15 3) (Result (T-Call (at 15 22) (T-Var (at 15 20)) (Named 5 []) [] (more (T-Lit (at 15 27)) [] none))) [] ∷ [];
   };
   derives = (
     (refl, ((refl, refl, refl), tt), tt),
@@ -138,10 +138,10 @@ main_derives = record {
     locals = Own 1 ∷ [];
     start =
         T-Body (at 20 3)
-        (T-Seq (at 21 7) (T-Call (at 21 7) (T-Var (at 21 5)) (At 5 bound) [] none) bound
+        (T-Seq (at 21 7) (T-Call (at 21 7) (T-Var (at 21 5)) (At 6 bound) [] none) bound
         (T-Val (at 22 9) (T-New (at 22 13) none) (Own 1) []
-        (T-Seq (at 24 7) (T-Call (at 24 7) (T-Var (at 24 5)) (At 5 bound) [] (more (T-Sub (at 24 12) (T-Var (at 24 12)) (Own 1) []) [] none)) bound
-        (Result (T-Call (at 25 7) (T-Var (at 25 5)) (At 5 bound) [] none)) bound) bound) bound)
+        (T-Seq (at 24 7) (T-Call (at 24 7) (T-Var (at 24 5)) (At 6 bound) [] (more (T-Sub (at 24 12) (T-Var (at 24 12)) (Own 1) []) [] none)) bound
+        (Result (T-Call (at 25 7) (T-Var (at 25 5)) (At 6 bound) [] none)) bound) bound) bound)
         bound;
     bodies = T-Body (at 23 7) (Result (T-Call (at 23 54) (T-Var (at 23 49)) folder [] (more (T-Lit (at 23 61)) [] (more (T-Var (at 23 66)) [] none)))) (2 ∷ []) ∷ [];
   };
@@ -164,7 +164,7 @@ main_derives = record {
               (refl, refl, refl),
               tt,
               refl,
-              ((refl, (refl, refl, refl), annotated_subtype (methods_of p 2) ((Own 1, At 4 bound) ∷ (Text, Text) ∷ (Nothing, Nothing) ∷ []) (Own 1) (At 4 bound) refl refl, λ a i. i), tt),
+              ((refl, (refl, refl, refl), annotated_subtype (methods_of p 2) ((Own 1, At 5 bound) ∷ (Text, Text) ∷ (Nothing, Nothing) ∷ []) (Own 1) (At 5 bound) refl refl, λ a i. i), tt),
               refl,
               refl,
             ),
@@ -181,12 +181,12 @@ main_derives = record {
   );
 }
 
-app_sealed : SealHolds (annotated_reading p 0) app (Some 4)
-app_sealed = annotated_subtype (methods_of p 0) ((Own 0, Named 4 ((2 ∷ []) ∷ [])) ∷ (Text, Text) ∷ (Nothing, Nothing) ∷ []) (Own 0) (Named 4 ((2 ∷ []) ∷ [])) refl refl
+app_sealed : SealHolds (annotated_reading p 0) app (Some 5)
+app_sealed = annotated_subtype (methods_of p 0) ((Own 0, Named 5 ((2 ∷ []) ∷ [])) ∷ (Text, Text) ∷ (Nothing, Nothing) ∷ []) (Own 0) (Named 5 ((2 ∷ []) ∷ [])) refl refl
 
 -- M-Ascribe of the plain module, without effects
-plug_sealed : SealHolds (plain_reading p 1) plug (Some 5)
-plug_sealed = plain_subtype (methods_of p 1) ((Own 0, Named 5 []) ∷ (Named 4 [], Named 4 []) ∷ (Text, Text) ∷ (Nothing, Nothing) ∷ []) (Own 0) (Named 5 []) refl refl
+plug_sealed : SealHolds (plain_reading p 1) plug (Some 6)
+plug_sealed = plain_subtype (methods_of p 1) ((Own 0, Named 6 []) ∷ (Named 5 [], Named 5 []) ∷ (Text, Text) ∷ (Nothing, Nothing) ∷ []) (Own 0) (Named 6 []) refl refl
 
 abbrev names : List OwnName
 names = (main_at bound).names
@@ -205,7 +205,7 @@ app_line bound = record {
 }
 
 abbrev handler : TypeRef
-handler = Named 4 ((4 ∷ []) ∷ [])
+handler = Named 5 ((4 ∷ []) ∷ [])
 
 -- I-Import: the handler's one effect is in the bound, it hands nothing on, and without effects it is a handler
 plug_line : LineHolds p 2 names (Import 1 (1 ∷ []) bound)
@@ -217,7 +217,7 @@ plug_line = (
     safe = arguments_hold p 2 names (IsHigherOrderSafe p 2 names bound) 1 (1 ∷ [])
         (is_safe_for (methods_of p 2) (bounds_of p 2) ((handler, true) ∷ (Text, false) ∷ (Nothing, true) ∷ []) handler false bound refl refl refl, tt);
     types = arguments_hold p 2 names (IsPlainArgument p 2 names) 1 (1 ∷ [])
-        (plain_subtype (methods_of p 2) ((Named 4 [], Named 4 []) ∷ (Text, Text) ∷ (Nothing, Nothing) ∷ []) (Named 4 []) (Named 4 []) refl refl, tt);
+        (plain_subtype (methods_of p 2) ((Named 5 [], Named 5 []) ∷ (Text, Text) ∷ (Nothing, Nothing) ∷ []) (Named 5 []) (Named 5 []) refl refl, tt);
     module_holds = (plug, refl, plug_derives);
   },
 )

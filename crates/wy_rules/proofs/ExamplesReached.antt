@@ -131,39 +131,40 @@ with_less = declaration (codes "Extra") [] (method (codes "less") (Text ∷ []) 
 abbrev logging_and : TypeDecl → Program
 logging_and extra = program (logger_type ∷ extra ∷ []) (logger_with (2 ∷ []) ∷ main_with (4 ∷ []) ∷ [])
 
-same_declarations : (d : ℕ) → (d ≡ 5 → ⊥) → slice_get (logging_and with_more).declarations d ≡ slice_get (logging_and with_less).declarations d
+same_declarations : (d : ℕ) → (d ≡ 6 → ⊥) → slice_get (logging_and with_more).declarations d ≡ slice_get (logging_and with_less).declarations d
 same_declarations zero n = refl
 same_declarations (suc zero) n = refl
 same_declarations (suc (suc zero)) n = refl
 same_declarations (suc (suc (suc zero))) n = refl
 same_declarations (suc (suc (suc (suc zero)))) n = refl
-same_declarations (suc (suc (suc (suc (suc zero))))) n = absurd (n refl)
-same_declarations (suc (suc (suc (suc (suc (suc d)))))) n = refl
+same_declarations (suc (suc (suc (suc (suc zero))))) n = refl
+same_declarations (suc (suc (suc (suc (suc (suc zero)))))) n = absurd (n refl)
+same_declarations (suc (suc (suc (suc (suc (suc (suc d))))))) n = refl
 
-extras_differ : DiffersAt 5 (logging_and with_more) (logging_and with_less)
+extras_differ : DiffersAt 6 (logging_and with_more) (logging_and with_less)
 extras_differ = record {
   scopes = refl;
   declarations = same_declarations;
-  named_not = λ d a n e m j t l. others_not 5 0 (logging_and with_more).declarations refl d a (λ q. n (omega (arith, q))) e m j t l;
+  named_not = λ d a n e m j t l. others_not 6 0 (logging_and with_more).declarations refl d a (λ q. n (omega (arith, q))) e m j t l;
 }
 
 no_fields : (l : ℕ) (t : TypeRef) → In t (field_types (logger_with (2 ∷ [])) l) → ⊥
 no_fields zero t i = i
 no_fields (suc l) t i = i
 
-body_not : (t : TypeRef) → In t (Text ∷ []) → NamesNot 5 t
-body_not t i = elim i [ inl e ↦ subst (NamesNot 5) e tt | inr z ↦ absurd z ]
+body_not : (t : TypeRef) → In t (Text ∷ []) → NamesNot 6 t
+body_not t i = elim i [ inl e ↦ subst (NamesNot 6) e tt | inr z ↦ absurd z ]
 
-logger_writes_not : WritesNot 5 (logger_with (2 ∷ []))
+logger_writes_not : WritesNot 6 (logger_with (2 ∷ []))
 logger_writes_not = record {
   fields = λ l t i. absurd (no_fields l t i);
   params = λ b i t j. elim i [ inl e ↦ body_not t (let P : Body → Type 0 = λ v. In t v.signature.params in subst P (sym e) j) | inr z ↦ absurd z ];
-  results = λ b i. elim i [ inl e ↦ (let P : Body → Type 0 = λ v. NamesNot 5 v.signature.result in subst P e tt) | inr z ↦ absurd z ];
-  names = λ n i. elim i [ inl e ↦ (let P : OwnName → Type 0 = λ v. NamesNot 5 v.typ in subst P e (λ q. absurd (cc))) | inr z ↦ absurd z ];
+  results = λ b i. elim i [ inl e ↦ (let P : Body → Type 0 = λ v. NamesNot 6 v.signature.result in subst P e tt) | inr z ↦ absurd z ];
+  names = λ n i. elim i [ inl e ↦ (let P : OwnName → Type 0 = λ v. NamesNot 6 v.typ in subst P e (λ q. absurd (cc))) | inr z ↦ absurd z ];
   start = λ t i. absurd i;
   bodies = λ b i t j. elim i [ inl e ↦ absurd (let P : Body → Type 0 = λ v. In t (block_types v.block) in subst P (sym e) j) | inr z ↦ absurd z ];
 }
 
 -- so the logger does not reach it
-extra_not_reached : IsReached (annotated_reading (logging_and with_more) 0) (logger_with (2 ∷ [])) (Named 5 []) → ⊥
-extra_not_reached h = reached_not 5 (logging_and with_more) (logging_and with_less) 0 (logger_with (2 ∷ [])) extras_differ refl logger_writes_not _ _ _ (Named 5 []) h refl
+extra_not_reached : IsReached (annotated_reading (logging_and with_more) 0) (logger_with (2 ∷ [])) (Named 6 []) → ⊥
+extra_not_reached h = reached_not 6 (logging_and with_more) (logging_and with_less) 0 (logger_with (2 ∷ [])) extras_differ refl logger_writes_not _ _ _ (Named 6 []) h refl

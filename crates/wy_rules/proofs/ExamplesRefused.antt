@@ -52,7 +52,7 @@ module_passes = record {
           record {
             expected = None;
             spot = refl;
-            stands = (annotated_subtype (methods_of q 0) ((Own 0, Named 4 ((2 ∷ []) ∷ [])) ∷ (Text, Text) ∷ (Nothing, Nothing) ∷ []) (Own 0) (Named 4 ((2 ∷ []) ∷ [])) refl refl, λ a b e. absurd (none_bounded 1 a b e));
+            stands = (annotated_subtype (methods_of q 0) ((Own 0, Named 5 ((2 ∷ []) ∷ [])) ∷ (Text, Text) ∷ (Nothing, Nothing) ∷ []) (Own 0) (Named 5 ((2 ∷ []) ∷ [])) refl refl, λ a b e. absurd (none_bounded 1 a b e));
             settles = tt;
           },
           tt,

@@ -39,7 +39,7 @@ fault line column rule premise = record { place = at line column; rule = rule; p
 -- 2    var n: Int = 1
 
 abbrev with_var : Scope
-with_var = module_of (head kind.Pure (at 1 8) (codes "p") [] [] 4 []) (object (var_field (at 2 7) (codes "n") Int ∷ []) ∷ []) (at 1 1) [] (one (code.Number (at 2 16) (pos 1))) []
+with_var = module_of (head kind.Pure (at 1 8) (codes "p") [] [] 5 []) (object (var_field (at 2 7) (codes "n") Int ∷ []) ∷ []) (at 1 1) [] (one (code.Number (at 2 16) (pos 1))) []
 
 var_refused : IsScopeFault (with_module with_var) 0 with_var (fault 2 7 MPure 1)
 var_refused = record {
@@ -51,7 +51,7 @@ var_refused = record {
 -- 2    instance i = m()
 
 abbrev with_line : Scope
-with_line = module_of (head kind.Pure (at 1 8) (codes "p") [] (own (at 2 12) (codes "i") (Named 4 []) (Instance 1 []) ∷ []) 4 []) (object [] ∷ []) (at 1 1) [] code.none []
+with_line = module_of (head kind.Pure (at 1 8) (codes "p") [] (own (at 2 12) (codes "i") (Named 5 []) (Instance 1 []) ∷ []) 5 []) (object [] ∷ []) (at 1 1) [] code.none []
 
 line_refused : IsScopeFault (with_module with_line) 0 with_line (fault 2 12 MPure 2)
 line_refused = record {
@@ -63,11 +63,11 @@ line_refused = record {
 -- 1  resource module m(): A        it has no method `a`
 
 abbrev without_method : Scope
-without_method = module_of (head kind.Resource (at 1 17) (codes "m") [] [] 5 []) (object [] ∷ []) (at 1 1) [] code.none []
+without_method = module_of (head kind.Resource (at 1 17) (codes "m") [] [] 6 []) (object [] ∷ []) (at 1 1) [] code.none []
 
-no_method : IsBelow (annotated_reading (with_module without_method) 0) (Own 0) (Named 5 []) → ⊥
+no_method : IsBelow (annotated_reading (with_module without_method) 0) (Own 0) (Named 6 []) → ⊥
 no_method h =
-    elim (h.closed (Own 0, Named 5 []) h.first) [
+    elim (h.closed (Own 0, Named 6 []) h.first) [
       | inl base ↦ base.1 tt
       | inr object ↦ object.2 (signature (method (codes "a") [] [] Nothing)) (inl refl)
     ]
@@ -87,7 +87,7 @@ seal_refused = record {
 -- 2    val n: Int = "t"            the fault of an `init` without a line of its own is at the module's first word
 
 abbrev with_text : Scope
-with_text = module_of (head kind.Resource (at 1 17) (codes "m") [] [] 4 []) (object (val_field (at 2 7) (codes "n") Int ∷ []) ∷ []) (at 1 1) [] (one (code.Quoted (at 2 16) (codes "t"))) []
+with_text = module_of (head kind.Resource (at 1 17) (codes "m") [] [] 5 []) (object (val_field (at 2 7) (codes "n") Int ∷ []) ∷ []) (at 1 1) [] (one (code.Quoted (at 2 16) (codes "t"))) []
 
 initialiser_refused : IsScopeFault (with_module with_text) 0 with_text (fault 1 1 TBody 1)
 initialiser_refused =
@@ -122,7 +122,7 @@ now_call = code.Call (at 2 18) (own_name (at 2 16) 0) (codes "now") code.none
 
 abbrev with_clock : Scope
 with_clock =
-    module_of (head kind.Resource (at 1 17) (codes "m") (atoms_of (codes "d") (codes "Tick" ∷ [])) (own (at 1 19) (codes "d") clock (Parameter true) ∷ []) 4 [])
+    module_of (head kind.Resource (at 1 17) (codes "m") (atoms_of (codes "d") (codes "Tick" ∷ [])) (own (at 1 19) (codes "d") clock (Parameter true) ∷ []) 5 [])
     (object (val_field (at 2 7) (codes "n") Int ∷ []) ∷ []) (at 1 1) [] (one now_call) []
 
 now_least : IsLeast (annotated_reading (with_module with_clock) 0) with_clock [] None (code.Plain now_call) Int (0 ∷ [])

@@ -37,10 +37,10 @@ use Rattle.wy_rules.proofs.Sources.{at, parameter, method, declaration, val_fiel
 
 abbrev pub lab : code.Block → TypeRef → Scope
 lab block result =
-    module_of (head kind.Resource (at 6 17) (codes "lab") [] [] 6 [])
+    module_of (head kind.Resource (at 6 17) (codes "lab") [] [] 7 [])
     (object (var_field (at 7 7) (codes "v") Int ∷ val_field (at 8 7) (codes "k") Int ∷ []) ∷ object (val_field (at 12 9) (codes "f") Int ∷ []) ∷ [])
     (at 6 1) [] (code.more (code.Plain (code.Number (at 7 16) (pos 1))) (code.more (code.Plain (code.Number (at 8 16) (pos 2))) code.none))
-    (body 0 (at 9 3) (method (codes "m") (Named 4 [] ∷ Named 5 [] ∷ Int ∷ Text ∷ Bool ∷ []) [] result) block ∷ [])
+    (body 0 (at 9 3) (method (codes "m") (Named 5 [] ∷ Named 6 [] ∷ Int ∷ Text ∷ Bool ∷ []) [] result) block ∷ [])
 
 abbrev pub lab_program : code.Block → TypeRef → Program
 lab_program block result =
@@ -96,15 +96,15 @@ module _ (b : code.Block) (r : TypeRef) where
         } in
         record { locals = locals; first = inr (record { expected = None; spot = refl; stands = ([], start, λ a j. by_member a j); settles = tt }, h) }
 
-    pub x_least : (column : ℕ) → IsLeast (annotated_reading (lab_program b r) 0) (lab b r) locals (Some 0) (code.Plain (x column)) (Named 4 []) []
+    pub x_least : (column : ℕ) → IsLeast (annotated_reading (lab_program b r) 0) (lab b r) locals (Some 0) (code.Plain (x column)) (Named 5 []) []
     x_least column =
-        name_least (annotated_reading (lab_program b r) 0) laws (lab b r) locals (Some 0) _ _ (Named 4 []) refl
-        (annotated_subtype (methods_of (lab_program b r) 0) ((Named 4 [], Named 4 []) ∷ (Nothing, Nothing) ∷ []) (Named 4 []) (Named 4 []) refl refl)
-
-    pub n_least : (column : ℕ) → IsLeast (annotated_reading (lab_program b r) 0) (lab b r) locals (Some 0) (code.Plain (n column)) (Named 5 []) []
-    n_least column =
         name_least (annotated_reading (lab_program b r) 0) laws (lab b r) locals (Some 0) _ _ (Named 5 []) refl
-        (annotated_subtype (methods_of (lab_program b r) 0) ((Named 5 [], Named 5 []) ∷ (Int, Int) ∷ []) (Named 5 []) (Named 5 []) refl refl)
+        (annotated_subtype (methods_of (lab_program b r) 0) ((Named 5 [], Named 5 []) ∷ (Nothing, Nothing) ∷ []) (Named 5 []) (Named 5 []) refl refl)
+
+    pub n_least : (column : ℕ) → IsLeast (annotated_reading (lab_program b r) 0) (lab b r) locals (Some 0) (code.Plain (n column)) (Named 6 []) []
+    n_least column =
+        name_least (annotated_reading (lab_program b r) 0) laws (lab b r) locals (Some 0) _ _ (Named 6 []) refl
+        (annotated_subtype (methods_of (lab_program b r) 0) ((Named 6 [], Named 6 []) ∷ (Int, Int) ∷ []) (Named 6 []) (Named 6 []) refl refl)
 
     pub i_least : (column : ℕ) → IsLeast (annotated_reading (lab_program b r) 0) (lab b r) locals (Some 0) (code.Plain (i column)) Int []
     i_least column = name_least (annotated_reading (lab_program b r) 0) laws (lab b r) locals (Some 0) _ _ Int refl base_itself.0
@@ -135,5 +135,5 @@ module _ (b : code.Block) (r : TypeRef) where
     pub t_not : (column : ℕ) (u : TypeRef) → (Text ≡ u → ⊥) → (IsObject u → ⊥) → HasAt (annotated_reading (lab_program b r) 0) (lab b r) locals (Some 0) (code.Plain (t column)) u → ⊥
     t_not column u d o = not_at (annotated_reading (lab_program b r) 0) laws (lab b r) locals (Some 0) _ Text u [] (t_least column) (not_below (annotated_reading (lab_program b r) 0) laws Text u d o)
 
-    pub x_not : (column : ℕ) (u : TypeRef) → (Named 4 [] ≡ u → ⊥) → (IsObject u → ⊥) → HasAt (annotated_reading (lab_program b r) 0) (lab b r) locals (Some 0) (code.Plain (x column)) u → ⊥
-    x_not column u d o = not_at (annotated_reading (lab_program b r) 0) laws (lab b r) locals (Some 0) _ (Named 4 []) u [] (x_least column) (not_below (annotated_reading (lab_program b r) 0) laws (Named 4 []) u d o)
+    pub x_not : (column : ℕ) (u : TypeRef) → (Named 5 [] ≡ u → ⊥) → (IsObject u → ⊥) → HasAt (annotated_reading (lab_program b r) 0) (lab b r) locals (Some 0) (code.Plain (x column)) u → ⊥
+    x_not column u d o = not_at (annotated_reading (lab_program b r) 0) laws (lab b r) locals (Some 0) _ (Named 5 []) u [] (x_least column) (not_below (annotated_reading (lab_program b r) 0) laws (Named 5 []) u d o)

@@ -10,6 +10,7 @@ use Rattle.wy_types.specs.declared.resolved.Origin.{Origin}
 use Rattle.wy_types.specs.declared.resolved.Origin.TheVariants as origin
 use Rattle.wy_types.specs.declared.resolved.OwnName.{OwnName}
 use Rattle.wy_types.specs.Program.{Program, Scope}
+use Rattle.wy_types.specs.Primitive.{first_declared}
 use Rattle.wy_types.specs.Core.{IsCore, IsPrimitive, OriginFits}
 use Rattle.wy_types.specs.Ground.{names_of, type_of, program_number, program_sets, start_list}
 use Rattle.wy_rules.specs.GroundTypes.{GroundType, Int as Ints, Bool as Truths, Text as Texts, Nothing as Nothings, Named, Own, IsGroundObject, type_at, read_by}
@@ -53,12 +54,12 @@ module _ (p : Program) where
     pub number : ℕ
     pub members : List (List ℕ)
     pub typ : name.typ ≡ of.Named number members
-    pub primitive : number < 4
+    pub primitive : number < first_declared
 
   origin_fits : (s : Scope) (k : ℕ) (n : OwnName) (o : Origin) → o ≡ origin.Grant → OriginFits p s k n o → IsPrimitive n.typ
   origin_fits s k n o e h = (subst (λ o. OriginFits p s k n o) e h).1
 
-  primitive_named : (t : TypeRef) → IsPrimitive t → (d : ℕ) × (ms : List (List ℕ)) × (t ≡ of.Named d ms) × (d < 4)
+  primitive_named : (t : TypeRef) → IsPrimitive t → (d : ℕ) × (ms : List (List ℕ)) × (t ≡ of.Named d ms) × (d < first_declared)
   primitive_named (of.Named d ms) h = (d, ms, refl, h)
   primitive_named of.Int h = absurd h
   primitive_named of.Bool h = absurd h

@@ -140,8 +140,8 @@ late : Program
 late = record {
   declarations = primitive_types ++ primitive_type (codes "Marked") (codes "Mark" ∷ []) [] ∷ [];
   scopes =
-      record (unit (codes "m") [] (bare ∷ []) none []) { ascribed = Some 4; definitions = [] ∷ [] } ∷
-      record (main (own_name (codes "a") (Named 4 ((0 ∷ []) ∷ [])) (Instance 0 []) ∷ own_name (codes "console") (Named 0 ((1 ∷ []) ∷ (2 ∷ []) ∷ [])) Grant ∷ []) (bare ∷ []) (last nothing) []) { start_effect = 2 ∷ [] } ∷ [];
+      record (unit (codes "m") [] (bare ∷ []) none []) { ascribed = Some 5; definitions = [] ∷ [] } ∷
+      record (main (own_name (codes "a") (Named 5 ((0 ∷ []) ∷ [])) (Instance 0 []) ∷ own_name (codes "console") (Named 0 ((1 ∷ []) ∷ (2 ∷ []) ∷ [])) Grant ∷ []) (bare ∷ []) (last nothing) []) { start_effect = 2 ∷ [] } ∷ [];
 }
 
 -- the program's atoms are counted with the line's, and the report's without it: the effect has no name there

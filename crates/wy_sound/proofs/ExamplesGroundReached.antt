@@ -23,13 +23,13 @@ added_once = refl
 owns_differ : is_among (Own 1 0) (Own 0 0 ∷ Own 1 1 ∷ []) ≡ false
 owns_differ = refl
 
-bound_differs : same_ground (Named 4 []) (At 4 []) ≡ false
+bound_differs : same_ground (Named 5 []) (At 5 []) ≡ false
 bound_differs = refl
 
-sets_differ : same_ground (Named 4 ((0 ∷ []) ∷ [])) (Named 4 ((1 ∷ []) ∷ [])) ≡ false
+sets_differ : same_ground (Named 5 ((0 ∷ []) ∷ [])) (Named 5 ((1 ∷ []) ∷ [])) ≡ false
 sets_differ = refl
 
-sets_agree : same_ground (Named 4 ((0 ∷ []) ∷ [])) (Named 4 ((0 ∷ []) ∷ [])) ≡ true
+sets_agree : same_ground (Named 5 ((0 ∷ []) ∷ [])) (Named 5 ((0 ∷ []) ∷ [])) ≡ true
 sets_agree = refl
 
 ------------------------------------------------------------

@@ -18,7 +18,7 @@ use Rattle.wy_types.specs.Program.{Program}
 use Rattle.wy_types.specs.Bounds.{bounds_of, declaration_bounds, declared_bounds, type_bounds}
 use Rattle.wy_types.specs.Core.{IsCore}
 use Rattle.wy_types.specs.Ground.{abstract_names, members_of}
-use Rattle.wy_types.specs.Primitive.{primitive_types}
+use Rattle.wy_types.specs.Primitive.{primitive_types, first_declared}
 use Rattle.wy_rules.specs.OwnNames.{opens, opened_bounds, shifted_bounds, names_bounds, opened_count}
 use Rattle.wy_sound.proofs.Lists.{taken_get}
 use Rattle.wy_sound.proofs.LinkingLists.{goes_on_more, or_first, read_before, read_behind, or_behind, before_or_behind}
@@ -144,16 +144,17 @@ module _ (p : Program) (c : IsCore p) where
   -- Primitive types
 
   -- members of primitive types have no bounds
-  pub primitive_unbounded : (d : ℕ) → d < 4 → AreNone (declared_bounds p d)
+  pub primitive_unbounded : (d : ℕ) → d < first_declared → AreNone (declared_bounds p d)
   primitive_unbounded d lt =
-      subst (λ o. AreNone (declaration_bounds o)) (sym (taken_get d 4 p.declarations primitive_types lt c.primitives)) (of_number d lt)
+      subst (λ o. AreNone (declaration_bounds o)) (sym (taken_get d first_declared p.declarations primitive_types lt c.primitives)) (of_number d lt)
     where
-      of_number : (d : ℕ) → d < 4 → AreNone (declaration_bounds (slice_get primitive_types d))
+      of_number : (d : ℕ) → d < first_declared → AreNone (declaration_bounds (slice_get primitive_types d))
       of_number zero lt = none_bounded 2
       of_number (suc zero) lt = none_bounded 4
       of_number (suc (suc zero)) lt = none_bounded 1
       of_number (suc (suc (suc zero))) lt = none_bounded 1
-      of_number (suc (suc (suc (suc d)))) lt = absurd (omega arith)
+      of_number (suc (suc (suc (suc zero)))) lt = none_bounded 5
+      of_number (suc (suc (suc (suc (suc d))))) lt = absurd (omega arith)
 
 ------------------------------------------------------------
 -- One own name more

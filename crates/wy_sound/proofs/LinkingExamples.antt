@@ -66,23 +66,23 @@ plain_text = primitive_type (codes "Plain") [] []
 
 -- a pure module, and one with a bare parameter that uses it, and defines `Line` as `{out.Out}`
 abbrev format : Scope
-format = scope Pure (codes "format") [] [] (Some 5) []
+format = scope Pure (codes "format") [] [] (Some 6) []
 
 abbrev logger_names : List OwnName
-logger_names = own (codes "out") (Named 0 two) (Parameter true) ∷ own (codes "format") (Named 5 []) (Use 0) ∷ []
+logger_names = own (codes "out") (Named 0 two) (Parameter true) ∷ own (codes "format") (Named 6 []) (Use 0) ∷ []
 
 abbrev logger : Scope
-logger = scope Resource (codes "logger") (None ∷ None ∷ []) logger_names (Some 4) ((1 ∷ []) ∷ [])
+logger = scope Resource (codes "logger") (None ∷ None ∷ []) logger_names (Some 5) ((1 ∷ []) ∷ [])
 
 -- a plain module, whose parameter's type is bare
 abbrev plug : Scope
-plug = scope Plain (codes "plug") [] (own (codes "l") (Named 4 []) (Parameter false) ∷ []) (Some 5) []
+plug = scope Plain (codes "plug") [] (own (codes "l") (Named 5 []) (Parameter false) ∷ []) (Some 6) []
 
 -- the program's own names, with the type of the import
 abbrev main_names : TypeRef → List OwnName
 main_names typ =
-    own (codes "console") (Named 0 two) Grant ∷ own (codes "format") (Named 5 []) (Use 0) ∷
-    own (codes "log") (Named 4 ((2 ∷ []) ∷ [])) (Instance 1 (0 ∷ [])) ∷ own (codes "p") typ (Import 2 (2 ∷ []) (2 ∷ [])) ∷ []
+    own (codes "console") (Named 0 two) Grant ∷ own (codes "format") (Named 6 []) (Use 0) ∷
+    own (codes "log") (Named 5 ((2 ∷ []) ∷ [])) (Instance 1 (0 ∷ [])) ∷ own (codes "p") typ (Import 2 (2 ∷ []) (2 ∷ [])) ∷ []
 
 abbrev main : TypeRef → Scope
 main typ = scope Main (codes "main") (None ∷ None ∷ None ∷ []) (main_names typ) None []
@@ -127,7 +127,7 @@ plug_fits typ = record {
 }
 
 -- the import stands at its bound, of an atom that is opened before it
-main_fits : OwnNamesFit (program (At 5 (2 ∷ []))) (main (At 5 (2 ∷ [])))
+main_fits : OwnNamesFit (program (At 6 (2 ∷ []))) (main (At 6 (2 ∷ [])))
 main_fits = record {
   may_have = refl;
   parameters = λ n i. absurd i;
@@ -135,16 +135,16 @@ main_fits = record {
   bounds = refl;
 }
 
-lines_typed : LinesAreTyped (program (At 5 (2 ∷ [])))
-lines_typed s (inl e) = subst (OwnNamesFit (program (At 5 (2 ∷ [])))) e (format_fits (At 5 (2 ∷ [])))
-lines_typed s (inr (inl e)) = subst (OwnNamesFit (program (At 5 (2 ∷ [])))) e (logger_fits (At 5 (2 ∷ [])))
-lines_typed s (inr (inr (inl e))) = subst (OwnNamesFit (program (At 5 (2 ∷ [])))) e (plug_fits (At 5 (2 ∷ [])))
-lines_typed s (inr (inr (inr (inl e)))) = subst (OwnNamesFit (program (At 5 (2 ∷ [])))) e main_fits
+lines_typed : LinesAreTyped (program (At 6 (2 ∷ [])))
+lines_typed s (inl e) = subst (OwnNamesFit (program (At 6 (2 ∷ [])))) e (format_fits (At 6 (2 ∷ [])))
+lines_typed s (inr (inl e)) = subst (OwnNamesFit (program (At 6 (2 ∷ [])))) e (logger_fits (At 6 (2 ∷ [])))
+lines_typed s (inr (inr (inl e))) = subst (OwnNamesFit (program (At 6 (2 ∷ [])))) e (plug_fits (At 6 (2 ∷ [])))
+lines_typed s (inr (inr (inr (inl e)))) = subst (OwnNamesFit (program (At 6 (2 ∷ [])))) e main_fits
 lines_typed s (inr (inr (inr (inr i)))) = absurd i
 
 -- an import at another set than its bound has not its type
-at_other_bound : HaveTheirTypes (program (At 5 (1 ∷ []))) 0 (main_names (At 5 (1 ∷ []))) → ⊥
-at_other_bound h = let same : At 5 (1 ∷ []) ≡ At 5 (2 ∷ []) = h.1.1.1.0.1 in cc
+at_other_bound : HaveTheirTypes (program (At 6 (1 ∷ []))) 0 (main_names (At 6 (1 ∷ []))) → ⊥
+at_other_bound h = let same : At 6 (1 ∷ []) ≡ At 6 (2 ∷ []) = h.1.1.1.0.1 in cc
 
 names_plain : (typ : TypeRef) → HavePlainNames (program typ)
 names_plain typ s (inl e) = subst (λ (z : Scope). (n : OwnName) → In n z.names → IsPlainName n.name) e (plain [] tt)
@@ -161,7 +161,7 @@ abbrev grant : OwnName
 grant = own (codes "console") (Named 0 two) Grant
 
 abbrev line : OwnName
-line = own (codes "log") (Named 4 ((2 ∷ []) ∷ [])) (Instance 1 [])
+line = own (codes "log") (Named 5 ((2 ∷ []) ∷ [])) (Instance 1 [])
 
 grant_first : GrantsStandFirst (grant ∷ line ∷ [])
 grant_first = ((λ m i e. refl), ((λ m i e. absurd i), tt))
@@ -180,11 +180,11 @@ no_such_name p plain s among n i e = (plain s among n i).0 (subst (λ v. In 32 v
 -- Ground sets
 
 abbrev imported : Program
-imported = program (At 5 (2 ∷ []))
+imported = program (At 6 (2 ∷ []))
 
 -- what stands for an own name of the program, as it has to be
 abbrev GroundInMain : OwnName → ℕ → Type 0
-GroundInMain n k = IsGround imported (program_sets imported) (main_names (At 5 (2 ∷ []))) n n.origin (slice_index_or (program_visited imported).actuals k (actual.Grant 0))
+GroundInMain n k = IsGround imported (program_sets imported) (main_names (At 6 (2 ∷ []))) n n.origin (slice_index_or (program_visited imported).actuals k (actual.Grant 0))
 
 -- the grant's atoms are themselves
 of_grant : GroundInMain (own (codes "console") (Named 0 two) Grant) 0
@@ -194,7 +194,7 @@ of_grant = refl
 of_line : map (ground_of (program_sets imported)) ((2 ∷ []) ∷ []) ≡ (1 ∷ []) ∷ []
 of_line = refl
 
-of_instance : GroundInMain (own (codes "log") (Named 4 ((2 ∷ []) ∷ [])) (Instance 1 (0 ∷ []))) 2
+of_instance : GroundInMain (own (codes "log") (Named 5 ((2 ∷ []) ∷ [])) (Instance 1 (0 ∷ []))) 2
 of_instance = (
   instance_of (codes "log") 1 (actual.Grant 0 ∷ actual.Instance 0 ∷ []) None two,
   record { number = 1; is = refl; there = refl; of_module = refl },
@@ -203,7 +203,7 @@ of_instance = (
 )
 
 -- the import is handed the instance, whose type has no bare parameter, and has the ground of its bound
-of_import : GroundInMain (own (codes "p") (At 5 (2 ∷ [])) (Import 2 (2 ∷ []) (2 ∷ []))) 3
+of_import : GroundInMain (own (codes "p") (At 6 (2 ∷ [])) (Import 2 (2 ∷ []) (2 ∷ []))) 3
 of_import = (
   instance_of (codes "p") 2 (actual.Instance 1 ∷ []) (Some (1 ∷ [])) [],
   record { number = 2; is = refl; there = refl; of_module = refl },
@@ -213,7 +213,7 @@ of_import = (
 
 -- a visit that may go through one scope more is the same
 goes_through_all :
-    visit imported 5 (main_names (At 5 (2 ∷ []))) [] (main_names (At 5 (2 ∷ []))) (record { started = []; actuals = []; sets = [] }) ≡ program_visited imported
+    visit imported 5 (main_names (At 6 (2 ∷ []))) [] (main_names (At 6 (2 ∷ []))) (record { started = []; actuals = []; sets = [] }) ≡ program_visited imported
 goes_through_all = refl
 
 -- of the types of its run, declared types with a set for each member are such, and no own type of a literal, since its modules have none here
@@ -246,19 +246,19 @@ unbounded = None ∷ None ∷ None ∷ None ∷ []
 
 -- `Read = {disk.Read, disk.List}` and `Find = {disk.List}`
 abbrev index : Scope
-index = scope Resource (codes "index") unbounded (own (codes "disk") (Named 1 four) (Parameter true) ∷ []) (Some 4) ((0 ∷ 3 ∷ []) ∷ (3 ∷ []) ∷ [])
+index = scope Resource (codes "index") unbounded (own (codes "disk") (Named 1 four) (Parameter true) ∷ []) (Some 5) ((0 ∷ 3 ∷ []) ∷ (3 ∷ []) ∷ [])
 
 -- `s.Find`, its atom 1, has the bound `{s.Read}`
 abbrev find_bounded : Bounds
 find_bounded = None ∷ Some (0 ∷ []) ∷ []
 
 abbrev reader : Bounds → Scope
-reader bounds = scope Resource (codes "reader") bounds (own (codes "s") (Named 4 two) (Parameter true) ∷ []) (Some 5) ((0 ∷ []) ∷ [])
+reader bounds = scope Resource (codes "reader") bounds (own (codes "s") (Named 5 two) (Parameter true) ∷ []) (Some 6) ((0 ∷ []) ∷ [])
 
 abbrev stores_names : List OwnName
 stores_names =
-    own (codes "disk") (Named 1 four) Grant ∷ own (codes "i") (Named 4 ((4 ∷ []) ∷ (5 ∷ []) ∷ [])) (Instance 0 (0 ∷ [])) ∷
-    own (codes "r") (Named 5 ((6 ∷ []) ∷ [])) (Instance 1 (1 ∷ [])) ∷ []
+    own (codes "disk") (Named 1 four) Grant ∷ own (codes "i") (Named 5 ((4 ∷ []) ∷ (5 ∷ []) ∷ [])) (Instance 0 (0 ∷ [])) ∷
+    own (codes "r") (Named 6 ((6 ∷ []) ∷ [])) (Instance 1 (1 ∷ [])) ∷ []
 
 abbrev stores_main : Scope
 stores_main = scope Main (codes "main") (unbounded ++ None ∷ Some (4 ∷ []) ∷ None ∷ []) stores_names None []

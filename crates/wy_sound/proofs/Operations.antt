@@ -8,7 +8,7 @@ use Rattle.wy_effects.proofs.SetLaws.{In-union-left}
 use Rattle.wy_effects.specs.AtomTable.{atom_name}
 use Rattle.wy_types.specs.declared.resolved.TypeDecl.{TypeDecl}
 use Rattle.wy_types.specs.Program.{Program}
-use Rattle.wy_types.specs.Primitive.{primitive_types}
+use Rattle.wy_types.specs.Primitive.{primitive_types, full_folder, first_declared}
 use Rattle.wy_types.specs.Signature.{Signature, mapped_signature, find_method}
 use Rattle.wy_types.specs.Core.{IsCore}
 use Rattle.wy_types.specs.Ground.{abstract_names, members_of}
@@ -21,7 +21,7 @@ use Rattle.wy_device.specs.declared.operation.Op.TheVariants.{ConsoleRead, Conso
 use Rattle.wy_device.specs.declared.operation.OpName.{OpName}
 use Rattle.wy_device.specs.declared.operation.OpName.TheVariants as name
 use Rattle.wy_device.specs.declared.primitive.Primitive.{Primitive}
-use Rattle.wy_device.specs.declared.primitive.Primitive.TheVariants.{Console, Folder, Clock, Random}
+use Rattle.wy_device.specs.declared.primitive.Primitive.TheVariants.{Console, Folder, Clock, Random, FullFolder}
 use Rattle.wy_device.specs.Operation.{name_of, method_text, member_named}
 use Rattle.wy_device.specs.Primitives.{operations_of}
 use Rattle.wy_device.specs.Requests.{operation_called, operation_on}
@@ -85,22 +85,24 @@ abbrev pub primitive_of_number : ℕ → Primitive
 primitive_of_number zero = Console
 primitive_of_number (suc zero) = Folder
 primitive_of_number (suc (suc zero)) = Clock
-primitive_of_number (suc (suc (suc d))) = Random
+primitive_of_number (suc (suc (suc zero))) = Random
+primitive_of_number (suc (suc (suc (suc d)))) = FullFolder
 
 -- the methods of a primitive type are its operations
-pub primitive_methods : (p : Program) → IsCore p → (d : ℕ) (sets : List (List ℕ)) → d < 4 →
+pub primitive_methods : (p : Program) → IsCore p → (d : ℕ) (sets : List (List ℕ)) → d < first_declared →
     ground_methods p (Named d sets) ≡ map (operation_method sets) (operations_of (primitive_of_number d))
-primitive_methods p core d sets lt = ap (methods_from sets) (taken_get d 4 p.declarations primitive_types lt core.primitives) ∙ of_number d lt
+primitive_methods p core d sets lt = ap (methods_from sets) (taken_get d first_declared p.declarations primitive_types lt core.primitives) ∙ of_number d lt
   where
     methods_from : List (List ℕ) → Option TypeDecl → List (Signature GroundType)
     methods_from sets o = map (mapped_signature (type_at 0) (λ e. e)) (named_methods false sets (declared_methods o))
 
-    of_number : (d : ℕ) → d < 4 → methods_from sets (slice_get primitive_types d) ≡ map (operation_method sets) (operations_of (primitive_of_number d))
+    of_number : (d : ℕ) → d < first_declared → methods_from sets (slice_get primitive_types d) ≡ map (operation_method sets) (operations_of (primitive_of_number d))
     of_number zero lt = refl
     of_number (suc zero) lt = refl
     of_number (suc (suc zero)) lt = refl
     of_number (suc (suc (suc zero))) lt = refl
-    of_number (suc (suc (suc (suc d)))) lt = absurd (omega arith)
+    of_number (suc (suc (suc (suc zero)))) lt = refl
+    of_number (suc (suc (suc (suc (suc d))))) lt = absurd (omega arith)
 
 -- the operation of a method's name is the method that is found
 pub operation_found : (sets : List (List ℕ)) (os : List OpName) (method : List ℕ) (g : Signature GroundType) →
@@ -136,40 +138,45 @@ operation_there o texts e = absurd (omega (arith, e))
 ------------------------------------------------------------
 -- Atoms of operations
 
+-- the members of a folder, among more
+of_folder : (members : List (List ℕ)) → slice_get members 0 ≡ Some (codes "Read") → slice_get members 1 ≡ Some (codes "Write") →
+    slice_get members 2 ≡ Some (codes "Append") → slice_get members 3 ≡ Some (codes "List") →
+    (o : OpName) → In o (operations_of Folder) → slice_get members (member_number o) ≡ Some (member_named o)
+of_folder members r w a l o (inl e) = subst (λ (o : OpName). slice_get members (member_number o) ≡ Some (member_named o)) e r
+of_folder members r w a l o (inr (inl e)) = subst (λ (o : OpName). slice_get members (member_number o) ≡ Some (member_named o)) e r
+of_folder members r w a l o (inr (inr (inl e))) = subst (λ (o : OpName). slice_get members (member_number o) ≡ Some (member_named o)) e w
+of_folder members r w a l o (inr (inr (inr (inl e)))) = subst (λ (o : OpName). slice_get members (member_number o) ≡ Some (member_named o)) e a
+of_folder members r w a l o (inr (inr (inr (inr (inl e))))) = subst (λ (o : OpName). slice_get members (member_number o) ≡ Some (member_named o)) e l
+of_folder members r w a l o (inr (inr (inr (inr (inr i))))) = absurd i
+
+-- .. and of a full one
+of_full_folder : (o : OpName) → In o (operations_of FullFolder) → slice_get full_folder.members (member_number o) ≡ Some (member_named o)
+of_full_folder o (inl e) = of_folder full_folder.members refl refl refl refl o (inl e)
+of_full_folder o (inr (inl e)) = of_folder full_folder.members refl refl refl refl o (inr (inl e))
+of_full_folder o (inr (inr (inl e))) = of_folder full_folder.members refl refl refl refl o (inr (inr (inl e)))
+of_full_folder o (inr (inr (inr (inl e)))) = of_folder full_folder.members refl refl refl refl o (inr (inr (inr (inl e))))
+of_full_folder o (inr (inr (inr (inr (inl e))))) = of_folder full_folder.members refl refl refl refl o (inr (inr (inr (inr (inl e)))))
+of_full_folder o (inr (inr (inr (inr (inr (inl e)))))) =
+    subst (λ (o : OpName). slice_get full_folder.members (member_number o) ≡ Some (member_named o)) e refl
+of_full_folder o (inr (inr (inr (inr (inr (inr i)))))) = absurd i
+
 -- the members of the primitive types
-pub member_there : (d : ℕ) (o : OpName) → d < 4 → In o (operations_of (primitive_of_number d)) →
+pub member_there : (d : ℕ) (o : OpName) → d < first_declared → In o (operations_of (primitive_of_number d)) →
     (t : TypeDecl) × (slice_get primitive_types d ≡ Some t) × (slice_get t.members (member_number o) ≡ Some (member_named o))
 member_there zero o lt (inl e) =
     (_, refl, subst (λ (o : OpName). slice_get (codes "In" ∷ codes "Out" ∷ []) (member_number o) ≡ Some (member_named o)) e refl)
 member_there zero o lt (inr (inl e)) =
     (_, refl, subst (λ (o : OpName). slice_get (codes "In" ∷ codes "Out" ∷ []) (member_number o) ≡ Some (member_named o)) e refl)
 member_there zero o lt (inr (inr i)) = absurd i
-member_there (suc zero) o lt i = (_, refl, of_folder i)
-  where
-    of_folder : In o (operations_of Folder) →
-        slice_get (codes "Read" ∷ codes "Write" ∷ codes "Append" ∷ codes "List" ∷ []) (member_number o) ≡ Some (member_named o)
-    of_folder (inl e) = subst (λ (o : OpName). slice_get (codes "Read" ∷ codes "Write" ∷ codes "Append" ∷ codes "List" ∷ []) (member_number o) ≡ Some
-        (member_named o)) e refl
-    of_folder (inr (inl e)) = subst
-        (λ (o : OpName). slice_get (codes "Read" ∷ codes "Write" ∷ codes "Append" ∷ codes "List" ∷ []) (member_number o) ≡ Some
-        (member_named o)) e refl
-    of_folder (inr (inr (inl e))) =
-        subst (λ (o : OpName). slice_get (codes "Read" ∷ codes "Write" ∷ codes "Append" ∷ codes "List" ∷ []) (member_number o) ≡ Some
-        (member_named o)) e refl
-    of_folder (inr (inr (inr (inl e)))) =
-        subst (λ (o : OpName). slice_get (codes "Read" ∷ codes "Write" ∷ codes "Append" ∷ codes "List" ∷ []) (member_number o) ≡ Some
-        (member_named o)) e refl
-    of_folder (inr (inr (inr (inr (inl e))))) =
-        subst (λ (o : OpName). slice_get (codes "Read" ∷ codes "Write" ∷ codes "Append" ∷ codes "List" ∷ []) (member_number o) ≡ Some
-        (member_named o)) e refl
-    of_folder (inr (inr (inr (inr (inr i))))) = absurd i
+member_there (suc zero) o lt i = (_, refl, of_folder (codes "Read" ∷ codes "Write" ∷ codes "Append" ∷ codes "List" ∷ []) refl refl refl refl o i)
 member_there (suc (suc zero)) o lt (inl e) =
     (_, refl, subst (λ (o : OpName). slice_get (codes "Tick" ∷ []) (member_number o) ≡ Some (member_named o)) e refl)
 member_there (suc (suc zero)) o lt (inr i) = absurd i
 member_there (suc (suc (suc zero))) o lt (inl e) =
     (_, refl, subst (λ (o : OpName). slice_get (codes "Draw" ∷ []) (member_number o) ≡ Some (member_named o)) e refl)
 member_there (suc (suc (suc zero))) o lt (inr i) = absurd i
-member_there (suc (suc (suc (suc d)))) o lt i = absurd (omega arith)
+member_there (suc (suc (suc (suc zero)))) o lt i = (_, refl, of_full_folder o i)
+member_there (suc (suc (suc (suc (suc d))))) o lt i = absurd (omega arith)
 
 -- a set at a place that names one atom has it
 atom_at : (p : Program) (sets : List (List ℕ)) (k : ℕ) (grant : List ℕ) (members : List (List ℕ)) (m : List ℕ) →
@@ -185,9 +192,9 @@ atom_at p (s ∷ sets) zero grant (n ∷ members) m e f = one s (cc)
     one (a ∷ s) e = (a, inl refl, cc)
 atom_at p (s ∷ sets) (suc k) grant (n ∷ members) m e f = atom_at p sets k grant members m (cc) f
 
-declared_members : (p : Program) (core : IsCore p) (d : ℕ) (t : TypeDecl) → d < 4 → slice_get primitive_types d ≡ Some t →
+declared_members : (p : Program) (core : IsCore p) (d : ℕ) (t : TypeDecl) → d < first_declared → slice_get primitive_types d ≡ Some t →
     slice_get p.declarations d ≡ Some t
-declared_members p core d t lt e = taken_get d 4 p.declarations primitive_types lt core.primitives ∙ e
+declared_members p core d t lt e = taken_get d first_declared p.declarations primitive_types lt core.primitives ∙ e
 
 -- the effect of an operation's method at a grant's sets has the grant's atom of its member
 pub operation_atom : (p : Program) (core : IsCore p) (g : ℕ) (h : IsGrant p g) (o : OpName) → In o (operations_of (primitive_of_number h.number)) →

@@ -6,6 +6,7 @@ use Rattle.wy_text.specs.declared.fault.Place.{Place}
 use Rattle.wy_types.specs.declared.linked.Actual.TheVariants as actual
 use Rattle.wy_types.specs.Program.{Program, Scope}
 use Rattle.wy_types.specs.Signature.{Signature, find_method}
+use Rattle.wy_types.specs.Primitive.{first_declared}
 use Rattle.wy_types.specs.Core.{IsCore}
 use Rattle.wy_types.specs.Ground.{names_of}
 use Rattle.wy_rules.specs.GroundTypes.{GroundType, Int as Ints, Bool as Truths, Text as Texts, Nothing as Nothings, ground_methods}
@@ -47,12 +48,13 @@ last_number [] = refl
 last_number (s ∷ []) = refl
 last_number (s ∷ t ∷ ss) = let h = last_number (t ∷ ss) in omega (arith, h)
 
-primitive_there : (d : ℕ) → d < 4 → primitive_numbered current d ≡ Some (primitive_of_number d)
+primitive_there : (d : ℕ) → d < first_declared → primitive_numbered current d ≡ Some (primitive_of_number d)
 primitive_there zero lt = refl
 primitive_there (suc zero) lt = refl
 primitive_there (suc (suc zero)) lt = refl
 primitive_there (suc (suc (suc zero))) lt = refl
-primitive_there (suc (suc (suc (suc d)))) lt = absurd (omega arith)
+primitive_there (suc (suc (suc (suc zero)))) lt = refl
+primitive_there (suc (suc (suc (suc (suc d))))) lt = absurd (omega arith)
 
 grant_there : (p : Program) (g : ℕ) (h : IsGrant p g) →
     grant_of current p g ≡ Some (record { name = h.name.name; primitive = primitive_of_number h.number })

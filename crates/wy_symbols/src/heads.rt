@@ -3,6 +3,7 @@
 ghost use Rattle.std.specs.Prelude.{◌≡◌, ◌≤◌, [], length, slice_get, IfOk};
 ghost use Rattle.std.specs.Option.{option_copied};
 ghost use Rattle.wy_symbols.specs.Atoms.{head_names, type_number};
+ghost use Rattle.wy_types.specs.Primitive.{most_types};
 
 use crate::items::item;
 use crate::scoping::Head;
@@ -23,19 +24,20 @@ impl Model for Heads {
     ghost use Rattle.std.specs.Prelude.{◌≡◌, ◌≤◌, List, length};
     ghost use Rattle.wy_symbols.specs.declared.scoping.Head.{Head};
     ghost use Rattle.wy_symbols.specs.Atoms.{head_names};
+    ghost use Rattle.wy_types.specs.Primitive.{most_types};
 
     ghost Value = { List Head };
 
     ghost view = { λ h. h.list.items };
 
-    ghost invariant = { λ h. (h.names ≡ head_names h.list.items) × (length h.list.items ≤ 1028) };
+    ghost invariant = { λ h. (h.names ≡ head_names h.list.items) × (length h.list.items ≤ most_types) };
 }
 
 impl Heads {
     /// These types, with the table of their names.
     pub fn new(list: Vec<Head>, names: Table) -> Heads
         requires named { names ≡ head_names list.items }
-        requires few { length list.items ≤ 1028 }
+        requires few { length list.items ≤ most_types }
         ensures { result ≡ list.items }
     {
         Heads { list, names }
@@ -54,7 +56,7 @@ impl Heads {
     /// The names, in the order of the numbers. It takes no memory.
     pub fn names(&self) -> &Table
         ensures named { result.now ≡ head_names self.now }
-        ensures few { length result.now ≤ 1028 }
+        ensures few { length result.now ≤ most_types }
     {
         &self.names
     }

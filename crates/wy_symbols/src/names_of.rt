@@ -27,6 +27,7 @@ pub fn primitive_names(alloc: Global) -> Result<Vec<Text>, Memory>
     add_name(alloc, &mut names, "Folder")?;
     add_name(alloc, &mut names, "Clock")?;
     add_name(alloc, &mut names, "Random")?;
+    add_name(alloc, &mut names, "FullFolder")?;
     Ok(names)
 }
 

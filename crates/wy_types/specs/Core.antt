@@ -26,7 +26,7 @@ use Rattle.wy_types.specs.Program.{Program, Scope, Body, Start, Init, Run}
 use Rattle.wy_types.specs.Signature.{Signature}
 use Rattle.wy_types.specs.Types.{signature, is_plain, methods_of_owner}
 use Rattle.wy_types.specs.Fitting.{member_count, FitsType, FitsSignature}
-use Rattle.wy_types.specs.Primitive.{primitive_types}
+use Rattle.wy_types.specs.Primitive.{primitive_types, first_declared, most_types}
 
 ------------------------------------------------------------
 -- Types
@@ -225,7 +225,7 @@ IsPrimitive Int = ⊥
 IsPrimitive Bool = ⊥
 IsPrimitive Text = ⊥
 IsPrimitive Nothing = ⊥
-IsPrimitive (Named d members) = d < 4
+IsPrimitive (Named d members) = d < first_declared
 IsPrimitive (At d bound) = ⊥
 IsPrimitive (Own l) = ⊥
 
@@ -340,12 +340,12 @@ module_names (s ∷ []) = []
 module_names (s ∷ t ∷ rest) = s.name ∷ module_names (t ∷ rest)
 
 pub record IsCore (p : Program) : Type 0 where
-  pub primitives : take 4 p.declarations ≡ primitive_types
+  pub primitives : take first_declared p.declarations ≡ primitive_types
   pub declarations : (d : TypeDecl) → In d p.declarations → DeclarationFits p d
   pub scopes : (s : Scope) → In s p.scopes → ScopeFits p s
   pub program : ProgramIsLast p.scopes
   pub no_cycle : NoCycle p
   pub type_names : Apart (map (λ (d : TypeDecl). d.name) p.declarations)
   pub modules : Apart (module_names p.scopes)
-  pub few_types : length p.declarations ≤ 1028
+  pub few_types : length p.declarations ≤ most_types
   pub few_scopes : length p.scopes ≤ 257

@@ -29,6 +29,28 @@ clock = primitive_type (codes "Clock") (codes "Tick" ∷ []) (primitive_method (
 abbrev pub random : TypeDecl
 random = primitive_type (codes "Random") (codes "Draw" ∷ []) (primitive_method (codes "word") 0 0 Int ∷ [])
 
+-- a folder whose files can be removed
+abbrev pub full_folder : TypeDecl
+full_folder =
+    primitive_type (codes "FullFolder") (codes "Read" ∷ codes "Write" ∷ codes "Append" ∷ codes "List" ∷ codes "Remove" ∷ [])
+    (primitive_method (codes "read") 1 0 Text ∷ primitive_method (codes "has") 1 0 Bool ∷ primitive_method (codes "write") 2 1 Nothing ∷
+    primitive_method (codes "append") 2 2 Nothing ∷ primitive_method (codes "names") 0 3 Text ∷ primitive_method (codes "remove") 1 4 Nothing ∷ [])
+
 -- the primitive types, in the order of their numbers
 abbrev pub primitive_types : List TypeDecl
-primitive_types = console ∷ folder ∷ clock ∷ random ∷ []
+primitive_types = console ∷ folder ∷ clock ∷ random ∷ full_folder ∷ []
+
+-- The primitive types of the edition before. A type that no text can name has the number of the one that they lack, so that
+-- declared types have the same numbers over both tables.
+abbrev pub unnamed : TypeDecl
+unnamed = primitive_type [] [] []
+
+abbrev pub former_types : List TypeDecl
+former_types = console ∷ folder ∷ clock ∷ random ∷ unnamed ∷ []
+
+-- the number of the first declared type, and how many types there are at most
+abbrev pub first_declared : ℕ
+first_declared = 5
+
+abbrev pub most_types : ℕ
+most_types = 1029

@@ -1,7 +1,7 @@
 //! The primitive types, which stand before the declared ones.
 
 ghost use Rattle.std.specs.Prelude.{◌≡◌, ◌<◌, ◌++◌, ◌∷◌, [], None, replicate, OnOk, IfOk};
-ghost use Rattle.wy_types.specs.Primitive.{primitive_method, console, folder, clock, random, primitive_types};
+ghost use Rattle.wy_types.specs.Primitive.{primitive_method, console, folder, clock, random, full_folder, primitive_types};
 
 use crate::resolved::{BoundList, TypeDecl};
 use crate::types::{Method, TypeList, TypeRef};
@@ -10,6 +10,9 @@ use wy_effects::atom::Atom;
 use wy_effects::set::EffSet;
 use wy_text::list::Items;
 use wy_text::text::{Memory, Text, from_bytes};
+
+/// The number of the first declared type: the primitive ones come before.
+pub const FIRST_DECLARED: usize = 5;
 
 fn texts(alloc: Global, number: usize) -> Result<TypeList, Memory>
     ensures { IfOk result (λ ts. ts ≡ replicate number TypeRef.Text) }
@@ -78,14 +81,21 @@ fn make_console(alloc: Global) -> Result<TypeDecl, Memory>
     })
 }
 
+/// Adds the members of a folder.
+fn add_folder_members(alloc: Global, members: &mut Items<Text>) -> Result<(), Memory>
+    ensures { OnOk result (members.new ≡ members.old ++ folder.members) }
+{
+    add_member(alloc, members, "Read")?;
+    add_member(alloc, members, "Write")?;
+    add_member(alloc, members, "Append")?;
+    add_member(alloc, members, "List")
+}
+
 fn make_folder(alloc: Global) -> Result<TypeDecl, Memory>
     ensures { IfOk result (λ d. d ≡ folder) }
 {
     let mut members = Items::new(alloc);
-    add_member(alloc, &mut members, "Read")?;
-    add_member(alloc, &mut members, "Write")?;
-    add_member(alloc, &mut members, "Append")?;
-    add_member(alloc, &mut members, "List")?;
+    add_folder_members(alloc, &mut members)?;
     let mut methods = Items::new(alloc);
     add_method(alloc, &mut methods, "read", 1, 0, TypeRef::Text)?;
     add_method(alloc, &mut methods, "has", 1, 0, TypeRef::Bool)?;
@@ -133,6 +143,28 @@ fn make_random(alloc: Global) -> Result<TypeDecl, Memory>
     })
 }
 
+fn make_full_folder(alloc: Global) -> Result<TypeDecl, Memory>
+    ensures { IfOk result (λ d. d ≡ full_folder) }
+{
+    let mut members = Items::new(alloc);
+    add_folder_members(alloc, &mut members)?;
+    add_member(alloc, &mut members, "Remove")?;
+    let mut methods = Items::new(alloc);
+    add_method(alloc, &mut methods, "read", 1, 0, TypeRef::Text)?;
+    add_method(alloc, &mut methods, "has", 1, 0, TypeRef::Bool)?;
+    add_method(alloc, &mut methods, "write", 2, 1, TypeRef::Unit)?;
+    add_method(alloc, &mut methods, "append", 2, 2, TypeRef::Unit)?;
+    add_method(alloc, &mut methods, "names", 0, 3, TypeRef::Text)?;
+    add_method(alloc, &mut methods, "remove", 1, 4, TypeRef::Unit)?;
+    Ok(TypeDecl {
+        name: from_bytes(alloc, b"FullFolder")?,
+        members,
+        bounds: unbounded(alloc, 5)?,
+        defined: Items::new(alloc),
+        methods,
+    })
+}
+
 /// The primitive types in the order of their numbers (docs/LANGUAGE.md, "Effects and types").
 pub fn primitives(alloc: Global) -> Result<Items<TypeDecl>, Memory>
     ensures { IfOk result (λ ds. ds ≡ primitive_types) }
@@ -142,5 +174,6 @@ pub fn primitives(alloc: Global) -> Result<Items<TypeDecl>, Memory>
     out.push(make_folder(alloc)?)?;
     out.push(make_clock(alloc)?)?;
     out.push(make_random(alloc)?)?;
+    out.push(make_full_folder(alloc)?)?;
     Ok(out)
 }

@@ -46,10 +46,10 @@ abbrev disk : OwnName
 disk = named (codes "disk") (Named 1 ((0 ∷ []) ∷ (1 ∷ []) ∷ (2 ∷ []) ∷ (3 ∷ []) ∷ [])) Grant
 
 abbrev lg : OwnName
-lg = named (codes "lg") (Named 4 ((4 ∷ []) ∷ [])) (Instance 0 (0 ∷ []))
+lg = named (codes "lg") (Named 5 ((4 ∷ []) ∷ [])) (Instance 0 (0 ∷ []))
 
 abbrev pl : OwnName
-pl = named (codes "pl") (At 4 (4 ∷ [])) (Import 0 (0 ∷ []) (4 ∷ []))
+pl = named (codes "pl") (At 5 (4 ∷ [])) (Import 0 (0 ∷ []) (4 ∷ []))
 
 -- a literal that captures nothing, and one that captures a `val`
 abbrev nothing : Literal
@@ -67,7 +67,7 @@ log_with own = record {
   atoms = [];
   bounds = [];
   names = named (codes "disk") (Named 1 (single_sets 0 (codes "Read" ∷ codes "Write" ∷ codes "Append" ∷ codes "List" ∷ []))) (Parameter true) ∷ [];
-  ascribed = Some 4;
+  ascribed = Some 5;
   definitions = [];
   literals = own ∷ [];
   start_place = nowhere;
@@ -114,7 +114,7 @@ names_have_types : HaveTheirTypes program 0 (main.names)
 names_have_types = ((1, refl), (refl, (((omega arith, omega arith, tt), refl), tt)))
 
 -- with the grant's atoms the instance has not its type
-other_atoms : HasItsType program 4 (named (codes "lg") (Named 4 ((0 ∷ []) ∷ [])) (Instance 0 (0 ∷ []))) (Instance 0 (0 ∷ [])) → ⊥
+other_atoms : HasItsType program 4 (named (codes "lg") (Named 5 ((0 ∷ []) ∷ [])) (Instance 0 (0 ∷ []))) (Instance 0 (0 ∷ [])) → ⊥
 other_atoms e = cc
 
 -- where the type has a second member below the first, that atom of the instance is bounded by the first one's

@@ -10,6 +10,7 @@ use Rattle.wy_effects.specs.Members.{In}
 use Rattle.wy_effects.specs.EffSet.{IsSet}
 use Rattle.wy_types.specs.declared.types.TypeRef.{TypeRef}
 use Rattle.wy_types.specs.Program.{Program}
+use Rattle.wy_types.specs.Primitive.{first_declared}
 use Rattle.wy_types.specs.Core.{IsPrimitive}
 use Rattle.wy_symbols.specs.declared.scoping.Head.{Head}
 use Rattle.wy_symbols.specs.declared.scoping.Opening.{Opening}
@@ -87,8 +88,8 @@ record IsGranted (p : Program) (heads : List Head) (atoms : List AtomName) (x : 
 granted : (p : Program) (heads : List Head) (atoms : List AtomName) (x : List ℕ) (kind : Name) (o : Option ℕ) → IsType p o → unless_opened kind (primitive_opening o) ≡ [] → IsGranted p heads atoms x (primitive_opening o)
 granted p heads atoms x kind None h e = cc
 granted p heads atoms x kind (Some d) h e =
-    let P : Bool → Type 0 = λ b. nat_lt d 4 ≡ b → unless_opened kind (if b then Members d else Missing) ≡ [] → IsGranted p heads atoms x (if b then Members d else Missing) in
-    (elim (nat_lt d 4) as P [
+    let P : Bool → Type 0 = λ b. nat_lt d first_declared ≡ b → unless_opened kind (if b then Members d else Missing) ≡ [] → IsGranted p heads atoms x (if b then Members d else Missing) in
+    (elim (nat_lt d first_declared) as P [
       | true ↦ λ t f. record { known = h; primitive = grind (arith, nat_tests, t) }
       | false ↦ λ t f. cc
     ]) refl e

@@ -14,7 +14,7 @@ use Rattle.wy_types.specs.Signature.{Signature}
 use Rattle.wy_types.specs.Types.{signature}
 use Rattle.wy_types.specs.Fitting.{FitsType, FitsSignature}
 use Rattle.wy_types.specs.Core.{HasSets, DeclarationFits}
-use Rattle.wy_types.specs.Primitive.{primitive_method, primitive_type, primitive_types, console, folder, clock, random}
+use Rattle.wy_types.specs.Primitive.{primitive_method, primitive_type, primitive_types, console, folder, clock, random, full_folder}
 use Rattle.wy_symbols.specs.Declarations.{has_name}
 use Rattle.wy_symbols.specs.Atoms.{primitive_names}
 use Rattle.wy_well_formed.proofs.Repeats.{has_name_there}
@@ -141,6 +141,26 @@ unfolding differ IsBase
 random_fits p =
     primitive_type_fits p random.name random.members random.methods refl refl (omega arith) (omega arith) (primitive_simple 1 _ 0 0 Int (omega arith) (omega arith) tt, tt)
 
+full_folder_fits : (p : Program) → DeclarationFits p full_folder
+unfolding differ IsBase
+full_folder_fits p =
+    primitive_type_fits p full_folder.name full_folder.members full_folder.methods refl refl (omega arith) (omega arith) (
+      primitive_simple 5 _ 1 0 Text (omega arith) (omega arith) tt,
+      (
+        primitive_simple 5 _ 1 0 Truth (omega arith) (omega arith) tt,
+        (
+          primitive_simple 5 _ 2 1 Nothing (omega arith) (omega arith) tt,
+          (
+            primitive_simple 5 _ 2 2 Nothing (omega arith) (omega arith) tt,
+            (
+              primitive_simple 5 _ 0 3 Text (omega arith) (omega arith) tt,
+              (primitive_simple 5 _ 1 4 Nothing (omega arith) (omega arith) tt, tt),
+            ),
+          ),
+        ),
+      ),
+    )
+
 pub primitive_fits : (p : Program) (d : TypeDecl) → In d primitive_types → DeclarationFits p d
 primitive_fits p d i =
     let P : TypeDecl → Type 0 = λ v. DeclarationFits p v in
@@ -150,7 +170,10 @@ primitive_fits p d i =
         | inl e ↦ subst P e (folder_fits p)
         | inr k ↦ elim k [
           | inl e ↦ subst P e (clock_fits p)
-          | inr l ↦ elim l [ inl e ↦ subst P e (random_fits p) | inr x ↦ absurd x ]
+          | inr l ↦ elim l [
+            | inl e ↦ subst P e (random_fits p)
+            | inr m ↦ elim m [ inl e ↦ subst P e (full_folder_fits p) | inr x ↦ absurd x ]
+          ]
         ]
       ]
     ]

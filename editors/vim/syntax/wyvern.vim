@@ -5,7 +5,7 @@ endif
 syntax keyword wyvernDeclare type effect def module resource plain program grant use instance import at init run val var
 syntax keyword wyvernControl if then else new this
 syntax keyword wyvernBool true false
-syntax keyword wyvernType Int Bool String Unit Console Folder Clock Random
+syntax keyword wyvernType Int Bool String Unit Console Folder Clock Random FullFolder
 syntax keyword wyvernBuiltIn text_size text_part text_code text_byte text_show
 syntax keyword wyvernReserved main
 syntax match wyvernNumber /\<\d\+\>/

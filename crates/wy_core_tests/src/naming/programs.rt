@@ -64,7 +64,7 @@ fn is_resolved(scope: &Scope, first: &EffSet) -> bool {
 /// Whether the program is all there is besides the primitive types.
 fn is_alone(core: &Core, first: &EffSet) -> bool {
     match core.scopes.as_slice() {
-        [scope] => core.declarations.len() == 4 && is_resolved(scope, first),
+        [scope] => core.declarations.len() == 5 && is_resolved(scope, first),
         _ => false,
     }
 }

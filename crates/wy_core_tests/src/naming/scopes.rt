@@ -35,7 +35,7 @@ fn are_four(bounds: &[Option<EffSet>], wanted: &EffSet, last: &EffSet) -> bool {
 /// Whether the declared type's second abstract member is bounded by the first, and so are the two atoms of each of the
 /// module's parameters; the program has no atoms.
 fn are_bounded(core: &Core, first: &EffSet, third: &EffSet) -> bool {
-    let Some(declared) = core.declarations.get(4) else {
+    let Some(declared) = core.declarations.get(5) else {
         return false;
     };
     match core.scopes.as_slice() {
