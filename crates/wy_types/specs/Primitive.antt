@@ -40,10 +40,10 @@ full_folder =
 abbrev pub primitive_types : List TypeDecl
 primitive_types = console ∷ folder ∷ clock ∷ random ∷ full_folder ∷ []
 
--- The primitive types of the edition before. A type that no text can name has the number of the one that they lack, so that
--- declared types have the same numbers over both tables.
+-- The primitive types of the edition before. A type that no text can name, since no name has a space in it, has the number of the
+-- one that they lack, so that declared types have the same numbers over both tables.
 abbrev pub unnamed : TypeDecl
-unnamed = primitive_type [] [] []
+unnamed = primitive_type (codes "no type") [] []
 
 abbrev pub former_types : List TypeDecl
 former_types = console ∷ folder ∷ clock ∷ random ∷ unnamed ∷ []
