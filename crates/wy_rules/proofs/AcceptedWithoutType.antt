@@ -57,7 +57,7 @@ module _ (i : ℕ) (ds es : List TypeDecl) (ss : List Scope) where
     ------------------------------------------------------------
     -- Members
 
-    same_members : (t : TypeRef) → NamesNot i t → members_of before t ≡ members_of after t
+    pub same_members : (t : TypeRef) → NamesNot i t → members_of before t ≡ members_of after t
     same_members Int n = refl
     same_members Bool n = refl
     same_members Text n = refl
@@ -90,7 +90,7 @@ module _ (i : ℕ) (ds es : List TypeDecl) (ss : List Scope) where
     same_sets t n (member ∷ members) = ap₂ (λ (x : List ℕ) (xs : List (List ℕ)). x ∷ xs) (ap set_or_empty (same_set t n member)) (same_sets t n members)
 
     -- what a module's own names are of
-    name_not : (m : ℕ) (n : OwnName) → In n (names_of (slice_get ss m)) → NamesNot i n.typ
+    pub name_not : (m : ℕ) (n : OwnName) → In n (names_of (slice_get ss m)) → NamesNot i n.typ
     name_not m n j = of (slice_get ss m) refl j
       where
         of : (o : Option Scope) → slice_get ss m ≡ o → In n (names_of o) → NamesNot i n.typ
@@ -100,33 +100,38 @@ module _ (i : ℕ) (ds es : List TypeDecl) (ss : List Scope) where
     handed_not : (m : ℕ) (arguments : List ℕ) (h : Handed) → In h (handed_to (parameters_of before m) arguments) → NamesNot i h.parameter.typ
     handed_not m arguments h j = name_not m h.parameter (among_names (names_of (slice_get ss m)) h.parameter (handed_name (parameters_of before m) arguments h j))
 
-    module _ (k : ℕ) (s : Scope) (at : slice_get ss k ≡ Some s) where
-      abbrev writes : WritesNot i s
-      writes = (left k s at).writes
-
-      argument_not : (a : ℕ) → NamesNot i (type_of (slice_get s.names a))
-      argument_not a = of (slice_get s.names a) refl
+    -- own names of which none is of the type
+    module _ (outer : List OwnName) (clear : (n : OwnName) → In n outer → NamesNot i n.typ) where
+      argument_not : (a : ℕ) → NamesNot i (type_of (slice_get outer a))
+      argument_not a = of (slice_get outer a) refl
         where
-          of : (o : Option OwnName) → slice_get s.names a ≡ o → NamesNot i (type_of o)
+          of : (o : Option OwnName) → slice_get outer a ≡ o → NamesNot i (type_of o)
           of None e = tt
-          of (Some n) e = writes.names n (In-slice_get s.names a n e)
+          of (Some n) e = clear n (In-slice_get outer a n e)
 
-      same_argument : (o : Origin) (n : OwnName) (a : ℕ) → NamesNot i n.typ → argument_sets before s.names o n a ≡ argument_sets after s.names o n a
+      same_argument : (o : Origin) (n : OwnName) (a : ℕ) → NamesNot i n.typ → argument_sets before outer o n a ≡ argument_sets after outer o n a
       same_argument (Parameter true) n a h =
-          same_sets (type_of (slice_get s.names a)) (argument_not a) (members_of before n.typ)
-          ∙ ap (map (λ member. set_or_empty (member_set after (type_of (slice_get s.names a)) member))) (same_members n.typ h)
+          same_sets (type_of (slice_get outer a)) (argument_not a) (members_of before n.typ)
+          ∙ ap (map (λ member. set_or_empty (member_set after (type_of (slice_get outer a)) member))) (same_members n.typ h)
       same_argument (Parameter false) n a h = refl
       same_argument Grant n a h = refl
       same_argument (Use m) n a h = refl
       same_argument (Instance m arguments) n a h = refl
       same_argument (Import m arguments bound) n a h = refl
 
-      same_arguments : (ns : List OwnName) (arguments : List ℕ) → ((n : OwnName) → In n ns → NamesNot i n.typ) →
-          arguments_sets before s.names ns arguments ≡ arguments_sets after s.names ns arguments
+      pub same_arguments : (ns : List OwnName) (arguments : List ℕ) → ((n : OwnName) → In n ns → NamesNot i n.typ) →
+          arguments_sets before outer ns arguments ≡ arguments_sets after outer ns arguments
       same_arguments [] arguments h = refl
       same_arguments (n ∷ ns) [] h = refl
       same_arguments (n ∷ ns) (a ∷ arguments) h =
           ap₂ (λ (xs zs : List (List ℕ)). xs ++ zs) (same_argument n.origin n a (h n (inl refl))) (same_arguments ns arguments (λ m j. h m (inr j)))
+
+    module _ (k : ℕ) (s : Scope) (at : slice_get ss k ≡ Some s) where
+      abbrev writes : WritesNot i s
+      writes = (left k s at).writes
+
+      handed_in : (a : ℕ) → NamesNot i (type_of (slice_get s.names a))
+      handed_in = argument_not s.names writes.names
 
       ------------------------------------------------------------
       -- Subtyping, and paths
@@ -151,7 +156,7 @@ module _ (i : ℕ) (ds es : List TypeDecl) (ss : List Scope) where
       part_not x part.Result u e f g = subst (NamesNot i) e g
       part_not x (part.Parameter j) u e f g = f u (In-slice_get x.params j u e)
 
-      walks_back : (path : List Step) (t u : TypeRef) → NamesNot i t → Walks TypeRef (methods_of after k) t path u → Walks TypeRef (methods_of before k) t path u × NamesNot i u
+      pub walks_back : (path : List Step) (t u : TypeRef) → NamesNot i t → Walks TypeRef (methods_of after k) t path u → Walks TypeRef (methods_of before k) t path u × NamesNot i u
       walks_back [] t u n e = (e, subst (NamesNot i) e n)
       walks_back (step ∷ path) t u n h =
           let g = h.1 in
@@ -197,17 +202,17 @@ module _ (i : ℕ) (ds es : List TypeDecl) (ss : List Scope) where
         members = λ x j member l.
             let n = handed_not m arguments x j in
             let r = h.members x j member (subst (In member) (sym (same_opened x.parameter x.parameter.origin n)) l) in
-            (r.0, sym (same_set (type_of (slice_get s.names x.argument)) (argument_not x.argument) member) ∙ r.1);
+            (r.0, sym (same_set (type_of (slice_get s.names x.argument)) (handed_in x.argument) member) ∙ r.1);
         types = λ x j.
             let sets = arguments_sets before s.names (names_of (slice_get ss m)) arguments in
             subst (λ (by : List (List ℕ)). IsAnnotatedSubtype after k (type_of (slice_get s.names x.argument)) (substituted by x.parameter.typ))
-            (same_arguments (names_of (slice_get ss m)) arguments (name_not m))
-            (annotated_below (type_of (slice_get s.names x.argument)) (substituted sets x.parameter.typ) (argument_not x.argument)
+            (same_arguments s.names writes.names (names_of (slice_get ss m)) arguments (name_not m))
+            (annotated_below (type_of (slice_get s.names x.argument)) (substituted sets x.parameter.typ) (handed_in x.argument)
             (put_not i before after k s w at writes sets x.parameter.typ (handed_not m arguments x j)) (h.types x j));
         bounds = λ x j.
             let n = handed_not m arguments x j in
             subst (λ (by : List (List ℕ)). Respects (opened_members after x.parameter x.parameter.origin) (bounds_of before k) by)
-            (same_argument x.parameter.origin x.parameter x.argument n)
+            (same_argument s.names writes.names x.parameter.origin x.parameter x.argument n)
             (subst (λ b. Respects b (bounds_of before k) (argument_sets before s.names x.parameter.origin x.parameter x.argument))
             (same_opened_bounds x.parameter x.parameter.origin n) (h.bounds x j));
       }
@@ -230,13 +235,13 @@ module _ (i : ℕ) (ds es : List TypeDecl) (ss : List Scope) where
 
       import_kept : (m : ℕ) (arguments : List ℕ) (bound : List ℕ) → ImportHolds before k s.names m arguments bound → ImportHolds after k s.names m arguments bound
       import_kept m arguments bound h = record {
-        effects = λ x j a e. h.effects x j a (effect_back (type_of (slice_get s.names x.argument)) true a (argument_not x.argument) e);
+        effects = λ x j a e. h.effects x j a (effect_back (type_of (slice_get s.names x.argument)) true a (handed_in x.argument) e);
         safe = λ x j u r f l.
-            let b = walks_back r.0 (type_of (slice_get s.names x.argument)) u (argument_not x.argument) r.1 in
+            let b = walks_back r.0 (type_of (slice_get s.names x.argument)) u (handed_in x.argument) r.1 in
             h.safe x j u (r.0, b.0, r.2) f (subst (λ ms. In f ms) (sym (agree i before after k s w at writes u b.1)) l);
         types = λ x j.
             plain_below (erased (type_of (slice_get s.names x.argument))) (erased x.parameter.typ)
-            (erased_not i before after k s w at writes (type_of (slice_get s.names x.argument)) (argument_not x.argument))
+            (erased_not i before after k s w at writes (type_of (slice_get s.names x.argument)) (handed_in x.argument))
             (erased_not i before after k s w at writes x.parameter.typ (handed_not m arguments x j)) (h.types x j);
         module_holds = plain_kept m h.module_holds;
       }
