@@ -13,6 +13,10 @@ pub record Edition : Type 0 where
 abbrev pub current : Edition
 current = record { primitives = Console ∷ Folder ∷ Clock ∷ Random ∷ FullFolder ∷ []; longest = text_limit }
 
+-- the edition before it, in which no folder could remove a file and texts were shorter
+abbrev pub former : Edition
+former = record { primitives = Console ∷ Folder ∷ Clock ∷ Random ∷ []; longest = 1048576 }
+
 -- the primitive type of a number
 abbrev pub primitive_numbered : Edition → ℕ → Option Primitive
 primitive_numbered e d = slice_get e.primitives d

@@ -7,7 +7,8 @@ use Rattle.wy_types.specs.declared.code.BinaryOperator.{BinaryOperator}
 use Rattle.wy_types.specs.declared.code.BinaryOperator.TheVariants as binary
 use Rattle.wy_types.specs.Code as code
 use Rattle.wy_types.specs.Code.{Expr, Number, Quoted, Truth as TruthOf, Nothing as NothingOf, This, Name, Unary, Binary, TextCall, Call, New, Ascribe, Assign, Plain, If, Values, none, more, Block, Last, Then, Val}
-use Rattle.wy_types.specs.Program.{Program, Start, Init, Run}
+use Rattle.wy_types.specs.declared.resolved.TypeDecl.{TypeDecl}
+use Rattle.wy_types.specs.Program.{Program, Scope, Start, Init, Run}
 use Rattle.wy_device.specs.declared.deed.Event.{Event}
 use Rattle.wy_device.specs.declared.deed.Event.TheVariants.{Leave}
 use Rattle.wy_device.specs.declared.operation.Answer.{Answer}
@@ -31,7 +32,7 @@ use Rattle.wy_meaning.specs.Operating.{unary_operator, binary_operator, text_ope
 use Rattle.wy_meaning.specs.Performing.{texts_of, answered, requested, requested_of, perform}
 use Rattle.wy_meaning.specs.Eval.{Sight, Calls, object_value, value_of_name, choose, go_on, apply, eval, eval_value, eval_all, eval_block, with_local, Method, method_in, called, called_on, open_calls}
 use Rattle.wy_meaning.specs.Start.{fill_all, start_of_scope, run_start, begin, end_of, course_of, meaning, world_at_first}
-use Rattle.wy_meaning.specs.Widening.{IsShort, AreShort, HasShortTexts, in_edition, HaveSameGrants, MeansTheSame}
+use Rattle.wy_meaning.specs.Widening.{IsShort, AreShort, HasShortTexts, in_edition, HaveSameGrants, LongerTextsChangeNothingElse, MeansTheSame}
 use Rattle.wy_meaning.proofs.Taking.{Still, found_still, computed_still, assigned_still, filled_still, new_still, answer_still, IsTold, tells, tells_failure, tells_nothing, is_told}
 
 ------------------------------------------------------------
@@ -263,7 +264,13 @@ module _ (first second : Edition) (le : first.longest ≤ second.longest) where
   ------------------------------------------------------------
   -- Expressions
 
-  module _ (p : Program) (granted : HaveSameGrants first second p) (st : Starts) where
+  module _ (ds es : List TypeDecl) (ss : List Scope) (granted : HaveSameGrants first second (record { declarations = ds; scopes = ss })) (st : Starts) where
+    abbrev p : Program
+    p = record { declarations = ds; scopes = ss }
+
+    abbrev other : Program
+    other = record { declarations = es; scopes = ss }
+
     abbrev s : Starts
     s = in_edition first st
 
@@ -272,7 +279,7 @@ module _ (first second : Edition) (le : first.longest ≤ second.longest) where
 
     module _ (calls calls' : Calls) (ok : CallsAgree most calls calls') where
       apply_alike : (place : Place) (v : Value) (method : List ℕ) (vs : List Value) (w : World) → HasShortTexts most w.tapes →
-          Alike most (apply p s calls place v method vs w) (apply p s' calls' place v method vs w)
+          Alike most (apply p s calls place v method vs w) (apply other s' calls' place v method vs w)
       unfolding CallsAgree
       apply_alike place (Object a) method vs w h = ok a method vs w h
       apply_alike place (Grant g) method vs w h =
@@ -286,7 +293,7 @@ module _ (first second : Edition) (le : first.longest ≤ second.longest) where
       mutual
         unfolding eval Agree
 
-        expr_alike : (e : Expr) (sight : Sight) (w : World) → HasShortTexts most w.tapes → Alike most (eval p s calls sight e w) (eval p s' calls' sight e w)
+        expr_alike : (e : Expr) (sight : Sight) (w : World) → HasShortTexts most w.tapes → Alike most (eval p s calls sight e w) (eval other s' calls' sight e w)
         expr_alike (Number place n) sight w h = node_alike most _ _ (tick_alike most _ _ (give_alike most (Int n) w h))
         expr_alike (Quoted place b) sight w h = node_alike most _ _ (tick_alike most _ _ (give_alike most (Text b) w h))
         expr_alike (TruthOf place b) sight w h = node_alike most _ _ (tick_alike most _ _ (give_alike most (Truth b) w h))
@@ -319,7 +326,7 @@ module _ (first second : Edition) (le : first.longest ≤ second.longest) where
             (λ v w h. bind_alike most _ _ (λ u w h. tick_alike most _ _ (give_alike most Nothing w h)) _ _
             (settled_alike most _ _ (still_alike most w _ h (assigned_still sight name v w)))) _ _ (value_alike x sight w h))
 
-        value_alike : (x : code.Value) (sight : Sight) (w : World) → HasShortTexts most w.tapes → Alike most (eval_value p s calls sight x w) (eval_value p s' calls' sight x w)
+        value_alike : (x : code.Value) (sight : Sight) (w : World) → HasShortTexts most w.tapes → Alike most (eval_value p s calls sight x w) (eval_value other s' calls' sight x w)
         value_alike (Plain x) sight w h = expr_alike x sight w h
         value_alike (If place test one other) sight w h =
             node_alike most _ _
@@ -327,12 +334,12 @@ module _ (first second : Edition) (le : first.longest ≤ second.longest) where
             (λ v w h. tick_alike most _ _ (choose_alike most v _ _ _ _ (left_alike most _ _ (λ w h. block_alike one sight w h)) (λ w h. block_alike other sight w h) w h)) _ _
             (expr_alike test sight w h))
 
-        all_alike : (xs : Values) (sight : Sight) (w : World) → HasShortTexts most w.tapes → Alike most (eval_all p s calls sight xs w) (eval_all p s' calls' sight xs w)
+        all_alike : (xs : Values) (sight : Sight) (w : World) → HasShortTexts most w.tapes → Alike most (eval_all p s calls sight xs w) (eval_all other s' calls' sight xs w)
         all_alike none sight w h = give_alike most [] w h
         all_alike (more x xs) sight w h =
             bind_alike most _ _ (λ v w h. bind_alike most _ _ (λ vs w h. give_alike most (v ∷ vs) w h) _ _ (all_alike xs sight w h)) _ _ (value_alike x sight w h)
 
-        block_alike : (b : Block) (sight : Sight) (w : World) → HasShortTexts most w.tapes → Alike most (eval_block p s calls sight b w) (eval_block p s' calls' sight b w)
+        block_alike : (b : Block) (sight : Sight) (w : World) → HasShortTexts most w.tapes → Alike most (eval_block p s calls sight b w) (eval_block other s' calls' sight b w)
         block_alike (Last x) sight w h = value_alike x sight w h
         block_alike (Then x rest) sight w h = bind_alike most _ _ (λ v w h. tick_alike most _ _ (block_alike rest sight w h)) _ _ (value_alike x sight w h)
         block_alike (Val place n typ x rest) sight w h =
@@ -343,22 +350,22 @@ module _ (first second : Edition) (le : first.longest ≤ second.longest) where
 
     module _ (calls calls' : Calls) (ok : CallsAgree most calls calls') where
       body_alike : (b : Bool) (e : Event) (block : Block) (sight : Sight) (w : World) → HasShortTexts most w.tapes →
-          Alike most (if b then whole e (eval_block p s calls sight block w) else stop Wrong w) (if b then whole e (eval_block p s' calls' sight block w) else stop Wrong w)
+          Alike most (if b then whole e (eval_block p s calls sight block w) else stop Wrong w) (if b then whole e (eval_block other s' calls' sight block w) else stop Wrong w)
       body_alike true e block sight w h = whole_alike most e _ _ (block_alike calls calls' ok block sight w h)
       body_alike false e block sight w h = stop_alike most Wrong w h
 
       entered_alike : (a : ℕ) (t : Thing) (name : List ℕ) (vs : List Value) (w : World) (m : Option Method) → HasShortTexts most w.tapes →
-          Alike most (called p s calls a t name vs w m) (called p s' calls' a t name vs w m)
+          Alike most (called p s calls a t name vs w m) (called other s' calls' a t name vs w m)
       entered_alike a t name vs w None h = stop_alike most Wrong w h
       entered_alike a t name vs w (Some m) h = body_alike (nat_eq (length vs) (length m.body.signature.params)) _ m.body.block _ w h
 
       called_alike : (a : ℕ) (name : List ℕ) (vs : List Value) (w : World) (t : Option Thing) → HasShortTexts most w.tapes →
-          Alike most (called_on p s calls a name vs w t) (called_on p s' calls' a name vs w t)
+          Alike most (called_on p s calls a name vs w t) (called_on other s' calls' a name vs w t)
       called_alike a name vs w None h = stop_alike most Wrong w h
       called_alike a name vs w (Some t) h = entered_alike a t name vs w (method_in (scope_of_instance p s t.instance) t.literal name) h
 
       fill_alike : (xs : Values) (sight : Sight) (x : ℕ) (w : World) → HasShortTexts most w.tapes →
-          Alike most (fill_all p s calls sight x xs w) (fill_all p s' calls' sight x xs w)
+          Alike most (fill_all p s calls sight x xs w) (fill_all other s' calls' sight x xs w)
       unfolding fill_all
       fill_alike none sight x w h = give_alike most Nothing w h
       fill_alike (more e es) sight x w h =
@@ -367,31 +374,34 @@ module _ (first second : Edition) (le : first.longest ≤ second.longest) where
           (settled_alike most _ _ (still_alike most w _ h (filled_still x v w (slice_get w.objects x))))) _ _
           (value_alike calls calls' ok e sight w h)
 
-      start_alike : (x : ℕ) (w : World) (o : Option Start) → HasShortTexts most w.tapes → Alike most (run_start p s calls x w o) (run_start p s' calls' x w o)
+      start_alike : (x : ℕ) (w : World) (o : Option Start) → HasShortTexts most w.tapes → Alike most (run_start p s calls x w o) (run_start other s' calls' x w o)
       start_alike x w None h = stop_alike most Wrong w h
       start_alike x w (Some (Init values)) h = fill_alike values _ x w h
       start_alike x w (Some (Run block)) h = block_alike calls calls' ok block _ w h
 
-      begin_alike : (is : List Started) (x : ℕ) (w : World) → HasShortTexts most w.tapes → Alike most (begin p s calls x is w) (begin p s' calls' x is w)
+      begin_alike : (is : List Started) (x : ℕ) (w : World) → HasShortTexts most w.tapes → Alike most (begin p s calls x is w) (begin other s' calls' x is w)
       unfolding begin
       begin_alike [] x w h = whole_alike most _ _ _ (start_alike x w (start_of_scope (scope_of_instance p s x)) h)
       begin_alike (i ∷ is) x w h =
           bind_alike most _ _ (λ v w h. begin_alike is (suc x) w h) _ _ (whole_alike most _ _ _ (start_alike x w (start_of_scope (scope_of_instance p s x)) h))
 
-    calls_alike : (n : ℕ) → CallsAgree most (open_calls p s n) (open_calls p s' n)
+    calls_alike : (n : ℕ) → CallsAgree most (open_calls p s n) (open_calls other s' n)
     unfolding CallsAgree open_calls
     calls_alike zero a name vs w h = stop_alike most TooDeep w h
-    calls_alike (suc n) a name vs w h = called_alike (open_calls p s n) (open_calls p s' n) (calls_alike n) a name vs w (slice_get w.objects a) h
+    calls_alike (suc n) a name vs w h = called_alike (open_calls p s n) (open_calls other s' n) (calls_alike n) a name vs w (slice_get w.objects a) h
 
-    programs_alike : MeansTheSame first second p st
+    programs_alike : MeansTheSame first second p other st
     unfolding meaning
     programs_alike n tapes short fits =
-        of (begin_alike (open_calls p s n) (open_calls p s' n) (calls_alike n) st.instances 0 (world_at_first st tapes) short)
+        of (begin_alike (open_calls p s n) (open_calls other s' n) (calls_alike n) st.instances 0 (world_at_first st tapes) short)
       where
-        of : Alike most (begin p s (open_calls p s n) 0 st.instances (world_at_first st tapes)) (begin p s' (open_calls p s' n) 0 st.instances (world_at_first st tapes)) →
-            course_of (begin p s (open_calls p s n) 0 st.instances (world_at_first st tapes)) ≡ course_of (begin p s' (open_calls p s' n) 0 st.instances (world_at_first st tapes))
+        of : Alike most (begin p s (open_calls p s n) 0 st.instances (world_at_first st tapes)) (begin other s' (open_calls other s' n) 0 st.instances (world_at_first st tapes)) →
+            course_of (begin p s (open_calls p s n) 0 st.instances (world_at_first st tapes)) ≡ course_of (begin other s' (open_calls other s' n) 0 st.instances (world_at_first st tapes))
         of (trapped place e) = absurd (fits place (ap end_of e))
         of (same e h) = ap course_of e
 
-pub means_the_same : (first second : Edition) (p : Program) (s : Starts) → first.longest ≤ second.longest → HaveSameGrants first second p → MeansTheSame first second p s
-means_the_same first second p s le granted = programs_alike first second le p granted s
+pub means_the_same : LongerTextsChangeNothingElse
+means_the_same first second p other s scopes le granted =
+    let same : record { declarations = other.declarations; scopes = p.scopes } ≡ other =
+    ap (λ (ss : List Scope). let q : Program = record { declarations = other.declarations; scopes = ss } in q) scopes in
+    subst (λ (q : Program). MeansTheSame first second p q s) same (programs_alike first second le p.declarations other.declarations p.scopes granted s)

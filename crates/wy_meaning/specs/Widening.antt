@@ -38,10 +38,15 @@ in_edition edition s = record s { edition = edition }
 abbrev pub HaveSameGrants : Edition → Edition → Program → Type 0
 HaveSameGrants first second p = (g : ℕ) → grant_of first p g ≡ grant_of second p g
 
--- over answers that are no longer than the first has them, and where nothing is built that is too long for it, a program
--- means the same in both, at every depth
-abbrev pub MeansTheSame : Edition → Edition → Program → Starts → Type 0
-MeansTheSame first second p s =
+-- over answers that are no longer than the first has them, and where nothing is built that is too long for it, a program means in
+-- the first what another one means in the second, at every depth
+abbrev pub MeansTheSame : Edition → Edition → Program → Program → Starts → Type 0
+MeansTheSame first second p other s =
     (n : ℕ) (tapes : Tapes) → HasShortTexts first.longest tapes →
     ((place : Place) → (meaning n p (in_edition first s) tapes).end ≢ Trap LongText place) →
-    meaning n p (in_edition first s) tapes ≡ meaning n p (in_edition second s) tapes
+    meaning n p (in_edition first s) tapes ≡ meaning n other (in_edition second s) tapes
+
+-- so do two programs with the same scopes and, in both editions, the same grants
+abbrev pub LongerTextsChangeNothingElse : Type 0
+LongerTextsChangeNothingElse =
+    (first second : Edition) (p other : Program) (s : Starts) → p.scopes ≡ other.scopes → first.longest ≤ second.longest → HaveSameGrants first second p → MeansTheSame first second p other s

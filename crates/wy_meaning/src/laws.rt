@@ -1,7 +1,6 @@
-ghost use Rattle.std.specs.Prelude.{List, ℕ, ◌≤◌};
+ghost use Rattle.std.specs.Prelude.{List, ℕ};
 ghost use Rattle.wy_text.specs.declared.fault.AtomName.{AtomName};
 ghost use Rattle.wy_device.specs.declared.deed.Event.{Event};
-ghost use Rattle.wy_device.specs.Editions.{Edition};
 ghost use Rattle.wy_device.specs.Tapes.{Tapes};
 ghost use Rattle.wy_types.specs.Program.{Program};
 ghost use Rattle.wy_meaning.specs.Answers.{TakesWhatFits};
@@ -11,7 +10,7 @@ ghost use Rattle.wy_meaning.specs.Start.{meaning};
 ghost use Rattle.wy_meaning.specs.Starts.{Starts};
 ghost use Rattle.wy_meaning.specs.OpenCalls.{IsSaidOfEachDeed, BoundsBeginnings};
 ghost use Rattle.wy_meaning.specs.Used.{IsSaidOfEachUse};
-ghost use Rattle.wy_meaning.specs.Widening.{HaveSameGrants, MeansTheSame};
+ghost use Rattle.wy_meaning.specs.Widening.{LongerTextsChangeNothingElse};
 
 /// Events are bounded by an authority exactly where each deed among them is in the authority of every
 /// call that is open at it.
@@ -57,9 +56,9 @@ pub fn failed_operations_are_last()
     ensures { (n : ℕ) (p : Program) (s : Starts) → FailsLast n p s }
 {}
 
-/// Longer texts change nothing else: where a text may be longer in one edition of the language than in another, and
-/// a program has the same grants in both, it means the same in both over answers that are short enough for the other, unless
-/// there it traps at a text that is too long.
+/// Longer texts change nothing else: where a text may be longer in one edition of the language than in another, and two programs
+/// have the same scopes and the same grants in both, the one means in the first what the other means in the second, over answers
+/// that are short enough for the first, unless there it traps at a text that is too long.
 pub fn longer_texts_change_nothing_else()
-    ensures { (first second : Edition) (p : Program) (s : Starts) → first.longest ≤ second.longest → HaveSameGrants first second p → MeansTheSame first second p s }
+    ensures { LongerTextsChangeNothingElse }
 {}
