@@ -23,7 +23,7 @@ not_reserved w v h f e = let t : true ≡ false = sym h ∙ ap (λ u. among u re
 is_word : (w : List ℕ) → Fair (kind.Name w) → IsWord w
 is_word w h = (name_unbroken w h.0, not_reserved w (codes "main") refl h.1, not_reserved w (codes "init") refl h.1, not_reserved w (codes "run") refl h.1)
 
-are_words : (ts : List Tok) → AllFair ts → AreWords ts
+pub are_words : (ts : List Tok) → AllFair ts → AreWords ts
 are_words [] h = tt
 are_words (t ∷ ts) h = ((λ w e. is_word w (subst Fair e h.0)), are_words ts h.1)
 

@@ -1,4 +1,4 @@
-mod AcceptedWithoutType
+pub mod AcceptedWithoutType
 pub mod Agreeing
 pub mod Alike
 pub mod AlikeFails
