@@ -11,6 +11,7 @@ mod Givens
 mod MarksInFiles
 mod NamesInCode
 mod NamesJudged
+mod OldTexts
 mod OneAnswer
 mod OneItem
 mod OneTree

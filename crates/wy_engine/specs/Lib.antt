@@ -9,6 +9,7 @@ pub mod Judgement
 pub mod LastLine
 pub mod MarkFiles
 pub mod NameFaults
+pub mod OldTexts
 pub mod Parsed
 pub mod Passing
 pub mod ProgramLaws

@@ -4,12 +4,14 @@ ghost use Rattle.wy_engine.specs.CertifiedProved.{CertifiedIsProved};
 ghost use Rattle.wy_engine.specs.Completeness.{AcceptedTextsEnd};
 ghost use Rattle.wy_engine.specs.FormatAgain.{FormatAgain};
 ghost use Rattle.wy_engine.specs.MarkFiles.{MarksAreInFiles};
+ghost use Rattle.wy_engine.specs.OldTexts.{OldTextsAreJudgedAlike, OldTextsMeanTheSame, ReportedArePassed};
 ghost use Rattle.wy_engine.specs.ProgramLaws.{AcceptedRunAsMeant};
 ghost use Rattle.wy_engine.specs.ValsInOrder.{ValsStandInOrder};
 
 use wy_canonical::trees_have_words;
 use wy_certify::certificates_prove;
 use wy_code::laws::spent_takes_all;
+use wy_editions::{old_items_are_judged_alike, old_items_mean_the_same};
 use wy_layout::laws::tokens_name_their_file;
 use wy_lower::laws::{accepted_code_follows, accepted_is_never_stuck, marks_are_of_the_program};
 use wy_meaning::laws::{answers_are_taken_in_order, nodes_cost_four};
@@ -79,4 +81,21 @@ pub fn marks_are_in_files()
     marks_are_of_the_tokens();
     marks_are_of_the_items();
     marks_are_of_the_program();
+}
+
+/// Texts in which no name is `FullFolder` are accepted, with the same report, in the edition before today's exactly where they
+/// are today, which is where they pass.
+pub fn old_texts_are_judged_alike()
+    ensures alike { OldTextsAreJudgedAlike }
+    ensures today { ReportedArePassed }
+{
+    old_items_are_judged_alike();
+}
+
+/// What their program meant there it means today, over answers with no longer texts than that edition has, unless it ended
+/// there in a text that is too long.
+pub fn old_texts_mean_the_same()
+    ensures { OldTextsMeanTheSame }
+{
+    old_items_mean_the_same();
 }

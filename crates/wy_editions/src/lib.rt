@@ -1,0 +1,25 @@
+//! The laws on editions of the language (docs/LANGUAGE.md, "Editions"). No function here does anything: what each says is its
+//! clause.
+#![tactic(auto)]
+
+ghost use Rattle.wy_editions.specs.Editions.{OldItemsAreJudgedAlike, OldItemsMeanTheSame};
+
+use wy_meaning::laws::longer_texts_change_nothing_else;
+use wy_well_formed::resolved_is_core;
+
+/// Where no name is `FullFolder`, the same items are accepted, with the same authority, over the four primitive types of
+/// the edition before and over today's five.
+pub fn old_items_are_judged_alike()
+    ensures { OldItemsAreJudgedAlike }
+{
+    resolved_is_core();
+}
+
+/// Where no name is `FullFolder` and no answer has a text that is longer than the edition before has them, what the items'
+/// program meant there is what it means today, unless it ended there in a text that is too long.
+pub fn old_items_mean_the_same()
+    ensures { OldItemsMeanTheSame }
+{
+    resolved_is_core();
+    longer_texts_change_nothing_else();
+}

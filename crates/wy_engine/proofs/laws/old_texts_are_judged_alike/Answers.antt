@@ -1,0 +1,8 @@
+use Rattle.wy_engine.proofs.OldTexts.{judged_alike, reported_are_passed}
+use Rattle.wy_engine.proofs.laws.old_texts_are_judged_alike.Goals as goal
+
+pub returns-clause-alike : goal.returns-clause-alike
+returns-clause-alike c = judged_alike c.old_items_are_judged_alike.ensures
+
+pub returns-clause-today : goal.returns-clause-today
+returns-clause-today c = reported_are_passed
