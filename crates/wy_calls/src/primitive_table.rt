@@ -214,9 +214,9 @@ deed disk.has("b") = false
     disk.write("x", "1")
 "#,
         )],
-        number: 3,
+        number: 4,
         report: "",
-        last: "full.wy:3:9: refused: N-Unknown premise 1\n",
+        last: "full.wy:3:14: refused: N-MemberUnknown premise 1\n",
         ..REMOVES
     },
     Row {
