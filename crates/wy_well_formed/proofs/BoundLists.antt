@@ -1,9 +1,7 @@
 -- Lists of upper bounds: each is a set of atoms before its own, also where they are appended and where a number is added to all atoms.
-use Rattle.std.proofs.Common.{◌≡◌, ℕ, zero, suc, ◌+◌, ◌<◌, ◌≤◌, List, [], ◌∷◌, ◌++◌, map, length, Option, Some, None, inl, inr, refl, sym, ap, ◌∙◌, subst, arith}
+use Rattle.std.proofs.Common.{◌≡◌, ℕ, zero, suc, ◌+◌, ◌<◌, ◌≤◌, List, [], ◌∷◌, ◌++◌, map, length, Option, Some, None, refl, ap, ◌∙◌, subst, arith}
 use Rattle.std.specs.Prelude.{slice_get, slice_index_or, replicate}
 use Rattle.std.specs.Option.{option_map}
-use Rattle.std.proofs.lemmas.List.{length-map, length-append}
-use Rattle.wy_effects.specs.Members.{In}
 use Rattle.wy_effects.specs.EffSet.{IsSet, IsSetFrom, insert_atom, union, replace}
 use Rattle.wy_effects.specs.Bounds.{Bounds, BoundsFit}
 use Rattle.wy_effects.proofs.SetLaws.{IsSetFrom-weaken, insert_atom-before}

@@ -41,7 +41,7 @@ declared_alike heads [] = tt
 declared_alike heads (d ∷ ds) = (refl, refl, declared_alike heads ds)
 
 all_alike : (types : List TypeDecl) → AreAlike (heads_of types) (declarations_of (heads_of types) types)
-all_alike types = (refl, refl, (refl, refl, (refl, refl, (refl, refl, declared_alike (heads_of types) types))))
+all_alike types = (refl, refl, (refl, refl, (refl, refl, (refl, refl, (refl, refl, declared_alike (heads_of types) types)))))
 
 pub heads_known : (p : Program) (types : List TypeDecl) → p.declarations ≡ declarations_of (heads_of types) types → Knows p (heads_of types)
 heads_known p types e =

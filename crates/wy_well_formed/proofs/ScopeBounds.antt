@@ -15,14 +15,14 @@ use Rattle.wy_types.specs.declared.resolved.OwnName.{OwnName}
 use Rattle.wy_types.specs.Program.{Program}
 use Rattle.wy_types.specs.Bounds.{declaration_bounds}
 use Rattle.wy_types.specs.Core.{DeclarationFits}
-use Rattle.wy_types.specs.Ground.{abstract_names as declared_members, single_sets}
+use Rattle.wy_types.specs.Ground.{abstract_names as declared_members}
 use Rattle.wy_rules.specs.OwnNames.{opens as opened_by, shifted_bounds, names_bounds}
 use Rattle.wy_symbols.specs.declared.scoping.Head.{Head}
 use Rattle.wy_symbols.specs.declared.scoping.Opening.{Opening}
 use Rattle.wy_symbols.specs.declared.scoping.Opening.TheVariants.{Members, Nothing, Missing}
 use Rattle.wy_symbols.specs.declared.scoping.Owner.{Owner}
 use Rattle.wy_symbols.specs.Declarations.{ModuleTree}
-use Rattle.wy_symbols.specs.Atoms.{atoms_of, bounds_at, bounds_of_owners, opened_bounds, opened_names, owner_sets}
+use Rattle.wy_symbols.specs.Atoms.{atoms_of, bounds_at, bounds_of_owners, opened_bounds, opened_names}
 use Rattle.wy_heads.specs.Lines.{use_name, line_names}
 use Rattle.wy_heads.specs.ScopeHeads.{use_owners, line_owners}
 use Rattle.wy_well_formed.proofs.BoundLists.{BoundsFrom, fits_from, from_fits, bounds_both, shifted_from, bounds_shifted_is}
