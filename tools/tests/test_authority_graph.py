@@ -23,6 +23,10 @@ class AuthorityGraph(ToolTest):
         self.assertIn('"hello" [label="hello", shape=box, peripheries=2];', ran.stdout)
         self.assertNotIn('"hello" -> "grant conf"', ran.stdout)
 
+    def test_what_can_remove_can_change_something(self):
+        ran = self.tool("authority_graph", os.path.join(TOP, "examples", "cleaner", "cleaner.wy"))
+        self.assertIn('"c" -> "grant drafts" [label="Remove", style=dashed, color=red3', ran.stdout)
+
     @unittest.skipUnless(shutil.which("dot"), "dot is not here")
     def test_graphviz_draws_it(self):
         drawn = subprocess.run(["dot", "-Tsvg"], input=self.host().stdout, capture_output=True, text=True)
