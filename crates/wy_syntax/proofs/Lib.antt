@@ -3,3 +3,4 @@ mod Indentation
 pub mod Layers
 mod Numbers
 mod Sums
+pub mod TokensSpelled

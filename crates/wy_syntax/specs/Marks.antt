@@ -2,6 +2,7 @@
 -- give, of methods and of the starts of modules and programs. These are the places that the forms of a core take; and tests
 -- of the places of tokens. (docs/LANGUAGE.md, "Marks")
 use Rattle.std.specs.Prelude.{◌≡◌, Bool, true, List, [], ◌∷◌, Option, Some, None}
+use Rattle.std.specs.List.{AllByRecursion}
 use Rattle.wy_text.specs.declared.fault.Place.{Place}
 use Rattle.wy_syntax.specs.declared.items.Init.{Init}
 use Rattle.wy_syntax.specs.Tokens.{Tok}
@@ -79,5 +80,4 @@ module _ (test : Place → Bool) where
 
   -- the place of each token passes the test
   abbrev pub TokensPass : List Tok → Type 0
-  TokensPass [] = Unit {0}
-  TokensPass (t ∷ ts) = (test t.place ≡ true) × TokensPass ts
+  TokensPass ts = AllByRecursion (λ (t : Tok). test t.place ≡ true) ts

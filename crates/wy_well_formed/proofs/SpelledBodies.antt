@@ -16,7 +16,8 @@ use Rattle.wy_types.specs.Program.{Body}
 use Rattle.wy_bodies.specs.Sight.{Sight, inside, with_params}
 use Rattle.wy_bodies.specs.Bodies.{Within, Count, one_val, one_literal, one_body, stmts_after, stmt_after, part_after, stmt_sight, method_body, literal_of, rhs_literals, stmt_literals, stmts_literals, part_literals, parts_literals, tail_literals, rhs_bodies, stmt_bodies, stmts_bodies, part_bodies, parts_bodies, tail_bodies}
 use Rattle.wy_syntax.specs.OwnWords.{IsWord, AreWords}
-use Rattle.wy_well_formed.proofs.ItemWords.{front_words, back_words, name_word}
+use Rattle.wy_syntax.proofs.TokensSpelled.{front_ok, back_ok}
+use Rattle.wy_well_formed.proofs.ItemWords.{NameIsWord, name_word}
 
 abbrev pub AreMethods : List Body → Type 0
 AreMethods bs = (b : Body) → In b bs → IsWord b.signature.name
@@ -40,15 +41,15 @@ length_parts : {P Q : Lang} {u : List Tok} → (x : Then P Q u) → length u ≡
 length_parts x = ap length x.parts ∙ length-append x.front x.back
 
 pub of_first : {P Q : Lang} {ls : List Literal} {bs : List Body} {u : List Tok} → (x : Then P Q u) → Tells ls bs x.front → Tells ls bs u
-of_first x h = record { few = (let a = h.few in let e = length_parts x in omega (arith, a, e)); methods = λ g. h.methods (front_words x g) }
+of_first x h = record { few = (let a = h.few in let e = length_parts x in omega (arith, a, e)); methods = λ g. h.methods (front_ok NameIsWord x g) }
 
 pub of_second : {P Q : Lang} {ls : List Literal} {bs : List Body} {u : List Tok} → (x : Then P Q u) → Tells ls bs x.back → Tells ls bs u
-of_second x h = record { few = (let a = h.few in let e = length_parts x in omega (arith, a, e)); methods = λ g. h.methods (back_words x g) }
+of_second x h = record { few = (let a = h.few in let e = length_parts x in omega (arith, a, e)); methods = λ g. h.methods (back_ok NameIsWord x g) }
 
 of_both : {P Q : Lang} {ls ms : List Literal} {bs cs : List Body} {u : List Tok} → (x : Then P Q u) → Tells ls bs x.front → Tells ms cs x.back → Tells (ls ++ ms) (bs ++ cs) u
 of_both {ls = ls} {ms = ms} {bs = bs} {cs = cs} x h k = record {
   few = (let a = h.few in let b = k.few in let e = length_parts x in let l = length-append ls ms in omega (arith, a, b, e, l));
-  methods = λ g. methods_append bs cs (h.methods (front_words x g)) (k.methods (back_words x g));
+  methods = λ g. methods_append bs cs (h.methods (front_ok NameIsWord x g)) (k.methods (back_ok NameIsWord x g));
 }
 
 -- with nothing behind
@@ -62,7 +63,7 @@ of_last {ls = ls} {bs = bs} h = record {
 pub of_literal : {k : TokenKind} {p : Place} {Q : Lang} {ls : List Literal} {bs : List Body} {u : List Tok} → (l : Literal) → (x : Then (Mark k p) Q u) → Tells ls bs x.back → Tells (l ∷ ls) bs u
 of_literal l x h = record {
   few = (let a = h.few in let e = length_parts x in let one = ap length x.first.only in omega (arith, a, e, one));
-  methods = λ g. h.methods (back_words x g);
+  methods = λ g. h.methods (back_ok NameIsWord x g);
 }
 
 -- a method, whose name stands in its signature
@@ -71,8 +72,8 @@ of_method : (plain : Bool) {Q : Lang} {ls : List Literal} {bs : List Body} {u : 
 of_method plain {bs = bs} g b e x h = record {
   few = (of_second x h).few;
   methods = λ k. (let named = x.first.second.first in
-      let words = front_words x.first.second (back_words x.first (front_words x k)) in
-      method_before b bs (subst IsWord (sym e) (name_word g.name x.first.second.front named words)) (h.methods (back_words x k)));
+      let words = front_ok NameIsWord x.first.second (back_ok NameIsWord x.first (front_ok NameIsWord x k)) in
+      method_before b bs (subst IsWord (sym e) (name_word g.name x.first.second.front named words)) (h.methods (back_ok NameIsWord x k)));
 }
 
 pub of_lines : {P : Lang} {ls : List Literal} {bs : List Body} {u : List Tok} → (x : Lines P u) → Tells ls bs x.second.front → Tells ls bs u
