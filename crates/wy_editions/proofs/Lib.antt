@@ -1,5 +1,6 @@
 mod TypeNames
 mod Alike
+mod Openings
 mod NamesSpelled
 mod Gathered
 mod SymbolsAlike

@@ -1,7 +1,6 @@
 -- What stands in front of the bodies of a module or of the program block is the same over heads that differ in the type of one number
 -- alone, which no name that is `Ok` finds: owners, atoms, own names, definitions and refusals.
-use Rattle.std.proofs.Common.{◌≡◌, ℕ, zero, suc, Bool, true, false, List, [], ◌∷◌, ◌++◌, map, Option, Some, None, inl, inr, refl, ap, ap₂, ◌∙◌, subst, if◌then◌else◌}
-use Rattle.std.specs.Prelude.{nat_lt, slice_get}
+use Rattle.std.proofs.Common.{◌≡◌, ℕ, Bool, true, false, List, [], ◌∷◌, ◌++◌, map, Option, Some, None, inl, inr, refl, ap, ap₂, ◌∙◌, subst}
 use Rattle.wy_text.specs.declared.fault.AtomName.{AtomName}
 use Rattle.wy_syntax.specs.declared.types.Name.{Name}
 use Rattle.wy_syntax.specs.declared.types.Param.{Param}
@@ -15,7 +14,6 @@ use Rattle.wy_syntax.specs.declared.items.Line.TheVariants.{Instance, Import}
 use Rattle.wy_effects.specs.Bounds.{Bounds}
 use Rattle.wy_effects.proofs.Lists.{In-cases}
 use Rattle.wy_types.specs.declared.types.TypeRef.TheVariants as ref
-use Rattle.wy_types.specs.Primitive.{first_declared}
 use Rattle.wy_types.specs.Types.{is_plain}
 use Rattle.wy_symbols.specs.declared.scoping.Head.{Head}
 use Rattle.wy_symbols.specs.declared.scoping.Meaning.{Meaning}
@@ -28,8 +26,9 @@ use Rattle.wy_symbols.specs.Atoms.{AtomScope, atom_scope, head_names, type_numbe
 use Rattle.wy_heads.specs.Lines.{opened_type, param_type, param_name, param_refusals, grant_name, unless_opened, grant_refusals, instance_type, at_bound, use_name, argument_numbers, line_scope, line_name, line_names, unless_number, uses_refusals, argument_refusals, line_refusals, lines_refusals}
 use Rattle.wy_heads.specs.ScopeHeads.{definitions_after, definitions_refusals, param_owners, use_owners, line_owners, early_owners, module_owners, module_atoms, module_meanings, module_scope, param_scope, module_own, definitions_for, definitions_at, start_place, start_effect, defined_refusals, sealed_refusals, init_refusals, grant_owners, program_owners, program_atoms, program_scope, program_own}
 use Rattle.wy_editions.proofs.TypeNames.{UseHas, ParamsHave, GrantsHave, ModuleHas, ModulesHave, BlockHas}
-use Rattle.wy_editions.proofs.Alike.{HeadsAlike, OpensNot, OwnersOpenNot, ScopesAlike}
-use Rattle.wy_editions.proofs.SymbolsAlike.{NumberNot, set_same, set_refusals_same, type_same, type_refusals_same, plain_refusals_same}
+use Rattle.wy_editions.proofs.Alike.{HeadsAlike, NumberNot, OpensNot, OwnersOpenNot, ScopesAlike}
+use Rattle.wy_editions.proofs.Openings.{SealedHas, module_opening_not, param_opening_not, primitive_not, sealed_has}
+use Rattle.wy_editions.proofs.SymbolsAlike.{set_same, set_refusals_same, type_same, type_refusals_same, plain_refusals_same}
 
 abbrev owner : List ℕ → Opening → Owner
 owner name opening = record { name = name; opening = opening }
@@ -37,10 +36,6 @@ owner name opening = record { name = name; opening = opening }
 module _ (Ok : List ℕ → Type 0) (i : ℕ) (h g : List Head) (a : HeadsAlike Ok i h g) where
   ------------------------------------------------------------
   -- Openings
-
-  opened_not : (o : Option ℕ) → NumberNot Ok i o → OpensNot Ok i (opened o)
-  opened_not None n = tt
-  opened_not (Some d) n = n d refl
 
   param_opening_same : (u : TypeUse) → UseHas Ok u → param_opening (head_names h) u ≡ param_opening (head_names g) u
   param_opening_same (use_of.Int p) k = refl
@@ -50,20 +45,6 @@ module _ (Ok : List ℕ → Type 0) (i : ℕ) (h g : List Head) (a : HeadsAlike 
   param_opening_same (use_of.Bare n) k = ap opened (a.numbers n.text k)
   param_opening_same (use_of.With n sets) k = refl
   param_opening_same (use_of.At n set) k = refl
-
-  param_opening_not : (u : TypeUse) → UseHas Ok u → OpensNot Ok i (param_opening (head_names h) u)
-  param_opening_not (use_of.Int p) k = tt
-  param_opening_not (use_of.Bool p) k = tt
-  param_opening_not (use_of.Text p) k = tt
-  param_opening_not (use_of.Unit p) k = tt
-  param_opening_not (use_of.Bare n) k = opened_not (type_number (head_names h) n.text) (a.number_not n.text k)
-  param_opening_not (use_of.With n sets) k = tt
-  param_opening_not (use_of.At n set) k = tt
-
-  primitive_not : (o : Option ℕ) → NumberNot Ok i o → OpensNot Ok i (primitive_opening o)
-  primitive_not None n = tt
-  primitive_not (Some d) n =
-      elim (nat_lt d first_declared) as (λ (b : Bool). OpensNot Ok i (if b then Members d else Missing)) [ true ↦ n d refl | false ↦ tt ]
 
   opened_names_same : (o : Opening) → OpensNot Ok i o → opened_names h o ≡ opened_names g o
   opened_names_same (Members d) n = ap abstract_names (a.members d n)
@@ -122,7 +103,7 @@ module _ (Ok : List ℕ → Type 0) (i : ℕ) (h g : List Head) (a : HeadsAlike 
 
   each_param_not : (ps : List Param) → ParamsHave Ok ps → OwnersOpenNot Ok i (map (param_owner (head_names h)) ps)
   each_param_not [] k = none_not
-  each_param_not (p ∷ ps) k = more_not _ _ (param_opening_not p.type_use k.0) (each_param_not ps k.1)
+  each_param_not (p ∷ ps) k = more_not _ _ (param_opening_not Ok i (head_names h) a.number_not p.type_use k.0) (each_param_not ps k.1)
 
   closed_not : (ps : List Param) → OwnersOpenNot Ok i (map closed_owner ps)
   closed_not [] = none_not
@@ -142,7 +123,7 @@ module _ (Ok : List ℕ → Type 0) (i : ℕ) (h g : List Head) (a : HeadsAlike 
 
   grants_not : (gs : List Grant) → GrantsHave Ok gs → OwnersOpenNot Ok i (map (grant_owner (head_names h)) gs)
   grants_not [] k = none_not
-  grants_not (x ∷ xs) k = more_not _ _ (primitive_not (type_number (head_names h) x.kind.text) (a.number_not x.kind.text k.0)) (grants_not xs k.1)
+  grants_not (x ∷ xs) k = more_not _ _ (primitive_not Ok i (type_number (head_names h) x.kind.text) (a.number_not x.kind.text k.0)) (grants_not xs k.1)
 
   ------------------------------------------------------------
   -- Scopes and what they stand for
@@ -194,7 +175,7 @@ module _ (Ok : List ℕ → Type 0) (i : ℕ) (h g : List Head) (a : HeadsAlike 
     param_type_same name (use_of.Unit p) k = refl
     param_type_same name (use_of.Bare x) k =
         opened_type_same atoms others name (param_opening (head_names h) (use_of.Bare x)) (param_opening (head_names g) (use_of.Bare x)) e
-        (param_opening_same (use_of.Bare x) k) (param_opening_not (use_of.Bare x) k)
+        (param_opening_same (use_of.Bare x) k) (param_opening_not Ok i (head_names h) a.number_not (use_of.Bare x) k)
     param_type_same name (use_of.With x sets) k =
         type_same Ok i (atom_scope h atoms os []) (atom_scope g others qs []) (seen_alike []) false (use_of.With x sets) k
     param_type_same name (use_of.At x set) k =
@@ -222,7 +203,7 @@ module _ (Ok : List ℕ → Type 0) (i : ℕ) (h g : List Head) (a : HeadsAlike 
     grant_name_same : (x : Grant) → Ok x.kind.text → grant_name (atom_scope h atoms os []) x ≡ grant_name (atom_scope g others qs []) x
     grant_name_same x k =
         let typ = opened_type_same atoms others x.name.text (primitive_opening (type_number (head_names h) x.kind.text)) (primitive_opening (type_number (head_names g) x.kind.text)) e
-        (ap primitive_opening (a.numbers x.kind.text k)) (primitive_not (type_number (head_names h) x.kind.text) (a.number_not x.kind.text k)) in
+        (ap primitive_opening (a.numbers x.kind.text k)) (primitive_not Ok i (type_number (head_names h) x.kind.text) (a.number_not x.kind.text k)) in
         cc
 
     grant_names_same : (gs : List Grant) → GrantsHave Ok gs → map (grant_name (atom_scope h atoms os [])) gs ≡ map (grant_name (atom_scope g others qs [])) gs
@@ -238,33 +219,12 @@ module _ (Ok : List ℕ → Type 0) (i : ℕ) (h g : List Head) (a : HeadsAlike 
   -- Uses and lines
 
   module _ (modules : List ModuleTree) (ok : ModulesHave Ok modules) where
-    -- the type that a module is sealed at
-    abbrev SealedHas : Option ModuleTree → Type 0
-    SealedHas None = Unit {0}
-    SealedHas (Some m) = Ok m.sealed.text
-
-    slot_has : (ms : List ModuleTree) (k : ℕ) → ModulesHave Ok ms → SealedHas (slice_get ms k)
-    slot_has [] k n = tt
-    slot_has (m ∷ ms) zero n = n.0.1
-    slot_has (m ∷ ms) (suc k) n = slot_has ms k n.1
-
-    at_has : (o : Option ℕ) → SealedHas (module_at modules o)
-    at_has None = tt
-    at_has (Some k) = slot_has modules k ok
-
-    sealed_same : (o : Option ModuleTree) → SealedHas o → sealed_opening (head_names h) o ≡ sealed_opening (head_names g) o
+    sealed_same : (o : Option ModuleTree) → SealedHas Ok o → sealed_opening (head_names h) o ≡ sealed_opening (head_names g) o
     sealed_same None n = refl
     sealed_same (Some m) n = ap opened (a.numbers m.sealed.text n)
 
-    sealed_not : (o : Option ModuleTree) → SealedHas o → OpensNot Ok i (sealed_opening (head_names h) o)
-    sealed_not None n = tt
-    sealed_not (Some m) n = opened_not (type_number (head_names h) m.sealed.text) (a.number_not m.sealed.text n)
-
     module_opening_same : (x : List ℕ) → module_opening (head_names h) modules x ≡ module_opening (head_names g) modules x
-    module_opening_same x = sealed_same (module_at modules (module_number modules x)) (at_has (module_number modules x))
-
-    module_opening_not : (x : List ℕ) → OpensNot Ok i (module_opening (head_names h) modules x)
-    module_opening_not x = sealed_not (module_at modules (module_number modules x)) (at_has (module_number modules x))
+    module_opening_same x = sealed_same (module_at modules (module_number modules x)) (sealed_has Ok modules ok (module_number modules x))
 
     uses_same : (us : List Name) → use_owners h modules us ≡ use_owners g modules us
     uses_same [] = refl
@@ -272,14 +232,14 @@ module _ (Ok : List ℕ → Type 0) (i : ℕ) (h g : List Head) (a : HeadsAlike 
 
     uses_not : (us : List Name) → OwnersOpenNot Ok i (use_owners h modules us)
     uses_not [] = none_not
-    uses_not (u ∷ us) = more_not _ _ (module_opening_not u.text) (uses_not us)
+    uses_not (u ∷ us) = more_not _ _ (module_opening_not Ok i (head_names h) a.number_not modules ok u.text) (uses_not us)
 
     line_same : (l : Line) → line_owner (head_names h) modules l ≡ line_owner (head_names g) modules l
     line_same (Instance x m ns) = ap (owner x.text) (module_opening_same m.text)
     line_same (Import x m ns set) = refl
 
     line_not : (l : Line) → OpensNot Ok i ((line_owner (head_names h) modules l).opening)
-    line_not (Instance x m ns) = module_opening_not m.text
+    line_not (Instance x m ns) = module_opening_not Ok i (head_names h) a.number_not modules ok m.text
     line_not (Import x m ns set) = tt
 
     lines_same : (ls : List Line) → line_owners h modules ls ≡ line_owners g modules ls
@@ -294,7 +254,7 @@ module _ (Ok : List ℕ → Type 0) (i : ℕ) (h g : List Head) (a : HeadsAlike 
       instance_same : (x : List ℕ) (m : Name) → instance_type h modules atoms x m ≡ instance_type g modules others x m
       instance_same x m =
           opened_type_same atoms others x (module_opening (head_names h) modules m.text) (module_opening (head_names g) modules m.text) e
-          (module_opening_same m.text) (module_opening_not m.text)
+          (module_opening_same m.text) (module_opening_not Ok i (head_names h) a.number_not modules ok m.text)
 
       use_names_same : (us : List Name) → map (use_name h modules atoms) us ≡ map (use_name g modules others) us
       use_names_same [] = refl

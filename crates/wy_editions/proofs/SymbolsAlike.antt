@@ -23,7 +23,7 @@ use Rattle.wy_symbols.specs.Meanings.{meaning_of, abstract_names}
 use Rattle.wy_symbols.specs.Atoms.{AtomScope, head_names, type_number, members_of, member_set, opening_set, owner_of, owner_set, meaning_set, atom_set, set_of, unless_member, opening_refusals, owner_refusals, unless_meant, atom_refusals, set_refusals, members_after, member_scope}
 use Rattle.wy_symbols.specs.TypeUses.{written_set, written_sets, named_type, bound_type, type_ref, set_names, texts_of, lacking, not_abstract, sets_refusals, type_name_refusals, bare_refusals, with_refusals, type_refusals, plain_refusals, use_refusals, param_names, param_types, effect_of, effect_refusals, method_of, params_refusals, signature_refusals, declaration_scope, declared_methods, declaration, member_names, method_names, members_refusals, declaration_refusals, declarations_refusals}
 use Rattle.wy_editions.proofs.TypeNames.{UseHas, ParamsHave, SignatureHas, MembersHave, DeclHas, DeclsHave}
-use Rattle.wy_editions.proofs.Alike.{HeadsAlike, OpensNot, OwnersOpenNot, ScopesAlike}
+use Rattle.wy_editions.proofs.Alike.{HeadsAlike, NumberNot, OpensNot, OwnersOpenNot, ScopesAlike}
 
 module _ (Ok : List ℕ → Type 0) (i : ℕ) where
   -- the owner of a name does not open the type of that number
@@ -38,10 +38,6 @@ module _ (Ok : List ℕ → Type 0) (i : ℕ) where
         | true ↦ h o (inl refl)
         | false ↦ found_not os x (λ p j. h p (inr j))
       ]
-
-  -- a number that is not that one
-  abbrev pub NumberNot : Option ℕ → Type 0
-  NumberNot o = (d : ℕ) → o ≡ Some d → d ≡ i → ⊥
 
   module _ (s t : AtomScope) (a : ScopesAlike Ok i s t) where
     ------------------------------------------------------------
@@ -96,7 +92,7 @@ module _ (Ok : List ℕ → Type 0) (i : ℕ) where
     writtens_same sets [] = refl
     writtens_same sets (n ∷ ns) = ap₂ ◌∷◌ (written_same sets n) (writtens_same sets ns)
 
-    named_same : (plain : Bool) (sets : List MemberSet) (o : Option ℕ) → NumberNot o → named_type s plain sets o ≡ named_type t plain sets o
+    named_same : (plain : Bool) (sets : List MemberSet) (o : Option ℕ) → NumberNot Ok i o → named_type s plain sets o ≡ named_type t plain sets o
     named_same plain sets None h = refl
     named_same true sets (Some d) h = refl
     named_same false sets (Some d) h =
@@ -129,12 +125,12 @@ module _ (Ok : List ℕ → Type 0) (i : ℕ) where
     sets_refusals_same [] = refl
     sets_refusals_same (m ∷ ms) = ap₂ (λ x y. x ++ y) (set_refusals_same m.effect) (sets_refusals_same ms)
 
-    bare_refusals_same : (bare : Bool) (n : Name) (o : Option ℕ) → NumberNot o → bare_refusals s bare n o ≡ bare_refusals t bare n o
+    bare_refusals_same : (bare : Bool) (n : Name) (o : Option ℕ) → NumberNot Ok i o → bare_refusals s bare n o ≡ bare_refusals t bare n o
     bare_refusals_same bare n None h = refl
     bare_refusals_same true n (Some d) h = refl
     bare_refusals_same false n (Some d) h = ap (λ (ms : List Meaning). lacking n ms []) (a.heads.members d (h d refl))
 
-    with_refusals_same : (n : Name) (sets : List MemberSet) (o : Option ℕ) → NumberNot o → with_refusals s n sets o ≡ with_refusals t n sets o
+    with_refusals_same : (n : Name) (sets : List MemberSet) (o : Option ℕ) → NumberNot Ok i o → with_refusals s n sets o ≡ with_refusals t n sets o
     with_refusals_same n sets None h = refl
     with_refusals_same n sets (Some d) h = ap (λ (ms : List Meaning). lacking n ms (texts_of sets) ++ not_abstract ms (set_names sets)) (a.heads.members d (h d refl))
 

@@ -1,6 +1,6 @@
 -- A type that no good name finds is none of the types that a scope of good names writes, nor the one that it is sealed at.
 use Rattle.std.proofs.Common.{◌≡◌, ℕ, zero, suc, List, [], ◌∷◌, ◌++◌, map, inl, inr, refl, sym, subst, Option, Some, None, Bool, true, false}
-use Rattle.std.specs.Prelude.{slice_get, nat_lt, if◌then◌else◌}
+use Rattle.std.specs.Prelude.{slice_get}
 use Rattle.wy_text.specs.declared.fault.AtomName.{AtomName}
 use Rattle.wy_text.specs.declared.fault.Place.{Place}
 use Rattle.wy_syntax.specs.declared.types.Name.{Name}
@@ -24,7 +24,6 @@ use Rattle.wy_types.specs.declared.resolved.Literal.{Literal}
 use Rattle.wy_types.specs.declared.resolved.OwnName.{OwnName}
 use Rattle.wy_types.specs.Code as code
 use Rattle.wy_types.specs.Core.{literal_fields}
-use Rattle.wy_types.specs.Primitive.{first_declared}
 use Rattle.wy_types.specs.Program.{Body}
 use Rattle.wy_types.specs.Signature.{Signature}
 use Rattle.wy_types.specs.Types.{is_plain, signature}
@@ -34,15 +33,16 @@ use Rattle.wy_symbols.specs.declared.scoping.Head.{Head}
 use Rattle.wy_symbols.specs.declared.scoping.Opening.{Opening}
 use Rattle.wy_symbols.specs.declared.scoping.Opening.TheVariants.{Members, Nothing, Missing}
 use Rattle.wy_symbols.specs.declared.scoping.Owner.{Owner}
-use Rattle.wy_symbols.specs.Declarations.{ModuleTree, ProgramTree, module_number}
-use Rattle.wy_symbols.specs.Atoms.{AtomScope, head_names, type_number, opened, primitive_opening, sealed_opening, module_at, module_opening, members_after, line_owner}
+use Rattle.wy_symbols.specs.Declarations.{ModuleTree, ProgramTree}
+use Rattle.wy_symbols.specs.Atoms.{AtomScope, head_names, type_number, opened, primitive_opening, module_opening, members_after, line_owner}
 use Rattle.wy_symbols.specs.TypeUses.{named_type, bound_type, type_ref, param_types, declared_methods, declaration_scope, declaration}
 use Rattle.wy_heads.specs.Lines.{opened_type, at_bound, param_type, param_name, grant_name, use_name, line_name, line_names}
 use Rattle.wy_heads.specs.ScopeHeads.{early_owners, module_atoms, param_scope, grant_owners, program_atoms, program_scope}
 use Rattle.wy_bodies.specs.Sight.{Sight, outermost, inside, with_params}
 use Rattle.wy_bodies.specs.Bodies.{Within, Count, at_start, one_val, one_literal, one_body, stmt_after, stmts_after, part_after, operand, bound, typed, typed_if, expr_value, expr_values, stmt_sight, last_or, rhs_value, stmt_block, stmts_block, part_values, tail_block, fields_of, literal_of, rhs_literals, stmt_literals, stmts_literals, part_literals, parts_literals, tail_literals, method_body, rhs_bodies, stmt_bodies, stmts_bodies, part_bodies, parts_bodies, tail_bodies}
 use Rattle.wy_names.specs.Scopes.{module_within, program_within, scope_of_module, scope_of_program}
-use Rattle.wy_editions.proofs.Alike.{OpensNot}
+use Rattle.wy_editions.proofs.Alike.{NumberNot, OpensNot}
+use Rattle.wy_editions.proofs.Openings.{module_opening_not, opened_not, primitive_not}
 use Rattle.wy_editions.proofs.TypeNames.{UseHas, UseIfHas, ParamsHave, ExprHas, ExprsHave, RhsHas, StmtHas, StmtsHave, PartHas, PartsHave, TailHas, MembersHave, GrantsHave, DeclHas, ModuleHas, ModulesHave, BlockHas}
 
 -- what holds of each element of two lists holds of each of both
@@ -56,9 +56,6 @@ module _ (Ok : List ℕ → Type 0) (i : ℕ) (h : List Head) (finds : (x : List
   abbrev AllNot : List TypeRef → Type 0
   AllNot us = (u : TypeRef) → In u us → NamesNot i u
 
-  abbrev NumberNot : Option ℕ → Type 0
-  NumberNot o = (d : ℕ) → o ≡ Some d → d ≡ i → ⊥
-
   none_not : AllNot []
   none_not u j = absurd j
 
@@ -71,15 +68,15 @@ module _ (Ok : List ℕ → Type 0) (i : ℕ) (h : List Head) (finds : (x : List
   ------------------------------------------------------------
   -- Types
 
-  number_not : (s : AtomScope) → s.heads ≡ h → (x : List ℕ) → Ok x → NumberNot (type_number (head_names s.heads) x)
-  number_not s e x ok = subst (λ (hs : List Head). NumberNot (type_number (head_names hs) x)) (sym e) (finds x ok)
+  number_not : (s : AtomScope) → s.heads ≡ h → (x : List ℕ) → Ok x → NumberNot Ok i (type_number (head_names s.heads) x)
+  number_not s e x ok = subst (λ (hs : List Head). NumberNot Ok i (type_number (head_names hs) x)) (sym e) (finds x ok)
 
-  named_not : (s : AtomScope) (plain : Bool) (sets : List MemberSet) (o : Option ℕ) → NumberNot o → NamesNot i (named_type s plain sets o)
+  named_not : (s : AtomScope) (plain : Bool) (sets : List MemberSet) (o : Option ℕ) → NumberNot Ok i o → NamesNot i (named_type s plain sets o)
   named_not s plain sets None f = tt
   named_not s true sets (Some d) f = f d refl
   named_not s false sets (Some d) f = f d refl
 
-  bound_not : (s : AtomScope) (plain : Bool) (set : List AtomUse) (o : Option ℕ) → NumberNot o → NamesNot i (bound_type s plain set o)
+  bound_not : (s : AtomScope) (plain : Bool) (set : List AtomUse) (o : Option ℕ) → NumberNot Ok i o → NamesNot i (bound_type s plain set o)
   bound_not s plain set None f = tt
   bound_not s true set (Some d) f = f d refl
   bound_not s false set (Some d) f = f d refl
@@ -121,28 +118,6 @@ module _ (Ok : List ℕ → Type 0) (i : ℕ) (h : List Head) (finds : (x : List
   ------------------------------------------------------------
   -- Openings
 
-  opened_not : (o : Option ℕ) → NumberNot o → OpensNot Ok i (opened o)
-  opened_not None f = tt
-  opened_not (Some d) f = f d refl
-
-  primitive_not : (o : Option ℕ) → NumberNot o → OpensNot Ok i (primitive_opening o)
-  primitive_not None f = tt
-  primitive_not (Some d) f =
-      elim (nat_lt d first_declared) as (λ (b : Bool). OpensNot Ok i (if b then Members d else Missing)) [ true ↦ f d refl | false ↦ tt ]
-
-  number_opens : (ms : List ModuleTree) (k : ℕ) → ModulesHave Ok ms → OpensNot Ok i (sealed_opening (head_names h) (slice_get ms k))
-  number_opens [] k ok = tt
-  number_opens (m ∷ ms) zero ok = opened_not (type_number (head_names h) m.sealed.text) (finds m.sealed.text ok.0.1)
-  number_opens (m ∷ ms) (suc k) ok = number_opens ms k ok.1
-
-  module_opens_at : (modules : List ModuleTree) → ModulesHave Ok modules → (o : Option ℕ) → OpensNot Ok i (sealed_opening (head_names h) (module_at modules o))
-  module_opens_at modules ok None = tt
-  module_opens_at modules ok (Some k) = number_opens modules k ok
-
-  -- a module that a name leads to is sealed at another type
-  module_opens : (modules : List ModuleTree) → ModulesHave Ok modules → (x : List ℕ) → OpensNot Ok i (module_opening (head_names h) modules x)
-  module_opens modules ok x = module_opens_at modules ok (module_number modules x)
-
   opened_type_not : (atoms : List AtomName) (owner : List ℕ) (o : Opening) → OpensNot Ok i o → NamesNot i (opened_type h atoms owner o)
   opened_type_not atoms owner (Members d) f = f
   opened_type_not atoms owner Nothing f = tt
@@ -167,7 +142,7 @@ module _ (Ok : List ℕ → Type 0) (i : ℕ) (h : List Head) (finds : (x : List
   param_type_not atoms owners x (use_of.Unit p) ok = tt
   param_type_not atoms owners x (use_of.Bare n) ok =
       let o = type_number (head_names h) n.text in
-      opened_type_not atoms x (opened o) (opened_not o (finds n.text ok))
+      opened_type_not atoms x (opened o) (opened_not Ok i o (finds n.text ok))
   param_type_not atoms owners x (use_of.With n sets) ok = type_not (scope_at atoms owners) refl false (use_of.With n sets) ok
   param_type_not atoms owners x (use_of.At n set) ok = type_not (scope_at atoms owners) refl false (use_of.At n set) ok
 
@@ -186,11 +161,11 @@ module _ (Ok : List ℕ → Type 0) (i : ℕ) (h : List Head) (finds : (x : List
   grants_not atoms owners (g ∷ gs) ok =
       let o = type_number (head_names h) g.kind.text in
       cons_each OwnNot (grant_name (scope_at atoms owners) g) (map (grant_name (scope_at atoms owners)) gs)
-      (opened_type_not atoms g.name.text (primitive_opening o) (primitive_not o (finds g.kind.text ok.0))) (grants_not atoms owners gs ok.1)
+      (opened_type_not atoms g.name.text (primitive_opening o) (primitive_not Ok i o (finds g.kind.text ok.0))) (grants_not atoms owners gs ok.1)
 
   module _ (modules : List ModuleTree) (good : ModulesHave Ok modules) where
     instance_not : (atoms : List AtomName) (x m : List ℕ) → NamesNot i (opened_type h atoms x (module_opening (head_names h) modules m))
-    instance_not atoms x m = opened_type_not atoms x (module_opening (head_names h) modules m) (module_opens modules good m)
+    instance_not atoms x m = opened_type_not atoms x (module_opening (head_names h) modules m) (module_opening_not Ok i (head_names h) finds modules good m)
 
     at_bound_not : (atoms : List AtomName) (o : Opening) (set : List ℕ) → OpensNot Ok i o → NamesNot i (at_bound h modules atoms o set)
     at_bound_not atoms (Members d) set f = f
@@ -204,7 +179,7 @@ module _ (Ok : List ℕ → Type 0) (i : ℕ) (h : List Head) (finds : (x : List
 
     line_not : (atoms : List AtomName) (before : List Owner) (l : Line) → OwnNot (line_name h modules atoms before l)
     line_not atoms before (line.Instance x m ns) = instance_not atoms x.text m.text
-    line_not atoms before (line.Import x m ns set) = at_bound_not atoms (module_opening (head_names h) modules m.text) _ (module_opens modules good m.text)
+    line_not atoms before (line.Import x m ns set) = at_bound_not atoms (module_opening (head_names h) modules m.text) _ (module_opening_not Ok i (head_names h) finds modules good m.text)
 
     lines_not : (atoms : List AtomName) (before : List Owner) (ls : List Line) → NamesAllNot (line_names h modules atoms before ls)
     lines_not atoms before [] = λ n j. absurd j
