@@ -91,23 +91,30 @@ fn add_folder_members(alloc: Global, members: &mut Items<Text>) -> Result<(), Me
     add_member(alloc, members, "List")
 }
 
-fn make_folder(alloc: Global) -> Result<TypeDecl, Memory>
-    ensures { IfOk result (λ d. d ≡ folder) }
+/// The methods of a folder.
+fn folder_methods(alloc: Global) -> Result<Items<Method>, Memory>
+    ensures { IfOk result (λ ms. ms ≡ folder.methods) }
 {
-    let mut members = Items::new(alloc);
-    add_folder_members(alloc, &mut members)?;
     let mut methods = Items::new(alloc);
     add_method(alloc, &mut methods, "read", 1, 0, TypeRef::Text)?;
     add_method(alloc, &mut methods, "has", 1, 0, TypeRef::Bool)?;
     add_method(alloc, &mut methods, "write", 2, 1, TypeRef::Unit)?;
     add_method(alloc, &mut methods, "append", 2, 2, TypeRef::Unit)?;
     add_method(alloc, &mut methods, "names", 0, 3, TypeRef::Text)?;
+    Ok(methods)
+}
+
+fn make_folder(alloc: Global) -> Result<TypeDecl, Memory>
+    ensures { IfOk result (λ d. d ≡ folder) }
+{
+    let mut members = Items::new(alloc);
+    add_folder_members(alloc, &mut members)?;
     Ok(TypeDecl {
         name: from_bytes(alloc, b"Folder")?,
         members,
         bounds: unbounded(alloc, 4)?,
         defined: Items::new(alloc),
-        methods,
+        methods: folder_methods(alloc)?,
     })
 }
 
@@ -149,12 +156,7 @@ fn make_full_folder(alloc: Global) -> Result<TypeDecl, Memory>
     let mut members = Items::new(alloc);
     add_folder_members(alloc, &mut members)?;
     add_member(alloc, &mut members, "Remove")?;
-    let mut methods = Items::new(alloc);
-    add_method(alloc, &mut methods, "read", 1, 0, TypeRef::Text)?;
-    add_method(alloc, &mut methods, "has", 1, 0, TypeRef::Bool)?;
-    add_method(alloc, &mut methods, "write", 2, 1, TypeRef::Unit)?;
-    add_method(alloc, &mut methods, "append", 2, 2, TypeRef::Unit)?;
-    add_method(alloc, &mut methods, "names", 0, 3, TypeRef::Text)?;
+    let mut methods = folder_methods(alloc)?;
     add_method(alloc, &mut methods, "remove", 1, 4, TypeRef::Unit)?;
     Ok(TypeDecl {
         name: from_bytes(alloc, b"FullFolder")?,
