@@ -1,5 +1,4 @@
-//! The program: real files, streams and devices for the top call. These few lines are the edge that is
-//! trusted: they meet the traits of the outside, and tell nothing of what a file, a stream or a clock holds.
+//! The program: the words, files, streams and devices of the machine for the top call.
 #![tactic(auto)]
 
 ghost use Rattle.std.specs.Prelude.{◌≡◌};
@@ -7,34 +6,22 @@ ghost use Rattle.wy_device.specs.Devices.{IsInOrder};
 ghost use Rattle.wy_machine.specs.Devices.{states};
 ghost use Rattle.wy_device.specs.declared.operation.Kind.{Kind};
 
-mod clock;
-mod console;
-mod fault;
-mod files;
-mod folder;
-mod listing;
-mod plain_file;
-mod random;
-mod stream;
-#[cfg(test)]
-mod tests;
-
-use clock::RealClock;
-use console::RealConsole;
-use files::RealFiles;
-use folder::RealFolder;
-use random::RealRandom;
 use std::alloc::Global;
 use std::env;
 use std::io::{self, BufReader};
 use std::process::ExitCode;
-use stream::Stream;
 use wy_device::device::Device;
 use wy_device::handed::Handed;
 use wy_engine::devices::Devices;
 use wy_engine::handing_in::devices;
 use wy_engine::status::Status;
 use wy_engine::top::wyvern;
+use wy_host::clock::RealClock;
+use wy_host::console::RealConsole;
+use wy_host::files::RealFiles;
+use wy_host::folder::RealFolder;
+use wy_host::random::RealRandom;
+use wy_host::stream::Stream;
 
 /// The words after the program's name; none where one of them is not text. The error is want of memory.
 fn words(rt: &HostRuntime) -> io::Result<Vec<String>> {

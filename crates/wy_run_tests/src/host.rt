@@ -1,13 +1,15 @@
+//! What the machine's files, streams and devices do, tried on a real one.
+
 mod folders;
 mod numbers;
 
-use crate::console::RealConsole;
-use crate::files::RealFiles;
-use crate::stream::Stream;
 use std::test::Fail;
 use std::{env, fs};
 use wy_device::device::{Device, DeviceError};
 use wy_device::operation::{Answer, Op};
+use wy_host::console::RealConsole;
+use wy_host::files::RealFiles;
+use wy_host::stream::Stream;
 use wy_text::shelf::{ReadError, Shelf};
 use wy_text::sink::{Sink, WriteError};
 use wy_text::text::from_bytes;

@@ -1,7 +1,7 @@
 ghost use Rattle.std.specs.Prelude.{◌≡◌, true, map, string_bytes, IfOk};
 ghost use Rattle.wy_device.specs.FolderFiles.{in_lines};
 ghost use Rattle.wy_device.specs.Requests.{is_file_name};
-ghost use Rattle.wy_cli.specs.FolderNames.{HoldsFileNames, ListsFileNames};
+ghost use Rattle.wy_host.specs.FolderNames.{HoldsFileNames, ListsFileNames};
 
 use std::alloc::{AllocError, Global};
 use std::collections::BTreeSet;

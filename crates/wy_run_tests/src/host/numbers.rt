@@ -1,8 +1,8 @@
-use crate::clock::RealClock;
-use crate::random::RealRandom;
 use std::test::Fail;
 use wy_device::device::Device;
 use wy_device::operation::{Answer, Op};
+use wy_host::clock::RealClock;
+use wy_host::random::RealRandom;
 use wy_text::text::from_bytes;
 
 #[test]

@@ -2,7 +2,7 @@
 //! its name, and what was opened is used only where it is the very file that was seen there.
 
 ghost use Rattle.std.specs.Prelude.{IfOk};
-ghost use Rattle.wy_cli.specs.FolderNames.{HoldsFileNames};
+ghost use Rattle.wy_host.specs.FolderNames.{HoldsFileNames};
 
 use crate::listing::put_name;
 use std::alloc::Global;

@@ -11,7 +11,7 @@ use Rattle.std.specs.String.{string_cmp}
 use Rattle.std.proofs.lemmas.List.Elements.{All-map}
 use Rattle.wy_device.specs.FolderFiles.{in_lines}
 use Rattle.wy_device.specs.Requests.{is_file_name}
-use Rattle.wy_cli.specs.FolderNames.{HoldsFileNames, ListsFileNames}
+use Rattle.wy_host.specs.FolderNames.{HoldsFileNames, ListsFileNames}
 
 below-map : {A : Type 0} (x : List ℕ) (names : List (String A)) → AllByRecursion (λ y. slice_cmp nat_cmp x (string_bytes y) ≡ Less) names
     → AllByRecursion (λ y. slice_cmp nat_cmp x y ≡ Less) (map string_bytes names)

@@ -2,7 +2,7 @@ use Rattle.std.proofs.Common.{◌≡◌, true, string_bytes}
 use Rattle.std.specs.String.{string_cmp}
 use Rattle.std.proofs.lemmas.Map.Views.{All-insert_key}
 use Rattle.wy_device.specs.Requests.{is_file_name}
-use Rattle.wy_cli.proofs.listing.put_name.Goals as goal
+use Rattle.wy_host.proofs.listing.put_name.Goals as goal
 
 pub returns : goal.returns
 returns c = record {

@@ -1,7 +1,6 @@
 ghost use Rattle.std.specs.Prelude.{◌≡◌, IfOk};
 ghost use Rattle.wy_device.specs.Operation.{kind_of};
 
-use crate::folder::RealFolder;
 use std::alloc::Global;
 use std::os::unix::fs::symlink;
 use std::test::Fail;
@@ -9,6 +8,7 @@ use std::{env, fs, io, process};
 use wy_device::device::Device;
 use wy_device::mem_folder::LONGEST_TEXT;
 use wy_device::operation::{Answer, Kind, Op};
+use wy_host::folder::RealFolder;
 use wy_text::text::{Memory, Text, from_bytes};
 
 /// An operation as a table holds it.
@@ -73,6 +73,48 @@ fn lay_out(rt: &HostRuntime, base: &str) -> io::Result<()> {
     symlink(rt, "disk", format!(in alloc; "{base}/linked")?)
 }
 
+/// Operations in order, each with its grant and its answer.
+static ROWS: [(&str, Asked, &str); 38] = [
+    ("none", Asked::Names, "failed"),
+    ("none", Asked::Read("a"), "failed"),
+    ("none", Asked::Has("a"), "failed"),
+    ("none", Asked::Write("a", "1"), "failed"),
+    ("none", Asked::Remove("a"), "failed"),
+    ("linked", Asked::Names, "failed"),
+    (".", Asked::Read("outside"), "failed"),
+    ("disk", Asked::Names, "long\n"),
+    ("disk", Asked::Read("a"), ""),
+    ("disk", Asked::Has("a"), "false"),
+    ("disk", Asked::Write("b", "one"), "done"),
+    ("disk", Asked::Append("b", " two\n"), "done"),
+    ("disk", Asked::Append("a", "three"), "done"),
+    ("disk", Asked::Read("b"), "one two\n"),
+    ("disk", Asked::Has("b"), "true"),
+    ("disk", Asked::Write("b", "1"), "done"),
+    ("disk", Asked::Read("b"), "1"),
+    ("disk", Asked::Read("long"), "failed"),
+    ("disk", Asked::Read("../outside"), "failed"),
+    ("disk", Asked::Has("link"), "false"),
+    ("disk", Asked::Read("link"), "failed"),
+    ("disk", Asked::Write("link", "1"), "failed"),
+    ("disk", Asked::Append("link", "1"), "failed"),
+    ("disk", Asked::Write("gone", "1"), "failed"),
+    ("disk", Asked::Has("folder"), "false"),
+    ("disk", Asked::Read("folder"), "failed"),
+    ("disk", Asked::Names, "a\nb\nlong\n"),
+    ("linked", Asked::Remove("a"), "failed"),
+    ("disk", Asked::Remove("../outside"), "failed"),
+    ("disk", Asked::Remove("link"), "failed"),
+    ("disk", Asked::Remove("gone"), "failed"),
+    ("disk", Asked::Remove("folder"), "failed"),
+    ("disk", Asked::Names, "a\nb\nlong\n"),
+    ("disk", Asked::Remove("a"), "done"),
+    ("disk", Asked::Has("a"), "false"),
+    ("disk", Asked::Remove("a"), "done"),
+    ("disk", Asked::Remove("long"), "done"),
+    ("disk", Asked::Names, "b\n"),
+];
+
 #[test]
 fn a_folder_holds_plain_files_and_leads_nowhere_else(rt: HostRuntime) -> Result<(), Fail> {
     let alloc = rt.alloc();
@@ -80,48 +122,8 @@ fn a_folder_holds_plain_files_and_leads_nowhere_else(rt: HostRuntime) -> Result<
     base.push(format!(in alloc; "wyvern_folder_{}", process::id(rt.process()))?)?;
     let base = base.as_path().to_str().ok_or("a path")?;
     lay_out(&rt, base)?;
-    let rows = [
-        ("none", Asked::Names, "failed"),
-        ("none", Asked::Read("a"), "failed"),
-        ("none", Asked::Has("a"), "failed"),
-        ("none", Asked::Write("a", "1"), "failed"),
-        ("none", Asked::Remove("a"), "failed"),
-        ("linked", Asked::Names, "failed"),
-        (".", Asked::Read("outside"), "failed"),
-        ("disk", Asked::Names, "long\n"),
-        ("disk", Asked::Read("a"), ""),
-        ("disk", Asked::Has("a"), "false"),
-        ("disk", Asked::Write("b", "one"), "done"),
-        ("disk", Asked::Append("b", " two\n"), "done"),
-        ("disk", Asked::Append("a", "three"), "done"),
-        ("disk", Asked::Read("b"), "one two\n"),
-        ("disk", Asked::Has("b"), "true"),
-        ("disk", Asked::Write("b", "1"), "done"),
-        ("disk", Asked::Read("b"), "1"),
-        ("disk", Asked::Read("long"), "failed"),
-        ("disk", Asked::Read("../outside"), "failed"),
-        ("disk", Asked::Has("link"), "false"),
-        ("disk", Asked::Read("link"), "failed"),
-        ("disk", Asked::Write("link", "1"), "failed"),
-        ("disk", Asked::Append("link", "1"), "failed"),
-        ("disk", Asked::Write("gone", "1"), "failed"),
-        ("disk", Asked::Has("folder"), "false"),
-        ("disk", Asked::Read("folder"), "failed"),
-        ("disk", Asked::Names, "a\nb\nlong\n"),
-        ("linked", Asked::Remove("a"), "failed"),
-        ("disk", Asked::Remove("../outside"), "failed"),
-        ("disk", Asked::Remove("link"), "failed"),
-        ("disk", Asked::Remove("gone"), "failed"),
-        ("disk", Asked::Remove("folder"), "failed"),
-        ("disk", Asked::Names, "a\nb\nlong\n"),
-        ("disk", Asked::Remove("a"), "done"),
-        ("disk", Asked::Has("a"), "false"),
-        ("disk", Asked::Remove("a"), "done"),
-        ("disk", Asked::Remove("long"), "done"),
-        ("disk", Asked::Names, "b\n"),
-    ];
     let mut folder = RealFolder::new(alloc, rt.clone()?, String::from_str(alloc, base)?);
-    for (grant, asked, expected) in &rows {
+    for (grant, asked, expected) in &ROWS {
         let answer = answer(alloc, &mut folder, grant, *asked)?;
         assert_eq!(rt; answer.as_bytes(), expected.as_bytes());
     }

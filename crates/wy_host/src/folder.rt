@@ -3,7 +3,7 @@ ghost use Rattle.wy_text.specs.Outside.{Rose};
 ghost use Rattle.wy_device.specs.Device.{DeviceState};
 ghost use Rattle.wy_device.specs.Requests as requests;
 ghost use Rattle.wy_device.specs.Traps.{text_limit};
-ghost use Rattle.wy_cli.specs.FolderNames.{ListsFileNames};
+ghost use Rattle.wy_host.specs.FolderNames.{ListsFileNames};
 
 use crate::fault::count_fault;
 use crate::listing::listing;
