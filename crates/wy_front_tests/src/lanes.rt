@@ -155,8 +155,6 @@ fn each_byte_is_of_its_class(rt: HostRuntime) -> Result<(), Fail> {
     Ok(())
 }
 
-/// The set of these numbers, each below 512.
-
 /// So many spaces, and then these bytes.
 fn spaces_before(alloc: Global, count: u16, last: &[u8]) -> Result<Vec<u8>, AllocError> {
     let mut bytes = Vec::new(alloc);
@@ -190,6 +188,7 @@ fn a_class_goes_as_far_as_its_bytes(rt: HostRuntime) -> Result<(), Fail> {
     Ok(())
 }
 
+/// The set of these numbers, each below 512.
 fn set_of(numbers: &[u16]) -> NumberSet {
     let mut set = NumberSet::empty();
     for number in numbers {

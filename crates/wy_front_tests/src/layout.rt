@@ -111,71 +111,73 @@ fn said(alloc: Global, bytes: &[u8]) -> Result<String, Fail> {
     Ok(format!(in alloc; "{name} {file}:{line}:{column}")?)
 }
 
+/// Files, each with what is said of it.
+static REFUSED: [(&[u8], &str); 51] = [
+    (b"program\xff", "NotUtf8 7:1:8"),
+    (b"\xff\n\t", "NotUtf8 7:1:1"),
+    (b"a // \xc3\n", "NotUtf8 7:1:6"),
+    (b"a\n\xe2\x82", "NotUtf8 7:2:1"),
+    (b"\"\xff\"", "NotUtf8 7:1:2"),
+    (b"\"a\xff", "NotUtf8 7:1:3"),
+    (b"  \xff", "NotUtf8 7:1:3"),
+    (b"a # \xff", "BadCharacter 7:1:3"),
+    (b"program\n\trun: {}\n", "TabIndent 7:2:1"),
+    (b"  \t", "TabIndent 7:1:3"),
+    (b" \t// x\n", "TabIndent 7:1:2"),
+    (b"a\n    \t\tb", "TabIndent 7:2:5"),
+    (
+        b"program\n    run: {}\n        ()\n  ()\n",
+        "BadDedent 7:4:3",
+    ),
+    (b"  a\n b\n", "BadDedent 7:2:2"),
+    (b"a\n  b\n #\n", "BadDedent 7:3:2"),
+    (b"a\n  b\n c #\n", "BadDedent 7:3:2"),
+    (b"#", "BadCharacter 7:1:1"),
+    (b"a #", "BadCharacter 7:1:3"),
+    (b"a\n  b #\n c\n", "BadCharacter 7:2:5"),
+    (b"a\rb\n", "BadCharacter 7:1:2"),
+    (b"a\r", "BadCharacter 7:1:2"),
+    (b"a\r\r\n", "BadCharacter 7:1:2"),
+    (b"\"a\rb\"", "BadCharacter 7:1:3"),
+    (b"\"\x01\"", "BadCharacter 7:1:2"),
+    (b"\"\x7f\"", "BadCharacter 7:1:2"),
+    (b"\"\\\x01\"", "BadCharacter 7:1:3"),
+    (b"\"\\x\x01\"", "BadCharacter 7:1:4"),
+    (b"a & b", "BadCharacter 7:1:3"),
+    (b"a |", "BadCharacter 7:1:3"),
+    (b"\xef\xbb\xbfa", "BadCharacter 7:1:1"),
+    (b"a\x00", "BadCharacter 7:1:2"),
+    (b"\xcc\x81", "BadCharacter 7:1:1"),
+    (b"a\xe2\x80\x94b", "BadCharacter 7:1:2"),
+    (b"ab\xc3\xa9\xe2\x80\x94", "BadCharacter 7:1:5"),
+    (
+        b"program\n  grant console: Console\n  run: {console.Out}\n    console.write(\"a\n",
+        "OpenText 7:4:21",
+    ),
+    (b"\"", "OpenText 7:1:2"),
+    (b"a \"b\r\nc\"", "OpenText 7:1:5"),
+    (b"\"\\", "OpenText 7:1:3"),
+    (b"\"\\\n", "OpenText 7:1:3"),
+    (b"\"\\x4\n", "OpenText 7:1:5"),
+    (b"\"\\q\"", "BadEscape 7:1:3"),
+    (b"\"\\x\"", "BadEscape 7:1:4"),
+    (b"\"\\x4g\"", "BadEscape 7:1:5"),
+    (b"\"\\\t\"", "BadEscape 7:1:3"),
+    (b"\"\\x\t\"", "BadEscape 7:1:4"),
+    (b"\"\\\xc3\xa9\"", "BadEscape 7:1:3"),
+    (b"\"\t\\n\\t\\\\\\\"\\x0a\\xFf\"", "3"),
+    (b"9223372036854775809", "NumberTooLarge 7:1:1"),
+    (b"a 00099999999999999999999", "NumberTooLarge 7:1:3"),
+    (b"9223372036854775808 007 0", "5"),
+    (b"a\n  \"b\n c\n", "OpenText 7:2:5"),
+];
+
 #[test]
 fn files_are_refused_at_these_places(rt: HostRuntime) -> Result<(), Fail> {
     let alloc = rt.alloc();
-    let cases: [(&[u8], &str); 51] = [
-        (b"program\xff", "NotUtf8 7:1:8"),
-        (b"\xff\n\t", "NotUtf8 7:1:1"),
-        (b"a // \xc3\n", "NotUtf8 7:1:6"),
-        (b"a\n\xe2\x82", "NotUtf8 7:2:1"),
-        (b"\"\xff\"", "NotUtf8 7:1:2"),
-        (b"\"a\xff", "NotUtf8 7:1:3"),
-        (b"  \xff", "NotUtf8 7:1:3"),
-        (b"a # \xff", "BadCharacter 7:1:3"),
-        (b"program\n\trun: {}\n", "TabIndent 7:2:1"),
-        (b"  \t", "TabIndent 7:1:3"),
-        (b" \t// x\n", "TabIndent 7:1:2"),
-        (b"a\n    \t\tb", "TabIndent 7:2:5"),
-        (
-            b"program\n    run: {}\n        ()\n  ()\n",
-            "BadDedent 7:4:3",
-        ),
-        (b"  a\n b\n", "BadDedent 7:2:2"),
-        (b"a\n  b\n #\n", "BadDedent 7:3:2"),
-        (b"a\n  b\n c #\n", "BadDedent 7:3:2"),
-        (b"#", "BadCharacter 7:1:1"),
-        (b"a #", "BadCharacter 7:1:3"),
-        (b"a\n  b #\n c\n", "BadCharacter 7:2:5"),
-        (b"a\rb\n", "BadCharacter 7:1:2"),
-        (b"a\r", "BadCharacter 7:1:2"),
-        (b"a\r\r\n", "BadCharacter 7:1:2"),
-        (b"\"a\rb\"", "BadCharacter 7:1:3"),
-        (b"\"\x01\"", "BadCharacter 7:1:2"),
-        (b"\"\x7f\"", "BadCharacter 7:1:2"),
-        (b"\"\\\x01\"", "BadCharacter 7:1:3"),
-        (b"\"\\x\x01\"", "BadCharacter 7:1:4"),
-        (b"a & b", "BadCharacter 7:1:3"),
-        (b"a |", "BadCharacter 7:1:3"),
-        (b"\xef\xbb\xbfa", "BadCharacter 7:1:1"),
-        (b"a\x00", "BadCharacter 7:1:2"),
-        (b"\xcc\x81", "BadCharacter 7:1:1"),
-        (b"a\xe2\x80\x94b", "BadCharacter 7:1:2"),
-        (b"ab\xc3\xa9\xe2\x80\x94", "BadCharacter 7:1:5"),
-        (
-            b"program\n  grant console: Console\n  run: {console.Out}\n    console.write(\"a\n",
-            "OpenText 7:4:21",
-        ),
-        (b"\"", "OpenText 7:1:2"),
-        (b"a \"b\r\nc\"", "OpenText 7:1:5"),
-        (b"\"\\", "OpenText 7:1:3"),
-        (b"\"\\\n", "OpenText 7:1:3"),
-        (b"\"\\x4\n", "OpenText 7:1:5"),
-        (b"\"\\q\"", "BadEscape 7:1:3"),
-        (b"\"\\x\"", "BadEscape 7:1:4"),
-        (b"\"\\x4g\"", "BadEscape 7:1:5"),
-        (b"\"\\\t\"", "BadEscape 7:1:3"),
-        (b"\"\\x\t\"", "BadEscape 7:1:4"),
-        (b"\"\\\xc3\xa9\"", "BadEscape 7:1:3"),
-        (b"\"\t\\n\\t\\\\\\\"\\x0a\\xFf\"", "3"),
-        (b"9223372036854775809", "NumberTooLarge 7:1:1"),
-        (b"a 00099999999999999999999", "NumberTooLarge 7:1:3"),
-        (b"9223372036854775808 007 0", "5"),
-        (b"a\n  \"b\n c\n", "OpenText 7:2:5"),
-    ];
-    for (bytes, wanted) in cases {
+    for (bytes, wanted) in &REFUSED {
         let found = said(alloc, bytes)?;
-        assert_eq!(rt; found.as_str(), wanted);
+        assert_eq!(rt; found.as_str(), *wanted);
     }
     Ok(())
 }
@@ -196,37 +198,39 @@ fn built(
     Ok(bytes)
 }
 
+/// First pieces, others so many times and last ones, each with what is said of the whole.
+static LIMITED: [(&[u8], &[u8], u32, &[u8], &str); 22] = [
+    (b"a ", b"n", 64, b" b", "5"),
+    (b"a ", b"n", 65, b" b", "name bytes"),
+    (b"  a\n ", b"n", 65, b"", "name bytes"),
+    (b"\"", b"n", 65, b"\"", "3"),
+    (b"# ", b"n", 65, b"", "BadCharacter 7:1:1"),
+    (b"a", b".", 128, b"", "131"),
+    (b"a", b".", 129, b"", "marks"),
+    (b"a ", b"(", 129, b"", "marks"),
+    (b"a ", b"if ", 129, b"", "marks"),
+    (b"a ", b"!", 129, b"", "marks"),
+    (b"a ", b"== ", 128, b"- #", "marks"),
+    (b"a ", b"= , : ) [ ] ", 200, b"", "1203"),
+    (b"{{}", b".", 200, b"}", "206"),
+    (b"{}} ", b".", 129, b"", "marks"),
+    (b"{\n", b".", 129, b"", "marks"),
+    (b"", b"..\n", 100, b"", "301"),
+    (b"a a\n", b"b\n", 131_070, b"", "262144"),
+    (b"a a a\n", b"b\n", 131_070, b"", "tokens"),
+    (b"a\n", b"b\n", 131_071, b"b #", "tokens"),
+    (b"a\n", b"b\n", 131_071, b"# b", "BadCharacter 7:131073:1"),
+    (b"", b" ", 1_048_576, b"", "1"),
+    (b"\xff", b" ", 1_048_576, b"", "file bytes"),
+];
+
 #[test]
 fn limits_hold_up_to_their_numbers(rt: HostRuntime) -> Result<(), Fail> {
     let alloc = rt.alloc();
-    let cases: [(&[u8], &[u8], u32, &[u8], &str); 22] = [
-        (b"a ", b"n", 64, b" b", "5"),
-        (b"a ", b"n", 65, b" b", "name bytes"),
-        (b"  a\n ", b"n", 65, b"", "name bytes"),
-        (b"\"", b"n", 65, b"\"", "3"),
-        (b"# ", b"n", 65, b"", "BadCharacter 7:1:1"),
-        (b"a", b".", 128, b"", "131"),
-        (b"a", b".", 129, b"", "marks"),
-        (b"a ", b"(", 129, b"", "marks"),
-        (b"a ", b"if ", 129, b"", "marks"),
-        (b"a ", b"!", 129, b"", "marks"),
-        (b"a ", b"== ", 128, b"- #", "marks"),
-        (b"a ", b"= , : ) [ ] ", 200, b"", "1203"),
-        (b"{{}", b".", 200, b"}", "206"),
-        (b"{}} ", b".", 129, b"", "marks"),
-        (b"{\n", b".", 129, b"", "marks"),
-        (b"", b"..\n", 100, b"", "301"),
-        (b"a a\n", b"b\n", 131_070, b"", "262144"),
-        (b"a a a\n", b"b\n", 131_070, b"", "tokens"),
-        (b"a\n", b"b\n", 131_071, b"b #", "tokens"),
-        (b"a\n", b"b\n", 131_071, b"# b", "BadCharacter 7:131073:1"),
-        (b"", b" ", 1_048_576, b"", "1"),
-        (b"\xff", b" ", 1_048_576, b"", "file bytes"),
-    ];
-    for (first, piece, count, last, wanted) in cases {
-        let bytes = built(alloc, first, piece, count, last)?;
+    for (first, piece, count, last, wanted) in &LIMITED {
+        let bytes = built(alloc, first, piece, *count, last)?;
         let found = said(alloc, bytes.as_slice())?;
-        assert_eq!(rt; found.as_str(), wanted);
+        assert_eq!(rt; found.as_str(), *wanted);
     }
     Ok(())
 }
@@ -338,74 +342,75 @@ fn indents_hold_up_to_their_number(rt: HostRuntime) -> Result<(), Fail> {
     Ok(())
 }
 
+/// Words, each with its kind.
+const WORDS: &str = "type KwType
+effect KwEffect
+def KwDef
+module KwModule
+resource KwResource
+plain KwPlain
+program KwProgram
+grant KwGrant
+use KwUse
+instance KwInstance
+import KwImport
+at KwAt
+init KwInit
+val KwVal
+var KwVar
+run KwRun
+new KwNew
+if KwIf
+then KwThen
+else KwElse
+this KwThis
+true KwTrue
+false KwFalse
+main KwMain
+Int KwInt
+Bool KwBool
+String KwString
+Unit KwUnit
+text_size KwTextSize
+text_part KwTextPart
+text_code KwTextCode
+text_byte KwTextByte
+text_show KwTextShow
+( SymOpenParen
+) SymCloseParen
+[ SymOpenBracket
+] SymCloseBracket
+{ SymOpenBrace
+} SymCloseBrace
+, SymComma
+: SymColon
+. SymDot
+= SymEqual
+== SymEqualEqual
+!= SymNotEqual
+< SymLess
+<= SymLessEqual
+> SymGreater
+>= SymGreaterEqual
++ SymPlus
+- SymMinus
+* SymStar
+/ SymSlash
+% SymPercent
+++ SymPlusPlus
+&& SymAndAnd
+|| SymOrOr
+! SymNot
+9223372036854775807 Number(9223372036854775807)
+007 Number(7)
+0 Number(0)
+9223372036854775808 Edge";
+
 #[test]
 fn each_word_is_its_kind(rt: HostRuntime) -> Result<(), Fail> {
     let alloc = rt.alloc();
-    let cases: [(&str, &str); 62] = [
-        ("type", "KwType"),
-        ("effect", "KwEffect"),
-        ("def", "KwDef"),
-        ("module", "KwModule"),
-        ("resource", "KwResource"),
-        ("plain", "KwPlain"),
-        ("program", "KwProgram"),
-        ("grant", "KwGrant"),
-        ("use", "KwUse"),
-        ("instance", "KwInstance"),
-        ("import", "KwImport"),
-        ("at", "KwAt"),
-        ("init", "KwInit"),
-        ("val", "KwVal"),
-        ("var", "KwVar"),
-        ("run", "KwRun"),
-        ("new", "KwNew"),
-        ("if", "KwIf"),
-        ("then", "KwThen"),
-        ("else", "KwElse"),
-        ("this", "KwThis"),
-        ("true", "KwTrue"),
-        ("false", "KwFalse"),
-        ("main", "KwMain"),
-        ("Int", "KwInt"),
-        ("Bool", "KwBool"),
-        ("String", "KwString"),
-        ("Unit", "KwUnit"),
-        ("text_size", "KwTextSize"),
-        ("text_part", "KwTextPart"),
-        ("text_code", "KwTextCode"),
-        ("text_byte", "KwTextByte"),
-        ("text_show", "KwTextShow"),
-        ("(", "SymOpenParen"),
-        (")", "SymCloseParen"),
-        ("[", "SymOpenBracket"),
-        ("]", "SymCloseBracket"),
-        ("{", "SymOpenBrace"),
-        ("}", "SymCloseBrace"),
-        (",", "SymComma"),
-        (":", "SymColon"),
-        (".", "SymDot"),
-        ("=", "SymEqual"),
-        ("==", "SymEqualEqual"),
-        ("!=", "SymNotEqual"),
-        ("<", "SymLess"),
-        ("<=", "SymLessEqual"),
-        (">", "SymGreater"),
-        (">=", "SymGreaterEqual"),
-        ("+", "SymPlus"),
-        ("-", "SymMinus"),
-        ("*", "SymStar"),
-        ("/", "SymSlash"),
-        ("%", "SymPercent"),
-        ("++", "SymPlusPlus"),
-        ("&&", "SymAndAnd"),
-        ("||", "SymOrOr"),
-        ("!", "SymNot"),
-        ("9223372036854775807", "Number(9223372036854775807)"),
-        ("007", "Number(7)"),
-        ("0", "Number(0)"),
-        ("9223372036854775808", "Edge"),
-    ];
-    for (word, wanted) in cases {
+    for line in WORDS.lines() {
+        let (word, wanted) = line.split_once(' ').ok_or("two words")?;
         let tokens = lex_ok(alloc, word.as_bytes())?;
         assert_eq!(rt; tokens.len(), 3);
         let kind = &tokens[0].kind;

@@ -57,49 +57,51 @@ fn shown(alloc: Global, bytes: &[u8]) -> Result<String, Fail> {
     Ok(out)
 }
 
+/// Texts of policies, each with what is read.
+static TEXTS: [(&[u8], &str); 32] = [
+    (b"", ""),
+    (b"\n   \n// x: -\r\n//", ""),
+    (b"a: -", "1 is <a>;"),
+    (b"a: -\r\n\nb*: -\n", "1 is <a>;3 begins <b>;"),
+    (b"*: d.*", "1 begins <> [d];"),
+    (b"pure a: d.Read", "1 is <pure a> [d]Read;"),
+    (b" a : d.R, e.*, d.R", "1 is < a > [d]R [e] [d]R;"),
+    (
+        b"\xc3\xa9*: \xc3\xa9.\xc3\xa9",
+        "1 begins <\u{e9}> [\u{e9}]\u{e9};",
+    ),
+    (b"/ x: -", "1 is </ x>;"),
+    (b"a: mains.atom", "1 is <a> [mains]atom;"),
+    (b" // x", "bad 1"),
+    (b"a: -\n\t\nb", "bad 2"),
+    (b": -", "bad 1"),
+    (b"a", "bad 1"),
+    (b"a:", "bad 1"),
+    (b"a:-", "bad 1"),
+    (b"a:  -", "bad 1"),
+    (b"a: ", "bad 1"),
+    (b"a: - ", "bad 1"),
+    (b"a: -\r", "bad 1"),
+    (b"a: -, d.R", "bad 1"),
+    (b"a: d.R,e.R", "bad 1"),
+    (b"a: d.R, ", "bad 1"),
+    (b"a: d", "bad 1"),
+    (b"a: .R", "bad 1"),
+    (b"a: d.", "bad 1"),
+    (b"a: d.R.S", "bad 1"),
+    (b"a: *.R", "bad 1"),
+    (b"a: 1.R", "bad 1"),
+    (b"a: main.R", "bad 1"),
+    (b"a: d.text_size", "bad 1"),
+    (b"a**: -", "bad 1"),
+];
+
 #[test]
 fn a_line_is_blank_a_comment_or_a_row(rt: HostRuntime) -> Result<(), Fail> {
     let alloc = rt.alloc();
-    let cases: [(&[u8], &str); 32] = [
-        (b"", ""),
-        (b"\n   \n// x: -\r\n//", ""),
-        (b"a: -", "1 is <a>;"),
-        (b"a: -\r\n\nb*: -\n", "1 is <a>;3 begins <b>;"),
-        (b"*: d.*", "1 begins <> [d];"),
-        (b"pure a: d.Read", "1 is <pure a> [d]Read;"),
-        (b" a : d.R, e.*, d.R", "1 is < a > [d]R [e] [d]R;"),
-        (
-            b"\xc3\xa9*: \xc3\xa9.\xc3\xa9",
-            "1 begins <\u{e9}> [\u{e9}]\u{e9};",
-        ),
-        (b"/ x: -", "1 is </ x>;"),
-        (b"a: mains.atom", "1 is <a> [mains]atom;"),
-        (b" // x", "bad 1"),
-        (b"a: -\n\t\nb", "bad 2"),
-        (b": -", "bad 1"),
-        (b"a", "bad 1"),
-        (b"a:", "bad 1"),
-        (b"a:-", "bad 1"),
-        (b"a:  -", "bad 1"),
-        (b"a: ", "bad 1"),
-        (b"a: - ", "bad 1"),
-        (b"a: -\r", "bad 1"),
-        (b"a: -, d.R", "bad 1"),
-        (b"a: d.R,e.R", "bad 1"),
-        (b"a: d.R, ", "bad 1"),
-        (b"a: d", "bad 1"),
-        (b"a: .R", "bad 1"),
-        (b"a: d.", "bad 1"),
-        (b"a: d.R.S", "bad 1"),
-        (b"a: *.R", "bad 1"),
-        (b"a: 1.R", "bad 1"),
-        (b"a: main.R", "bad 1"),
-        (b"a: d.text_size", "bad 1"),
-        (b"a**: -", "bad 1"),
-    ];
-    for (bytes, wanted) in cases {
+    for (bytes, wanted) in &TEXTS {
         let found = shown(alloc, bytes)?;
-        assert_eq!(rt; found.as_str(), wanted);
+        assert_eq!(rt; found.as_str(), *wanted);
     }
     Ok(())
 }
