@@ -1,14 +1,12 @@
 use crate::certificates_table::{LOG, LOGS, SAID, Said, UNKNOWN, UNSAID, WORTHLESS};
 use crate::devices::Row;
 use crate::examples_table::EXAMPLES;
-use crate::outside::Trickle;
+use crate::outside::cut_at;
 use crate::policies::lines;
-use crate::support::{Outcome, call_with, devices_with, outcome_of};
-use crate::three_files_table::WHOLE;
-use std::alloc::Global;
+use crate::support::{Outcome, outcome_of, wrong_row};
+use crate::three_files_table::RUNS;
+use std::alloc::{AllocError, Global};
 use std::test::Fail;
-use wy_text::list::Items;
-use wy_text::mem_sink::MemSink;
 
 const GREEDY: &str = "program\n  grant console: Console\n  run: {}\n    console.write(\"a\")\n";
 
@@ -35,38 +33,26 @@ fn is_said(
     out: &str,
     last: &str,
 ) -> Result<bool, Fail> {
-    let done = called(alloc, words, certificate)?;
-    Ok(
-        done.number == number
-            && done.deeds == 0
-            && done.out.bytes() == out.as_bytes()
-            && done.report.bytes() == last.as_bytes(),
-    )
+    Ok(called(alloc, words, certificate)?.says(number, out, last))
 }
 
-/// The number of the first case that ends otherwise.
-fn first_otherwise(
-    alloc: Global,
-    certificate: &[u8],
-    cases: &[Said],
-) -> Result<Option<usize>, Fail> {
+/// Fails with the number of the first case that ends otherwise.
+fn all_end_so(alloc: Global, certificate: &[u8], cases: &[Said]) -> Result<(), Fail> {
     for (at, (words, number, out, last)) in cases.iter().enumerate() {
         if !is_said(alloc, certificate, words, *number, out, last)? {
-            return Ok(Some(at));
+            return Err(wrong_row(at));
         }
     }
-    Ok(None)
+    Ok(())
 }
 
 #[test]
 fn a_certificate_is_for_the_texts_that_it_was_made_for(rt: HostRuntime) -> Result<(), Fail> {
     let alloc = rt.alloc();
     let made = called(alloc, &["certify", "log.wy", "logs.wy"], b"")?;
-    assert_eq!(rt; made.number, 0);
-    assert!(rt; made.report.bytes().is_empty());
-    assert_eq!(rt; first_otherwise(alloc, made.out.bytes(), &SAID)?, None);
-    assert_eq!(rt; first_otherwise(alloc, b"WYCERT02", &WORTHLESS)?, None);
-    Ok(())
+    assert!(rt; made.number == 0 && made.report.bytes().is_empty());
+    all_end_so(alloc, made.out.bytes(), &SAID)?;
+    all_end_so(alloc, b"WYCERT02", &WORTHLESS)
 }
 
 /// Whether so many of these bytes can stand in a certificate, and not one more.
@@ -95,6 +81,32 @@ fn a_certificate_is_as_long_as_it_is(rt: HostRuntime) -> Result<(), Fail> {
     Ok(())
 }
 
+/// These words, and the names of a row's files behind them.
+fn words_of<'a>(alloc: Global, front: &[&'a str], row: &Row) -> Result<Vec<&'a str>, AllocError> {
+    let mut words = Vec::new(alloc);
+    for word in front {
+        words.push(*word)?;
+    }
+    for (name, _) in row.files {
+        words.push(*name)?;
+    }
+    Ok(words)
+}
+
+/// The certificate as `c`, and a row's files.
+fn files_of<'a>(
+    alloc: Global,
+    certificate: &'a [u8],
+    row: &Row,
+) -> Result<Vec<(&'a str, &'a [u8])>, AllocError> {
+    let mut files: Vec<(&str, &[u8])> = Vec::new(alloc);
+    files.push(("c", certificate))?;
+    for (name, text) in row.files {
+        files.push((*name, text.as_bytes()))?;
+    }
+    Ok(files)
+}
+
 /// Calls with these words and the names of a row's files behind them, and a shelf that has the certificate as `c` and the files.
 fn called_on(
     alloc: Global,
@@ -102,16 +114,8 @@ fn called_on(
     certificate: &[u8],
     row: &Row,
 ) -> Result<Outcome, Fail> {
-    let mut words = Vec::new(alloc);
-    for word in front {
-        words.push(*word)?;
-    }
-    let mut files: Vec<(&str, &[u8])> = Vec::new(alloc);
-    files.push(("c", certificate))?;
-    for (name, text) in row.files {
-        words.push(*name)?;
-        files.push((*name, text.as_bytes()))?;
-    }
+    let words = words_of(alloc, front, row)?;
+    let files = files_of(alloc, certificate, row)?;
     outcome_of(alloc, words.as_slice(), files.as_slice())
 }
 
@@ -123,21 +127,24 @@ fn is_proved(alloc: Global, row: &Row) -> Result<bool, Fail> {
         made.number == 0
             && made.deeds == 0
             && made.report.bytes().is_empty()
-            && done.number == 0
-            && done.deeds == 0
-            && done.out.bytes() == b"proved\n".as_slice()
-            && done.report.bytes().is_empty(),
+            && done.says(0, "proved\n", ""),
     )
+}
+
+/// Fails with the number of the first row whose program is not proved.
+fn all_are_proved(alloc: Global, rows: &[Row]) -> Result<(), Fail> {
+    for (at, row) in rows.iter().enumerate() {
+        if !is_proved(alloc, row)? {
+            return Err(wrong_row(at));
+        }
+    }
+    Ok(())
 }
 
 #[test]
 fn what_is_certified_is_proved(rt: HostRuntime) -> Result<(), Fail> {
-    let alloc = rt.alloc();
-    assert!(rt; is_proved(alloc, &WHOLE)?);
-    for row in &EXAMPLES {
-        assert!(rt; is_proved(alloc, row)?);
-    }
-    Ok(())
+    all_are_proved(rt.alloc(), &RUNS)?;
+    all_are_proved(rt.alloc(), &EXAMPLES)
 }
 
 /// Whether a certificate of the three files is refused as such where this byte of it is changed.
@@ -146,14 +153,14 @@ fn is_refused(alloc: Global, front: &[u8], byte: u8, rest: &[u8]) -> Result<bool
     bytes.extend_from_slice(front)?;
     bytes.push(!byte)?;
     bytes.extend_from_slice(rest)?;
-    let done = called_on(alloc, &["recheck", "c"], bytes.as_slice(), &WHOLE)?;
+    let done = called_on(alloc, &["recheck", "c"], bytes.as_slice(), &RUNS[0])?;
     Ok((done.number == 14 || done.number == 15) && done.out.bytes().is_empty())
 }
 
 #[test]
 fn a_certificate_with_a_byte_changed_proves_nothing(rt: HostRuntime) -> Result<(), Fail> {
     let alloc = rt.alloc();
-    let made = called_on(alloc, &["certify"], b"", &WHOLE)?;
+    let made = called_on(alloc, &["certify"], b"", &RUNS[0])?;
     let whole = made.out.bytes();
     for at in 0..whole.len() {
         assert!(rt; is_refused(alloc, &whole[..at], whole[at], &whole[at + 1..])?);
@@ -161,35 +168,37 @@ fn a_certificate_with_a_byte_changed_proves_nothing(rt: HostRuntime) -> Result<(
     Ok(())
 }
 
+/// As many bytes as a certificate may have, behind a front.
+fn large(alloc: Global, front: &[u8]) -> Result<Vec<u8>, Fail> {
+    let block = lines(alloc, b"", b"0123456789abcdef", 4_096)?;
+    lines(alloc, front, block.as_slice(), 1_024)
+}
+
+/// Whether a call with so large a certificate and a text that lacks a name ends so.
+fn is_limited(alloc: Global, front: &[u8], number: u8, last: &str) -> Result<bool, Fail> {
+    let bytes = large(alloc, front)?;
+    is_said(
+        alloc,
+        bytes.as_slice(),
+        &["recheck", "c", "bad.wy"],
+        number,
+        "",
+        last,
+    )
+}
+
 #[test]
 fn a_certificate_has_a_limit_that_comes_before_the_texts(rt: HostRuntime) -> Result<(), Fail> {
     let alloc = rt.alloc();
-    let words = ["recheck", "c", "bad.wy"];
-    let block = lines(alloc, b"", b"0123456789abcdef", 4_096)?;
-    let large = lines(alloc, b"W", block.as_slice(), 1_024)?;
-    let limit = "limit: certificate bytes 67108864\n";
-    assert!(rt; is_said(alloc, large.as_slice(), &words, 5, "", limit)?);
-    let (_first, most) = large.as_slice().split_first().ok_or("bytes")?;
-    let syntax = "bad.wy:1:5: syntax: Unexpected\n";
-    assert!(rt; is_said(alloc, most, &words, 3, "", syntax)?);
+    assert!(rt; is_limited(alloc, b"W", 5, "limit: certificate bytes 67108864\n")?);
+    assert!(rt; is_limited(alloc, b"", 3, "bad.wy:1:5: syntax: Unexpected\n")?);
     Ok(())
 }
 
 #[test]
 fn a_certificate_that_is_not_written_whole_is_a_prefix(rt: HostRuntime) -> Result<(), Fail> {
-    let alloc = rt.alloc();
-    let mut all = devices_with(alloc, Items::new(alloc))?;
-    let mut report = MemSink::new(alloc, Items::new(alloc))?;
-    let mut out = Trickle {
-        taken: Vec::new(alloc),
-        room: 8,
-        faults: 0,
-    };
     let files: [(&str, &[u8]); 2] = [("log.wy", LOG.as_bytes()), ("logs.wy", LOGS.as_bytes())];
-    let words = ["certify", "log.wy", "logs.wy"];
-    let status = call_with(alloc, &words, &files, &mut out, &mut report, &mut all)?;
-    assert_eq!(rt; status.number(), 10);
-    assert_eq!(rt; out.taken.as_slice(), b"WYCERT01".as_slice());
-    assert_eq!(rt; report.bytes(), b"unwritten\n".as_slice());
+    let done = cut_at(rt.alloc(), &["certify", "log.wy", "logs.wy"], &files, 8)?;
+    assert!(rt; done.says(10, b"WYCERT01", "unwritten\n"));
     Ok(())
 }

@@ -1,5 +1,6 @@
 use crate::checking_table::{ACCEPTED, BODIES, HEAD, REFUSED};
-use crate::support::{judged_so, outcome_of};
+use crate::limits::push_numbered;
+use crate::support::{judged_so, outcome_of, wrong_row};
 use crate::{lines_table, members_table};
 use std::alloc::Global;
 use std::test::Fail;
@@ -23,76 +24,65 @@ fn is_refused(
     ends_so(alloc, whole.as_str(), 4, "", last.as_str())
 }
 
-/// The number of the first text that is not refused so.
-fn first_not_refused(
-    alloc: Global,
-    head: &str,
-    cases: &[(&str, &str, &str)],
-) -> Result<Option<usize>, Fail> {
+/// Fails with the number of the first text that is not refused so.
+fn all_are_refused(alloc: Global, head: &str, cases: &[(&str, &str, &str)]) -> Result<(), Fail> {
     for (at, (text, place, fault)) in cases.iter().enumerate() {
         if !is_refused(alloc, head, text, place, fault)? {
-            return Ok(Some(at));
+            return Err(wrong_row(at));
         }
     }
-    Ok(None)
+    Ok(())
 }
 
-/// The number of the first text that does not end so.
-fn first_otherwise(
+/// Fails with the number of the first text that does not end so.
+fn all_end_so(
     alloc: Global,
     texts: &[&str],
     number: u8,
     out: &str,
     report: &str,
-) -> Result<Option<usize>, Fail> {
+) -> Result<(), Fail> {
     for (at, text) in texts.iter().enumerate() {
         if !ends_so(alloc, text, number, out, report)? {
-            return Ok(Some(at));
+            return Err(wrong_row(at));
         }
     }
-    Ok(None)
+    Ok(())
 }
 
 #[test]
 fn what_the_rules_accept_is_accepted(rt: HostRuntime) -> Result<(), Fail> {
-    assert_eq!(rt;
-        first_otherwise(rt.alloc(), &ACCEPTED, 0, "accepted\n", "")?,
-        None
-    );
-    Ok(())
+    all_end_so(rt.alloc(), &ACCEPTED, 0, "accepted\n", "")
 }
 
 #[test]
 fn each_rule_names_its_premise_and_place(rt: HostRuntime) -> Result<(), Fail> {
-    assert_eq!(rt; first_not_refused(rt.alloc(), HEAD, &BODIES)?, None);
-    assert_eq!(rt; first_not_refused(rt.alloc(), "", &REFUSED)?, None);
-    Ok(())
+    all_are_refused(rt.alloc(), HEAD, &BODIES)?;
+    all_are_refused(rt.alloc(), "", &REFUSED)
 }
 
 #[test]
 fn lines_are_judged_by_their_rules(rt: HostRuntime) -> Result<(), Fail> {
     let alloc = rt.alloc();
     let accepted = &lines_table::ACCEPTED;
-    assert_eq!(rt;
-        first_otherwise(alloc, accepted, 0, "accepted\n", "")?,
-        None
-    );
-    assert_eq!(rt; first_not_refused(alloc, "", &lines_table::REFUSED)?, None);
-    Ok(())
+    all_end_so(alloc, accepted, 0, "accepted\n", "")?;
+    all_are_refused(alloc, "", &lines_table::REFUSED)
 }
 
 #[test]
 fn members_keep_to_their_bounds(rt: HostRuntime) -> Result<(), Fail> {
     let alloc = rt.alloc();
     let accepted = &members_table::ACCEPTED;
-    assert_eq!(rt;
-        first_otherwise(alloc, accepted, 0, "accepted\n", "")?,
-        None
-    );
-    assert_eq!(rt;
-        first_not_refused(alloc, "", &members_table::REFUSED)?,
-        None
-    );
+    all_end_so(alloc, accepted, 0, "accepted\n", "")?;
+    all_are_refused(alloc, "", &members_table::REFUSED)
+}
+
+/// Adds a module that has two instances of the one below.
+fn push_twice(alloc: Global, text: &mut String, at: u32, below: u32) -> Result<(), Fail> {
+    let lines = format!(in alloc;
+        "resource module m{at}(): N\n  instance a = m{below}()\n  instance b = m{below}()\n"
+    )?;
+    text.push_str(lines.as_str())?;
     Ok(())
 }
 
@@ -100,15 +90,10 @@ fn members_keep_to_their_bounds(rt: HostRuntime) -> Result<(), Fail> {
 fn instances(alloc: Global, more: u32) -> Result<String, Fail> {
     let mut text = String::from_str(alloc, "type N\nresource module m0(): N\n")?;
     for at in 1..=9u32 {
-        let below = at.saturating_sub(1);
-        text.push_str(format!(in alloc; "resource module m{at}(): N\n")?.as_str())?;
-        text.push_str(format!(in alloc; "  instance a = m{below}()\n")?.as_str())?;
-        text.push_str(format!(in alloc; "  instance b = m{below}()\n")?.as_str())?;
+        push_twice(alloc, &mut text, at, at.saturating_sub(1))?;
     }
     text.push_str("program\n  instance x = m9()\n")?;
-    for at in 1..=more {
-        text.push_str(format!(in alloc; "  instance y{at} = m0()\n")?.as_str())?;
-    }
+    push_numbered(alloc, &mut text, "  instance y", " = m0()\n", more)?;
     text.push_str("  run: {}\n    ()\n")?;
     Ok(text)
 }
@@ -129,8 +114,9 @@ pub fn ring(alloc: Global, count: u32) -> Result<String, Fail> {
         let next = at % count + 1;
         text.push_str(format!(in alloc; "type T{at}\n  def f(): {{}} T{next}\n")?.as_str())?;
     }
-    text.push_str("resource module m(): T1\n  def f(): {} T2 = this.f()\n")?;
-    text.push_str("program\n  run: {}\n    ()\n")?;
+    text.push_str(
+        "resource module m(): T1\n  def f(): {} T2 = this.f()\nprogram\n  run: {}\n    ()\n",
+    )?;
     Ok(text)
 }
 
@@ -149,10 +135,6 @@ fn a_fault_names_its_file(rt: HostRuntime) -> Result<(), Fail> {
     let module: (&str, &[u8]) = ("b.wy", b"type N\nmodule m: N\n  var f: Int = 1\n");
     let words = ["check", "a.wy", "b.wy"];
     let done = outcome_of(rt.alloc(), &words, &[program, module])?;
-    assert_eq!(rt; done.number, 4);
-    assert_eq!(rt;
-        done.report.bytes(),
-        b"b.wy:3:7: refused: M-Pure premise 1\n".as_slice()
-    );
+    assert!(rt; done.says(4, "", "b.wy:3:7: refused: M-Pure premise 1\n"));
     Ok(())
 }

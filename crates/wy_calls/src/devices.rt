@@ -4,7 +4,7 @@ ghost use Rattle.std.specs.Prelude.{◌≡◌, IfOk};
 ghost use Rattle.wy_device.specs.Devices.{IsInOrder};
 ghost use Rattle.wy_machine.specs.Devices.{states};
 
-use crate::support::{call_with, strings};
+use crate::support::{call_with, file, strings, wrong_row};
 use std::alloc::Global;
 use std::test::Fail;
 use wy_device::deed::{Deed, DeedList, Event};
@@ -23,7 +23,7 @@ use wy_meaning::event_line;
 use wy_text::list::{CallList, Items};
 use wy_text::mem_shelf::MemShelf;
 use wy_text::mem_sink::MemSink;
-use wy_text::shelf::NamedText;
+use wy_text::shelf::FileList;
 use wy_text::sink::Sink;
 use wy_text::text::{Memory, from_bytes};
 
@@ -85,6 +85,9 @@ pub const BLANK: Row = Row {
     after: &[],
 };
 
+/// A row of which nothing comes.
+static NOTHING: Row = BLANK;
+
 /// The calls of the part that are to fail.
 fn fails_of(alloc: Global, row: &Row, part: Part) -> Result<CallList, Memory> {
     let mut fails = Items::new(alloc);
@@ -95,15 +98,13 @@ fn fails_of(alloc: Global, row: &Row, part: Part) -> Result<CallList, Memory> {
     Ok(fails)
 }
 
-/// The shelf of a row.
-fn shelf_of(alloc: Global, row: &Row) -> Result<MemShelf, Memory> {
+/// The files of a row's shelf.
+fn texts_of(alloc: Global, row: &Row) -> Result<FileList, Memory> {
     let mut list = Items::new(alloc);
     for (name, text) in row.files {
-        let name = from_bytes(alloc, name.as_bytes())?;
-        let text = from_bytes(alloc, text.as_bytes())?;
-        list.push(NamedText { name, text })?;
+        list.push(file(alloc, name, text.as_bytes())?)?;
     }
-    MemShelf::new(alloc, list, fails_of(alloc, row, Part::Shelf)?)
+    Ok(list)
 }
 
 /// The console of a row.
@@ -116,14 +117,23 @@ fn console_of(alloc: Global, row: &Row) -> Result<Handed, Fail>
     Ok(Handed::new(console))
 }
 
+/// A file of a folder.
+fn file_of(alloc: Global, kept: &Kept) -> Result<FolderFile, Memory> {
+    let (grant, name, text) = kept;
+    let grant = from_bytes(alloc, grant.as_bytes())?;
+    let name = from_bytes(alloc, name.as_bytes())?;
+    Ok(FolderFile {
+        grant,
+        name,
+        text: from_bytes(alloc, text.as_bytes())?,
+    })
+}
+
 /// The files of a row's folder, before the call.
 fn files_of(alloc: Global, row: &Row) -> Result<FolderList, Memory> {
     let mut list = Items::new(alloc);
-    for (grant, name, text) in row.before {
-        let grant = from_bytes(alloc, grant.as_bytes())?;
-        let name = from_bytes(alloc, name.as_bytes())?;
-        let text = from_bytes(alloc, text.as_bytes())?;
-        list.push(FolderFile { grant, name, text })?;
+    for kept in row.before {
+        list.push(file_of(alloc, kept)?)?;
     }
     Ok(list)
 }
@@ -251,7 +261,8 @@ fn number_of<O: Sink, E: Sink, D: Device>(
 ) -> Result<u8, Fail>
     requires { IsInOrder (states D.state devices.old) }
 {
-    let mut shelf = shelf_of(alloc, row)?;
+    let fails = fails_of(alloc, row, Part::Shelf)?;
+    let mut shelf = MemShelf::new(alloc, texts_of(alloc, row)?, fails)?;
     let words = strings(alloc, row.words)?;
     let status = wyvern(alloc, words.as_slice(), &mut shelf, out, report, devices);
     Ok(status.number())
@@ -324,14 +335,14 @@ pub fn ends_over(
     Ok(ends && devices.deeds(Kind::Folder).ok_or("told")?.len() == operations)
 }
 
-/// The number of the first row of which something else comes.
-pub fn first_otherwise(alloc: Global, rows: &[Row]) -> Result<Option<usize>, Fail> {
+/// Fails with the number of the first row of which something else comes.
+pub fn all_come_so(alloc: Global, rows: &[Row]) -> Result<(), Fail> {
     for (at, row) in rows.iter().enumerate() {
         if !comes_so(alloc, row)? {
-            return Ok(Some(at));
+            return Err(wrong_row(at));
         }
     }
-    Ok(None)
+    Ok(())
 }
 
 /// Whether the row's call over these devices has its status, and did and wrote the first of what the row says.
@@ -368,7 +379,7 @@ fn is_quiet_over<D: Device>(
     let status = call_with(alloc, row.words, files, &mut out, &mut report, devices)?;
     match status.number() {
         0 => Ok(true),
-        3 | 4 => did_so(alloc, &BLANK, devices),
+        3 | 4 => did_so(alloc, &NOTHING, devices),
         _ => Ok(false),
     }
 }

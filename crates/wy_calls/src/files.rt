@@ -1,16 +1,8 @@
-use crate::outside::Trickle;
-use crate::support::{call_with, devices_with, failing_at, outcome_of};
+use crate::devices::{BLANK, Row, all_come_so};
+use crate::outside::cut_at;
+use crate::support::{outcome_of, wrong_row};
 use std::alloc::Global;
 use std::test::Fail;
-use wy_device::device::Device;
-use wy_device::handed::Handed;
-use wy_device::mem_console::MemConsole;
-use wy_device::operation::Kind;
-use wy_device::shut::Shut;
-use wy_engine::handing_in::devices;
-use wy_text::list::Items;
-use wy_text::mem_sink::MemSink;
-use wy_text::text::from_bytes;
 
 const SPACED: &[u8] = b"program   // x\n     run:{}\n         ( ( 1 + 2 ) : Int )\n";
 
@@ -50,81 +42,45 @@ static ORDERS: [(&[&str], u8, &str); 7] = [
 /// Whether a call with these words ends so: `a.wy` is a file, `b.wy` lacks a name, and `c.wy` has no tokens.
 fn ends_so(alloc: Global, words: &[&str], number: u8, line: &str) -> Result<bool, Fail> {
     let files: [(&str, &[u8]); 3] = [("a.wy", b"type T\n"), ("b.wy", b"type\n"), ("c.wy", b"#")];
-    let done = outcome_of(alloc, words, &files)?;
-    Ok(
-        done.number == number
-            && done.report.bytes() == line.as_bytes()
-            && done.out.bytes().is_empty(),
-    )
+    Ok(outcome_of(alloc, words, &files)?.says(number, "", line))
 }
 
-/// The number of the first case that ends otherwise.
-fn first_otherwise(alloc: Global, cases: &[(&[&str], u8, &str)]) -> Result<Option<usize>, Fail> {
+/// Fails with the number of the first case that ends otherwise.
+fn all_end_so(alloc: Global, cases: &[(&[&str], u8, &str)]) -> Result<(), Fail> {
     for (at, (words, number, line)) in cases.iter().enumerate() {
         if !ends_so(alloc, words, *number, line)? {
-            return Ok(Some(at));
+            return Err(wrong_row(at));
         }
     }
-    Ok(None)
+    Ok(())
 }
 
 #[test]
 fn files_are_read_and_parsed_in_the_order_of_their_words(rt: HostRuntime) -> Result<(), Fail> {
-    assert_eq!(rt; first_otherwise(rt.alloc(), &ORDERS)?, None);
-    Ok(())
+    all_end_so(rt.alloc(), &ORDERS)
 }
+
+/// A program that is laid out in its own way.
+static LAID_OUT: [Row; 1] = [Row {
+    words: &["run", "b.wy"],
+    files: &[(
+        "b.wy",
+        "// says hello\nprogram\n grant g:Console\n\n run:{ g.Out } // here\n   g . write ( \"hello\" )",
+    )],
+    report: "authority of main: g.Out\n  run: g.Out\n",
+    console: "deed g.write(\"hello\") = ()\n",
+    ..BLANK
+}];
 
 #[test]
 fn the_program_may_be_laid_out_in_any_way(rt: HostRuntime) -> Result<(), Fail> {
-    let alloc = rt.alloc();
-    let text: &[u8] =
-        b"// says hello\nprogram\n grant g:Console\n\n run:{ g.Out } // here\n   g . write ( \"hello\" )";
-    let mut all = devices_with(alloc, Items::new(alloc))?;
-    let mut out = MemSink::new(alloc, Items::new(alloc))?;
-    let mut report = MemSink::new(alloc, Items::new(alloc))?;
-    let files: [(&str, &[u8]); 1] = [("b.wy", text)];
-    let status = call_with(
-        alloc,
-        &["run", "b.wy"],
-        &files,
-        &mut out,
-        &mut report,
-        &mut all,
-    )?;
-    assert_eq!(rt; status.number(), 0);
-    assert_eq!(rt;
-        report.bytes(),
-        b"authority of main: g.Out\n  run: g.Out\n".as_slice()
-    );
-    assert_eq!(rt; all.deeds(Kind::Console).ok_or("told")?.len(), 1);
-    assert!(rt; out.bytes().is_empty());
-    Ok(())
+    all_come_so(rt.alloc(), &LAID_OUT)
 }
 
 /// Whether `format`, where `out` has room for so many bytes, writes these first ones and ends so.
 fn is_cut(alloc: Global, room: usize, number: u8, line: &str) -> Result<bool, Fail> {
-    let mut all = devices_with(alloc, failing_at(alloc, 1)?)?;
-    let mut out = Trickle {
-        taken: Vec::new(alloc),
-        room,
-        faults: 0,
-    };
-    let mut report = MemSink::new(alloc, Items::new(alloc))?;
-    let files: [(&str, &[u8]); 1] = [("f.wy", SPACED)];
-    let status = call_with(
-        alloc,
-        &["format", "f.wy"],
-        &files,
-        &mut out,
-        &mut report,
-        &mut all,
-    )?;
-    Ok(
-        status.number() == number
-            && PRINTED.starts_with(out.taken.as_slice())
-            && out.taken.len() == room
-            && report.bytes() == line.as_bytes(),
-    )
+    let done = cut_at(alloc, &["format", "f.wy"], &[("f.wy", SPACED)], room)?;
+    Ok(done.says(number, &PRINTED[..room.min(PRINTED.len())], line))
 }
 
 #[test]

@@ -1,7 +1,7 @@
 //! Programs and files that ask too much, or end too early.
 
-use crate::devices::{BLANK, Part, Row, ends_over, first_otherwise, is_quiet, stops_so};
-use crate::three_files_table::{MAIN, PARTS, TYPES, WHOLE};
+use crate::devices::{BLANK, Part, Row, all_come_so, ends_over, is_quiet, stops_so};
+use crate::three_files_table::{MAIN, PARTS, RUNS, TYPES};
 use crate::tracing_table::THREE_FILES;
 use std::alloc::Global;
 use std::test::Fail;
@@ -40,8 +40,7 @@ program
 
 #[test]
 fn texts_are_counted(rt: HostRuntime) -> Result<(), Fail> {
-    assert_eq!(rt; first_otherwise(rt.alloc(), &BURN)?, None);
-    Ok(())
+    all_come_so(rt.alloc(), &BURN)
 }
 
 /// A program that joins a text of its folder to itself, and then one byte to both.
@@ -64,13 +63,28 @@ const BIG: Row = Row {
 
 /// A folder with a text of so many bytes.
 fn big_text(alloc: Global, size: usize) -> Result<FolderList, Memory> {
+    let text = from_vec(vec![in alloc; b'x'; size]?);
     let mut files = Items::new(alloc);
     files.push(FolderFile {
         grant: from_bytes(alloc, b"disk")?,
         name: from_bytes(alloc, b"big")?,
-        text: from_vec(vec![in alloc; b'x'; size]?),
+        text,
     })?;
     Ok(files)
+}
+
+/// Its call, which ends with the status of the number and the last line.
+fn joining(number: u8, last: &'static str) -> Row {
+    Row {
+        number,
+        last,
+        ..BIG
+    }
+}
+
+/// Whether it ends so with a text of so many bytes.
+fn is_joined(alloc: Global, size: usize, number: u8, last: &'static str) -> Result<bool, Fail> {
+    ends_over(alloc, &joining(number, last), big_text(alloc, size)?, 1)
 }
 
 #[test]
@@ -81,15 +95,7 @@ fn a_text_is_as_long_as_a_run_may_have_it(rt: HostRuntime) -> Result<(), Fail> {
         (2_097_152, 6, "big.wy:6:15: trap: LongText\n"),
         (2_097_153, 6, "big.wy:5:15: trap: LongText\n"),
     ] {
-        let row = Row {
-            number,
-            last,
-            ..BIG
-        };
-        assert!(rt;
-            ends_over(alloc, &row, big_text(alloc, size)?, 1)?,
-            "{size}"
-        );
+        assert!(rt; is_joined(alloc, size, number, last)?, "{size}");
     }
     Ok(())
 }
@@ -104,21 +110,25 @@ fn a_file_that_is_cut_anywhere_asks_no_device_unless_it_runs(rt: HostRuntime) ->
             ("parts.wy", PARTS.as_bytes()),
             ("main.wy", &main[..end]),
         ];
-        assert!(rt; is_quiet(alloc, &WHOLE, &files)?);
+        assert!(rt; is_quiet(alloc, &RUNS[0], &files)?);
     }
     Ok(())
+}
+
+/// The trace of three files, of which the line with this number is not written.
+fn cut_at(call: u64) -> Row {
+    Row {
+        failing: Some((Part::Out, call)),
+        number: 10,
+        ..THREE_FILES
+    }
 }
 
 #[test]
 fn a_trace_that_is_cut_anywhere_did_what_comes_first(rt: HostRuntime) -> Result<(), Fail> {
     let alloc = rt.alloc();
     for call in 1..=26u64 {
-        let row = Row {
-            failing: Some((Part::Out, call)),
-            number: 10,
-            ..THREE_FILES
-        };
-        assert!(rt; stops_so(alloc, &row)?);
+        assert!(rt; stops_so(alloc, &cut_at(call))?);
     }
     Ok(())
 }

@@ -1,7 +1,7 @@
 //! Each limit is met at its number and passed by one more (docs/LANGUAGE.md, "Limits").
 
-use crate::support::{judged_so, outcome_of};
-use std::alloc::Global;
+use crate::support::{judged_so, outcome_of, wrong_row};
+use std::alloc::{AllocError, Global};
 use std::test::Fail;
 
 /// The least program.
@@ -120,17 +120,34 @@ static LIMITS: [Limited; 13] = [
     },
 ];
 
-/// The pieces from 1 to a number.
-fn push_pieces(alloc: Global, text: &mut String, piece: &Piece, count: u32) -> Result<(), Fail> {
+/// Adds so many times two parts with the number between them, from 1.
+pub fn push_numbered(
+    alloc: Global,
+    text: &mut String,
+    before: &str,
+    after: &str,
+    count: u32,
+) -> Result<(), Fail> {
     for at in 1..=count {
-        match piece {
-            Piece::Same(same) => text.push_str(same)?,
-            Piece::Numbered(before, after) => {
-                text.push_str(format!(in alloc; "{before}{at}{after}")?.as_str())?;
-            }
-        }
+        text.push_str(format!(in alloc; "{before}{at}{after}")?.as_str())?;
     }
     Ok(())
+}
+
+/// Adds the same so many times.
+pub fn push_same(text: &mut String, same: &str, count: u32) -> Result<(), AllocError> {
+    for _ in 0..count {
+        text.push_str(same)?;
+    }
+    Ok(())
+}
+
+/// Adds the pieces from 1 to a number.
+fn push_pieces(alloc: Global, text: &mut String, piece: &Piece, count: u32) -> Result<(), Fail> {
+    match piece {
+        Piece::Same(same) => Ok(push_same(text, same, count)?),
+        Piece::Numbered(before, after) => push_numbered(alloc, text, before, after, count),
+    }
 }
 
 /// The text with so many pieces.
@@ -141,9 +158,14 @@ fn text_of(alloc: Global, limited: &Limited, count: u32) -> Result<String, Fail>
     Ok(text)
 }
 
-/// Whether the run of a text ends, whatever its report.
-fn ends(alloc: Global, text: &str) -> Result<bool, Fail> {
-    let done = outcome_of(alloc, &["run", "b.wy"], &[("b.wy", text.as_bytes())])?;
+/// Whether the run of a text with as many pieces as the limit has room for ends, whatever its report.
+fn ends(alloc: Global, limited: &Limited) -> Result<bool, Fail> {
+    let text = text_of(alloc, limited, limited.most)?;
+    let done = outcome_of(
+        alloc,
+        &["run", "b.wy"],
+        &[("b.wy", text.as_str().as_bytes())],
+    )?;
     Ok(done.number == 0 && done.deeds == 0 && done.report.bytes().ends_with(NOTHING.as_bytes()))
 }
 
@@ -153,22 +175,20 @@ fn passes(alloc: Global, text: &str, limit: &str) -> Result<bool, Fail> {
     judged_so(alloc, "run", text, 5, "", line.as_str())
 }
 
-/// The number of the first text that meets its limit too early or too late.
-fn first_otherwise(alloc: Global, cases: &[Limited]) -> Result<Option<usize>, Fail> {
+/// Fails with the number of the first text that meets its limit too early or too late.
+fn all_limit_so(alloc: Global, cases: &[Limited]) -> Result<(), Fail> {
     for (at, limited) in cases.iter().enumerate() {
-        let met = text_of(alloc, limited, limited.most)?;
         let passed = text_of(alloc, limited, limited.most.saturating_add(1))?;
-        if !ends(alloc, met.as_str())? || !passes(alloc, passed.as_str(), limited.limit)? {
-            return Ok(Some(at));
+        if !passes(alloc, passed.as_str(), limited.limit)? || !ends(alloc, limited)? {
+            return Err(wrong_row(at));
         }
     }
-    Ok(None)
+    Ok(())
 }
 
 #[test]
 fn a_limit_is_passed_by_one_more(rt: HostRuntime) -> Result<(), Fail> {
-    assert_eq!(rt; first_otherwise(rt.alloc(), &LIMITS)?, None);
-    Ok(())
+    all_limit_so(rt.alloc(), &LIMITS)
 }
 
 /// The words of a run of so many times one file, and then of the least program.
@@ -182,16 +202,18 @@ fn words_of(alloc: Global, count: u32) -> Result<Vec<&'static str>, Fail> {
     Ok(words)
 }
 
+/// Whether a run of so many times one file, and of the least program, ends so.
+fn runs_so(alloc: Global, count: u32, number: u8, report: &str) -> Result<bool, Fail> {
+    let files: [(&str, &[u8]); 2] = [("a.wy", EMPTY.as_bytes()), ("c.wy", b"// a comment\n")];
+    let words = words_of(alloc, count)?;
+    Ok(outcome_of(alloc, words.as_slice(), &files)?.says(number, "", report))
+}
+
 #[test]
 fn a_call_has_no_more_files_than_the_limit(rt: HostRuntime) -> Result<(), Fail> {
     let alloc = rt.alloc();
-    let files: [(&str, &[u8]); 2] = [("a.wy", EMPTY.as_bytes()), ("c.wy", b"// a comment\n")];
-    let met = outcome_of(alloc, words_of(alloc, 63)?.as_slice(), &files)?;
-    assert_eq!(rt; met.number, 0);
-    assert_eq!(rt; met.report.bytes(), NOTHING.as_bytes());
-    let passed = outcome_of(alloc, words_of(alloc, 64)?.as_slice(), &files)?;
-    assert_eq!(rt; passed.number, 5);
-    assert_eq!(rt; passed.report.bytes(), b"limit: files 64\n".as_slice());
+    assert!(rt; runs_so(alloc, 63, 0, NOTHING)?);
+    assert!(rt; runs_so(alloc, 64, 5, "limit: files 64\n")?);
     Ok(())
 }
 
@@ -236,12 +258,7 @@ fn bodies(alloc: Global, more: &str) -> Result<String, Fail> {
     let mut text = String::from_str(alloc, "type N\n")?;
     for at in 1..=127u32 {
         text.push_str(format!(in alloc; "module m{at}: N\n")?.as_str())?;
-        push_pieces(
-            alloc,
-            &mut text,
-            &Piece::Numbered("  def f", "(): {} Unit = ()\n"),
-            128,
-        )?;
+        push_numbered(alloc, &mut text, "  def f", "(): {} Unit = ()\n", 128)?;
     }
     text.push_str(more)?;
     text.push_str(EMPTY)?;

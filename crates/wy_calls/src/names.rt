@@ -1,8 +1,8 @@
+use crate::limits::push_same;
 use crate::names_table::{FIRST, REFUSED};
-use crate::support::outcome_of;
-use std::alloc::Global;
+use crate::support::{outcome_of, wrong_row};
+use std::alloc::{AllocError, Global};
 use std::test::Fail;
-use wy_text::mem_sink::MemSink;
 
 /// Whether a call of `run` with these words and files has the status of the number and the report, and does
 /// nothing.
@@ -13,60 +13,45 @@ fn ends_so(
     number: u8,
     report: &str,
 ) -> Result<bool, Fail> {
-    let done = outcome_of(alloc, words, files)?;
-    Ok(
-        done.number == number
-            && done.deeds == 0
-            && done.report.bytes() == report.as_bytes()
-            && done.out.bytes().is_empty(),
-    )
+    Ok(outcome_of(alloc, words, files)?.says(number, "", report))
 }
 
-/// The number of the first text whose names are not refused by the rule at the place.
-fn first_not_refused(
-    alloc: Global,
-    cases: &[(&str, u32, u32, &str)],
-) -> Result<Option<usize>, Fail> {
+/// Fails with the number of the first text whose names are not refused by the rule at the place.
+fn all_are_refused(alloc: Global, cases: &[(&str, u32, u32, &str)]) -> Result<(), Fail> {
     for (at, (text, line, column, rule)) in cases.iter().enumerate() {
         let last = format!(in alloc; "b.wy:{line}:{column}: refused: N-{rule} premise 1\n")?;
         let files: [(&str, &[u8]); 1] = [("b.wy", text.as_bytes())];
         if !ends_so(alloc, &["run", "b.wy"], &files, 4, last.as_str())? {
-            return Ok(Some(at));
+            return Err(wrong_row(at));
         }
     }
-    Ok(None)
+    Ok(())
 }
 
 #[test]
 fn each_refusal_of_names_comes_at_its_place(rt: HostRuntime) -> Result<(), Fail> {
-    assert_eq!(rt; first_not_refused(rt.alloc(), &REFUSED)?, None);
-    Ok(())
+    all_are_refused(rt.alloc(), &REFUSED)
 }
 
 #[test]
 fn of_several_refusals_of_names_the_least_comes(rt: HostRuntime) -> Result<(), Fail> {
-    assert_eq!(rt; first_not_refused(rt.alloc(), &FIRST)?, None);
-    Ok(())
+    all_are_refused(rt.alloc(), &FIRST)
 }
 
-/// The number of the first text that is not formatted.
-fn first_not_formatted(
-    alloc: Global,
-    cases: &[(&str, u32, u32, &str)],
-) -> Result<Option<usize>, Fail> {
+/// Fails with the number of the first text that is not formatted.
+fn all_are_formatted(alloc: Global, cases: &[(&str, u32, u32, &str)]) -> Result<(), Fail> {
     for (at, (text, _, _, _)) in cases.iter().enumerate() {
         let done = outcome_of(alloc, &["format", "b.wy"], &[("b.wy", text.as_bytes())])?;
         if done.number != 0 || !done.report.bytes().is_empty() {
-            return Ok(Some(at));
+            return Err(wrong_row(at));
         }
     }
-    Ok(None)
+    Ok(())
 }
 
 #[test]
 fn a_file_is_formatted_whatever_its_names(rt: HostRuntime) -> Result<(), Fail> {
-    assert_eq!(rt; first_not_formatted(rt.alloc(), &FIRST)?, None);
-    Ok(())
+    all_are_formatted(rt.alloc(), &FIRST)
 }
 
 const EMPTY: &[u8] = b"program\n  run: {}\n    ()\n";
@@ -121,8 +106,8 @@ static ORDERS: [(&[&str], u8, &str); 8] = [
     ),
 ];
 
-/// The number of the first words with which a call ends otherwise.
-fn first_otherwise(alloc: Global, cases: &[(&[&str], u8, &str)]) -> Result<Option<usize>, Fail> {
+/// Fails with the number of the first case that ends otherwise.
+fn all_end_so(alloc: Global, cases: &[(&[&str], u8, &str)]) -> Result<(), Fail> {
     let files: [(&str, &[u8]); 6] = [
         ("a.wy", EMPTY),
         ("log.wy", LOG),
@@ -133,33 +118,47 @@ fn first_otherwise(alloc: Global, cases: &[(&[&str], u8, &str)]) -> Result<Optio
     ];
     for (at, (words, number, report)) in cases.iter().enumerate() {
         if !ends_so(alloc, words, &files, *number, report)? {
-            return Ok(Some(at));
+            return Err(wrong_row(at));
         }
     }
-    Ok(None)
+    Ok(())
 }
 
 #[test]
 fn names_of_several_files_are_judged_together(rt: HostRuntime) -> Result<(), Fail> {
-    assert_eq!(rt; first_otherwise(rt.alloc(), &ORDERS)?, None);
-    Ok(())
+    all_end_so(rt.alloc(), &ORDERS)
 }
 
-/// What is reported of a text that has a piece so many times between a front and an end.
-fn said_of(
+/// A text that has a piece so many times between a front and an end.
+fn built(
     alloc: Global,
     front: &str,
     piece: &str,
     end: &str,
     count: u32,
-) -> Result<MemSink, Fail> {
-    let mut text = Vec::from_slice(alloc, front.as_bytes())?;
-    for _ in 0..count {
-        text.extend_from_slice(piece.as_bytes())?;
-    }
-    text.extend_from_slice(end.as_bytes())?;
-    let done = outcome_of(alloc, &["run", "b.wy"], &[("b.wy", text.as_slice())])?;
-    Ok(done.report)
+) -> Result<String, AllocError> {
+    let mut text = String::from_str(alloc, front)?;
+    push_same(&mut text, piece, count)?;
+    text.push_str(end)?;
+    Ok(text)
+}
+
+/// Whether this is reported of such a text.
+fn is_said(
+    alloc: Global,
+    front: &str,
+    piece: &str,
+    end: &str,
+    count: u32,
+    report: &str,
+) -> Result<bool, Fail> {
+    let text = built(alloc, front, piece, end, count)?;
+    let done = outcome_of(
+        alloc,
+        &["run", "b.wy"],
+        &[("b.wy", text.as_str().as_bytes())],
+    )?;
+    Ok(done.report.bytes() == report.as_bytes())
 }
 
 /// A front, a piece and an end; how often the piece stands where a count is at its limit; what is refused there;
@@ -296,24 +295,31 @@ static LIMITS: [Limited; 15] = [
     ),
 ];
 
-/// The number of the first case in which the limit comes too early or too late.
-fn first_not_limited(alloc: Global, cases: &[Limited]) -> Result<Option<usize>, Fail> {
+/// Fails with the number of the first case in which the limit comes too early or too late.
+fn all_limit_so(alloc: Global, cases: &[Limited]) -> Result<(), Fail> {
     for (at, (front, piece, end, most, refused, limit)) in cases.iter().enumerate() {
-        let within = said_of(alloc, front, piece, end, *most)?;
-        let past = said_of(alloc, front, piece, end, most.saturating_add(1))?;
         let refusal = format!(in alloc; "b.wy:{refused} premise 1\n")?;
+        let met = is_said(alloc, front, piece, end, *most, refusal.as_str())?;
         let last = format!(in alloc; "limit: {limit}\n")?;
-        if within.bytes() != refusal.as_bytes() || past.bytes() != last.as_bytes() {
-            return Ok(Some(at));
+        if !met
+            || !is_said(
+                alloc,
+                front,
+                piece,
+                end,
+                most.saturating_add(1),
+                last.as_str(),
+            )?
+        {
+            return Err(wrong_row(at));
         }
     }
-    Ok(None)
+    Ok(())
 }
 
 #[test]
 fn a_limit_of_names_comes_before_all_refusals(rt: HostRuntime) -> Result<(), Fail> {
-    assert_eq!(rt; first_not_limited(rt.alloc(), &LIMITS)?, None);
-    Ok(())
+    all_limit_so(rt.alloc(), &LIMITS)
 }
 
 /// Of two limits that are passed the earlier in the table comes, whatever stands first in the text.
@@ -322,21 +328,9 @@ fn limits_of_names_come_in_their_order(rt: HostRuntime) -> Result<(), Fail> {
     let alloc = rt.alloc();
     let front =
         "type T\n  def f(a: Int, a: Int, a: Int, a: Int, a: Int, a: Int, a: Int, a: Int, a: Int, a: Int, a: Int, a: Int, a: Int, a: Int, a: Int, a: Int, a: Int): {} Unit\nprogram\n";
-    let said = said_of(
-        alloc,
-        front,
-        "  grant g: Clock\n",
-        "  run: {}\n    ()\n",
-        65,
-    )?;
-    assert_eq!(rt; said.bytes(), b"limit: grants 64\n".as_slice());
-    let said = said_of(
-        alloc,
-        front,
-        "  grant g: Clock\n",
-        "  run: {}\n    ()\n",
-        64,
-    )?;
-    assert_eq!(rt; said.bytes(), b"limit: parameters 16\n".as_slice());
+    let grant = "  grant g: Clock\n";
+    let end = "  run: {}\n    ()\n";
+    assert!(rt; is_said(alloc, front, grant, end, 65, "limit: grants 64\n")?);
+    assert!(rt; is_said(alloc, front, grant, end, 64, "limit: parameters 16\n")?);
     Ok(())
 }

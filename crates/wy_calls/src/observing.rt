@@ -1,25 +1,19 @@
-use crate::devices::first_otherwise;
+use crate::devices::all_come_so;
 use crate::observing_table::{FAILING, OBSERVED};
-use crate::outside::Trickle;
-use crate::support::{call_with, devices_with};
+use crate::outside::cut_at;
 use std::alloc::Global;
 use std::test::Fail;
-use wy_device::operation::Kind;
-use wy_text::list::Items;
-use wy_text::mem_sink::MemSink;
 
 #[test]
 fn a_run_says_what_it_used_of_each_instance(rt: HostRuntime) -> Result<(), Fail> {
-    assert_eq!(rt; first_otherwise(rt.alloc(), &OBSERVED)?, None);
-    Ok(())
+    all_come_so(rt.alloc(), &OBSERVED)
 }
 
 #[test]
 fn an_observed_run_ends_at_each_call_on_the_outside_that_fails(
     rt: HostRuntime,
 ) -> Result<(), Fail> {
-    assert_eq!(rt; first_otherwise(rt.alloc(), &FAILING)?, None);
-    Ok(())
+    all_come_so(rt.alloc(), &FAILING)
 }
 
 const TWO_WRITES: &[u8] =
@@ -27,29 +21,14 @@ const TWO_WRITES: &[u8] =
 
 /// Whether an observed run, where `out` has room for so many bytes, ends so with both of its operations done.
 fn is_cut(alloc: Global, room: usize, number: u8, last: &[u8]) -> Result<bool, Fail> {
-    let mut all = devices_with(alloc, Items::new(alloc))?;
-    let mut report = MemSink::new(alloc, Items::new(alloc))?;
-    let mut out = Trickle {
-        taken: Vec::new(alloc),
-        room,
-        faults: 0,
-    };
-    let words = ["observe", "a.wy"];
-    let status = call_with(
-        alloc,
-        &words,
-        &[("a.wy", TWO_WRITES)],
-        &mut out,
-        &mut report,
-        &mut all,
-    )?;
+    let done = cut_at(alloc, &["observe", "a.wy"], &[("a.wy", TWO_WRITES)], room)?;
     let whole = b"used of main: console.Out\n".as_slice();
     Ok(
-        status.number() == number
-            && out.taken.len() == room
-            && whole.starts_with(out.taken.as_slice())
-            && report.bytes().ends_with(last)
-            && all.deeds(Kind::Console).ok_or("told")?.len() == 2,
+        done.ended.number == number
+            && done.ended.deeds == 2
+            && done.taken.len() == room
+            && whole.starts_with(done.taken.as_slice())
+            && done.report.bytes().ends_with(last),
     )
 }
 

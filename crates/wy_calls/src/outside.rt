@@ -1,29 +1,36 @@
 ghost use Rattle.std.specs.Prelude.{Some};
 ghost use Rattle.wy_text.specs.Outside.{SinkState};
 
-use crate::support::{call, devices_with, failing_at};
+use crate::devices::{BLANK, Part, Row, all_come_so};
+use crate::support::{Ended, ended};
 use std::alloc::Global;
 use std::test::Fail;
-use wy_device::device::Device;
-use wy_device::handed::Handed;
-use wy_device::mem_console::MemConsole;
-use wy_device::operation::Kind;
-use wy_device::shut::Shut;
-use wy_engine::handing_in::devices;
 use wy_text::list::Items;
 use wy_text::mem_sink::MemSink;
 use wy_text::sink::{Sink, WriteError};
-use wy_text::text::from_bytes;
 
-const FOUR_WRITES: &[u8] =
-    b"program\n  grant console: Console\n  run: {console.Out}\n    console.write(\"a\")\n    console.write(\"b\")\n    console.write(\"c\")\n    console.write(\"d\")\n";
+const FOUR_WRITES: &str =
+    "program\n  grant console: Console\n  run: {console.Out}\n    console.write(\"a\")\n    console.write(\"b\")\n    console.write(\"c\")\n    console.write(\"d\")\n";
+
+const REPORT: &str = "authority of main: console.Out\n  run: console.Out\n";
 
 /// A sink that takes a few bytes at a time, and no more than so many in all.
 #[derive(Drop)]
-pub struct Trickle {
-    pub taken: Vec<u8>,
-    pub room: usize,
-    pub faults: u64,
+struct Trickle {
+    taken: Vec<u8>,
+    room: usize,
+    faults: u64,
+}
+
+impl Trickle {
+    /// One with room for so many bytes.
+    fn new(alloc: Global, room: usize) -> Trickle {
+        Trickle {
+            taken: Vec::new(alloc),
+            room,
+            faults: 0,
+        }
+    }
 }
 
 impl Sink for Trickle {
@@ -45,49 +52,96 @@ impl Sink for Trickle {
     }
 }
 
-#[test]
-fn a_write_that_fails_is_the_last_deed(rt: HostRuntime) -> Result<(), Fail> {
-    let alloc = rt.alloc();
-    let mut all = devices_with(alloc, failing_at(alloc, 3)?)?;
-    let mut report = MemSink::new(alloc, Items::new(alloc))?;
-    let status = call(alloc, &["run", "b.wy"], FOUR_WRITES, &mut report, &mut all)?;
-    assert_eq!(rt; status.number(), 9);
-    assert_eq!(rt;
-        report.bytes(),
-        b"authority of main: console.Out\n  run: console.Out\nconsole.write: failed\n".as_slice()
-    );
-    let deeds = all.deeds(Kind::Console).ok_or("told")?;
-    assert_eq!(rt; deeds.len(), 3);
-    assert!(rt; deeds.get(1).ok_or("a deed")?.answer.is_some());
-    assert!(rt; deeds.get(2).ok_or("a deed")?.answer.is_none());
-    Ok(())
+/// What came of a call whose `out` has room for a few bytes: its status's number, how many operations the console was asked
+/// for, what `out` took, and the report.
+#[derive(Drop)]
+pub struct Cut {
+    pub ended: Ended,
+    pub taken: Vec<u8>,
+    pub report: MemSink,
 }
 
+impl Cut {
+    /// Whether the status has the number, these bytes were taken, and this was reported.
+    pub fn says(&self, number: u8, taken: &[u8], report: &str) -> bool {
+        self.ended.number == number
+            && self.taken.as_slice() == taken
+            && self.report.bytes() == report.as_bytes()
+    }
+}
+
+/// Calls with these words and files, where `out` has room for so many bytes.
+pub fn cut_at(
+    alloc: Global,
+    words: &[&str],
+    files: &[(&str, &[u8])],
+    room: usize,
+) -> Result<Cut, Fail> {
+    let mut out = Trickle::new(alloc, room);
+    let mut report = MemSink::new(alloc, Items::new(alloc))?;
+    let fails = Items::new(alloc);
+    let ended = ended(alloc, words, files, &mut out, &mut report, fails)?;
+    Ok(Cut {
+        ended,
+        taken: out.taken,
+        report,
+    })
+}
+
+/// A program that writes four times, and what is reported of it.
+const WRITES: Row = Row {
+    words: &["run", "b.wy"],
+    files: &[("b.wy", FOUR_WRITES)],
+    report: REPORT,
+    ..BLANK
+};
+
+/// Calls on the outside that fail: the third write is the last, and where the report is not written nothing runs.
+static FAILING: [Row; 2] = [
+    Row {
+        failing: Some((Part::Console, 3)),
+        number: 9,
+        last: "console.write: failed\n",
+        console: r#"deed console.write("a") = ()
+deed console.write("b") = ()
+deed console.write("c") = failed
+"#,
+        ..WRITES
+    },
+    Row {
+        failing: Some((Part::Report, 1)),
+        number: 10,
+        report: "",
+        last: "unwritten\n",
+        ..WRITES
+    },
+];
+
 #[test]
-fn a_report_that_is_not_written_runs_nothing(rt: HostRuntime) -> Result<(), Fail> {
-    let alloc = rt.alloc();
-    let mut all = devices_with(alloc, Items::new(alloc))?;
-    let mut report = MemSink::new(alloc, failing_at(alloc, 1)?)?;
-    let status = call(alloc, &["run", "b.wy"], FOUR_WRITES, &mut report, &mut all)?;
-    assert_eq!(rt; status.number(), 10);
-    assert_eq!(rt; report.bytes(), b"unwritten\n".as_slice());
-    assert_eq!(rt; all.deeds(Kind::Console).ok_or("told")?.len(), 0);
-    Ok(())
+fn what_fails_outside_ends_the_run(rt: HostRuntime) -> Result<(), Fail> {
+    all_come_so(rt.alloc(), &FAILING)
 }
 
 /// Whether a call of `run`, where the report has room for so many bytes, ends so after so many operations.
 fn is_cut(alloc: Global, room: usize, number: u8, deeds: usize) -> Result<bool, Fail> {
-    let mut all = devices_with(alloc, Items::new(alloc))?;
-    let mut report = Trickle {
-        taken: Vec::new(alloc),
-        room,
-        faults: 0,
-    };
-    let status = call(alloc, &["run", "b.wy"], FOUR_WRITES, &mut report, &mut all)?;
+    let mut out = MemSink::new(alloc, Items::new(alloc))?;
+    let mut report = Trickle::new(alloc, room);
+    let files = [("b.wy", FOUR_WRITES.as_bytes())];
+    let fails = Items::new(alloc);
+    let ended = ended(
+        alloc,
+        &["run", "b.wy"],
+        &files,
+        &mut out,
+        &mut report,
+        fails,
+    )?;
     Ok(
-        status.number() == number
+        ended.number == number
+            && ended.deeds == deeds
+            && REPORT.as_bytes().starts_with(report.taken.as_slice())
             && report.taken.len() == room
-            && all.deeds(Kind::Console).ok_or("told")?.len() == deeds,
+            && out.bytes().is_empty(),
     )
 }
 

@@ -1,11 +1,9 @@
-use crate::outside::Trickle;
+use crate::outside::cut_at;
 use crate::policies_table::{JUDGED, Judged, STOPPED};
-use crate::support::{Outcome, call_with, devices_with, outcome_of};
+use crate::support::{Outcome, outcome_of, wrong_row};
 use crate::three_files_table::{MAIN, PARTS, TYPES};
-use std::alloc::Global;
+use std::alloc::{AllocError, Global};
 use std::test::Fail;
-use wy_text::list::Items;
-use wy_text::mem_sink::MemSink;
 
 const EMPTY: &str = "program\n  run: {}\n    ()\n";
 
@@ -40,46 +38,44 @@ fn is_judged(
     for text in texts {
         words.push(*text)?;
     }
-    let done = policed(alloc, words.as_slice(), policy)?;
-    Ok(
-        done.number == number
-            && done.deeds == 0
-            && done.out.bytes() == out.as_bytes()
-            && done.report.bytes() == last.as_bytes(),
-    )
+    Ok(policed(alloc, words.as_slice(), policy)?.says(number, out, last))
 }
 
-/// The number of the first case that ends otherwise.
-fn first_otherwise(alloc: Global, cases: &[Judged]) -> Result<Option<usize>, Fail> {
+/// Fails with the number of the first case that ends otherwise.
+fn all_are_judged(alloc: Global, cases: &[Judged]) -> Result<(), Fail> {
     for (at, (policy, texts, number, out, last)) in cases.iter().enumerate() {
         if !is_judged(alloc, policy.as_bytes(), texts, *number, out, last)? {
-            return Ok(Some(at));
+            return Err(wrong_row(at));
         }
     }
-    Ok(None)
+    Ok(())
 }
 
 #[test]
 fn a_program_is_judged_by_its_policy(rt: HostRuntime) -> Result<(), Fail> {
-    assert_eq!(rt; first_otherwise(rt.alloc(), &JUDGED)?, None);
-    Ok(())
+    all_are_judged(rt.alloc(), &JUDGED)
 }
 
 #[test]
 fn texts_are_judged_before_their_policy(rt: HostRuntime) -> Result<(), Fail> {
-    assert_eq!(rt; first_otherwise(rt.alloc(), &STOPPED)?, None);
-    Ok(())
+    all_are_judged(rt.alloc(), &STOPPED)
 }
 
 #[test]
 fn a_file_that_is_not_read_is_named_the_policy_too(rt: HostRuntime) -> Result<(), Fail> {
     let alloc = rt.alloc();
     let first = policed(alloc, &["policy", "no.pol", "no.wy"], b"")?;
-    assert_eq!(rt; first.number, 2);
-    assert_eq!(rt; first.report.bytes(), b"no.pol: unread\n".as_slice());
-    let second = policed(alloc, &["policy", "p.pol", "empty.wy", "no.wy"], b"?")?;
-    assert_eq!(rt; second.number, 2);
-    assert_eq!(rt; second.report.bytes(), b"no.wy: unread\n".as_slice());
+    assert!(rt; first.says(2, "", "no.pol: unread\n"));
+    assert!(rt;
+        is_judged(
+            alloc,
+            b"?",
+            &["empty.wy", "no.wy"],
+            2,
+            "",
+            "no.wy: unread\n"
+        )?
+    );
     Ok(())
 }
 
@@ -93,55 +89,68 @@ pub fn lines(alloc: Global, front: &[u8], line: &[u8], count: usize) -> Result<V
     Ok(bytes)
 }
 
+/// Whether an empty program is judged so by a policy of a front and so many times a line.
+fn are_judged(
+    alloc: Global,
+    front: &[u8],
+    line: &[u8],
+    count: usize,
+    number: u8,
+    out: &str,
+    last: &str,
+) -> Result<bool, Fail> {
+    let policy = lines(alloc, front, line, count)?;
+    is_judged(alloc, policy.as_slice(), &["empty.wy"], number, out, last)
+}
+
 #[test]
 fn a_policy_has_limits_that_come_before_its_lines(rt: HostRuntime) -> Result<(), Fail> {
     let alloc = rt.alloc();
-    let whole = lines(alloc, b"", b"//345678901234\r\n", 65_536)?;
-    assert!(rt; is_judged(alloc, whole.as_slice(), &["empty.wy"], 0, "allowed\n", "")?);
-    let large = lines(alloc, b"?", b"//345678901234\r\n", 65_536)?;
+    let line: &[u8] = b"//345678901234\r\n";
+    assert!(rt; are_judged(alloc, b"", line, 65_536, 0, "allowed\n", "")?);
     let bytes = "limit: file bytes 1048576\n";
-    assert!(rt; is_judged(alloc, large.as_slice(), &["empty.wy"], 5, "", bytes)?);
-    let full = lines(alloc, b"?\n", b"a: -\n", 4_096)?;
-    let bad = "p.pol:1: bad policy\n";
-    assert!(rt; is_judged(alloc, full.as_slice(), &["empty.wy"], 17, "", bad)?);
-    let many = lines(alloc, b"?\n", b"a: -\n", 4_097)?;
+    assert!(rt; are_judged(alloc, b"?", line, 65_536, 5, "", bytes)?);
+    let row: &[u8] = b"a: -\n";
+    assert!(rt; are_judged(alloc, b"?\n", row, 4_096, 17, "", "p.pol:1: bad policy\n")?);
     let rows = "limit: policy rows 4096\n";
-    assert!(rt; is_judged(alloc, many.as_slice(), &["empty.wy"], 5, "", rows)?);
+    assert!(rt; are_judged(alloc, b"?\n", row, 4_097, 5, "", rows)?);
     Ok(())
+}
+
+/// The policy's file so many times, and the empty program's.
+fn many(alloc: Global, count: usize) -> Result<Vec<&'static str>, AllocError> {
+    let mut texts = Vec::new(alloc);
+    for _ in 0..count {
+        texts.push("p.pol")?;
+    }
+    texts.push("empty.wy")?;
+    Ok(texts)
 }
 
 #[test]
 fn all_file_words_count_the_policy_too(rt: HostRuntime) -> Result<(), Fail> {
     let alloc = rt.alloc();
-    let mut words = Vec::new(alloc);
-    words.push("policy")?;
-    for _ in 0..63u32 {
-        words.push("p.pol")?;
-    }
-    words.push("empty.wy")?;
-    let met = policed(alloc, words.as_slice(), b"// a comment\n")?;
-    assert_eq!(rt; met.out.bytes(), b"allowed\n".as_slice());
-    words.push("no.wy")?;
-    let passed = policed(alloc, words.as_slice(), b"// a comment\n")?;
-    assert_eq!(rt; passed.report.bytes(), b"limit: files 64\n".as_slice());
+    let comment: &[u8] = b"// a comment\n";
+    assert!(rt;
+        is_judged(
+            alloc,
+            comment,
+            many(alloc, 62)?.as_slice(),
+            0,
+            "allowed\n",
+            ""
+        )?
+    );
+    let last = "limit: files 64\n";
+    assert!(rt; is_judged(alloc, comment, many(alloc, 63)?.as_slice(), 5, "", last)?);
     Ok(())
 }
 
 #[test]
 fn a_judgement_that_is_not_written_whole_is_a_prefix(rt: HostRuntime) -> Result<(), Fail> {
     let alloc = rt.alloc();
-    let mut all = devices_with(alloc, Items::new(alloc))?;
-    let mut report = MemSink::new(alloc, Items::new(alloc))?;
-    let mut out = Trickle {
-        taken: Vec::new(alloc),
-        room: 3,
-        faults: 0,
-    };
     let files: [(&str, &[u8]); 2] = [("p.pol", b""), ("a.wy", EMPTY.as_bytes())];
-    let words = ["policy", "p.pol", "a.wy"];
-    let status = call_with(alloc, &words, &files, &mut out, &mut report, &mut all)?;
-    assert_eq!(rt; status.number(), 10);
-    assert_eq!(rt; out.taken.as_slice(), b"all".as_slice());
-    assert_eq!(rt; report.bytes(), b"unwritten\n".as_slice());
+    let done = cut_at(alloc, &["policy", "p.pol", "a.wy"], &files, 3)?;
+    assert!(rt; done.says(10, b"all", "unwritten\n"));
     Ok(())
 }

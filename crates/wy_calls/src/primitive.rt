@@ -1,4 +1,4 @@
-use crate::devices::first_otherwise;
+use crate::devices::all_come_so;
 use crate::primitive_table::{
     CLOCKS, CONSOLES, FOLDERS, FULL_FOLDERS, NAMES, ORDERS, RANDOM_SOURCES,
 };
@@ -6,42 +6,35 @@ use std::test::Fail;
 
 #[test]
 fn a_console_gives_its_lines(rt: HostRuntime) -> Result<(), Fail> {
-    assert_eq!(rt; first_otherwise(rt.alloc(), &CONSOLES)?, None);
-    Ok(())
+    all_come_so(rt.alloc(), &CONSOLES)
 }
 
 #[test]
 fn a_folder_keeps_what_it_is_told(rt: HostRuntime) -> Result<(), Fail> {
-    assert_eq!(rt; first_otherwise(rt.alloc(), &FOLDERS)?, None);
-    Ok(())
+    all_come_so(rt.alloc(), &FOLDERS)
 }
 
 #[test]
 fn a_full_folder_removes_what_it_keeps(rt: HostRuntime) -> Result<(), Fail> {
-    assert_eq!(rt; first_otherwise(rt.alloc(), &FULL_FOLDERS)?, None);
-    Ok(())
+    all_come_so(rt.alloc(), &FULL_FOLDERS)
 }
 
 #[test]
 fn a_name_that_is_none_traps_before_the_folder_is_asked(rt: HostRuntime) -> Result<(), Fail> {
-    assert_eq!(rt; first_otherwise(rt.alloc(), &NAMES)?, None);
-    Ok(())
+    all_come_so(rt.alloc(), &NAMES)
 }
 
 #[test]
 fn the_receiver_comes_before_the_argument(rt: HostRuntime) -> Result<(), Fail> {
-    assert_eq!(rt; first_otherwise(rt.alloc(), &ORDERS)?, None);
-    Ok(())
+    all_come_so(rt.alloc(), &ORDERS)
 }
 
 #[test]
 fn a_clock_gives_whole_seconds(rt: HostRuntime) -> Result<(), Fail> {
-    assert_eq!(rt; first_otherwise(rt.alloc(), &CLOCKS)?, None);
-    Ok(())
+    all_come_so(rt.alloc(), &CLOCKS)
 }
 
 #[test]
 fn a_random_source_gives_any_number(rt: HostRuntime) -> Result<(), Fail> {
-    assert_eq!(rt; first_otherwise(rt.alloc(), &RANDOM_SOURCES)?, None);
-    Ok(())
+    all_come_so(rt.alloc(), &RANDOM_SOURCES)
 }

@@ -1,21 +1,8 @@
 use crate::checking::ring;
 use crate::running_table::{REFUSED, RUNS, Row};
-use crate::support::{call, devices_with, judged_so, outcome_of};
+use crate::support::{judged_so, outcome_of, wrong_row};
 use std::alloc::Global;
 use std::test::Fail;
-use wy_device::device::Device;
-use wy_device::handed::Handed;
-use wy_device::mem_console::MemConsole;
-use wy_device::operation::{Answer, Kind, Op};
-use wy_device::shut::Shut;
-use wy_engine::handing_in::devices;
-use wy_engine::status::Status;
-use wy_text::list::Items;
-use wy_text::mem_sink::MemSink;
-use wy_text::text::from_bytes;
-
-const HELLO: &[u8] =
-    b"program\n  grant console: Console\n  run: {console.Out}\n    console.write(\"hello\\n\")\n";
 
 /// Whether a call with the row's words and files ends as the row says, and writes nothing to `out`.
 fn ends_so(alloc: Global, row: &Row) -> Result<bool, Fail> {
@@ -33,45 +20,24 @@ fn ends_so(alloc: Global, row: &Row) -> Result<bool, Fail> {
     )
 }
 
-/// The number of the first row that ends otherwise.
-fn first_otherwise(alloc: Global, rows: &[Row]) -> Result<Option<usize>, Fail> {
+/// Fails with the number of the first row that ends otherwise.
+fn all_end_so(alloc: Global, rows: &[Row]) -> Result<(), Fail> {
     for (at, row) in rows.iter().enumerate() {
         if !ends_so(alloc, row)? {
-            return Ok(Some(at));
+            return Err(wrong_row(at));
         }
     }
-    Ok(None)
+    Ok(())
 }
 
 #[test]
 fn what_is_accepted_is_reported_and_runs(rt: HostRuntime) -> Result<(), Fail> {
-    assert_eq!(rt; first_otherwise(rt.alloc(), &RUNS)?, None);
-    Ok(())
+    all_end_so(rt.alloc(), &RUNS)
 }
 
 #[test]
 fn what_is_refused_does_nothing(rt: HostRuntime) -> Result<(), Fail> {
-    assert_eq!(rt; first_otherwise(rt.alloc(), &REFUSED)?, None);
-    Ok(())
-}
-
-#[test]
-fn an_accepted_program_does_its_write(rt: HostRuntime) -> Result<(), Fail> {
-    let alloc = rt.alloc();
-    let mut all = devices_with(alloc, Items::new(alloc))?;
-    let mut report = MemSink::new(alloc, Items::new(alloc))?;
-    let status = call(alloc, &["run", "b.wy"], HELLO, &mut report, &mut all)?;
-    assert_eq!(rt; status, Status::Ended);
-    let deeds = all.deeds(Kind::Console).ok_or("told")?;
-    assert_eq!(rt; deeds.len(), 1);
-    let deed = deeds.get(0).ok_or("a deed")?;
-    assert_eq!(rt; deed.grant.as_bytes(), b"console".as_slice());
-    match &deed.op {
-        Op::ConsoleWrite(text) => assert_eq!(rt; text.as_bytes(), b"hello\n".as_slice()),
-        _ => assert!(rt; false),
-    }
-    assert!(rt; matches!(&deed.answer, Some(Answer::Unit)));
-    Ok(())
+    all_end_so(rt.alloc(), &REFUSED)
 }
 
 /// A program that writes `x` so many times.
@@ -91,8 +57,7 @@ fn a_program_writes_as_often_as_it_says(rt: HostRuntime) -> Result<(), Fail> {
     let alloc = rt.alloc();
     let source = writes(alloc, 1001)?;
     let done = outcome_of(alloc, &["run", "b.wy"], &[("b.wy", source.as_slice())])?;
-    assert_eq!(rt; done.number, 0);
-    assert_eq!(rt; done.deeds, 1001);
+    assert!(rt; done.number == 0 && done.deeds == 1001);
     Ok(())
 }
 

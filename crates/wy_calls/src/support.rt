@@ -16,7 +16,7 @@ use wy_machine::devices::Devices;
 use wy_text::list::{CallList, Items};
 use wy_text::mem_shelf::MemShelf;
 use wy_text::mem_sink::MemSink;
-use wy_text::shelf::NamedText;
+use wy_text::shelf::{FileList, NamedText};
 use wy_text::sink::Sink;
 use wy_text::text::{Memory, from_bytes};
 
@@ -38,7 +38,7 @@ fn shut(alloc: Global, kind: Kind) -> Result<Handed, Fail>
 }
 
 /// The four devices of a test: a console in memory that fails at the listed calls, and three that are shut.
-pub fn devices_with(alloc: Global, fails: CallList) -> Result<Devices<Handed>, Fail>
+fn devices_with(alloc: Global, fails: CallList) -> Result<Devices<Handed>, Fail>
     ensures { IfOk result (λ all. IsInOrder (states (⟦<Handed as Device>⟧.state) all)) }
 {
     Ok(devices(
@@ -49,15 +49,27 @@ pub fn devices_with(alloc: Global, fails: CallList) -> Result<Devices<Handed>, F
     ))
 }
 
-/// A shelf with these files.
-fn shelf(alloc: Global, files: &[(&str, &[u8])]) -> Result<MemShelf, Memory> {
+/// A file of a shelf.
+pub fn file(alloc: Global, name: &str, text: &[u8]) -> Result<NamedText, Memory> {
+    let name = from_bytes(alloc, name.as_bytes())?;
+    Ok(NamedText {
+        name,
+        text: from_bytes(alloc, text)?,
+    })
+}
+
+/// The files of a shelf.
+fn listed(alloc: Global, files: &[(&str, &[u8])]) -> Result<FileList, Memory> {
     let mut list = Items::new(alloc);
     for (name, text) in files {
-        let name = from_bytes(alloc, name.as_bytes())?;
-        let text = from_bytes(alloc, text)?;
-        list.push(NamedText { name, text })?;
+        list.push(file(alloc, name, text)?)?;
     }
-    MemShelf::new(alloc, list, Items::new(alloc))
+    Ok(list)
+}
+
+/// What a test fails with whose row is not as it should be: the number of the row, counted from 0.
+pub fn wrong_row(at: usize) -> Fail {
+    Fail::new(format_args!("row {at}"))
 }
 
 /// These words as strings.
@@ -87,28 +99,32 @@ pub fn call_with<O: Sink, E: Sink, D: Device>(
 ) -> Result<Status, Fail>
     requires { IsInOrder (states D.state devices.old) }
 {
-    let mut shelf = shelf(alloc, files)?;
+    let mut shelf = MemShelf::new(alloc, listed(alloc, files)?, Items::new(alloc))?;
     let words = strings(alloc, words)?;
     Ok(wyvern(alloc, words.as_slice(), &mut shelf, out, report, devices))
 }
 
-/// Calls with these words, and a shelf that has the text as `b.wy`. Nothing may come to `out`.
-pub fn call<E: Sink, D: Device>(
+/// How a call ended: its status's number, and how many operations the console was asked for.
+#[derive(Clone, Copy)]
+pub struct Ended {
+    pub number: u8,
+    pub deeds: usize,
+}
+
+/// Calls with these words and files over these sinks, a console in memory that fails at the listed calls, and other
+/// devices that are shut.
+pub fn ended<O: Sink, E: Sink>(
     alloc: Global,
     words: &[&str],
-    text: &[u8],
+    files: &[(&str, &[u8])],
+    out: &mut O,
     report: &mut E,
-    devices: &mut Devices<D>,
-) -> Result<Status, Fail>
-    requires { IsInOrder (states D.state devices.old) }
-{
-    let mut out = MemSink::new(alloc, Items::new(alloc))?;
-    let status = call_with(alloc, words, &[("b.wy", text)], &mut out, report, devices)?;
-    if out.bytes().is_empty() {
-        Ok(status)
-    } else {
-        Err("bytes on out")?
-    }
+    fails: CallList,
+) -> Result<Ended, Fail> {
+    let mut all = devices_with(alloc, fails)?;
+    let number = call_with(alloc, words, files, out, report, &mut all)?.number();
+    let deeds = all.deeds(Kind::Console).ok_or("told")?.len();
+    Ok(Ended { number, deeds })
 }
 
 /// What came of a call: its status's number, how many operations the console was asked for, and what was written
@@ -121,15 +137,25 @@ pub struct Outcome {
     pub report: MemSink,
 }
 
+impl Outcome {
+    /// Whether the status has the number, this was written to `out` and the report, and the console was asked for nothing.
+    pub fn says(&self, number: u8, out: &str, report: &str) -> bool {
+        self.number == number
+            && self.deeds == 0
+            && self.out.bytes() == out.as_bytes()
+            && self.report.bytes() == report.as_bytes()
+    }
+}
+
 /// Calls with these words and files, a console in memory, and other devices that are shut.
 pub fn outcome_of(alloc: Global, words: &[&str], files: &[(&str, &[u8])]) -> Result<Outcome, Fail> {
-    let mut all = devices_with(alloc, Items::new(alloc))?;
     let mut out = MemSink::new(alloc, Items::new(alloc))?;
     let mut report = MemSink::new(alloc, Items::new(alloc))?;
-    let status = call_with(alloc, words, files, &mut out, &mut report, &mut all)?;
+    let fails = Items::new(alloc);
+    let Ended { number, deeds } = ended(alloc, words, files, &mut out, &mut report, fails)?;
     Ok(Outcome {
-        number: status.number(),
-        deeds: all.deeds(Kind::Console).ok_or("told")?.len(),
+        number,
+        deeds,
         out,
         report,
     })
@@ -146,10 +172,5 @@ pub fn judged_so(
     report: &str,
 ) -> Result<bool, Fail> {
     let done = outcome_of(alloc, &[command, "b.wy"], &[("b.wy", text.as_bytes())])?;
-    Ok(
-        done.number == number
-            && done.deeds == 0
-            && done.out.bytes() == out.as_bytes()
-            && done.report.bytes() == report.as_bytes(),
-    )
+    Ok(done.says(number, out, report))
 }

@@ -1,5 +1,5 @@
 use crate::canonical_table::ACCEPTED;
-use crate::support::outcome_of;
+use crate::support::{outcome_of, wrong_row};
 use crate::syntax_table::REFUSED;
 use std::alloc::Global;
 use std::test::Fail;
@@ -7,51 +7,43 @@ use std::test::Fail;
 /// Whether `format` writes the form for the text, and nothing else.
 fn is_printed(alloc: Global, text: &str, form: &str) -> Result<bool, Fail> {
     let done = outcome_of(alloc, &["format", "b.wy"], &[("b.wy", text.as_bytes())])?;
-    Ok(done.number == 0 && done.out.bytes() == form.as_bytes() && done.report.bytes().is_empty())
+    Ok(done.says(0, form, ""))
 }
 
-/// The number of the first text that is not printed as its form, or whose form is not printed as itself.
-fn first_not_printed(alloc: Global, cases: &[(&str, &str)]) -> Result<Option<usize>, Fail> {
+/// Fails with the number of the first text that is not printed as its form, or whose form is not printed as itself.
+fn all_are_printed(alloc: Global, cases: &[(&str, &str)]) -> Result<(), Fail> {
     for (at, (text, form)) in cases.iter().enumerate() {
         if !is_printed(alloc, text, form)? || !is_printed(alloc, form, form)? {
-            return Ok(Some(at));
+            return Err(wrong_row(at));
         }
     }
-    Ok(None)
+    Ok(())
 }
 
 #[test]
 fn each_file_is_printed_in_canonical_form_and_that_form_again(rt: HostRuntime) -> Result<(), Fail> {
-    assert_eq!(rt; first_not_printed(rt.alloc(), &ACCEPTED)?, None);
-    Ok(())
+    all_are_printed(rt.alloc(), &ACCEPTED)
 }
 
 /// Whether the text has the status Syntax, with this last line.
 fn is_refused(alloc: Global, text: &[u8], line: &str) -> Result<bool, Fail> {
-    let done = outcome_of(alloc, &["run", "b.wy"], &[("b.wy", text)])?;
-    Ok(
-        done.number == 3
-            && done.deeds == 0
-            && done.report.bytes() == line.as_bytes()
-            && done.out.bytes().is_empty(),
-    )
+    Ok(outcome_of(alloc, &["run", "b.wy"], &[("b.wy", text)])?.says(3, "", line))
 }
 
-/// The number of the first text whose first unexpected token is not at the place.
-fn first_not_named(alloc: Global, cases: &[(&str, u32, u32, &str)]) -> Result<Option<usize>, Fail> {
+/// Fails with the number of the first text whose first unexpected token is not at the place.
+fn all_are_named(alloc: Global, cases: &[(&str, u32, u32, &str)]) -> Result<(), Fail> {
     for (at, (text, line, column, _)) in cases.iter().enumerate() {
         let last = format!(in alloc; "b.wy:{line}:{column}: syntax: Unexpected\n")?;
         if !is_refused(alloc, text.as_bytes(), last.as_str())? {
-            return Ok(Some(at));
+            return Err(wrong_row(at));
         }
     }
-    Ok(None)
+    Ok(())
 }
 
 #[test]
 fn the_first_token_that_fits_nothing_is_named_by_its_place(rt: HostRuntime) -> Result<(), Fail> {
-    assert_eq!(rt; first_not_named(rt.alloc(), &REFUSED)?, None);
-    Ok(())
+    all_are_named(rt.alloc(), &REFUSED)
 }
 
 /// Files without tokens, and what is said of each.
@@ -94,19 +86,18 @@ static LEXICAL: [(&[u8], &str); 30] = [
     (b"a\r\n  b ~\r\n", "2:5: syntax: BadCharacter"),
 ];
 
-/// The number of the first text of which something else is said.
-fn first_not_said(alloc: Global, cases: &[(&[u8], &str)]) -> Result<Option<usize>, Fail> {
+/// Fails with the number of the first text of which something else is said.
+fn all_are_said(alloc: Global, cases: &[(&[u8], &str)]) -> Result<(), Fail> {
     for (at, (text, line)) in cases.iter().enumerate() {
         let last = format!(in alloc; "b.wy:{line}\n")?;
         if !is_refused(alloc, text, last.as_str())? {
-            return Ok(Some(at));
+            return Err(wrong_row(at));
         }
     }
-    Ok(None)
+    Ok(())
 }
 
 #[test]
 fn what_is_wrong_in_a_text_is_named_with_its_place(rt: HostRuntime) -> Result<(), Fail> {
-    assert_eq!(rt; first_not_said(rt.alloc(), &LEXICAL)?, None);
-    Ok(())
+    all_are_said(rt.alloc(), &LEXICAL)
 }

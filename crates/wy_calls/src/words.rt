@@ -1,4 +1,4 @@
-use crate::support::outcome_of;
+use crate::support::{outcome_of, wrong_row};
 use std::alloc::Global;
 use std::test::Fail;
 
@@ -44,30 +44,23 @@ static FAULTY: [&[&str]; 35] = [
 /// Whether a call with these words, over a shelf with an empty `b.wy`, ends with the status of the number and the
 /// line, and does nothing else.
 fn ends_with(alloc: Global, words: &[&str], number: u8, line: &str) -> Result<bool, Fail> {
-    let done = outcome_of(alloc, words, &[("b.wy", b"")])?;
-    Ok(
-        done.number == number
-            && done.deeds == 0
-            && done.report.bytes() == line.as_bytes()
-            && done.out.bytes().is_empty(),
-    )
+    Ok(outcome_of(alloc, words, &[("b.wy", b"")])?.says(number, "", line))
 }
 
-/// The number of the first words that do not get the usage line.
-fn first_other(alloc: Global, cases: &[&[&str]]) -> Result<Option<usize>, Fail> {
+/// Fails with the number of the first words that do not get the usage line.
+fn all_get_the_usage_line(alloc: Global, cases: &[&[&str]]) -> Result<(), Fail> {
     let usage = "usage: wyvern COMMAND [--steps N] [--depth N] FILE...\n";
     for (at, words) in cases.iter().enumerate() {
         if !ends_with(alloc, words, 1, usage)? {
-            return Ok(Some(at));
+            return Err(wrong_row(at));
         }
     }
-    Ok(None)
+    Ok(())
 }
 
 #[test]
 fn words_that_are_no_command_line_get_the_usage_line(rt: HostRuntime) -> Result<(), Fail> {
-    assert_eq!(rt; first_other(rt.alloc(), &FAULTY)?, None);
-    Ok(())
+    all_get_the_usage_line(rt.alloc(), &FAULTY)
 }
 
 #[test]

@@ -39,18 +39,44 @@ fn either(alloc: Global, left: &[u64], right: &[u64]) -> Result<Vec<u64>, AllocE
     Ok(words)
 }
 
+/// Whether so many words are united one by one.
+fn are_united(alloc: Global, length: u16) -> Result<bool, AllocError> {
+    let mut into = mixed_words(alloc, length, 3)?;
+    let from = mixed_words(alloc, length, 5)?;
+    let want = either(alloc, into.as_slice(), from.as_slice())?;
+    if into.len() != from.len() {
+        return Ok(false);
+    }
+    union_words(into.as_mut_slice(), from.as_slice());
+    Ok(into.as_slice() == want.as_slice())
+}
+
 #[test]
 fn words_are_united_at_each_length(rt: HostRuntime) -> Result<(), Fail> {
     let alloc = rt.alloc();
     for length in LENGTHS {
-        let mut into = mixed_words(alloc, length, 3)?;
-        let from = mixed_words(alloc, length, 5)?;
-        let want = either(alloc, into.as_slice(), from.as_slice())?;
-        assert_eq!(rt; into.len(), from.len());
-        union_words(into.as_mut_slice(), from.as_slice());
-        assert_eq!(rt; into.as_slice(), want.as_slice(), "at {length}");
+        assert!(rt; are_united(alloc, length)?, "at {length}");
     }
     Ok(())
+}
+
+/// Some of the bits of these words, which are so many.
+fn some_of(alloc: Global, length: u16, words: &[u64]) -> Result<Vec<u64>, AllocError> {
+    let others = mixed_words(alloc, length, 9)?;
+    both(alloc, words, others.as_slice())
+}
+
+/// Whether the words include the others, of which each lacks bits, and do so no more without the bits of the last one.
+fn is_found(outer: &mut [u64], inner: &[u64]) -> bool {
+    if outer.len() != inner.len() {
+        return false;
+    }
+    let none = outer.is_empty();
+    let before = includes_words(outer, inner) && includes_words(inner, outer) == none;
+    if let Some(last) = outer.last_mut() {
+        *last = 0;
+    }
+    before && outer.len() == inner.len() && includes_words(outer, inner) == none
 }
 
 #[test]
@@ -58,25 +84,9 @@ fn a_bit_outside_the_last_word_is_found(rt: HostRuntime) -> Result<(), Fail> {
     let alloc = rt.alloc();
     for length in LENGTHS {
         let mut outer = mixed_words(alloc, length, 7)?;
-        let others = mixed_words(alloc, length, 9)?;
-        let inner = both(alloc, outer.as_slice(), others.as_slice())?;
-        assert_eq!(rt; outer.len(), inner.len());
+        let inner = some_of(alloc, length, outer.as_slice())?;
         assert!(rt;
-            includes_words(outer.as_slice(), inner.as_slice()),
-            "at {length}"
-        );
-        assert_eq!(rt;
-            includes_words(inner.as_slice(), outer.as_slice()),
-            length == 0,
-            "at {length}"
-        );
-        if let Some(last) = outer.last_mut() {
-            *last = 0;
-        }
-        assert_eq!(rt; outer.len(), inner.len());
-        assert_eq!(rt;
-            includes_words(outer.as_slice(), inner.as_slice()),
-            length == 0,
+            is_found(outer.as_mut_slice(), inner.as_slice()),
             "at {length}"
         );
     }
@@ -92,26 +102,38 @@ fn rows_inside(alloc: Global, count: u16) -> Result<Vec<u64>, AllocError> {
     Ok(rows)
 }
 
+/// The first of these rows that is outside; `None` where they are no rows of eight words each.
+fn first_outside(rows: &[u64]) -> Option<Option<usize>> {
+    if rows.len() % 8 != 0 {
+        return None;
+    }
+    Some(any_outside(rows, &BOUND))
+}
+
+/// Whether of so many rows none is outside, then the last one, and then one in the middle.
+fn are_outside(rows: &mut [u64], count: usize) -> bool {
+    let none = first_outside(rows) == Some(None);
+    if let Some(last) = rows.last_mut() {
+        *last = 13;
+    }
+    let last = first_outside(rows) == Some(count.checked_sub(1));
+    let middle = count / 2;
+    if let Some(first) = rows.get_mut(middle.saturating_mul(8)) {
+        *first = 1;
+    }
+    let want = if count == 0 { None } else { Some(middle) };
+    none && last && first_outside(rows) == Some(want)
+}
+
 #[test]
 fn the_first_row_outside_is_found(rt: HostRuntime) -> Result<(), Fail> {
     let alloc = rt.alloc();
     for count in LENGTHS {
         let mut rows = rows_inside(alloc, count)?;
-        assert_eq!(rt; rows.len() % 8, 0);
-        assert_eq!(rt; any_outside(rows.as_slice(), &BOUND), None, "at {count}");
-        if let Some(last) = rows.last_mut() {
-            *last = 13;
-        }
-        assert_eq!(rt; rows.len() % 8, 0);
-        let want = (count as usize).checked_sub(1);
-        assert_eq!(rt; any_outside(rows.as_slice(), &BOUND), want, "at {count}");
-        let middle = count as usize / 2;
-        if let Some(first) = rows.get_mut(8 * middle) {
-            *first = 1;
-        }
-        assert_eq!(rt; rows.len() % 8, 0);
-        let want = want.map(|_| middle);
-        assert_eq!(rt; any_outside(rows.as_slice(), &BOUND), want, "at {count}");
+        assert!(rt;
+            are_outside(rows.as_mut_slice(), count as usize),
+            "at {count}"
+        );
     }
     Ok(())
 }
@@ -133,25 +155,34 @@ fn masks_by_byte(bytes: &[u8]) -> [u64; 4] {
     masks
 }
 
-#[test]
-fn each_byte_is_of_its_class(rt: HostRuntime) -> Result<(), Fail> {
-    let alloc = rt.alloc();
+/// Whether these are the masks of the bytes.
+fn are_masks(bytes: &[u8], wanted: [u64; 4]) -> bool {
+    if bytes.len() > 64 {
+        return false;
+    }
+    let mut masks = [u64::MAX; 4];
+    class_masks(bytes, &mut masks);
+    masks == wanted
+}
+
+fn all_bytes(alloc: Global) -> Result<Vec<u8>, AllocError> {
     let mut bytes = Vec::new(alloc);
     for byte in 0..=255u8 {
         bytes.push(byte)?;
     }
+    Ok(bytes)
+}
+
+#[test]
+fn each_byte_is_of_its_class(rt: HostRuntime) -> Result<(), Fail> {
+    let bytes = all_bytes(rt.alloc())?;
     for (i, block) in bytes.as_slice().chunks(64).enumerate() {
         for length in [0, 1, 63, 64] {
-            let mut masks = [u64::MAX; 4];
             let part = block.get(..length).unwrap_or(&[]);
-            assert!(rt; part.len() <= 64);
-            class_masks(part, &mut masks);
-            assert_eq!(rt; masks, masks_by_byte(part), "at {i}, {length}");
+            assert!(rt; are_masks(part, masks_by_byte(part)), "at {i}, {length}");
         }
     }
-    let mut masks = [u64::MAX; 4];
-    class_masks(b"a_1 \"-\"\n\xc3\xa9", &mut masks);
-    assert_eq!(rt; masks, [0x80, 0x08, 0x307, 0x50]);
+    assert!(rt; are_masks(b"a_1 \"-\"\n\xc3\xa9", [0x80, 0x08, 0x307, 0x50]));
     Ok(())
 }
 
@@ -197,39 +228,66 @@ fn set_of(numbers: &[u16]) -> NumberSet {
     set
 }
 
+/// Numbers, and the next one of that set from each on.
+static NEXT: [(u16, Option<u16>); 10] = [
+    (0, Some(0)),
+    (1, Some(63)),
+    (63, Some(63)),
+    (64, Some(64)),
+    (65, Some(127)),
+    (127, Some(127)),
+    (128, Some(511)),
+    (511, Some(511)),
+    (512, None),
+    (u16::MAX, None),
+];
+
 #[test]
 fn numbers_at_the_ends_of_words_are_found(rt: HostRuntime) -> Result<(), Fail> {
     let set = set_of(&[511, 64, 0, 127, 63, 64]);
     for number in [0, 63, 64, 127, 511] {
         assert!(rt; set.has(number), "{number}");
-        assert_eq!(rt; set.next(number), Some(number), "{number}");
     }
     for number in [1, 62, 65, 126, 128, 510, 512, 575, u16::MAX] {
         assert!(rt; !set.has(number), "{number}");
     }
-    assert_eq!(rt; set.next(1), Some(63));
-    assert_eq!(rt; set.next(65), Some(127));
-    assert_eq!(rt; set.next(128), Some(511));
-    assert_eq!(rt; set.next(512), None);
-    assert_eq!(rt; set.next(u16::MAX), None);
-    assert_eq!(rt; set.len(), 5);
+    for (number, next) in &NEXT {
+        assert!(rt; set.next(*number) == *next, "{number}");
+    }
+    assert!(rt; set.len() == 5);
+    Ok(())
+}
+
+/// The numbers of both sets.
+fn united(left: &NumberSet, right: &NumberSet) -> NumberSet {
+    let mut both = left.copy();
+    both.unite(right);
+    both
+}
+
+#[test]
+fn sets_are_united(rt: HostRuntime) -> Result<(), Fail> {
+    let left = set_of(&[0, 63, 64]);
+    let right = set_of(&[63, 127, 511]);
+    let both = united(&left, &right);
+    assert!(rt; both == set_of(&[0, 63, 64, 127, 511]));
+    assert!(rt; both.includes(&left) && both.includes(&right) && !left.includes(&both));
     Ok(())
 }
 
 #[test]
-fn sets_are_united_subtracted_and_compared(rt: HostRuntime) -> Result<(), Fail> {
+fn sets_are_subtracted(rt: HostRuntime) -> Result<(), Fail> {
     let left = set_of(&[0, 63, 64]);
     let right = set_of(&[63, 127, 511]);
-    let mut both = left.copy();
-    both.unite(&right);
-    assert!(rt; both == set_of(&[0, 63, 64, 127, 511]));
-    assert!(rt; both.includes(&left));
-    assert!(rt; both.includes(&right));
-    assert!(rt; !left.includes(&both));
     assert!(rt; left.without(&right) == set_of(&[0, 64]));
     assert!(rt; right.without(&left) == set_of(&[127, 511]));
-    assert!(rt; both.without(&both) == NumberSet::empty());
-    assert_eq!(rt; NumberSet::empty().next(0), None);
-    assert_eq!(rt; NumberSet::empty().len(), 0);
+    assert!(rt; left.without(&left) == NumberSet::empty());
+    Ok(())
+}
+
+#[test]
+fn the_empty_set_has_no_number(rt: HostRuntime) -> Result<(), Fail> {
+    let empty = NumberSet::empty();
+    assert!(rt; empty.next(0).is_none() && empty.len() == 0);
     Ok(())
 }

@@ -34,53 +34,55 @@ fn tokens_shown(alloc: Global, bytes: &[u8]) -> Result<String, Fail> {
     }
 }
 
+/// Files, each with its tokens.
+static TOKENS: [(&[u8], &str); 15] = [
+    (b"", "End@1:1 "),
+    (b"   ", "End@1:4 "),
+    (b"\n", "End@2:1 "),
+    (b"a", "a@1:1 Nl@1:2 End@1:2 "),
+    (b"a\r\n", "a@1:1 Nl@1:2 End@2:1 "),
+    (b"  a\n", "In@1:3 a@1:3 Nl@1:4 Out@2:1 End@2:1 "),
+    (
+        b"a // \"\r\n  b\t1\r\n",
+        "a@1:1 Nl@1:7 In@2:3 b@2:3 1@2:5 Nl@2:6 Out@3:1 End@3:1 ",
+    ),
+    (
+        b"a\n  b\n    c\nd",
+        "a@1:1 Nl@1:2 In@2:3 b@2:3 Nl@2:4 In@3:5 c@3:5 Nl@3:6 Out@4:1 Out@4:1 d@4:1 Nl@4:2 End@4:2 ",
+    ),
+    (
+        b"a\n  b\n    c",
+        "a@1:1 Nl@1:2 In@2:3 b@2:3 Nl@2:4 In@3:5 c@3:5 Nl@3:6 Out@3:6 Out@3:6 End@3:6 ",
+    ),
+    (
+        b"a\n\n    // x\n  b\n   \nc\n",
+        "a@1:1 Nl@1:2 In@4:3 b@4:3 Nl@4:4 Out@6:1 c@6:1 Nl@6:2 End@7:1 ",
+    ),
+    (
+        b"a==b!=!c//d\n",
+        "a@1:1 ==@1:2 b@1:4 !=@1:5 !@1:7 c@1:8 Nl@1:12 End@2:1 ",
+    ),
+    (
+        b"1a+++ -/ /",
+        "1@1:1 a@1:2 ++@1:3 +@1:5 -@1:7 /@1:8 /@1:10 Nl@1:11 End@1:11 ",
+    ),
+    (
+        b"typex type_ type \xc3\xa9_1\n",
+        "typex@1:1 type_@1:7 type@1:13 \u{e9}_1@1:18 Nl@1:22 End@2:1 ",
+    ),
+    (b"\"//\"// \"\n", "\"//\"@1:1 Nl@1:9 End@2:1 "),
+    (
+        b"=== <=> >=&&&& ||",
+        "==@1:1 =@1:3 <=@1:5 >@1:7 >=@1:9 &&@1:11 &&@1:13 ||@1:16 Nl@1:18 End@1:18 ",
+    ),
+];
+
 #[test]
 fn files_have_these_tokens(rt: HostRuntime) -> Result<(), Fail> {
     let alloc = rt.alloc();
-    let cases: [(&[u8], &str); 15] = [
-        (b"", "End@1:1 "),
-        (b"   ", "End@1:4 "),
-        (b"\n", "End@2:1 "),
-        (b"a", "a@1:1 Nl@1:2 End@1:2 "),
-        (b"a\r\n", "a@1:1 Nl@1:2 End@2:1 "),
-        (b"  a\n", "In@1:3 a@1:3 Nl@1:4 Out@2:1 End@2:1 "),
-        (
-            b"a // \"\r\n  b\t1\r\n",
-            "a@1:1 Nl@1:7 In@2:3 b@2:3 1@2:5 Nl@2:6 Out@3:1 End@3:1 ",
-        ),
-        (
-            b"a\n  b\n    c\nd",
-            "a@1:1 Nl@1:2 In@2:3 b@2:3 Nl@2:4 In@3:5 c@3:5 Nl@3:6 Out@4:1 Out@4:1 d@4:1 Nl@4:2 End@4:2 ",
-        ),
-        (
-            b"a\n  b\n    c",
-            "a@1:1 Nl@1:2 In@2:3 b@2:3 Nl@2:4 In@3:5 c@3:5 Nl@3:6 Out@3:6 Out@3:6 End@3:6 ",
-        ),
-        (
-            b"a\n\n    // x\n  b\n   \nc\n",
-            "a@1:1 Nl@1:2 In@4:3 b@4:3 Nl@4:4 Out@6:1 c@6:1 Nl@6:2 End@7:1 ",
-        ),
-        (
-            b"a==b!=!c//d\n",
-            "a@1:1 ==@1:2 b@1:4 !=@1:5 !@1:7 c@1:8 Nl@1:12 End@2:1 ",
-        ),
-        (
-            b"1a+++ -/ /",
-            "1@1:1 a@1:2 ++@1:3 +@1:5 -@1:7 /@1:8 /@1:10 Nl@1:11 End@1:11 ",
-        ),
-        (
-            b"typex type_ type \xc3\xa9_1\n",
-            "typex@1:1 type_@1:7 type@1:13 \u{e9}_1@1:18 Nl@1:22 End@2:1 ",
-        ),
-        (b"\"//\"// \"\n", "\"//\"@1:1 Nl@1:9 End@2:1 "),
-        (
-            b"=== <=> >=&&&& ||",
-            "==@1:1 =@1:3 <=@1:5 >@1:7 >=@1:9 &&@1:11 &&@1:13 ||@1:16 Nl@1:18 End@1:18 ",
-        ),
-    ];
-    for (bytes, wanted) in cases {
+    for (bytes, wanted) in &TOKENS {
         let found = tokens_shown(alloc, bytes)?;
-        assert_eq!(rt; found.as_str(), wanted);
+        assert_eq!(rt; found.as_str(), *wanted);
     }
     Ok(())
 }
@@ -198,8 +200,40 @@ fn built(
     Ok(bytes)
 }
 
-/// First pieces, others so many times and last ones, each with what is said of the whole.
-static LIMITED: [(&[u8], &[u8], u32, &[u8], &str); 22] = [
+/// A first piece, another, how many times, and a last one, with what is said of the whole.
+type Said = (
+    &'static [u8],
+    &'static [u8],
+    u32,
+    &'static [u8],
+    &'static str,
+);
+
+/// Whether this is said of such a whole.
+fn is_said(
+    alloc: Global,
+    first: &[u8],
+    piece: &[u8],
+    count: u32,
+    last: &[u8],
+    wanted: &str,
+) -> Result<bool, Fail> {
+    let bytes = built(alloc, first, piece, count, last)?;
+    Ok(said(alloc, bytes.as_slice())?.as_str() == wanted)
+}
+
+/// Fails with the number of the first row of which something else is said.
+fn all_are_said(alloc: Global, rows: &[Said]) -> Result<(), Fail> {
+    for (at, (first, piece, count, last, wanted)) in rows.iter().enumerate() {
+        if !is_said(alloc, first, piece, *count, last, wanted)? {
+            return Err(Fail::new(format_args!("row {at}")));
+        }
+    }
+    Ok(())
+}
+
+/// Wholes round the limits.
+static LIMITED: [Said; 22] = [
     (b"a ", b"n", 64, b" b", "5"),
     (b"a ", b"n", 65, b" b", "name bytes"),
     (b"  a\n ", b"n", 65, b"", "name bytes"),
@@ -226,55 +260,41 @@ static LIMITED: [(&[u8], &[u8], u32, &[u8], &str); 22] = [
 
 #[test]
 fn limits_hold_up_to_their_numbers(rt: HostRuntime) -> Result<(), Fail> {
-    let alloc = rt.alloc();
-    for (first, piece, count, last, wanted) in &LIMITED {
-        let bytes = built(alloc, first, piece, *count, last)?;
-        let found = said(alloc, bytes.as_slice())?;
-        assert_eq!(rt; found.as_str(), *wanted);
-    }
-    Ok(())
+    all_are_said(rt.alloc(), &LIMITED)
 }
+
+/// The same round the limit on tokens.
+static MANY: [Said; 6] = [
+    (b"a", b" b", 262_141, b"\n #", "BadCharacter 7:2:2"),
+    (b"a", b" b", 262_142, b"\n \xff", "tokens"),
+    (b" a", b" b", 262_140, b"\n#", "BadCharacter 7:2:1"),
+    (b" a", b" b", 262_141, b"\n\xff", "tokens"),
+    (b"a", b" b", 262_142, b"\n#", "BadCharacter 7:2:1"),
+    (b"a", b" b", 262_143, b"\n#", "tokens"),
+];
 
 /// At an In or an Out a limit comes before a refusal at its place; a line's end stands before the next line.
 #[test]
 fn the_limit_on_tokens_comes_where_it_is_passed(rt: HostRuntime) -> Result<(), Fail> {
-    let alloc = rt.alloc();
-    let cases: [(&[u8], &[u8], u32, &[u8], &str); 6] = [
-        (b"a", b" b", 262_141, b"\n #", "BadCharacter 7:2:2"),
-        (b"a", b" b", 262_142, b"\n \xff", "tokens"),
-        (b" a", b" b", 262_140, b"\n#", "BadCharacter 7:2:1"),
-        (b" a", b" b", 262_141, b"\n\xff", "tokens"),
-        (b"a", b" b", 262_142, b"\n#", "BadCharacter 7:2:1"),
-        (b"a", b" b", 262_143, b"\n#", "tokens"),
-    ];
-    for (first, piece, count, last, wanted) in cases {
-        let bytes = built(alloc, first, piece, count, last)?;
-        let found = said(alloc, bytes.as_slice())?;
-        assert_eq!(rt; found.as_str(), wanted);
-    }
-    Ok(())
+    all_are_said(rt.alloc(), &MANY)
 }
+
+/// The same with a last word that is refused.
+static LAST: [Said; 3] = [
+    (
+        b"",
+        b"b\n",
+        131_072,
+        b"99999999999999999999",
+        "NumberTooLarge 7:131073:1",
+    ),
+    (b"", b"b\n", 131_072, b"\"\\q\"", "BadEscape 7:131073:3"),
+    (b"", b"b\n", 131_072, b"\"q", "OpenText 7:131073:3"),
+];
 
 #[test]
 fn a_word_that_is_refused_is_no_token(rt: HostRuntime) -> Result<(), Fail> {
-    let alloc = rt.alloc();
-    let cases: [(&[u8], &[u8], u32, &[u8], &str); 3] = [
-        (
-            b"",
-            b"b\n",
-            131_072,
-            b"99999999999999999999",
-            "NumberTooLarge 7:131073:1",
-        ),
-        (b"", b"b\n", 131_072, b"\"\\q\"", "BadEscape 7:131073:3"),
-        (b"", b"b\n", 131_072, b"\"q", "OpenText 7:131073:3"),
-    ];
-    for (first, piece, count, last, wanted) in cases {
-        let bytes = built(alloc, first, piece, count, last)?;
-        let found = said(alloc, bytes.as_slice())?;
-        assert_eq!(rt; found.as_str(), wanted);
-    }
-    Ok(())
+    all_are_said(rt.alloc(), &LAST)
 }
 
 #[test]
@@ -285,11 +305,8 @@ fn each_mark_is_counted(rt: HostRuntime) -> Result<(), Fail> {
         b"&& ", b"|| ", b"! ", b". ", b"( ", b"if ",
     ];
     for mark in marks {
-        for (count, wanted) in [(128, "130"), (129, "marks")] {
-            let bytes = built(alloc, b"", mark, count, b"")?;
-            let found = said(alloc, bytes.as_slice())?;
-            assert_eq!(rt; found.as_str(), wanted);
-        }
+        assert!(rt; is_said(alloc, b"", mark, 128, b"", "130")?);
+        assert!(rt; is_said(alloc, b"", mark, 129, b"", "marks")?);
     }
     Ok(())
 }
@@ -312,30 +329,44 @@ fn stairs(
     Ok(bytes)
 }
 
+/// Widths from one to another, that of the last line and its end, each with what is said of the whole.
+static STAIRS: [(u32, u32, u32, &[u8], &str); 8] = [
+    (0, 65, 0, b"", "259"),
+    (1, 65, 0, b"a\n", "259"),
+    (0, 66, 0, b"", "indents"),
+    (1, 66, 0, b"#", "indents"),
+    (0, 65, 64, b"#", "BadCharacter 7:66:65"),
+    (0, 65, 65, b"#", "indents"),
+    (0, 65, 64, b"\xff", "NotUtf8 7:66:65"),
+    (0, 65, 65, b"\xff", "indents"),
+];
+
 #[test]
 fn indents_hold_up_to_their_number(rt: HostRuntime) -> Result<(), Fail> {
     let alloc = rt.alloc();
-    let cases: [(u32, u32, u32, &[u8], &str); 8] = [
-        (0, 65, 0, b"", "259"),
-        (1, 65, 0, b"a\n", "259"),
-        (0, 66, 0, b"", "indents"),
-        (1, 66, 0, b"#", "indents"),
-        (0, 65, 64, b"#", "BadCharacter 7:66:65"),
-        (0, 65, 65, b"#", "indents"),
-        (0, 65, 64, b"\xff", "NotUtf8 7:66:65"),
-        (0, 65, 65, b"\xff", "indents"),
-    ];
-    for (from, to, last_width, last, wanted) in cases {
-        let bytes = stairs(alloc, from, to, last_width, last)?;
+    for (from, to, last_width, last, wanted) in &STAIRS {
+        let bytes = stairs(alloc, *from, *to, *last_width, last)?;
         let found = said(alloc, bytes.as_slice())?;
-        assert_eq!(rt; found.as_str(), wanted);
+        assert_eq!(rt; found.as_str(), *wanted);
     }
-    // Where an In passes both limits, that on tokens comes, which stands before that on indents.
+    Ok(())
+}
+
+/// Stairs to the limit on indents, a last line of so many words, and one that is wider and bad.
+fn past_both(alloc: Global, words: u32) -> Result<Vec<u8>, Fail> {
+    let line = built(alloc, b"", b"b ", words, b"\n")?;
+    let mut bytes = stairs(alloc, 0, 65, 64, line.as_slice())?;
+    let last = built(alloc, b"", b" ", 65, b"\xff")?;
+    bytes.extend_from_slice(last.as_slice())?;
+    Ok(bytes)
+}
+
+/// Where an In passes both limits, that on tokens comes, which stands before that on indents.
+#[test]
+fn the_limit_on_tokens_comes_before_that_on_indents(rt: HostRuntime) -> Result<(), Fail> {
+    let alloc = rt.alloc();
     for (words, wanted) in [(261_948, "indents"), (261_949, "tokens")] {
-        let line = built(alloc, b"", b"b ", words, b"\n")?;
-        let mut bytes = stairs(alloc, 0, 65, 64, line.as_slice())?;
-        let last = built(alloc, b"", b" ", 65, b"\xff")?;
-        bytes.extend_from_slice(last.as_slice())?;
+        let bytes = past_both(alloc, words)?;
         let found = said(alloc, bytes.as_slice())?;
         assert_eq!(rt; found.as_str(), wanted);
     }
@@ -424,28 +455,30 @@ fn lex_ok(alloc: Global, bytes: &[u8]) -> Result<Vec<Token>, Fail> {
     Ok(lex(alloc, 7, bytes)?)
 }
 
+/// Words, each with the bytes of its name or text.
+static NAMED: [(&[u8], &[u8]); 7] = [
+    (b"text_sizes", b"text_sizes"),
+    (b"_", b"_"),
+    (b"ab\xc3\xa9c_9", b"ab\xc3\xa9c_9"),
+    (b"\"\"", b""),
+    (
+        b"\"0123456789012345678901234567890123456789012345678901234567890123456789\"",
+        b"0123456789012345678901234567890123456789012345678901234567890123456789",
+    ),
+    (
+        b"\"01234567890123456789012345678901234567890123456789012345678912\\\"0123456789012345678901234567890123456789012345678901234567890123456789\"",
+        b"01234567890123456789012345678901234567890123456789012345678912\"0123456789012345678901234567890123456789012345678901234567890123456789",
+    ),
+    (
+        b"\"\t\xc3\xa9//\\n\\t\\\\\\\"\\x0a\\xFf\"",
+        b"\t\xc3\xa9//\n\t\\\"\n\xff",
+    ),
+];
+
 #[test]
 fn names_and_texts_have_their_bytes(rt: HostRuntime) -> Result<(), Fail> {
     let alloc = rt.alloc();
-    let cases: [(&[u8], &[u8]); 7] = [
-        (b"text_sizes", b"text_sizes"),
-        (b"_", b"_"),
-        (b"ab\xc3\xa9c_9", b"ab\xc3\xa9c_9"),
-        (b"\"\"", b""),
-        (
-            b"\"0123456789012345678901234567890123456789012345678901234567890123456789\"",
-            b"0123456789012345678901234567890123456789012345678901234567890123456789",
-        ),
-        (
-            b"\"01234567890123456789012345678901234567890123456789012345678912\\\"0123456789012345678901234567890123456789012345678901234567890123456789\"",
-            b"01234567890123456789012345678901234567890123456789012345678912\"0123456789012345678901234567890123456789012345678901234567890123456789",
-        ),
-        (
-            b"\"\t\xc3\xa9//\\n\\t\\\\\\\"\\x0a\\xFf\"",
-            b"\t\xc3\xa9//\n\t\\\"\n\xff",
-        ),
-    ];
-    for (word, wanted) in cases {
+    for (word, wanted) in &NAMED {
         let tokens = lex_ok(alloc, word)?;
         assert_eq!(rt; tokens.len(), 3);
         let found = match &tokens[0].kind {
@@ -453,7 +486,7 @@ fn names_and_texts_have_their_bytes(rt: HostRuntime) -> Result<(), Fail> {
             TokenKind::Text(text) => text.as_bytes(),
             _ => b"?".as_slice(),
         };
-        assert_eq!(rt; found, wanted);
+        assert_eq!(rt; found, *wanted);
     }
     Ok(())
 }

@@ -47,85 +47,93 @@ fn the_empty_file_has_no_item(rt: HostRuntime) -> Result<(), Fail> {
     Ok(())
 }
 
+/// Whether a file is a type with the method `m` alone.
+fn has_method(tree: &Tree) -> bool {
+    let [Item::Type(decl)] = tree.items.as_slice() else {
+        return false;
+    };
+    match decl.members.as_slice() {
+        [Member::Method(signature)] => signature.name.text.as_bytes() == b"m".as_slice(),
+        _ => false,
+    }
+}
+
 #[test]
 fn a_type_has_its_method(rt: HostRuntime) -> Result<(), Fail> {
-    let alloc = rt.alloc();
-    let Ok(tree) = parsed(alloc, "type T\n  def m(): {} Unit\n")? else {
-        panic!(rt; "refused");
-    };
-    let [Item::Type(decl)] = tree.items.as_slice() else {
-        panic!(rt; "no type");
-    };
-    let [Member::Method(signature)] = decl.members.as_slice() else {
-        panic!(rt; "no method");
-    };
-    assert_eq!(rt; signature.name.text.as_bytes(), b"m".as_slice());
+    match parsed(rt.alloc(), "type T\n  def m(): {} Unit\n")? {
+        Ok(tree) => assert!(rt; has_method(&tree)),
+        Err(_) => panic!(rt; "refused"),
+    }
     Ok(())
+}
+
+/// Whether it is the end of a line, at the place.
+fn is_line_end(refusal: &ParseRefusal, at: (u32, u32)) -> bool {
+    match refusal {
+        ParseRefusal::Unexpected {
+            place,
+            token: TokenKind::Nl,
+        } => (place.line, place.column) == at,
+        _ => false,
+    }
 }
 
 #[test]
 fn the_first_token_that_fits_nothing_is_named(rt: HostRuntime) -> Result<(), Fail> {
-    let alloc = rt.alloc();
-    match parsed(alloc, "type\ntype")? {
-        Err(
-            ParseRefusal::Unexpected {
-                place,
-                token: TokenKind::Nl,
-            },
-        ) => {
-            assert_eq!(rt; place.line, 1);
-            assert_eq!(rt; place.column, 5);
-        }
-        _ => panic!(rt; "another answer"),
+    match parsed(rt.alloc(), "type\ntype")? {
+        Err(refusal) => assert!(rt; is_line_end(&refusal, (1, 5))),
+        Ok(_) => panic!(rt; "accepted"),
     }
     Ok(())
 }
 
+/// Files, each with its canonical form.
+static BOUNDED: [(&str, &str); 3] = [
+    (
+        "type T\n  effect A\n  effect E <= {A}\n",
+        "type T\n  effect A\n  effect E <= {A}\n",
+    ),
+    ("type T\n  effect E <= {}\n", "type T\n  effect E <= {}\n"),
+    (
+        "type T // t\n effect A\n effect B={A}\n effect E<={ A,B }\n effect F <=   {E} // f",
+        "type T\n  effect A\n  effect B = {A}\n  effect E <= {A, B}\n  effect F <= {E}\n",
+    ),
+];
+
 #[test]
 fn a_member_with_an_upper_bound_is_printed_and_read_back(rt: HostRuntime) -> Result<(), Fail> {
     let alloc = rt.alloc();
-    let cases = [
-        (
-            "type T\n  effect A\n  effect E <= {A}\n",
-            "type T\n  effect A\n  effect E <= {A}\n",
-        ),
-        ("type T\n  effect E <= {}\n", "type T\n  effect E <= {}\n"),
-        (
-            "type T // t\n effect A\n effect B={A}\n effect E<={ A,B }\n effect F <=   {E} // f",
-            "type T\n  effect A\n  effect B = {A}\n  effect E <= {A, B}\n  effect F <= {E}\n",
-        ),
-    ];
-    for (text, wanted) in cases {
-        let form = printed(alloc, text)?;
-        assert_eq!(rt; form.as_str(), wanted);
-        let again = printed(alloc, form.as_str())?;
-        assert_eq!(rt; again.as_str(), wanted);
+    for (text, wanted) in &BOUNDED {
+        assert_eq!(rt; printed(alloc, text)?.as_str(), *wanted);
+        assert_eq!(rt; printed(alloc, wanted)?.as_str(), *wanted);
     }
     Ok(())
 }
+
+/// Files with a token that fits nothing, each with its place.
+static UNEXPECTED: [(&str, &str); 12] = [
+    ("type T\n  effect E <=\n", "Unexpected 2:14"),
+    ("type T\n  effect E <=", "Unexpected 2:14"),
+    ("type T\n  effect E <= A\n", "Unexpected 2:15"),
+    ("type T\n  effect E <= {A\n", "Unexpected 2:17"),
+    ("type T\n  effect E <= {A} {A}\n", "Unexpected 2:19"),
+    ("type T\n  effect E <= = {A}\n", "Unexpected 2:15"),
+    ("type T\n  effect E < {A}\n", "Unexpected 2:12"),
+    ("type T\n  effect E < = {A}\n", "Unexpected 2:12"),
+    ("type T\n  effect E =< {A}\n", "Unexpected 2:13"),
+    ("type T\n  effect E >= {A}\n", "Unexpected 2:12"),
+    ("type T\n  effect <= {A}\n", "Unexpected 2:10"),
+    ("module m: T\n  effect E <= {A}\n", "Unexpected 2:12"),
+];
 
 #[test]
 fn an_upper_bound_is_a_set_behind_its_sign_and_stands_in_a_type(
     rt: HostRuntime,
 ) -> Result<(), Fail> {
     let alloc = rt.alloc();
-    let cases = [
-        ("type T\n  effect E <=\n", "Unexpected 2:14"),
-        ("type T\n  effect E <=", "Unexpected 2:14"),
-        ("type T\n  effect E <= A\n", "Unexpected 2:15"),
-        ("type T\n  effect E <= {A\n", "Unexpected 2:17"),
-        ("type T\n  effect E <= {A} {A}\n", "Unexpected 2:19"),
-        ("type T\n  effect E <= = {A}\n", "Unexpected 2:15"),
-        ("type T\n  effect E < {A}\n", "Unexpected 2:12"),
-        ("type T\n  effect E < = {A}\n", "Unexpected 2:12"),
-        ("type T\n  effect E =< {A}\n", "Unexpected 2:13"),
-        ("type T\n  effect E >= {A}\n", "Unexpected 2:12"),
-        ("type T\n  effect <= {A}\n", "Unexpected 2:10"),
-        ("module m: T\n  effect E <= {A}\n", "Unexpected 2:12"),
-    ];
-    for (text, wanted) in cases {
+    for (text, wanted) in &UNEXPECTED {
         let found = printed(alloc, text)?;
-        assert_eq!(rt; found.as_str(), wanted);
+        assert_eq!(rt; found.as_str(), *wanted);
     }
     Ok(())
 }

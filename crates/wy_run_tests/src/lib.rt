@@ -3,6 +3,10 @@
 #![tactic(auto)]
 
 #[cfg(test)]
+mod asking;
+#[cfg(test)]
+mod authorities;
+#[cfg(test)]
 mod devices;
 #[cfg(test)]
 mod event_lines;

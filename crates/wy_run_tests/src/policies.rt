@@ -1,14 +1,10 @@
+use crate::authorities::{Instance, authority};
 use std::alloc::Global;
 use std::test::Fail;
-use wy_authority::{Authority, BodyRow, InstanceRow};
-use wy_effects::atom::Atom;
-use wy_effects::set::EffSet;
 use wy_policy::{
     Entry, Judgement, Member, Pattern, Policy, PolicyRefusal, PolicyRow, judge, read_policy,
 };
-use wy_text::fault::AtomName;
-use wy_text::list::Items;
-use wy_text::text::{Memory, from_bytes};
+use wy_text::text::Memory;
 
 /// Adds an entry, as `[grant]member` or `[grant]`.
 fn push_entry(out: &mut String, alloc: Global, entry: &Entry) -> Result<(), Fail> {
@@ -39,22 +35,26 @@ fn push_row(out: &mut String, alloc: Global, row: &PolicyRow) -> Result<(), Fail
     Ok(())
 }
 
-/// What is read: a policy's rows, or why there is none.
-fn shown(alloc: Global, bytes: &[u8]) -> Result<String, Fail> {
-    let policy = match read_policy(alloc, bytes) {
-        Ok(policy) => policy,
-        Err(PolicyRefusal::Limit(name)) => {
-            let name = name.name();
-            return Ok(format!(in alloc; "limit {name}")?);
-        }
-        Err(PolicyRefusal::BadPolicy(line)) => return Ok(format!(in alloc; "bad {line}")?),
-        Err(PolicyRefusal::Memory) => return Ok(format!(in alloc; "memory")?),
-    };
+/// A policy's rows.
+fn rows_shown(alloc: Global, policy: &Policy) -> Result<String, Fail> {
     let mut out = String::new(alloc);
     for row in policy.rows.as_slice() {
         push_row(&mut out, alloc, row)?;
     }
     Ok(out)
+}
+
+/// What is read: a policy's rows, or why there is none.
+fn shown(alloc: Global, bytes: &[u8]) -> Result<String, Fail> {
+    match read_policy(alloc, bytes) {
+        Ok(policy) => rows_shown(alloc, &policy),
+        Err(PolicyRefusal::Limit(name)) => {
+            let name = name.name();
+            Ok(format!(in alloc; "limit {name}")?)
+        }
+        Err(PolicyRefusal::BadPolicy(line)) => Ok(format!(in alloc; "bad {line}")?),
+        Err(PolicyRefusal::Memory) => Ok(format!(in alloc; "memory")?),
+    }
 }
 
 /// Texts of policies, each with what is read.
@@ -122,74 +122,39 @@ fn built(
     Ok(bytes)
 }
 
+/// First pieces, others so many times and last ones, each with what is read of the whole.
+static LIMITED: [(&[u8], &[u8], u32, &[u8], &str); 5] = [
+    (b"x\n", b"a: -\n", 4_096, b"", "bad 1"),
+    (b"x\n", b"a: -\n", 4_096, b"//: -", "bad 1"),
+    (b"x\n", b"a: -\n", 4_096, b"a: -", "limit policy rows"),
+    (b"//", b"..", 524_287, b"", ""),
+    (b"//", b"..", 524_287, b"x", "limit file bytes"),
+];
+
 #[test]
 fn limits_come_before_bad_lines(rt: HostRuntime) -> Result<(), Fail> {
     let alloc = rt.alloc();
-    let cases: [(&[u8], &[u8], u32, &[u8], &str); 5] = [
-        (b"x\n", b"a: -\n", 4_096, b"", "bad 1"),
-        (b"x\n", b"a: -\n", 4_096, b"//: -", "bad 1"),
-        (b"x\n", b"a: -\n", 4_096, b"a: -", "limit policy rows"),
-        (b"//", b"..", 524_287, b"", ""),
-        (b"//", b"..", 524_287, b"x", "limit file bytes"),
-    ];
-    for (first, piece, count, last, wanted) in cases {
-        let bytes = built(alloc, first, piece, count, last)?;
+    for (first, piece, count, last, wanted) in &LIMITED {
+        let bytes = built(alloc, first, piece, *count, last)?;
         let found = shown(alloc, bytes.as_slice())?;
-        assert_eq!(rt; found.as_str(), wanted);
+        assert_eq!(rt; found.as_str(), *wanted);
     }
     Ok(())
 }
 
-fn atom(alloc: Global, owner: &[u8], member: &[u8]) -> Result<AtomName, Memory> {
-    Ok(AtomName {
-        owner: from_bytes(alloc, owner)?,
-        member: from_bytes(alloc, member)?,
-    })
-}
-
-/// An instance with an `init` that does nothing and a method that may do what has these numbers.
-fn instance(alloc: Global, name: &[u8], numbers: &[u16]) -> Result<InstanceRow, Memory> {
-    let mut set = EffSet::empty(alloc);
-    for number in numbers {
-        if *number < 512 {
-            set.insert(Atom(*number))?;
-        }
-    }
-    let mut bodies = Items::new(alloc);
-    bodies.push(BodyRow {
-        name: from_bytes(alloc, b"init")?,
-        set: EffSet::empty(alloc),
-    })?;
-    bodies.push(BodyRow {
-        name: from_bytes(alloc, b"put")?,
-        set,
-    })?;
-    Ok(InstanceRow {
-        name: from_bytes(alloc, name)?,
-        bodies,
-    })
-}
+static ATOMS: [(&str, &str); 3] = [("console", "Out"), ("data", "Read"), ("logs", "Append")];
 
 /// A pure instance, a logger, a reporter and the program, over a console and two folders.
-fn reporting(alloc: Global) -> Result<Authority, Memory> {
-    let mut atoms = Items::new(alloc);
-    atoms.push(atom(alloc, b"console", b"Out")?)?;
-    atoms.push(atom(alloc, b"data", b"Read")?)?;
-    atoms.push(atom(alloc, b"logs", b"Append")?)?;
-    let mut rows = Items::new(alloc);
-    rows.push(instance(alloc, b"pure clean", &[])?)?;
-    rows.push(instance(alloc, b"lg", &[2])?)?;
-    rows.push(instance(alloc, b"rep", &[0, 1, 2])?)?;
-    rows.push(instance(alloc, b"main", &[0, 1, 2])?)?;
-    Ok(Authority { atoms, rows })
-}
+static REPORTING: [Instance; 4] = [
+    ("pure clean", &[("init", &[]), ("put", &[])]),
+    ("lg", &[("init", &[]), ("put", &[2])]),
+    ("rep", &[("init", &[]), ("put", &[0, 1, 2])]),
+    ("main", &[("init", &[]), ("put", &[0, 1, 2])]),
+];
 
-/// What a policy says of that authority: nothing, or the line, the instance and the atom of a denial.
-fn said(alloc: Global, bytes: &[u8]) -> Result<String, Fail> {
-    let Ok(policy) = read_policy(alloc, bytes) else {
-        return Ok(format!(in alloc; "no policy")?);
-    };
-    match judge(alloc, &policy, &reporting(alloc)?)? {
+/// A judgement: nothing, or the line, the instance and the atom of a denial.
+fn told(alloc: Global, judgement: &Judgement) -> Result<String, Fail> {
+    match judgement {
         Judgement::Allowed => Ok(format!(in alloc; "allowed")?),
         Judgement::Denied {
             line,
@@ -204,38 +169,54 @@ fn said(alloc: Global, bytes: &[u8]) -> Result<String, Fail> {
     }
 }
 
+/// The judgement of a policy on that authority.
+fn judged(alloc: Global, policy: &Policy) -> Result<Judgement, Memory> {
+    let authority = authority(alloc, &ATOMS, &REPORTING)?;
+    judge(alloc, policy, &authority)
+}
+
+/// What a text says of that authority.
+fn said(alloc: Global, bytes: &[u8]) -> Result<String, Fail> {
+    let Ok(policy) = read_policy(alloc, bytes) else {
+        return Ok(format!(in alloc; "no policy")?);
+    };
+    told(alloc, &judged(alloc, &policy)?)
+}
+
+/// Policies, each with what it says of that authority.
+static SAID: [(&[u8], &str); 12] = [
+    (
+        b"pure *: -\nlg: logs.Append\nrep: data.*, console.Out, logs.Append\nmain: data.*, console.Out, logs.Append",
+        "allowed",
+    ),
+    (
+        b"pure *: -\nlg: logs.Append\nrep: data.*, logs.Append\nmain: data.*, console.Out, logs.Append",
+        "3 rep console.Out",
+    ),
+    (b"", "0 lg logs.Append"),
+    (b"lg: -", "1 lg logs.Append"),
+    (b"*: console.*, data.*, logs.*, clock.Now", "allowed"),
+    (b"l*: logs.Append\nlg: -\n*: -", "3 rep console.Out"),
+    (b"lg*: logs.Append\nrep: console.*", "2 rep data.Read"),
+    (b"lgs*: logs.Append", "0 lg logs.Append"),
+    (b"lg: logs.append, log.Append", "1 lg logs.Append"),
+    (
+        b"lg: logs.*\nrep: logs.*, data.*, console.*",
+        "0 main console.Out",
+    ),
+    (b"re*: console.*\n*: logs.*", "1 rep data.Read"),
+    (
+        b"*: logs.Append\nrep: console.*, data.*, logs.*",
+        "1 rep console.Out",
+    ),
+];
+
 #[test]
 fn each_instance_goes_by_its_first_row(rt: HostRuntime) -> Result<(), Fail> {
     let alloc = rt.alloc();
-    let cases: [(&[u8], &str); 12] = [
-        (
-            b"pure *: -\nlg: logs.Append\nrep: data.*, console.Out, logs.Append\nmain: data.*, console.Out, logs.Append",
-            "allowed",
-        ),
-        (
-            b"pure *: -\nlg: logs.Append\nrep: data.*, logs.Append\nmain: data.*, console.Out, logs.Append",
-            "3 rep console.Out",
-        ),
-        (b"", "0 lg logs.Append"),
-        (b"lg: -", "1 lg logs.Append"),
-        (b"*: console.*, data.*, logs.*, clock.Now", "allowed"),
-        (b"l*: logs.Append\nlg: -\n*: -", "3 rep console.Out"),
-        (b"lg*: logs.Append\nrep: console.*", "2 rep data.Read"),
-        (b"lgs*: logs.Append", "0 lg logs.Append"),
-        (b"lg: logs.append, log.Append", "1 lg logs.Append"),
-        (
-            b"lg: logs.*\nrep: logs.*, data.*, console.*",
-            "0 main console.Out",
-        ),
-        (b"re*: console.*\n*: logs.*", "1 rep data.Read"),
-        (
-            b"*: logs.Append\nrep: console.*, data.*, logs.*",
-            "1 rep console.Out",
-        ),
-    ];
-    for (bytes, wanted) in cases {
+    for (bytes, wanted) in &SAID {
         let found = said(alloc, bytes)?;
-        assert_eq!(rt; found.as_str(), wanted);
+        assert_eq!(rt; found.as_str(), *wanted);
     }
     Ok(())
 }

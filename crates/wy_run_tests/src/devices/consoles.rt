@@ -1,45 +1,35 @@
-use super::bytes_of;
+use super::{are_told, failing_at};
+use crate::asking::{gives, read, write};
 use std::alloc::Global;
 use std::test::Fail;
-use wy_device::device::{Device, DeviceError};
+use wy_device::device::Device;
 use wy_device::mem_console::{LONGEST_LINE, MemConsole};
-use wy_device::operation::{Answer, Op};
-use wy_text::list::Items;
 use wy_text::text::{Memory, Text, from_bytes, from_vec};
 
-fn long_line(alloc: Global) -> Result<Text, Memory> {
-    let mut bytes = Vec::new(alloc);
-    for _ in 0..LONGEST_LINE {
-        bytes.push(b'x')?;
-    }
-    bytes.extend_from_slice(b"y\nz")?;
-    Ok(from_vec(bytes))
+/// So many bytes, and two lines behind them.
+fn long_line(alloc: Global, size: usize) -> Result<Text, Memory> {
+    from_vec(vec![in alloc; b'x'; size]?).joined(&from_bytes(alloc, b"y\nz")?)
+}
+
+/// A console with a line that is too long for one piece, which fails at the second call.
+fn console(alloc: Global) -> Result<MemConsole, Memory> {
+    let input = long_line(alloc, LONGEST_LINE)?;
+    MemConsole::new(alloc, input, failing_at(alloc, 2)?)
+}
+
+/// Whether it gives its lines in pieces, and then takes a text.
+fn is_read(alloc: Global, console: &mut MemConsole) -> Result<bool, Memory> {
+    Ok(
+        read(alloc, console)?.as_bytes().len() == LONGEST_LINE
+            && gives(alloc, console, &[b"failed", b"y\n", b"z", b"", b""])?
+            && write(alloc, console, b"w")?.as_bytes() == b"done".as_slice()
+            && are_told(console.deeds(), 7, 1),
+    )
 }
 
 #[test]
 fn a_console_gives_lines_in_pieces(rt: HostRuntime) -> Result<(), Fail> {
-    let alloc = rt.alloc();
-    let grant = from_bytes(alloc, b"c")?;
-    let mut fails = Items::new(alloc);
-    fails.push(2)?;
-    let mut console = MemConsole::new(alloc, long_line(alloc)?, fails)?;
-    assert_eq!(rt;
-        bytes_of(&console.perform(&grant, &Op::ConsoleRead)?).len(),
-        LONGEST_LINE
-    );
-    assert!(rt;
-        matches!(
-            console.perform(&grant, &Op::ConsoleRead),
-            Err(DeviceError::Failed)
-        )
-    );
-    for line in [b"y\n".as_slice(), b"z", b"", b""] {
-        assert_eq!(rt; bytes_of(&console.perform(&grant, &Op::ConsoleRead)?), line);
-    }
-    let write = Op::ConsoleWrite(from_bytes(alloc, b"w")?);
-    assert!(rt; matches!(console.perform(&grant, &write), Ok(Answer::Unit)));
-    let deeds = console.deeds().ok_or("told")?;
-    assert_eq!(rt; deeds.len(), 7);
-    assert!(rt; deeds.get(1).ok_or("a deed")?.answer.is_none());
+    let mut console = console(rt.alloc())?;
+    assert!(rt; is_read(rt.alloc(), &mut console)?);
     Ok(())
 }
