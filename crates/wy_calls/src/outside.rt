@@ -2,7 +2,7 @@ ghost use Rattle.std.specs.Prelude.{Some};
 ghost use Rattle.wy_text.specs.Outside.{SinkState};
 
 use crate::devices::{BLANK, Part, Row, all_come_so};
-use crate::support::{Ended, ended};
+use crate::support::{Ended, end_of};
 use std::alloc::Global;
 use std::test::Fail;
 use wy_text::list::Items;
@@ -80,7 +80,7 @@ pub fn cut_at(
     let mut out = Trickle::new(alloc, room);
     let mut report = MemSink::new(alloc, Items::new(alloc))?;
     let fails = Items::new(alloc);
-    let ended = ended(alloc, words, files, &mut out, &mut report, fails)?;
+    let ended = end_of(alloc, words, files, &mut out, &mut report, fails)?;
     Ok(Cut {
         ended,
         taken: out.taken,
@@ -128,7 +128,7 @@ fn is_cut(alloc: Global, room: usize, number: u8, deeds: usize) -> Result<bool, 
     let mut report = Trickle::new(alloc, room);
     let files = [("b.wy", FOUR_WRITES.as_bytes())];
     let fails = Items::new(alloc);
-    let ended = ended(
+    let ended = end_of(
         alloc,
         &["run", "b.wy"],
         &files,

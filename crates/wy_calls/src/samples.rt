@@ -1,6 +1,6 @@
 use crate::devices::all_come_so;
 use crate::samples_table::SAMPLES;
-use crate::support::{ended, failing_at, outcome_of};
+use crate::support::{end_of, failing_at, outcome_of};
 use std::test::Fail;
 use wy_text::list::Items;
 use wy_text::mem_sink::MemSink;
@@ -29,7 +29,7 @@ fn the_greatest_sample_is_run_though_its_summary_is_not_written(
     let mut out = MemSink::new(alloc, failing_at(alloc, 1)?)?;
     let mut report = MemSink::new(alloc, Items::new(alloc))?;
     let fails = Items::new(alloc);
-    let ended = ended(alloc, &["sample", "200"], &[], &mut out, &mut report, fails)?;
+    let ended = end_of(alloc, &["sample", "200"], &[], &mut out, &mut report, fails)?;
     assert!(rt; ended.number == 10 && ended.deeds == 2 && out.bytes().is_empty());
     Ok(())
 }

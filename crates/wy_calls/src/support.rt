@@ -113,7 +113,7 @@ pub struct Ended {
 
 /// Calls with these words and files over these sinks, a console in memory that fails at the listed calls, and other
 /// devices that are shut.
-pub fn ended<O: Sink, E: Sink>(
+pub fn end_of<O: Sink, E: Sink>(
     alloc: Global,
     words: &[&str],
     files: &[(&str, &[u8])],
@@ -152,7 +152,7 @@ pub fn outcome_of(alloc: Global, words: &[&str], files: &[(&str, &[u8])]) -> Res
     let mut out = MemSink::new(alloc, Items::new(alloc))?;
     let mut report = MemSink::new(alloc, Items::new(alloc))?;
     let fails = Items::new(alloc);
-    let Ended { number, deeds } = ended(alloc, words, files, &mut out, &mut report, fails)?;
+    let Ended { number, deeds } = end_of(alloc, words, files, &mut out, &mut report, fails)?;
     Ok(Outcome {
         number,
         deeds,
