@@ -11,7 +11,7 @@ pub struct Grant {
 }
 
 /// What an instance is handed: the grant or the instance of a number.
-#[derive(Clone, Copy, PartialEq, Eq)]
+#[derive(Clone, Copy)]
 pub enum Argument {
     Grant(u16),
     Instance(u16),
@@ -32,7 +32,7 @@ pub struct Body {
 }
 
 /// Where `New` finds a value that an object captures.
-#[derive(Clone, Copy, PartialEq, Eq)]
+#[derive(Clone, Copy)]
 pub enum Source {
     /// In a slot.
     Slot(u32),
@@ -41,7 +41,7 @@ pub enum Source {
 }
 
 /// A method of a kind of objects: its number among the method names, and its body's number.
-#[derive(Clone, Copy, PartialEq, Eq)]
+#[derive(Clone, Copy)]
 pub struct Method {
     pub method: u32,
     pub body: u32,

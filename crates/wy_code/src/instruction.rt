@@ -1,7 +1,7 @@
 use wy_text::fault::Place;
 
 /// What an instruction pushes as it stands (docs/LANGUAGE.md, "Code").
-#[derive(Clone, Copy, PartialEq, Eq)]
+#[derive(Clone, Copy)]
 pub enum Constant {
     Int(i64),
     Truth(bool),
@@ -15,7 +15,7 @@ pub enum Constant {
 }
 
 /// The operators of values that are there, as `Op` has them.
-#[derive(Clone, Copy, PartialEq, Eq)]
+#[derive(Clone, Copy)]
 pub enum Operator {
     Negate,
     Not,
@@ -40,7 +40,7 @@ pub enum Operator {
 
 /// One instruction (docs/LANGUAGE.md, "Code"). Slots and values of an object count from 0, addresses
 /// from the body's first instruction.
-#[derive(Clone, Copy, PartialEq, Eq)]
+#[derive(Clone, Copy)]
 pub enum Instruction {
     Push(Constant),
     /// Pushes a slot.
@@ -66,7 +66,7 @@ pub enum Instruction {
 }
 
 /// An instruction with the place that its trap names.
-#[derive(Clone, Copy, PartialEq, Eq)]
+#[derive(Clone, Copy)]
 pub struct Placed {
     pub instruction: Instruction,
     pub place: Place,
