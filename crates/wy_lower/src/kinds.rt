@@ -15,7 +15,7 @@ use wy_code::code::{Literal, Method, Source};
 use wy_text::list::Items;
 use wy_text::text::Memory;
 use wy_types::code::Variable;
-use wy_types::resolved::Scope;
+use wy_types::resolved::{self, Scope};
 
 /// No methods for each of so many kinds.
 fn no_methods(alloc: Global, kinds: usize) -> Result<Vec<Items<Method>>, Memory>
@@ -110,6 +110,36 @@ fn captures_code(
     }
 }
 
+/// The kind of objects of the literal of a number, with these methods.
+fn literal_code(
+    alloc: Global,
+    whole: &Whole,
+    scope: &Scope,
+    tables: &Tables,
+    number: usize,
+    literal: &resolved::Literal,
+    methods: &Items<Method>,
+) -> Result<Literal, Memory>
+    requires whole { IsWhole whole.now }
+    requires tables { IsTabled (scope_of scope.now) tables.now }
+    requires there { number < length scope.now.literals }
+    ensures { IfOk result (λ l. l ≡ record {
+      captures = captures_code (whole_program whole.now) (whole_starts whole.now) (scope_of scope.now) number literal.now.captures;
+      fields = length literal.now.fields;
+      methods = methods.now;
+    }) }
+{
+    let fields = word(literal.fields.len())?;
+    let captures = literal.captures.as_slice();
+    let captures = captures_code(alloc, whole, scope, tables, number, captures)?;
+    let methods = copied(alloc, methods)?;
+    Ok(Literal {
+        captures,
+        fields,
+        methods,
+    })
+}
+
 /// The kinds of objects of a scope whose `init` or `run` has this number among all bodies.
 pub(crate) fn literals_code(
     alloc: Global,
@@ -126,15 +156,8 @@ pub(crate) fn literals_code(
     let mut all = Items::new(alloc);
     let literals = scope.literals.as_slice();
     for k in 0..literals.len() {
-        let literal = &literals[k];
-        let captures = captures_code(alloc, whole, scope, tables, k, literal.captures.as_slice())?;
-        let fields = word(literal.fields.len())?;
-        let own = copied(alloc, &methods[k])?;
-        all.push(Literal {
-            captures,
-            fields,
-            methods: own,
-        })?;
+        let code = literal_code(alloc, whole, scope, tables, k, &literals[k], &methods[k])?;
+        all.push(code)?;
     }
     Ok(all)
 }

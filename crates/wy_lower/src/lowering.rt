@@ -1,10 +1,12 @@
 //! Lowering a program with its instances in start order (docs/LANGUAGE.md, "Code of programs").
 
-ghost use Rattle.std.specs.Prelude.{◌≡◌, ◌++◌, ◌∷◌, [], None, length, map, slice_get, IfOk, IfErr, OnOk};
+ghost use Rattle.std.specs.Prelude.{◌≡◌, ◌++◌, ◌∷◌, [], None, false, length, map, nat_lt, slice_get, IfOk, IfErr, OnOk};
+ghost use Rattle.wy_text.specs.LimitName.{limit_number};
+ghost use Rattle.wy_text.specs.declared.limit.LimitName.TheVariants.{Bodies};
 ghost use Rattle.wy_types.specs.Program.{program_of, scope_of};
 ghost use Rattle.wy_meaning.specs.Starts.{starts_of, started_of, scope_names, last_scope, main_actuals};
 ghost use Rattle.wy_lower.specs.Lowering.{start_code, bodies_code, scope_arguments, literals_code, grants_code, scopes_bodies, scopes_code, lowered};
-ghost use Rattle.wy_lower.specs.Counts.{lowering_limit};
+ghost use Rattle.wy_lower.specs.Counts.{body_count, lowering_limit};
 ghost use Rattle.wy_lower.specs.EmitScopes.{IsTabled};
 ghost use Rattle.wy_lower.specs.EmitBodies.{IsWhole, whole_program, whole_starts};
 ghost use Rattle.wy_lower.specs.EmitLowered.{IsLowerRefusal, scope_code};
@@ -188,6 +190,30 @@ fn code_of(
     })
 }
 
+/// The code of a program that has few enough bodies, unless one of them has too many slots.
+fn code_within(
+    alloc: Global,
+    core: &Core,
+    linked: &Linked,
+    whole: &Whole,
+) -> Result<Code, LowerRefusal>
+    requires whole { IsWhole whole.now }
+    requires core { whole.now.core.now ≡ core.now }
+    requires linked { whole.now.linked.now ≡ linked.now }
+    requires few { nat_lt (limit_number Bodies) (body_count (program_of core.now).scopes) ≡ false }
+    ensures code { IfOk result (λ code. code ≡ lowered (program_of core.now) (starts_of (program_of core.now) (map started_of linked.now))) }
+    ensures within { IfOk result (λ _. lowering_limit (program_of core.now) (starts_of (program_of core.now) (map started_of linked.now)) ≡ None) }
+    ensures refused { IfErr result (IsLowerRefusal (program_of core.now) (starts_of (program_of core.now) (map started_of linked.now))) }
+{
+    let mut bodies = Items::new(alloc);
+    let mut scopes = Items::new(alloc);
+    add_scopes(alloc, whole, &mut bodies, &mut scopes)?;
+    if some_slots_above(LimitName::Slots.number(), bodies.as_slice()) {
+        return Err(LowerRefusal::Limit(LimitName::Slots));
+    }
+    Ok(code_of(alloc, core, linked, whole, bodies, scopes)?)
+}
+
 /// The code of a program whose instances start in this order. `Limit` comes exactly where it passes a limit, that on bodies
 /// before that on slots; else the one refusal is want of memory (docs/LANGUAGE.md, "Code of programs" and "Limits").
 pub fn lower(alloc: Global, core: &Core, linked: &Linked) -> Result<Code, LowerRefusal>
@@ -200,12 +226,5 @@ pub fn lower(alloc: Global, core: &Core, linked: &Linked) -> Result<Code, LowerR
         return Err(LowerRefusal::Limit(LimitName::Bodies));
     }
     let whole = whole_of(alloc, core, linked)?;
-    let mut bodies = Items::new(alloc);
-    let mut scopes = Items::new(alloc);
-    add_scopes(alloc, &whole, &mut bodies, &mut scopes)?;
-    if some_slots_above(LimitName::Slots.number(), bodies.as_slice()) {
-        return Err(LowerRefusal::Limit(LimitName::Slots));
-    }
-    let code = code_of(alloc, core, linked, &whole, bodies, scopes)?;
-    Ok(code)
+    code_within(alloc, core, linked, &whole)
 }

@@ -2,15 +2,18 @@
 
 ghost use Rattle.std.specs.Prelude.{◌≡◌, ◌<◌, [], ℕ, None, Some, length, map, get_or, nat_eq, if◌then◌else◌, IfOk, OnOk};
 ghost use Rattle.wy_types.specs.declared.resolved.Literal.{Literal};
-ghost use Rattle.wy_types.specs.Program.{body_of, scope_of};
-ghost use Rattle.wy_lower.specs.Parts.{each_once_after, texts_in, calls_in, bodies_parts, scope_parts, scopes_parts};
+ghost use Rattle.wy_types.specs.Core.{block_vals, start_vals};
+ghost use Rattle.wy_types.specs.Program.{body_of, scope_of, start_of};
+ghost use Rattle.wy_types.specs.View.{block_of};
+ghost use Rattle.wy_lower.specs.Parts.{each_once_after, texts_in, calls_in, block_parts, bodies_parts, start_parts, scope_parts, scopes_parts};
+ghost use Rattle.wy_lower.specs.EmitGathers.{makes_in};
 ghost use Rattle.wy_lower.specs.EmitScopes.{or_first, maker_noted, maker_of, bodies_vals, IsTabled, AreTabled};
 
 use crate::gathering::{Found, Names, gather_block, gather_start};
 use crate::indexes::{Captures, Vals};
 use std::alloc::Global;
 use wy_text::text::Memory;
-use wy_types::resolved::{Body, Literal, Scope};
+use wy_types::resolved::{Body, Literal, Scope, Start};
 
 /// What is known of a scope: the `val`s of its `init` or `run` and of each method, what each literal captures, and for each
 /// literal the number of the first method that makes it.
@@ -80,6 +83,39 @@ fn captures_of(alloc: Global, literals: &[Literal]) -> Result<Vec<Captures>, Mem
     Ok(captures)
 }
 
+/// The `val`s of an `init` or `run`. The texts that it writes out and the names of the methods that it calls are put into their
+/// tables.
+fn start_vals(alloc: Global, names: &mut Names, start: &Start) -> Result<Vals, Memory>
+    ensures texts { OnOk result (names.new.texts.keys ≡ each_once_after names.old.texts.keys (texts_in (start_parts (start_of start.now)))) }
+    ensures methods { OnOk result (names.new.methods.keys ≡ each_once_after names.old.methods.keys (calls_in (start_parts (start_of start.now)))) }
+    ensures vals { IfOk result (λ v. v ≡ start_vals (start_of start.now)) }
+{
+    let mut found = nothing_found(alloc);
+    gather_start(names, &mut found, start)?;
+    Vals::new(alloc, found.vals)
+}
+
+/// The `val`s of the method of a number, which is noted as the maker of literals. The texts that it writes out and the names of
+/// the methods that it calls are put into their tables.
+fn body_vals(
+    alloc: Global,
+    names: &mut Names,
+    makers: &mut Vec<Option<usize>>,
+    body: &Body,
+    number: usize,
+) -> Result<Vals, Memory>
+    ensures texts { OnOk result (names.new.texts.keys ≡ each_once_after names.old.texts.keys (texts_in (block_parts (block_of body.now.block)))) }
+    ensures methods { OnOk result (names.new.methods.keys ≡ each_once_after names.old.methods.keys (calls_in (block_parts (block_of body.now.block)))) }
+    ensures vals { IfOk result (λ v. v ≡ block_vals (block_of body.now.block)) }
+    ensures long { length makers.new.items ≡ length makers.old.items }
+    ensures makers { OnOk result ((l : ℕ) → l < length makers.old.items → get_or makers.new.items l None ≡ maker_noted number (makes_in (block_parts (block_of body.now.block))) l (get_or makers.old.items l None)) }
+{
+    let mut found = nothing_found(alloc);
+    gather_block(names, &mut found, &body.block)?;
+    note_makers(makers, &found.makes, number);
+    Vals::new(alloc, found.vals)
+}
+
 /// The `val`s of each method. The literals that they make have these makers, and the texts that they write out and the names
 /// of the methods that they call are put into their tables.
 fn bodies_of(
@@ -96,11 +132,7 @@ fn bodies_of(
 {
     let mut all = Vec::new(alloc);
     for k in 0..bodies.len() {
-        let mut found = nothing_found(alloc);
-        gather_block(names, &mut found, &bodies[k].block)?;
-        let Found { makes, vals } = found;
-        note_makers(makers, &makes, k);
-        all.push(Vals::new(alloc, vals)?)?;
+        all.push(body_vals(alloc, names, makers, &bodies[k], k)?)?;
     }
     Ok(all)
 }
@@ -112,12 +144,9 @@ fn tables_of(alloc: Global, names: &mut Names, scope: &Scope) -> Result<Tables, 
     ensures methods { OnOk result (names.new.methods.keys ≡ each_once_after names.old.methods.keys (calls_in (scope_parts (scope_of scope.now)))) }
     ensures tables { IfOk result (λ t. IsTabled (scope_of scope.now) t) }
 {
-    let mut found = nothing_found(alloc);
-    gather_start(names, &mut found, &scope.start)?;
-    let Found { makes: _, vals } = found;
-    let start = Vals::new(alloc, vals)?;
     let captures = captures_of(alloc, scope.literals.as_slice())?;
     let mut makers = no_makers(alloc, scope.literals.len())?;
+    let start = start_vals(alloc, names, &scope.start)?;
     let bodies = bodies_of(alloc, names, &mut makers, scope.bodies.as_slice())?;
     let nothing = Captures::new(alloc, &[])?;
     Ok(Tables {

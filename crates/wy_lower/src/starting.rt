@@ -86,6 +86,23 @@ fn main_actual(
     }
 }
 
+/// What the own names of the program stand for, whose instances have these numbers.
+fn actuals_with(
+    alloc: Global,
+    instances: &Linked,
+    numbers: &IndexMap<Text, usize>,
+    names: &[OwnName],
+) -> Result<Vec<Actual>, Memory>
+    requires { (x : List ℕ) → get bytes_eq numbers.now x ≡ position_from (λ (s : linked.Instance). bytes_eq s.name x) 0 instances.now }
+    ensures { IfOk result (λ a. a.items ≡ main_actuals (map started_of instances.now) 0 names.now) }
+{
+    let mut actuals = Vec::new(alloc);
+    for k in 0..names.len() {
+        actuals.push(main_actual(alloc, instances, numbers, k, &names[k])?)?;
+    }
+    Ok(actuals)
+}
+
 /// What the own names of the program stand for.
 pub(crate) fn main_actuals(
     alloc: Global,
@@ -95,11 +112,7 @@ pub(crate) fn main_actuals(
     ensures { IfOk result (λ a. a.items ≡ main_actuals (map started_of instances.now) 0 names.now) }
 {
     let numbers = instance_numbers(alloc, instances)?;
-    let mut actuals = Vec::new(alloc);
-    for k in 0..names.len() {
-        actuals.push(main_actual(alloc, instances, &numbers, k, &names[k])?)?;
-    }
-    Ok(actuals)
+    actuals_with(alloc, instances, &numbers, names)
 }
 
 // ----------------------------------------------------------------------------
