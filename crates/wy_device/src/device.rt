@@ -46,7 +46,7 @@ pub trait Device: Drop {
 
     /// Does an operation of the device's kind for a grant. An answer and `Failed` each add one deed, and
     /// `Failed` comes only where a fault was counted. After `Memory` the device was not acted on.
-    /// The answer is of the operation's kind: bytes for `read` and `names` (at most 1,048,576, of a
+    /// The answer is of the operation's kind: bytes for `read` and `names` (at most 4,194,304, of a
     /// console's `read` at most 65,536), a truth value for `has`, a number for `now` and `word`.
     fn perform(&mut self, grant: &Text, op: &Op) -> Result<Answer, DeviceError>
         requires { kind_of op.now ≡ (state self.old).kind }
