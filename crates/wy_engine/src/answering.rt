@@ -1,9 +1,11 @@
 ghost use Rattle.std.specs.Prelude.{◌≡◌, ◌≤◌, length, map, string_bytes, true, IsFalse, IsTrue};
 ghost use Rattle.wy_device.specs.Devices.{IsInOrder};
 ghost use Rattle.wy_machine.specs.Devices.{states};
-ghost use Rattle.wy_settings.specs.Settings.{takes};
+ghost use Rattle.wy_syntax.specs.Views.{file_tree};
+ghost use Rattle.wy_settings.specs.Settings.{takes, texts_among};
 ghost use Rattle.wy_engine.specs.Answering.{Answered};
 ghost use Rattle.wy_engine.specs.Certificates.{HasLargeCertificate, HasNoLargeCertificate};
+ghost use Rattle.wy_engine.specs.FileTrees.{HaveTrees};
 ghost use Rattle.wy_engine.specs.Judgement.{HasFirst, IsNumbered, RunsPrograms, running};
 
 use crate::certifying::{certify_trees, recheck_trees};
@@ -17,6 +19,7 @@ use std::alloc::Global;
 use wy_device::device::Device;
 use wy_machine::devices::Devices;
 use wy_settings::{Command, CommandLine, sample_number, texts_among};
+use wy_syntax::items::Tree;
 use wy_text::limit::LimitName;
 use wy_text::sink::Sink;
 use wy_text::text::Text;
@@ -51,6 +54,44 @@ fn has_large_certificate(command: Command, files: &[Text]) -> bool
     }
 }
 
+/// Does with the trees of texts what a command asks: checks their program, reports what it may do, runs it, judges it by a policy or
+/// rechecks it by a certificate, which is the first text, writes a certificate of it, or writes the canonical form of the one tree.
+fn answer_trees<O: Sink, E: Sink, D: Device>(
+    alloc: Global,
+    asked: CommandLine<'_>,
+    texts: &[Text],
+    trees: &[Tree],
+    out: &mut O,
+    report: &mut E,
+    devices: &mut Devices<D>,
+) -> Status
+    requires fits { takes asked.command (map string_bytes asked.files.now) ≡ true }
+    requires one { asked.command ≡ Command.Format → length texts.now ≡ 1 }
+    requires some { HasFirst asked.command → 1 ≤ length texts.now }
+    requires none { HasNoLargeCertificate asked.command texts.now }
+    requires trees { HaveTrees 1 (texts_among asked.command texts.now) (map file_tree trees.now) }
+    requires in_order { IsInOrder (states D.state devices.old) }
+    ensures { Answered (record { command = asked.entry.command; steps = asked.entry.steps; depth = asked.entry.depth; files = map string_bytes asked.entry.files.now }) texts.now (O.state out.old) (O.state out.new) (E.state report.old) (E.state report.new) (states D.state devices.old) (states D.state devices.new) result }
+{
+    let manner = Manner {
+        way: way_of(asked.command, asked.files),
+        steps: asked.steps,
+        depth: asked.depth,
+    };
+    match asked.command {
+        Command::Check => check_trees(alloc, trees, out),
+        Command::Authority => report_trees(alloc, trees, out),
+        Command::Run => run_trees(alloc, trees, manner, out, report, devices),
+        Command::Trace => run_trees(alloc, trees, manner, out, report, devices),
+        Command::Observe => run_trees(alloc, trees, manner, out, report, devices),
+        Command::Sample => run_trees(alloc, trees, manner, out, report, devices),
+        Command::Format => write_form(alloc, &trees[0], out),
+        Command::Policy => permit_trees(alloc, trees, texts[0].as_bytes(), out),
+        Command::Certify => certify_trees(alloc, trees, out),
+        Command::Recheck => recheck_trees(alloc, trees, texts[0].as_bytes(), out),
+    }
+}
+
 /// Does with texts what a command asks: parses them, and then checks their program, reports what it may do, runs it,
 /// judges it by a policy or rechecks it by a certificate, which is the first text, writes a certificate of it, or writes the canonical
 /// form of the one text.
@@ -72,25 +113,8 @@ pub fn answer<O: Sink, E: Sink, D: Device>(
     if has_large_certificate(asked.command, texts) {
         return Status::Limit(LimitName::CertificateBytes);
     }
-    let trees = match parse_all(alloc, texts_among(asked.command, texts)) {
-        Ok(trees) => trees,
-        Err(end) => return end,
-    };
-    let manner = Manner {
-        way: way_of(asked.command, asked.files),
-        steps: asked.steps,
-        depth: asked.depth,
-    };
-    match asked.command {
-        Command::Check => check_trees(alloc, trees.as_slice(), out),
-        Command::Authority => report_trees(alloc, trees.as_slice(), out),
-        Command::Run => run_trees(alloc, trees.as_slice(), manner, out, report, devices),
-        Command::Trace => run_trees(alloc, trees.as_slice(), manner, out, report, devices),
-        Command::Observe => run_trees(alloc, trees.as_slice(), manner, out, report, devices),
-        Command::Sample => run_trees(alloc, trees.as_slice(), manner, out, report, devices),
-        Command::Format => write_form(alloc, &trees[0], out),
-        Command::Policy => permit_trees(alloc, trees.as_slice(), texts[0].as_bytes(), out),
-        Command::Certify => certify_trees(alloc, trees.as_slice(), out),
-        Command::Recheck => recheck_trees(alloc, trees.as_slice(), texts[0].as_bytes(), out),
+    match parse_all(alloc, texts_among(asked.command, texts)) {
+        Ok(trees) => answer_trees(alloc, asked, texts, trees.as_slice(), out, report, devices),
+        Err(end) => end,
     }
 }

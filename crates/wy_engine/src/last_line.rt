@@ -25,6 +25,9 @@ pub struct LineWords<'a> {
     pub depth: u32,
 }
 
+/// What is said of a faulty command line.
+const USAGE: &[u8] = b"usage: wyvern COMMAND [--steps N] [--depth N] FILE...\n";
+
 /// The file word of a number, which counts from 1; the empty text where there is none.
 fn word_of(names: &[String], file: u16) -> &str
     ensures { result.now ≡ file_word (map string_bytes names.now) file }
@@ -35,12 +38,27 @@ fn word_of(names: &[String], file: u16) -> &str
     }
 }
 
-fn push_number(alloc: Global, line: &mut Vec<u8>, number: u32) -> Result<(), Memory>
+/// Adds a text as it stands.
+fn push_text(line: &mut Vec<u8>, text: &[u8]) -> Result<(), Memory>
+    ensures { OnOk result (line.new.items ≡ line.old.items ++ text.now) }
+{
+    Ok(line.extend_from_slice(text)?)
+}
+
+fn push_number(alloc: Global, line: &mut Vec<u8>, number: u64) -> Result<(), Memory>
     ensures { OnOk result (line.new.items ≡ line.old.items ++ decimal number) }
 {
     let digits = format!(in alloc; "{number}")?;
-    line.extend_from_slice(digits.as_bytes())?;
-    Ok(())
+    push_text(line, digits.as_bytes())
+}
+
+/// Adds a number that ends the line, as a bound of a run, behind what it is called.
+fn push_bound(alloc: Global, line: &mut Vec<u8>, called: &[u8], number: u64) -> Result<(), Memory>
+    ensures { OnOk result (line.new.items ≡ line.old.items ++ (called.now ++ (decimal number ++ codes "\n"))) }
+{
+    push_text(line, called)?;
+    push_number(alloc, line, number)?;
+    push_text(line, b"\n")
 }
 
 fn push_place(
@@ -51,39 +69,38 @@ fn push_place(
 ) -> Result<(), Memory>
     ensures { OnOk result (line.new.items ≡ line.old.items ++ place_text (map string_bytes names.now) place) }
 {
-    line.extend_from_slice(word_of(names, place.file).as_bytes())?;
-    line.extend_from_slice(b":")?;
-    push_number(alloc, line, place.line)?;
-    line.extend_from_slice(b":")?;
-    push_number(alloc, line, place.column)
+    push_text(line, word_of(names, place.file).as_bytes())?;
+    push_text(line, b":")?;
+    push_number(alloc, line, u64::from(place.line))?;
+    push_text(line, b":")?;
+    push_number(alloc, line, u64::from(place.column))
 }
 
 /// Adds the name of an atom.
 fn push_atom(line: &mut Vec<u8>, atom: &AtomName) -> Result<(), Memory>
     ensures { OnOk result (line.new.items ≡ line.old.items ++ atom_text atom.now) }
 {
-    line.extend_from_slice(atom.owner.as_bytes())?;
-    line.extend_from_slice(b".")?;
-    line.extend_from_slice(atom.member.as_bytes())?;
-    Ok(())
+    push_text(line, atom.owner.as_bytes())?;
+    push_text(line, b".")?;
+    push_text(line, atom.member.as_bytes())
 }
 
 fn push_lack(line: &mut Vec<u8>, atom: &Option<AtomName>) -> Result<(), Memory>
     ensures { OnOk result (line.new.items ≡ line.old.items ++ lacks_text atom.now) }
 {
-    if let Some(atom) = atom {
-        line.extend_from_slice(b" lacks ")?;
-        push_atom(line, atom)?;
-    }
-    Ok(())
+    let Some(atom) = atom else {
+        return Ok(());
+    };
+    push_text(line, b" lacks ")?;
+    push_atom(line, atom)
 }
 
 fn push_fault(alloc: Global, line: &mut Vec<u8>, fault: &Fault) -> Result<(), Memory>
     ensures { OnOk result (line.new.items ≡ line.old.items ++ fault_text fault.now) }
 {
-    line.extend_from_slice(fault.rule.text().as_bytes())?;
-    line.extend_from_slice(b" premise ")?;
-    push_number(alloc, line, u32::from(fault.premise))?;
+    push_text(line, fault.rule.text().as_bytes())?;
+    push_text(line, b" premise ")?;
+    push_number(alloc, line, u64::from(fault.premise))?;
     push_lack(line, &fault.atom)
 }
 
@@ -106,13 +123,9 @@ fn syntax_word(kind: SyntaxKind) -> &'static str
 fn push_limit(alloc: Global, line: &mut Vec<u8>, name: LimitName) -> Result<(), Memory>
     ensures { OnOk result (line.new.items ≡ line.old.items ++ limit_line name) }
 {
-    line.extend_from_slice(b"limit: ")?;
-    line.extend_from_slice(name.name().as_bytes())?;
-    line.extend_from_slice(b" ")?;
-    let digits = format!(in alloc; "{}", name.number())?;
-    line.extend_from_slice(digits.as_bytes())?;
-    line.extend_from_slice(b"\n")?;
-    Ok(())
+    push_text(line, b"limit: ")?;
+    push_text(line, name.name().as_bytes())?;
+    push_bound(alloc, line, b" ", name.number())
 }
 
 /// The word for why a run trapped.
@@ -129,24 +142,21 @@ fn trap_word(kind: TrapKind) -> &'static str
     }
 }
 
-/// Adds a number that ends the line, as a bound of a run, behind what it is called.
-fn push_bound(alloc: Global, line: &mut Vec<u8>, called: &[u8], number: u64) -> Result<(), Memory>
-    ensures { OnOk result (line.new.items ≡ line.old.items ++ (called.now ++ (decimal number ++ codes "\n"))) }
-{
-    line.extend_from_slice(called)?;
-    let digits = format!(in alloc; "{number}")?;
-    line.extend_from_slice(digits.as_bytes())?;
-    line.extend_from_slice(b"\n")?;
-    Ok(())
-}
-
 /// Adds a line of the policy, which is the first file.
 fn push_row(alloc: Global, line: &mut Vec<u8>, names: &[String], row: u32) -> Result<(), Memory>
     ensures { OnOk result (line.new.items ≡ line.old.items ++ row_text (map string_bytes names.now) row) }
 {
-    line.extend_from_slice(word_of(names, 1).as_bytes())?;
-    line.extend_from_slice(b":")?;
-    push_number(alloc, line, row)
+    push_text(line, word_of(names, 1).as_bytes())?;
+    push_text(line, b":")?;
+    push_number(alloc, line, u64::from(row))
+}
+
+/// Adds the line of the policy that is none.
+fn push_bad_row(alloc: Global, line: &mut Vec<u8>, names: &[String], row: u32) -> Result<(), Memory>
+    ensures { OnOk result (line.new.items ≡ line.old.items ++ (row_text (map string_bytes names.now) row ++ codes ": bad policy\n")) }
+{
+    push_row(alloc, line, names, row)?;
+    push_text(line, b": bad policy\n")
 }
 
 /// Adds what a row of a policy denies: an instance, and what it may not do.
@@ -161,12 +171,11 @@ fn push_denial(
     ensures { OnOk result (line.new.items ≡ line.old.items ++ denial_line (map string_bytes names.now) row instance.now atom.now) }
 {
     push_row(alloc, line, names, row)?;
-    line.extend_from_slice(b": denied: ")?;
-    line.extend_from_slice(instance.as_bytes())?;
-    line.extend_from_slice(b" ")?;
+    push_text(line, b": denied: ")?;
+    push_text(line, instance.as_bytes())?;
+    push_text(line, b" ")?;
     push_atom(line, atom)?;
-    line.extend_from_slice(b"\n")?;
-    Ok(())
+    push_text(line, b"\n")
 }
 
 /// The word for a test of a certificate.
@@ -192,7 +201,7 @@ fn push_bad_certificate(
 ) -> Result<(), Memory>
     ensures { OnOk result (line.new.items ≡ line.old.items ++ (file_word (map string_bytes names.now) 1 ++ (codes ": bad certificate at " ++ (decimal at ++ codes "\n")))) }
 {
-    line.extend_from_slice(word_of(names, 1).as_bytes())?;
+    push_text(line, word_of(names, 1).as_bytes())?;
     push_bound(alloc, line, b": bad certificate at ", at)
 }
 
@@ -200,9 +209,9 @@ fn push_bad_certificate(
 fn push_scope(alloc: Global, line: &mut Vec<u8>, names: &[String], scope: u32) -> Result<(), Memory>
     ensures { OnOk result (line.new.items ≡ line.old.items ++ scope_text (map string_bytes names.now) scope) }
 {
-    line.extend_from_slice(word_of(names, 1).as_bytes())?;
-    line.extend_from_slice(b": unproved ")?;
-    push_number(alloc, line, scope)
+    push_text(line, word_of(names, 1).as_bytes())?;
+    push_text(line, b": unproved ")?;
+    push_number(alloc, line, u64::from(scope))
 }
 
 /// Adds what the certificate does not prove: a scope, a test, and the number at which it fails.
@@ -217,8 +226,8 @@ fn push_unproved(
     ensures { OnOk result (line.new.items ≡ line.old.items ++ unproved_line (map string_bytes names.now) scope test index) }
 {
     push_scope(alloc, line, names, scope)?;
-    line.extend_from_slice(b" ")?;
-    line.extend_from_slice(test_word(test).as_bytes())?;
+    push_text(line, b" ")?;
+    push_text(line, test_word(test).as_bytes())?;
     push_bound(alloc, line, b" ", index)
 }
 
@@ -226,11 +235,10 @@ fn push_unproved(
 fn push_failed(line: &mut Vec<u8>, grant: &Text, op: OpName) -> Result<(), Memory>
     ensures { OnOk result (line.new.items ≡ line.old.items ++ (grant.now ++ (codes "." ++ (method_text op ++ codes ": failed\n")))) }
 {
-    line.extend_from_slice(grant.as_bytes())?;
-    line.extend_from_slice(b".")?;
-    line.extend_from_slice(op.method().as_bytes())?;
-    line.extend_from_slice(b": failed\n")?;
-    Ok(())
+    push_text(line, grant.as_bytes())?;
+    push_text(line, b".")?;
+    push_text(line, op.method().as_bytes())?;
+    push_text(line, b": failed\n")
 }
 
 /// Adds a place, what came there, and the word for it.
@@ -245,10 +253,32 @@ fn push_at(
     ensures { OnOk result (line.new.items ≡ line.old.items ++ (place_text (map string_bytes names.now) place ++ (what.now ++ (word.now ++ codes "\n")))) }
 {
     push_place(alloc, line, names, place)?;
-    line.extend_from_slice(what)?;
-    line.extend_from_slice(word.as_bytes())?;
-    line.extend_from_slice(b"\n")?;
-    Ok(())
+    push_text(line, what)?;
+    push_text(line, word.as_bytes())?;
+    push_text(line, b"\n")
+}
+
+/// Adds that a program is refused, and for which fault.
+fn push_refused(
+    alloc: Global,
+    line: &mut Vec<u8>,
+    names: &[String],
+    fault: &Fault,
+) -> Result<(), Memory>
+    ensures { OnOk result (line.new.items ≡ line.old.items ++ (place_text (map string_bytes names.now) fault.now.place ++ (codes ": refused: " ++ (fault_text fault.now ++ codes "\n")))) }
+{
+    push_place(alloc, line, names, fault.place)?;
+    push_text(line, b": refused: ")?;
+    push_fault(alloc, line, fault)?;
+    push_text(line, b"\n")
+}
+
+/// Adds the file that was not read.
+fn push_unread(line: &mut Vec<u8>, names: &[String], file: u16) -> Result<(), Memory>
+    ensures { OnOk result (line.new.items ≡ line.old.items ++ (file_word (map string_bytes names.now) file ++ codes ": unread\n")) }
+{
+    push_text(line, word_of(names, file).as_bytes())?;
+    push_text(line, b": unread\n")
 }
 
 /// Adds the last line of a status to a line.
@@ -260,56 +290,41 @@ fn push_last_line(
 ) -> Result<(), Memory>
     ensures { OnOk result (line.new.items ≡ line.old.items ++ last_line (record { names = map string_bytes words.entry.names.now; texts = map string_bytes words.entry.texts.now; steps = words.entry.steps; depth = words.entry.depth }) status.now) }
 {
-    let texts = words.texts;
+    let LineWords {
+        names,
+        texts,
+        steps,
+        depth,
+    } = words;
     match status {
-        Status::Ended => {}
-        Status::Usage => {
-            line.extend_from_slice(b"usage: wyvern COMMAND [--steps N] [--depth N] FILE...\n")?
-        }
-        Status::Unread(file) => {
-            line.extend_from_slice(word_of(words.names, *file).as_bytes())?;
-            line.extend_from_slice(b": unread\n")?;
-        }
+        Status::Ended => Ok(()),
+        Status::Usage => push_text(line, USAGE),
+        Status::Unread(file) => push_unread(line, names, *file),
         Status::Syntax { place, kind } => {
-            push_at(
-                alloc,
-                line,
-                texts,
-                *place,
-                b": syntax: ",
-                syntax_word(*kind),
-            )?
+            let word = syntax_word(*kind);
+            push_at(alloc, line, texts, *place, b": syntax: ", word)
         }
-        Status::Refused(fault) => {
-            push_place(alloc, line, texts, fault.place)?;
-            line.extend_from_slice(b": refused: ")?;
-            push_fault(alloc, line, fault)?;
-            line.extend_from_slice(b"\n")?;
-        }
-        Status::Limit(name) => push_limit(alloc, line, *name)?,
+        Status::Refused(fault) => push_refused(alloc, line, texts, fault),
+        Status::Limit(name) => push_limit(alloc, line, *name),
         Status::Trap { kind, place } => {
-            push_at(alloc, line, texts, *place, b": trap: ", trap_word(*kind))?
+            push_at(alloc, line, texts, *place, b": trap: ", trap_word(*kind))
         }
-        Status::TooDeep => push_bound(alloc, line, b"too deep: ", u64::from(words.depth))?,
-        Status::Spent => push_bound(alloc, line, b"spent: ", words.steps)?,
-        Status::DeviceFailed { grant, op } => push_failed(line, grant, *op)?,
-        Status::Unwritten => line.extend_from_slice(b"unwritten\n")?,
-        Status::Memory => line.extend_from_slice(b"no memory\n")?,
-        Status::BadCert { at } => push_bad_certificate(alloc, line, words.names, *at)?,
+        Status::TooDeep => push_bound(alloc, line, b"too deep: ", u64::from(depth)),
+        Status::Spent => push_bound(alloc, line, b"spent: ", steps),
+        Status::DeviceFailed { grant, op } => push_failed(line, grant, *op),
+        Status::Unwritten => push_text(line, b"unwritten\n"),
+        Status::Memory => push_text(line, b"no memory\n"),
+        Status::BadCert { at } => push_bad_certificate(alloc, line, names, *at),
         Status::Unproved { scope, test, index } => {
-            push_unproved(alloc, line, words.names, *scope, *test, *index)?
+            push_unproved(alloc, line, names, *scope, *test, *index)
         }
         Status::Denied {
             line: row,
             instance,
             atom,
-        } => { push_denial(alloc, line, words.names, *row, instance, atom)? }
-        Status::BadPolicy { line: row } => {
-            push_row(alloc, line, words.names, *row)?;
-            line.extend_from_slice(b": bad policy\n")?;
-        }
+        } => push_denial(alloc, line, names, *row, instance, atom),
+        Status::BadPolicy { line: row } => push_bad_row(alloc, line, names, *row),
     }
-    Ok(())
 }
 
 /// The line that ends the report of a call with these words and this status (docs/LANGUAGE.md, "Statuses"); no byte where

@@ -1,11 +1,14 @@
 //! Running a program that is accepted: its code, its report and its run.
 
-ghost use Rattle.std.specs.Prelude.{◌≡◌, ◌≤◌, IfOk, length, map};
+ghost use Rattle.std.specs.Prelude.{◌≡◌, ◌≤◌, IfOk, None, length, map};
 ghost use Rattle.wy_code.specs.Running.{NeverStuck};
 ghost use Rattle.wy_device.specs.Devices.{IsInOrder};
 ghost use Rattle.wy_machine.specs.Devices.{states};
 ghost use Rattle.wy_machine.specs.Observing.{instance_names};
 ghost use Rattle.wy_link.specs.Checking.{IsCheckedProgram};
+ghost use Rattle.wy_lower.specs.Counts.{lowering_limit};
+ghost use Rattle.wy_lower.specs.Lowering.{lowered};
+ghost use Rattle.wy_sound.specs.Programs.{program_starts};
 ghost use Rattle.wy_effects.specs.Members.{Apart};
 ghost use Rattle.wy_policy.specs.Used.{used_sets, used_text};
 ghost use Rattle.wy_syntax.specs.Views.{file_tree};
@@ -22,6 +25,7 @@ use crate::status::Status;
 use crate::writing::write_out;
 use std::alloc::Global;
 use wy_authority::{Authority, write_report};
+use wy_code::code::Code;
 use wy_device::device::Device;
 use wy_lower::{LowerRefusal, lower};
 use wy_machine::devices::Devices;
@@ -166,6 +170,63 @@ fn summary_of(alloc: Global, authority: &Authority, way: Mode) -> Result<Text, M
     }
 }
 
+/// Prints the report of an accepted program row by row, and then runs its code, which was loaded.
+fn report_and_run<O: Sink, E: Sink, D: Device>(
+    alloc: Global,
+    accepted: &Accepted,
+    image: &mut Image<'_>,
+    manner: Manner,
+    out: &mut O,
+    report: &mut E,
+    devices: &mut Devices<D>,
+) -> Status
+    requires checked { IsCheckedProgram (program_of accepted.now.core) accepted.now.links }
+    requires in_order { IsInOrder (states D.state devices.old) }
+    requires meant { RunsAsMeant (program_of accepted.now.core) }
+    requires code { image.old.code ≡ lowered (program_of accepted.now.core) (program_starts (program_of accepted.now.core)) }
+    requires deep { image.old.depth ≡ manner.depth }
+    requires within { lowering_limit (program_of accepted.now.core) (program_starts (program_of accepted.now.core)) ≡ None }
+    ensures { RunsAccepted manner.way (program_of accepted.now.core) manner.depth manner.steps (O.state out.old) (O.state out.new) (E.state report.old) (E.state report.new) (states D.state devices.old) (states D.state devices.new) result }
+{
+    let Ok(authority) = authority_of(alloc, accepted) else {
+        return Status::Memory;
+    };
+    let Ok(summary) = summary_of(alloc, &authority, manner.way) else {
+        return Status::Memory;
+    };
+    match write_report(alloc, &authority, report) {
+        Ok(()) => {
+            let text = summary.as_bytes();
+            run_image(alloc, image, manner, text, &authority, out, devices)
+        }
+        Err(WriteError::Failed) => Status::Unwritten,
+        Err(WriteError::Memory) => Status::Memory,
+    }
+}
+
+/// Loads the code of an accepted program, prints its report and runs it.
+fn run_code<O: Sink, E: Sink, D: Device>(
+    alloc: Global,
+    accepted: &Accepted,
+    code: &Code,
+    manner: Manner,
+    out: &mut O,
+    report: &mut E,
+    devices: &mut Devices<D>,
+) -> Status
+    requires checked { IsCheckedProgram (program_of accepted.now.core) accepted.now.links }
+    requires in_order { IsInOrder (states D.state devices.old) }
+    requires meant { RunsAsMeant (program_of accepted.now.core) }
+    requires code { code.now ≡ lowered (program_of accepted.now.core) (program_starts (program_of accepted.now.core)) }
+    requires within { lowering_limit (program_of accepted.now.core) (program_starts (program_of accepted.now.core)) ≡ None }
+    ensures { RunsAccepted manner.way (program_of accepted.now.core) manner.depth manner.steps (O.state out.old) (O.state out.new) (E.state report.old) (E.state report.new) (states D.state devices.old) (states D.state devices.new) result }
+{
+    match load(alloc, code, manner.depth) {
+        Ok(mut image) => report_and_run(alloc, accepted, &mut image, manner, out, report, devices),
+        Err(_) => Status::Memory,
+    }
+}
+
 /// Lowers an accepted program, loads its code, prints its report row by row, and then runs the code.
 fn run_accepted<O: Sink, E: Sink, D: Device>(
     alloc: Global,
@@ -180,27 +241,10 @@ fn run_accepted<O: Sink, E: Sink, D: Device>(
     requires meant { RunsAsMeant (program_of accepted.now.core) }
     ensures { RunsAccepted manner.way (program_of accepted.now.core) manner.depth manner.steps (O.state out.old) (O.state out.new) (E.state report.old) (E.state report.new) (states D.state devices.old) (states D.state devices.new) result }
 {
-    let code = match lower(alloc, &accepted.core, &accepted.links.instances) {
-        Ok(code) => code,
-        Err(LowerRefusal::Limit(name)) => return Status::Limit(name),
-        Err(LowerRefusal::Memory) => return Status::Memory,
-    };
-    let Ok(mut image) = load(alloc, &code, manner.depth) else {
-        return Status::Memory;
-    };
-    let Ok(authority) = authority_of(alloc, accepted) else {
-        return Status::Memory;
-    };
-    let Ok(summary) = summary_of(alloc, &authority, manner.way) else {
-        return Status::Memory;
-    };
-    match write_report(alloc, &authority, report) {
-        Ok(()) => {
-            let text = summary.as_bytes();
-            run_image(alloc, &mut image, manner, text, &authority, out, devices)
-        }
-        Err(WriteError::Failed) => Status::Unwritten,
-        Err(WriteError::Memory) => Status::Memory,
+    match lower(alloc, &accepted.core, &accepted.links.instances) {
+        Ok(code) => run_code(alloc, accepted, &code, manner, out, report, devices),
+        Err(LowerRefusal::Limit(name)) => Status::Limit(name),
+        Err(LowerRefusal::Memory) => Status::Memory,
     }
 }
 

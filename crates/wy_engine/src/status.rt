@@ -7,7 +7,7 @@ use wy_text::text::Text;
 
 /// What is wrong in a file that has no tokens or no tree (docs/LANGUAGE.md, "What is refused in a file" and
 /// "Grammar").
-#[derive(Clone, Copy, Debug, PartialEq, Eq)]
+#[derive(Clone, Copy)]
 pub enum SyntaxKind {
     NotUtf8,
     TabIndent,
@@ -20,7 +20,7 @@ pub enum SyntaxKind {
 }
 
 /// How a call of the program ended (docs/LANGUAGE.md, "Statuses").
-#[derive(Debug, Drop, PartialEq, Eq)]
+#[derive(Drop)]
 pub enum Status {
     /// The command was done, and the program that was run came to its end.
     Ended,

@@ -1,4 +1,4 @@
-ghost use Rattle.std.specs.Prelude.{◌≡◌, List, None, Some, ℕ, map, false, string_bytes, true};
+ghost use Rattle.std.specs.Prelude.{◌≡◌, List, None, OnErr, OnOk, Some, ℕ, map, false, string_bytes, true};
 ghost use Rattle.wy_device.specs.Devices.{IsInOrder};
 ghost use Rattle.wy_machine.specs.Devices.{states};
 ghost use Rattle.wy_settings.specs.Settings.{settings_of, takes};
@@ -26,6 +26,7 @@ use wy_settings::{
 use wy_text::limit::LimitName;
 use wy_text::shelf::Shelf;
 use wy_text::sink::{Sink, WriteError};
+use wy_text::text::Memory;
 use wy_text::writing::write_all;
 use wy_well_formed::resolved_is_core;
 
@@ -113,17 +114,30 @@ fn settle<S: Shelf, O: Sink, E: Sink, D: Device>(
     }
 }
 
+/// Writes the last line of a status that is settled; one that its sink refuses is lost.
+fn write_last_line<E: Sink>(
+    alloc: Global,
+    words: LineWords<'_>,
+    report: &mut E,
+    settled: &Status,
+) -> Result<(), Memory>
+    ensures told { OnOk result (Closes (record { names = map string_bytes words.entry.names.now; texts = map string_bytes words.entry.texts.now; steps = words.entry.steps; depth = words.entry.depth }) settled.now settled.now (E.state report.old) (E.state report.new)) }
+    ensures starved { OnErr result (Closes (record { names = map string_bytes words.entry.names.now; texts = map string_bytes words.entry.texts.now; steps = words.entry.steps; depth = words.entry.depth }) settled.now Status.Memory (E.state report.old) (E.state report.new)) }
+{
+    let line = last_line_of(alloc, words, settled)?;
+    match write_all(report, line.as_slice()) {
+        Err(WriteError::Memory) => Err(Memory),
+        Ok(()) | Err(WriteError::Failed) => Ok(()),
+    }
+}
+
 /// Writes the last line of a status that is settled, and gives the status of the whole call.
 fn close<E: Sink>(alloc: Global, words: LineWords<'_>, report: &mut E, settled: Status) -> Status
     ensures { Closes (record { names = map string_bytes words.entry.names.now; texts = map string_bytes words.entry.texts.now; steps = words.entry.steps; depth = words.entry.depth }) settled result (E.state report.old) (E.state report.new) }
 {
-    let Ok(line) = last_line_of(alloc, words, &settled) else {
-        return Status::Memory;
-    };
-    match write_all(report, line.as_slice()) {
-        Err(WriteError::Memory) => Status::Memory,
+    match write_last_line(alloc, words, report, &settled) {
         Ok(()) => settled,
-        Err(WriteError::Failed) => settled,
+        Err(_) => Status::Memory,
     }
 }
 
