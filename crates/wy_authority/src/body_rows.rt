@@ -2,7 +2,7 @@ ghost use Rattle.std.specs.Prelude.{◌≡◌, ◌++◌, ◌∷◌, [], map, IfO
 ghost use Rattle.wy_effects.specs.AtomTable.{atom_name};
 ghost use Rattle.wy_types.specs.Program.{program_of, scope_of, body_of};
 ghost use Rattle.wy_types.specs.Ground.{members_of, names_of, program_number, program_sets, start_list};
-ghost use Rattle.wy_authority.specs.Authority.{HasBody, authority_of, body_name, body_rows, body_set, bound_of, grant_atoms, granted, instance_row, main_row};
+ghost use Rattle.wy_authority.specs.Authority.{HasBody, authority_of, body_name, body_row, body_rows, body_set, bound_of, grant_atoms, granted, instance_row, main_row};
 
 use crate::rows::{Authority, BodyRow, InstanceRow};
 use std::alloc::Global;
@@ -21,10 +21,7 @@ fn body_name(alloc: Global, body: &Body) -> Result<Text, Memory>
     if body.owner == 0 {
         return body.signature.name.copy();
     }
-    let mut name = Vec::from_slice(alloc, b"new")?;
-    let number = format!(in alloc; "{}", body.owner)?;
-    name.extend_from_slice(number.as_bytes())?;
-    name.extend_from_slice(b".")?;
+    let mut name = format!(in alloc; "new{}.", body.owner)?.into_bytes();
     name.extend_from_slice(body.signature.name.as_bytes())?;
     Ok(from_vec(name))
 }
@@ -39,6 +36,20 @@ fn body_set(bound: &Option<EffSet>, sets: &[EffSet], effect: &EffSet) -> Result<
     }
 }
 
+/// Adds the row of a body of this name and effect.
+fn add_row(
+    rows: &mut Items<BodyRow>,
+    name: Text,
+    bound: &Option<EffSet>,
+    sets: &[EffSet],
+    effect: &EffSet,
+) -> Result<(), Memory>
+    ensures { OnOk result (rows.new ≡ rows.old ++ body_row name (body_set bound.now sets.now effect.now) ∷ []) }
+{
+    let set = body_set(bound, sets, effect)?;
+    rows.push(BodyRow { name, set })
+}
+
 /// The bodies of a scope: the one that it starts with, by the name that is given, and then its methods.
 fn body_rows(
     alloc: Global,
@@ -50,15 +61,11 @@ fn body_rows(
     ensures { IfOk result (λ rows. rows ≡ body_rows bound.now sets.now first.now (Some (scope_of scope.now))) }
 {
     let mut rows = Items::new(alloc);
-    rows.push(BodyRow {
-        name: from_bytes(alloc, first.as_bytes())?,
-        set: body_set(bound, sets, &scope.start_effect)?,
-    })?;
+    let start = from_bytes(alloc, first.as_bytes())?;
+    add_row(&mut rows, start, bound, sets, &scope.start_effect)?;
     for body in scope.bodies.as_slice() {
-        rows.push(BodyRow {
-            name: body_name(alloc, body)?,
-            set: body_set(bound, sets, &body.signature.effect)?,
-        })?;
+        let name = body_name(alloc, body)?;
+        add_row(&mut rows, name, bound, sets, &body.signature.effect)?;
     }
     Ok(rows)
 }
@@ -117,6 +124,21 @@ fn main_row(alloc: Global, core: &Core, sets: &[EffSet]) -> Result<InstanceRow, 
         name: from_bytes(alloc, b"main")?,
         bodies: rows_at(alloc, core, number, &None, sets, "run")?,
     })
+}
+
+/// The rows of the instances, and then that of the program.
+fn all_rows(
+    alloc: Global,
+    core: &Core,
+    instances: &[Instance],
+    sets: &[EffSet],
+) -> Result<Items<InstanceRow>, Memory>
+    requires { sets.now ≡ program_sets (program_of core.now) }
+    ensures { IfOk result (λ rows. rows ≡ map (instance_row (program_of core.now)) instances.now ++ main_row (program_of core.now) ∷ []) }
+{
+    let mut rows = instance_rows(alloc, core, instances)?;
+    rows.push(main_row(alloc, core, sets)?)?;
+    Ok(rows)
 }
 
 /// The abstract members that a declared type has.
@@ -192,8 +214,7 @@ pub fn authority(
     ensures { IfOk result (λ a. a ≡ authority_of (program_of core.now)) }
 {
     let atoms = grant_atoms(alloc, core, program_names(core))?;
-    let mut rows = instance_rows(alloc, core, instances)?;
-    rows.push(main_row(alloc, core, sets)?)?;
+    let rows = all_rows(alloc, core, instances, sets)?;
     Ok(Authority { atoms, rows })
 }
 

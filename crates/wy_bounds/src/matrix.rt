@@ -1,6 +1,6 @@
 //! The effects of all methods that a type reaches, by the polarity of the paths to them.
 
-ghost use Rattle.std.specs.Prelude.{◌≡◌, ◌↔◌, ℕ, Bool, IfOk, OnOk, IsTrue, map, true, false, if◌then◌else◌};
+ghost use Rattle.std.specs.Prelude.{◌≡◌, ◌↔◌, ◌∷◌, [], ℕ, Bool, IfOk, OnOk, IsTrue, map, true, false, if◌then◌else◌};
 ghost use Rattle.wy_effects.specs.Members.{In as IsIn};
 ghost use Rattle.wy_effects.specs.Bounds.{IsUnder};
 ghost use Rattle.wy_effects.specs.Rows.{IsInAll};
@@ -12,7 +12,7 @@ ghost use Rattle.wy_types.specs.Fitting.{IsTypeOf};
 ghost use Rattle.wy_types.specs.InRange.{IsInRange};
 ghost use Rattle.wy_types.specs.Paths.{IsEffect, IsSafe};
 ghost use Rattle.wy_bounds.specs.Gathering.{wide_of};
-ghost use Rattle.wy_bounds.specs.Matrix.{IsMatrix, no_effects, with_effect, with_effects};
+ghost use Rattle.wy_bounds.specs.Matrix.{IsMatrix, no_effects, with_effect, with_effects, side_of};
 
 use crate::entry::Entry;
 use crate::reaching::all_reached;
@@ -67,6 +67,27 @@ impl Side {
     }
 }
 
+/// Adds the effects of the methods of an entry to those of its polarity.
+fn add_entry(
+    alloc: Global,
+    core: &Core,
+    scope: u16,
+    positive: &mut Side,
+    negative: &mut Side,
+    entry: &Entry,
+) -> Result<(), Memory>
+    requires { IsInRange (program_of core.now) }
+    ensures positive { OnOk result (positive.new ≡ side_of (program_of core.now) scope true (entry.now ∷ []) positive.old) }
+    ensures negative { OnOk result (negative.new ≡ side_of (program_of core.now) scope false (entry.now ∷ []) negative.old) }
+{
+    let found = methods(alloc, core, scope, &entry.typ)?;
+    if entry.positive {
+        positive.add_all(core, scope, found.as_slice())
+    } else {
+        negative.add_all(core, scope, found.as_slice())
+    }
+}
+
 /// What a type reaches, and the effects of its methods by polarity. It answers the questions of
 /// `effects`, `ho_effects`, `safe` and `ho_safe` on the type that it was built for, without memory
 /// (docs/LANGUAGE.md, "Paths and polarity").
@@ -90,12 +111,7 @@ impl Matrix {
         let mut positive = Side::new(alloc);
         let mut negative = Side::new(alloc);
         for entry in table.as_slice() {
-            let found = methods(alloc, core, scope, &entry.typ)?;
-            if entry.positive {
-                positive.add_all(core, scope, found.as_slice())?;
-            } else {
-                negative.add_all(core, scope, found.as_slice())?;
-            }
+            add_entry(alloc, core, scope, &mut positive, &mut negative, entry)?;
         }
         Ok(Matrix {
             table,

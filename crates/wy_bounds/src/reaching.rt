@@ -1,11 +1,12 @@
 //! All that a type reaches, each type at each polarity once.
 
-ghost use Rattle.std.specs.Prelude.{◌≡◌, ◌++◌, ◌≤◌, ◌<◌, IfOk, OnOk, map, length, reverse, List};
+ghost use Rattle.std.specs.Prelude.{◌≡◌, ◌++◌, ◌≤◌, ◌<◌, [], true, IfOk, OnOk, map, length, reverse, List};
 ghost use Rattle.wy_effects.specs.Members.{In as IsIn};
 ghost use Rattle.wy_types.specs.Program.{program_of};
 ghost use Rattle.wy_types.specs.Types.{signature};
 ghost use Rattle.wy_types.specs.Fitting.{IsTypeOf};
 ghost use Rattle.wy_types.specs.InRange.{IsInRange};
+ghost use Rattle.wy_bounds.specs.Table.{IsAdded};
 ghost use Rattle.wy_bounds.specs.Worklist.{param_entries, method_entries, all_entries, IsSeen, Advances, IsWhole, Traces, GoesBack};
 
 use crate::entry::Entry;
@@ -99,22 +100,32 @@ fn advance(
     Ok(())
 }
 
-/// All that a type reaches, and itself, each type at each polarity once.
-pub fn all_reached(alloc: Global, core: &Core, scope: u16, t: &TypeRef) -> Result<Table, Memory>
-    requires core { IsInRange (program_of core.now) }
-    requires typ { IsTypeOf (program_of core.now) scope t.now }
-    ensures { IfOk result (λ table. IsWhole (program_of core.now) scope t.now table) }
+/// The table of a type alone.
+fn alone(alloc: Global, t: &TypeRef) -> Result<Table, Memory>
+    ensures { IfOk result (λ table. (e : Entry) × (e.typ ≡ t.now) × (e.positive ≡ true) × IsAdded [] e table) }
 {
-    let mut table = Table::new(alloc);
-    table.add(Entry {
-        typ: t.copy(alloc)?,
+    let typ = t.copy(alloc)?;
+    let first = Entry {
+        typ,
         positive: true,
         parent: 0,
         step: Step {
             method: from_bytes(alloc, b"")?,
             part: Part::Result,
         },
-    })?;
+    };
+    let mut table = Table::new(alloc);
+    table.add(first)?;
+    Ok(table)
+}
+
+/// All that a type reaches, and itself, each type at each polarity once.
+pub fn all_reached(alloc: Global, core: &Core, scope: u16, t: &TypeRef) -> Result<Table, Memory>
+    requires core { IsInRange (program_of core.now) }
+    requires typ { IsTypeOf (program_of core.now) scope t.now }
+    ensures { IfOk result (λ table. IsWhole (program_of core.now) scope t.now table) }
+{
+    let mut table = alone(alloc, t)?;
     let mut next = 0;
     while next < table.len() {
         advance(alloc, core, scope, &mut table, next)?;

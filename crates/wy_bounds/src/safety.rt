@@ -2,12 +2,14 @@
 
 ghost use Rattle.std.specs.Prelude.{◌↔◌, IfOk, true, false};
 ghost use Rattle.wy_effects.specs.Bounds.{IsUnder};
+ghost use Rattle.wy_types.specs.declared.types.TypeRef.{TypeRef};
 ghost use Rattle.wy_types.specs.Program.{program_of};
 ghost use Rattle.wy_types.specs.Bounds.{bounds_of};
 ghost use Rattle.wy_types.specs.Types.{methods_of};
 ghost use Rattle.wy_types.specs.Fitting.{IsTypeOf};
 ghost use Rattle.wy_types.specs.InRange.{IsInRange};
 ghost use Rattle.wy_types.specs.Paths.{IsSafe};
+ghost use Rattle.wy_bounds.specs.Matrix.{IsMatrix};
 ghost use Rattle.wy_bounds.specs.Safety.{IsAnswer, IsYes};
 
 use crate::least::least_lack;
@@ -30,21 +32,20 @@ pub enum Safety {
     No { path: Path, atom: Atom },
 }
 
-/// Whether the set is in the effect of each method of what the type reaches at a polarity.
-fn is_safe(
+/// The answer by the matrix of a type.
+fn answer_by(
     alloc: Global,
     core: &Core,
     scope: u16,
-    t: &TypeRef,
+    matrix: &Matrix,
     e: &EffSet,
     positive: bool,
 ) -> Result<Safety, Memory>
     requires core { IsInRange (program_of core.now) }
-    requires typ { IsTypeOf (program_of core.now) scope t.now }
-    ensures { IfOk result (λ v. IsAnswer (program_of core.now) scope t.now positive e.now v) }
+    requires built { (t : TypeRef) × IsMatrix (program_of core.now) scope t matrix.now }
+    ensures { IfOk result (λ v. (t : TypeRef) → IsMatrix (program_of core.now) scope t matrix.now → IsAnswer (program_of core.now) scope t positive e.now v) }
 {
     e.is_set();
-    let matrix = Matrix::build(alloc, core, scope, t)?;
     if matrix.is_safe_at(positive, e) {
         return Ok(Safety::Yes);
     }
@@ -58,6 +59,23 @@ fn is_safe(
             })
         }
     }
+}
+
+/// Whether the set is in the effect of each method of what the type reaches at a polarity.
+fn is_safe(
+    alloc: Global,
+    core: &Core,
+    scope: u16,
+    t: &TypeRef,
+    e: &EffSet,
+    positive: bool,
+) -> Result<Safety, Memory>
+    requires core { IsInRange (program_of core.now) }
+    requires typ { IsTypeOf (program_of core.now) scope t.now }
+    ensures { IfOk result (λ v. IsAnswer (program_of core.now) scope t.now positive e.now v) }
+{
+    let matrix = Matrix::build(alloc, core, scope, t)?;
+    answer_by(alloc, core, scope, &matrix, e, positive)
 }
 
 /// Whether a type is safe for a set: whether the set is in the effect of every method of the types

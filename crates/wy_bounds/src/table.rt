@@ -57,10 +57,10 @@ impl Table {
         ensures { OnOk result (IsAdded self.old entry self.new) }
     {
         let alloc = *self.entries.allocator();
-        let key = key_of_mark(alloc, &entry.typ, entry.positive)?;
         self.entries.reserve(1)?;
+        let key = key_of_mark(alloc, &entry.typ, entry.positive)?;
         if self.keys.insert(key)? {
-            self.entries.push(entry)?;
+            self.entries.push_reserved(entry);
         }
         Ok(())
     }

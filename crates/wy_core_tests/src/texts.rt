@@ -13,7 +13,9 @@ use wy_types::resolved::Core;
 
 /// The tree of a file of this number.
 fn tree_of(alloc: Global, file: u16, text: &str) -> Result<Tree, Fail> {
-    let tokens = lex(alloc, file, text.as_bytes())?;
+    let Ok(tokens) = lex(alloc, file, text.as_bytes()) else {
+        return Err(Fail::new(format_args!("a text has no tokens")));
+    };
     Ok(parse(alloc, tokens.as_slice())?)
 }
 

@@ -49,32 +49,51 @@ impl CallRecord {
     {
         self.calls = self.calls.saturating_add(1);
         if self.fails.contains(self.calls) {
-            self.fail(grant, op)?;
-            return Err(DeviceError::Failed);
+            return Err(self.fail(grant, op));
         }
         Ok(())
     }
 
-    /// Notes the deed of an operation that failed, and counts a fault.
-    pub fn fail(&mut self, grant: &Text, op: &Op) -> Result<(), Memory>
-        ensures ok { OnOk result (self.new ≡ record self.old {
+    /// Notes the deed of an operation that failed and counts a fault, and gives why there is no answer: memory may be wanting for the deed.
+    pub fn fail(&mut self, grant: &Text, op: &Op) -> DeviceError
+        ensures failed { result ≡ DeviceError.Failed → self.new ≡ record self.old {
           deeds = self.old.deeds ++ deed_failed grant.now op.now;
           faults = next_count self.old.faults;
-        }) }
-        ensures err { OnErr result (self.new ≡ self.old) }
+        } }
+        ensures none { result ≡ DeviceError.Memory → self.new ≡ self.old }
         ensures counted { self.old.faults ≤ self.new.faults }
     {
-        self.deeds.push(Deed::failed(grant, op)?)?;
-        self.faults = self.faults.saturating_add(1);
-        Ok(())
+        match self.note_failed(grant, op) {
+            Ok(()) => {
+                self.faults = self.faults.saturating_add(1);
+                DeviceError::Failed
+            }
+            Err(_) => DeviceError::Memory,
+        }
+    }
+
+    /// Notes the deed of an operation that failed.
+    fn note_failed(&mut self, grant: &Text, op: &Op) -> Result<(), Memory>
+        ensures ok { OnOk result (self.new ≡ record self.old { deeds = self.old.deeds ++ deed_failed grant.now op.now }) }
+        ensures err { OnErr result (self.new ≡ self.old) }
+    {
+        self.deeds.push(Deed::failed(grant, op)?)
     }
 
     /// Notes the deed of an operation that was answered, and gives the answer.
-    pub fn answer(&mut self, grant: &Text, op: &Op, answer: Answer) -> Result<Answer, Memory>
+    pub fn answer(&mut self, grant: &Text, op: &Op, answer: Answer) -> Result<Answer, DeviceError>
         ensures ok { IfOk result (λ a. (a ≡ answer) × (self.new ≡ record self.old { deeds = self.old.deeds ++ deed_done grant.now op.now a })) }
+        ensures err { OnErr result ((result ≡ Err DeviceError.Memory) × (self.new ≡ self.old)) }
+    {
+        self.note_answered(grant, op, &answer)?;
+        Ok(answer)
+    }
+
+    /// Notes the deed of an operation that was answered.
+    fn note_answered(&mut self, grant: &Text, op: &Op, answer: &Answer) -> Result<(), Memory>
+        ensures ok { OnOk result (self.new ≡ record self.old { deeds = self.old.deeds ++ deed_done grant.now op.now answer.now }) }
         ensures err { OnErr result (self.new ≡ self.old) }
     {
-        self.deeds.push(Deed::done(grant, op, &answer)?)?;
-        Ok(answer)
+        self.deeds.push(Deed::done(grant, op, answer)?)
     }
 }

@@ -1,6 +1,6 @@
 //! The files of a folder in memory.
 
-ghost use Rattle.std.specs.Prelude.{◌≡◌, ◌<◌, IfOk, bytes_eq, map, position, vec_len, vec_capacity};
+ghost use Rattle.std.specs.Prelude.{◌≡◌, ◌<◌, IfOk, OnOk, bytes_eq, map, position, vec_len, vec_capacity};
 ghost use Rattle.std.specs.Option.{option_copied};
 ghost use Rattle.wy_device.specs.FolderFiles.{is_file, text_in, Puts, Removes, AreNames, in_lines, Lists};
 
@@ -45,6 +45,25 @@ impl FolderFile {
     {
         self.is_in(grant) && self.name.as_bytes() == name.as_bytes()
     }
+}
+
+/// Makes room for one more file, and gives that of a grant and a name with this text.
+pub fn file_with_room(
+    files: &mut Vec<FolderFile>,
+    grant: &Text,
+    name: &Text,
+    text: Text,
+) -> Result<FolderFile, Memory>
+    ensures file { IfOk result (λ file. (file.grant ≡ grant.now) × (file.name ≡ name.now) × (file.text ≡ text)) }
+    ensures room { OnOk result (vec_len files.new < vec_capacity files.new) }
+    ensures same { files.new.items ≡ files.old.items }
+{
+    files.reserve(1)?;
+    Ok(FolderFile {
+        grant: grant.copy()?,
+        name: name.copy()?,
+        text,
+    })
 }
 
 /// The same files, in their order.

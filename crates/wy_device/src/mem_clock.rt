@@ -49,10 +49,10 @@ impl MemClock {
     }
 
     /// Gives the time, lets a second pass, and notes the deed.
-    fn tell_time(&mut self, grant: &Text, op: &Op) -> Result<Answer, Memory>
+    fn tell_time(&mut self, grant: &Text, op: &Op) -> Result<Answer, DeviceError>
         ensures time { IfOk result (λ a. a ≡ Answer.Number (time_after (answered self.old.deeds) self.old.start)) }
         ensures noted { IfOk result (λ a. self.new ≡ record self.old { deeds = self.old.deeds ++ deed_done grant.now op.now a }) }
-        ensures err { OnErr result (self.new ≡ self.old) }
+        ensures err { OnErr result ((result ≡ Err DeviceError.Memory) × (self.new ≡ self.old)) }
     {
         let time = Answer::Number(self.start.saturating_add_unsigned(self.given));
         let answer = self.kept.answer(grant, op, time)?;
@@ -97,7 +97,7 @@ impl Device for MemClock {
     {
         self.kept.begin(grant, op)?;
         match op {
-            Op::ClockNow => Ok(self.tell_time(grant, op)?),
+            Op::ClockNow => self.tell_time(grant, op),
             _ => unreachable!(),
         }
     }

@@ -75,10 +75,10 @@ impl MemConsole {
     }
 
     /// Gives the next line of the input, and notes the deed.
-    fn read_line(&mut self, grant: &Text, op: &Op) -> Result<Answer, Memory>
+    fn read_line(&mut self, grant: &Text, op: &Op) -> Result<Answer, DeviceError>
         ensures ok { IfOk result (λ a. (a ≡ Answer.Bytes (next_line self.old.input)) × (self.new ≡ record self.old { input = drop (line_size self.old.input) self.old.input; deeds = self.old.deeds ++ deed_done grant.now op.now a })) }
         ensures length { IfOk result (IsAnswerOf Op.ConsoleRead) }
-        ensures err { OnErr result (self.new ≡ self.old) }
+        ensures err { OnErr result ((result ≡ Err DeviceError.Memory) × (self.new ≡ self.old)) }
     {
         let rest = &self.input.as_bytes()[self.at..];
         let size = line_len(rest);
@@ -89,9 +89,9 @@ impl MemConsole {
     }
 
     /// Writes a text, and notes the deed.
-    fn write_text(&mut self, grant: &Text, op: &Op, text: &Text) -> Result<Answer, Memory>
+    fn write_text(&mut self, grant: &Text, op: &Op, text: &Text) -> Result<Answer, DeviceError>
         ensures ok { IfOk result (λ a. (a ≡ Answer.Unit) × (self.new ≡ record self.old { written = self.old.written ++ text.now; deeds = self.old.deeds ++ deed_done grant.now op.now a })) }
-        ensures err { OnErr result (self.new ≡ self.old) }
+        ensures err { OnErr result ((result ≡ Err DeviceError.Memory) × (self.new ≡ self.old)) }
     {
         let written = self.written.joined(text)?;
         let answer = self.kept.answer(grant, op, Answer::Unit)?;
@@ -137,8 +137,8 @@ impl Device for MemConsole {
     {
         self.kept.begin(grant, op)?;
         match op {
-            Op::ConsoleRead => Ok(self.read_line(grant, op)?),
-            Op::ConsoleWrite(text) => Ok(self.write_text(grant, op, text)?),
+            Op::ConsoleRead => self.read_line(grant, op),
+            Op::ConsoleWrite(text) => self.write_text(grant, op, text),
             _ => unreachable!(),
         }
     }

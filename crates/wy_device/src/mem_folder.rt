@@ -2,7 +2,7 @@
 
 ghost use Rattle.std.specs.Prelude.{◌≡◌, ◌≤◌, ◌<◌, ◌++◌, ◌⊎◌, [], length, is_some, Some, IfOk, OnOk, OnErr, Err, Contains};
 ghost use Rattle.wy_text.specs.Outside.{gained, next_count, Rose};
-ghost use Rattle.wy_device.specs.Device.{DeviceState, IsAnswerOf, deed_done, deed_failed, faults_after};
+ghost use Rattle.wy_device.specs.Device.{DeviceState, IsAnswerOf, IsBytesUpTo, deed_done, deed_failed, faults_after};
 ghost use Rattle.wy_device.specs.FolderFiles.{text_in, text_or_empty, Puts, Removes};
 ghost use Rattle.wy_device.specs.MemFolder.{Answers, Leaves, AnswersTooMuch};
 ghost use Rattle.wy_device.specs.Operation.{kind_of};
@@ -11,7 +11,9 @@ ghost use Rattle.wy_device.specs.Traps.{text_limit};
 use crate::call_record::CallRecord;
 use crate::deed::DeedList;
 use crate::device::{Device, DeviceError};
-use crate::folder_files::{FolderFile, FolderList, copied, listing, put, remove, text_of};
+use crate::folder_files::{
+    FolderFile, FolderList, copied, file_with_room, listing, put, remove, text_of,
+};
 use crate::operation::{Answer, Kind, Op};
 use std::alloc::Global;
 use std::marker::Model;
@@ -78,52 +80,156 @@ impl MemFolder {
         ensures counted { self.old.faults ≤ self.new.faults }
     {
         if text.as_bytes().len() > LONGEST_TEXT {
-            self.kept.fail(grant, op)?;
-            return Err(DeviceError::Failed);
+            return Err(self.kept.fail(grant, op));
         }
-        Ok(self.kept.answer(grant, op, Answer::Bytes(text))?)
+        self.kept.answer(grant, op, Answer::Bytes(text))
+    }
+
+    /// Answers the text of a name, and the empty text where it is not there.
+    fn read_file(&mut self, grant: &Text, op: &Op, name: &Text) -> Result<Answer, DeviceError>
+        ensures answer { IfOk result (λ a. (a ≡ Answer.Bytes (text_or_empty self.old.files grant.now name.now)) × IsBytesUpTo text_limit a) }
+        ensures noted { IfOk result (λ a. self.new ≡ record self.old { deeds = self.old.deeds ++ deed_done grant.now op.now a }) }
+        ensures too_long { result ≡ Err DeviceError.Failed → text_limit < length (text_or_empty self.old.files grant.now name.now) }
+        ensures failed { result ≡ Err DeviceError.Failed → self.new ≡ record self.old {
+          deeds = self.old.deeds ++ deed_failed grant.now op.now;
+          faults = next_count self.old.faults;
+        } }
+        ensures none { result ≡ Err DeviceError.Memory → self.new ≡ self.old }
+        ensures counted { self.old.faults ≤ self.new.faults }
+    {
+        let text = self.text(grant, name)?;
+        self.answer_text(grant, op, text)
+    }
+
+    /// Answers the names of a grant's folder.
+    fn list_files(&mut self, grant: &Text, op: &Op) -> Result<Answer, DeviceError>
+        ensures answer { IfOk result (λ a. Answers self.old.files grant.now Op.FolderNames a × IsBytesUpTo text_limit a) }
+        ensures noted { IfOk result (λ a. self.new ≡ record self.old { deeds = self.old.deeds ++ deed_done grant.now op.now a }) }
+        ensures too_long { result ≡ Err DeviceError.Failed → AnswersTooMuch self.old.files grant.now Op.FolderNames }
+        ensures failed { result ≡ Err DeviceError.Failed → self.new ≡ record self.old {
+          deeds = self.old.deeds ++ deed_failed grant.now op.now;
+          faults = next_count self.old.faults;
+        } }
+        ensures none { result ≡ Err DeviceError.Memory → self.new ≡ self.old }
+        ensures counted { self.old.faults ≤ self.new.faults }
+    {
+        let text = listing(self.alloc, self.files.as_slice(), grant)?;
+        self.answer_text(grant, op, text)
+    }
+
+    /// Answers whether a name is there.
+    fn tell_file(&mut self, grant: &Text, op: &Op, name: &Text) -> Result<Answer, DeviceError>
+        ensures answer { IfOk result (λ a. a ≡ Answer.Truth (is_some (text_in self.old.files grant.now name.now))) }
+        ensures noted { IfOk result (λ a. self.new ≡ record self.old { deeds = self.old.deeds ++ deed_done grant.now op.now a }) }
+        ensures err { OnErr result ((result ≡ Err DeviceError.Memory) × (self.new ≡ self.old)) }
+    {
+        let answer = Answer::Truth(self.has(grant, name));
+        self.kept.answer(grant, op, answer)
     }
 
     /// Makes or replaces the file of a name, and notes the deed.
-    fn write_text(
+    fn put_text(
         &mut self,
         grant: &Text,
         op: &Op,
         name: &Text,
         text: Text,
-    ) -> Result<Answer, Memory>
+    ) -> Result<Answer, DeviceError>
         ensures answer { IfOk result (λ a. a ≡ Answer.Unit) }
         ensures puts { OnOk result (Puts self.old.files grant.now name.now text self.new.files) }
         ensures noted { IfOk result (λ a. self.new ≡ record self.old {
           files = self.new.files;
           deeds = self.old.deeds ++ deed_done grant.now op.now a;
         }) }
-        ensures err { OnErr result (self.new ≡ self.old) }
+        ensures err { OnErr result ((result ≡ Err DeviceError.Memory) × (self.new ≡ self.old)) }
     {
-        let file = FolderFile {
-            grant: grant.copy()?,
-            name: name.copy()?,
-            text,
-        };
-        self.files.reserve(1)?;
+        let file = file_with_room(&mut self.files, grant, name, text)?;
         let answer = self.kept.answer(grant, op, Answer::Unit)?;
         put(&mut self.files, file);
         Ok(answer)
     }
 
+    /// Makes the text that of a name's file, and notes the deed.
+    fn write_file(
+        &mut self,
+        grant: &Text,
+        op: &Op,
+        name: &Text,
+        text: &Text,
+    ) -> Result<Answer, DeviceError>
+        ensures answer { IfOk result (λ a. a ≡ Answer.Unit) }
+        ensures puts { OnOk result (Puts self.old.files grant.now name.now text.now self.new.files) }
+        ensures noted { IfOk result (λ a. self.new ≡ record self.old {
+          files = self.new.files;
+          deeds = self.old.deeds ++ deed_done grant.now op.now a;
+        }) }
+        ensures err { OnErr result ((result ≡ Err DeviceError.Memory) × (self.new ≡ self.old)) }
+    {
+        let copy = text.copy()?;
+        self.put_text(grant, op, name, copy)
+    }
+
+    /// Adds the text to that of a name's file, and notes the deed.
+    fn append_file(
+        &mut self,
+        grant: &Text,
+        op: &Op,
+        name: &Text,
+        text: &Text,
+    ) -> Result<Answer, DeviceError>
+        ensures answer { IfOk result (λ a. a ≡ Answer.Unit) }
+        ensures puts { OnOk result (Puts self.old.files grant.now name.now (text_or_empty self.old.files grant.now name.now ++ text.now) self.new.files) }
+        ensures noted { IfOk result (λ a. self.new ≡ record self.old {
+          files = self.new.files;
+          deeds = self.old.deeds ++ deed_done grant.now op.now a;
+        }) }
+        ensures err { OnErr result ((result ≡ Err DeviceError.Memory) × (self.new ≡ self.old)) }
+    {
+        let whole = self.text(grant, name)?.joined(text)?;
+        self.put_text(grant, op, name, whole)
+    }
+
     /// Takes away the file of a name, where it is there, and notes the deed.
-    fn remove_file(&mut self, grant: &Text, op: &Op, name: &Text) -> Result<Answer, Memory>
+    fn remove_file(&mut self, grant: &Text, op: &Op, name: &Text) -> Result<Answer, DeviceError>
         ensures answer { IfOk result (λ a. a ≡ Answer.Unit) }
         ensures removes { OnOk result (Removes self.old.files grant.now name.now self.new.files) }
         ensures noted { IfOk result (λ a. self.new ≡ record self.old {
           files = self.new.files;
           deeds = self.old.deeds ++ deed_done grant.now op.now a;
         }) }
-        ensures err { OnErr result (self.new ≡ self.old) }
+        ensures err { OnErr result ((result ≡ Err DeviceError.Memory) × (self.new ≡ self.old)) }
     {
         let answer = self.kept.answer(grant, op, Answer::Unit)?;
         remove(&mut self.files, grant, name);
         Ok(answer)
+    }
+
+    /// Does an operation that it was not told to fail.
+    fn serve(&mut self, grant: &Text, op: &Op) -> Result<Answer, DeviceError>
+        requires { kind_of op.now ≡ Kind.Folder }
+        ensures answer { IfOk result (λ a. IsAnswerOf op.now a × Answers self.old.files grant.now op.now a) }
+        ensures leaves { OnOk result (Leaves self.old.files grant.now op.now self.new.files) }
+        ensures noted { IfOk result (λ a. self.new ≡ record self.old {
+          files = self.new.files;
+          deeds = self.old.deeds ++ deed_done grant.now op.now a;
+        }) }
+        ensures too_long { result ≡ Err DeviceError.Failed → AnswersTooMuch self.old.files grant.now op.now }
+        ensures failed { result ≡ Err DeviceError.Failed → self.new ≡ record self.old {
+          deeds = self.old.deeds ++ deed_failed grant.now op.now;
+          faults = next_count self.old.faults;
+        } }
+        ensures none { result ≡ Err DeviceError.Memory → self.new ≡ self.old }
+        ensures counted { self.old.faults ≤ self.new.faults }
+    {
+        match op {
+            Op::FolderRead(name) => self.read_file(grant, op, name),
+            Op::FolderHas(name) => self.tell_file(grant, op, name),
+            Op::FolderWrite(name, text) => self.write_file(grant, op, name, text),
+            Op::FolderAppend(name, text) => self.append_file(grant, op, name, text),
+            Op::FolderNames => self.list_files(grant, op),
+            Op::FolderRemove(name) => self.remove_file(grant, op, name),
+            _ => unreachable!(),
+        }
     }
 }
 
@@ -165,26 +271,6 @@ impl Device for MemFolder {
         ensures kept { OnErr result (self.new.files ≡ self.old.files) }
     {
         self.kept.begin(grant, op)?;
-        match op {
-            Op::FolderRead(name) => {
-                let text = self.text(grant, name)?;
-                self.answer_text(grant, op, text)
-            }
-            Op::FolderHas(name) => {
-                let answer = Answer::Truth(self.has(grant, name));
-                Ok(self.kept.answer(grant, op, answer)?)
-            }
-            Op::FolderWrite(name, text) => Ok(self.write_text(grant, op, name, text.copy()?)?),
-            Op::FolderAppend(name, text) => {
-                let whole = self.text(grant, name)?.joined(text)?;
-                Ok(self.write_text(grant, op, name, whole)?)
-            }
-            Op::FolderNames => {
-                let text = listing(self.alloc, self.files.as_slice(), grant)?;
-                self.answer_text(grant, op, text)
-            }
-            Op::FolderRemove(name) => Ok(self.remove_file(grant, op, name)?),
-            _ => unreachable!(),
-        }
+        self.serve(grant, op)
     }
 }

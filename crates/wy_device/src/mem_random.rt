@@ -72,10 +72,10 @@ impl MemRandom {
     }
 
     /// Gives the next number, and notes the deed.
-    fn draw(&mut self, grant: &Text, op: &Op) -> Result<Answer, Memory>
+    fn draw(&mut self, grant: &Text, op: &Op) -> Result<Answer, DeviceError>
         ensures word { IfOk result (λ a. a ≡ Answer.Number (word_after (answered self.old.deeds) self.old.numbers)) }
         ensures noted { IfOk result (λ a. self.new ≡ record self.old { deeds = self.old.deeds ++ deed_done grant.now op.now a }) }
-        ensures err { OnErr result (self.new ≡ self.old) }
+        ensures err { OnErr result ((result ≡ Err DeviceError.Memory) × (self.new ≡ self.old)) }
     {
         let number = Answer::Number(number_at(&self.numbers, self.at));
         let answer = self.kept.answer(grant, op, number)?;
@@ -120,7 +120,7 @@ impl Device for MemRandom {
     {
         self.kept.begin(grant, op)?;
         match op {
-            Op::RandomWord => Ok(self.draw(grant, op)?),
+            Op::RandomWord => self.draw(grant, op),
             _ => unreachable!(),
         }
     }

@@ -452,7 +452,10 @@ fn each_word_is_its_kind(rt: HostRuntime) -> Result<(), Fail> {
 }
 
 fn lex_ok(alloc: Global, bytes: &[u8]) -> Result<Vec<Token>, Fail> {
-    Ok(lex(alloc, 7, bytes)?)
+    match lex(alloc, 7, bytes) {
+        Ok(tokens) => Ok(tokens),
+        Err(_) => Err(Fail::new(format_args!("a text has no tokens"))),
+    }
 }
 
 /// Words, each with the bytes of its name or text.

@@ -12,7 +12,10 @@ use wy_text::token::{Token, TokenKind};
 fn tokens_of(alloc: Global, text: &str) -> Result<Vec<Token>, Fail>
     ensures { IfOk result (λ v. IsWhole v.items) }
 {
-    Ok(lex(alloc, 1, text.as_bytes())?)
+    match lex(alloc, 1, text.as_bytes()) {
+        Ok(tokens) => Ok(tokens),
+        Err(_) => Err(Fail::new(format_args!("a text has no tokens"))),
+    }
 }
 
 fn parsed(alloc: Global, text: &str) -> Result<Result<Tree, ParseRefusal>, Fail> {

@@ -1,9 +1,9 @@
-ghost use Rattle.std.specs.Prelude.{◌≡◌, ◌≤◌, ◌++◌, ◌∷◌, Err, Ok, IfOk, OnOk, IsTrue, Contains, true, length, string_bytes};
+ghost use Rattle.std.specs.Prelude.{◌≡◌, ◌≤◌, ◌++◌, ◌∷◌, List, ℕ, Err, Ok, IfOk, OnOk, IfSome, OnSome, IsTrue, Contains, true, length, string_bytes};
 ghost use Rattle.wy_text.specs.Outside.{Rose};
-ghost use Rattle.wy_device.specs.Device.{DeviceState};
+ghost use Rattle.wy_device.specs.Device.{DeviceState, IsBytesUpTo, IsTruth};
 ghost use Rattle.wy_device.specs.Requests as requests;
 ghost use Rattle.wy_device.specs.Traps.{text_limit};
-ghost use Rattle.wy_host.specs.FolderNames.{ListsFileNames};
+ghost use Rattle.wy_host.specs.FolderNames.{HoldsFileNames, ListsFileNames};
 
 use crate::fault::count_fault;
 use crate::listing::listing;
@@ -11,6 +11,7 @@ use crate::plain_file::{
     append_file, file_names, is_folder, is_plain_file, read_file, remove_file, write_file,
 };
 use std::alloc::Global;
+use std::collections::BTreeSet;
 use std::io::{self, ErrorKind};
 use std::rt::Files;
 use std::str;
@@ -42,6 +43,29 @@ fn leads_down(name: &[u8]) -> bool
     ensures { IsTrue result → ¬ Contains name.now 46 × (¬ Contains name.now 47) }
 {
     !name.is_empty() && !name.contains(&b'.') && !name.contains(&b'/')
+}
+
+/// The name of a grant's folder as a path has it, where it can be one's.
+fn folder_name(grant: &Text) -> Option<&str>
+    ensures { IfSome result (λ name. name.now ≡ grant.now) }
+{
+    if leads_down(grant.as_bytes()) {
+        str::from_utf8(grant.as_bytes()).ok()
+    } else {
+        None
+    }
+}
+
+/// The name of a file as a path has it, where it is a file's.
+fn file_name(name: &Text) -> Option<&str>
+    ensures same { IfSome result (λ file. file.now ≡ name.now) }
+    ensures named { OnSome result (requests.is_file_name name.now ≡ true) }
+{
+    if is_file_name(name.as_bytes()) {
+        str::from_utf8(name.as_bytes()).ok()
+    } else {
+        None
+    }
 }
 
 /// The path of what goes by this name in a folder.
@@ -77,27 +101,28 @@ impl<R: Files + AllocGlobal + Clone + Drop> RealFolder<R> {
     }
 
     /// What a write or a removal gave. It may have changed something, so each error is a fault.
-    fn done(&mut self, outcome: io::Result<()>) -> Result<(), DeviceError>
+    fn done(&mut self, outcome: io::Result<()>) -> Result<Answer, DeviceError>
+        ensures unit { IfOk result (λ a. a ≡ Answer.Unit) }
         ensures counted { self.old.faults ≤ self.new.faults }
         ensures failed { result ≡ Err DeviceError.Failed → Rose self.old.faults self.new.faults }
     {
         match outcome {
-            Ok(()) => Ok(()),
+            Ok(()) => Ok(Answer::Unit),
             Err(_) => Err(count_fault(&mut self.faults)),
         }
     }
 
-    /// The text of these bytes, of which there are no more than an answer may have.
-    fn text_of(&mut self, bytes: Vec<u8>) -> Result<Text, DeviceError>
-        ensures text { IfOk result (λ text. text ≡ bytes.items) }
-        ensures short { IfOk result (λ text. length text ≤ text_limit) }
+    /// The answer of these bytes, of which there are no more than it may have.
+    fn answer(&mut self, bytes: Vec<u8>) -> Result<Answer, DeviceError>
+        ensures text { IfOk result (λ a. a ≡ Answer.Bytes bytes.items) }
+        ensures short { IfOk result (λ _. length bytes.items ≤ text_limit) }
         ensures counted { self.old.faults ≤ self.new.faults }
         ensures failed { result ≡ Err DeviceError.Failed → Rose self.old.faults self.new.faults }
     {
         if bytes.len() > LONGEST_TEXT {
             return Err(count_fault(&mut self.faults));
         }
-        Ok(from_vec(bytes))
+        Ok(Answer::Bytes(from_vec(bytes)))
     }
 
     /// The path of a grant's folder, which is there and is no link. Between this look and what follows the
@@ -107,12 +132,18 @@ impl<R: Files + AllocGlobal + Clone + Drop> RealFolder<R> {
         ensures counted { self.old.faults ≤ self.new.faults }
         ensures failed { result ≡ Err DeviceError.Failed → Rose self.old.faults self.new.faults }
     {
-        let Ok(name) = str::from_utf8(grant.as_bytes()) else {
-            return Err(count_fault(&mut self.faults));
-        };
-        if !leads_down(grant.as_bytes()) {
-            return Err(count_fault(&mut self.faults));
+        match folder_name(grant) {
+            Some(name) => self.path_in_base(name),
+            None => Err(count_fault(&mut self.faults)),
         }
+    }
+
+    /// The path of a folder in the base, which is there and is no link.
+    fn path_in_base(&mut self, name: &str) -> Result<String, DeviceError>
+        ensures path { IfOk result (λ path. string_bytes path ≡ string_bytes self.old.base ++ 47 ∷ name.now) }
+        ensures counted { self.old.faults ≤ self.new.faults }
+        ensures failed { result ≡ Err DeviceError.Failed → Rose self.old.faults self.new.faults }
+    {
         let path = path_in(self.alloc, self.base.as_str(), name)?;
         let there = is_folder(&self.rt, path.as_str());
         if self.told(there)? {
@@ -129,37 +160,53 @@ impl<R: Files + AllocGlobal + Clone + Drop> RealFolder<R> {
         ensures counted { self.old.faults ≤ self.new.faults }
         ensures failed { result ≡ Err DeviceError.Failed → Rose self.old.faults self.new.faults }
     {
-        let Ok(file) = str::from_utf8(name.as_bytes()) else {
-            return Err(count_fault(&mut self.faults));
-        };
-        if !is_file_name(name.as_bytes()) {
-            return Err(count_fault(&mut self.faults));
+        match file_name(name) {
+            Some(file) => self.path_in_folder(grant, file),
+            None => Err(count_fault(&mut self.faults)),
         }
-        let folder = self.folder_path(grant)?;
-        Ok(path_in(self.alloc, folder.as_str(), file)?)
     }
 
-    fn read(&mut self, grant: &Text, name: &Text) -> Result<Text, DeviceError>
-        ensures short { IfOk result (λ text. length text ≤ text_limit) }
+    /// The path of what goes by a name in a grant's folder.
+    fn path_in_folder(&mut self, grant: &Text, name: &str) -> Result<String, DeviceError>
+        ensures path { IfOk result (λ path. string_bytes path ≡ string_bytes self.old.base ++ 47 ∷ grant.now ++ 47 ∷ name.now) }
+        ensures counted { self.old.faults ≤ self.new.faults }
+        ensures failed { result ≡ Err DeviceError.Failed → Rose self.old.faults self.new.faults }
+    {
+        let folder = self.folder_path(grant)?;
+        Ok(path_in(self.alloc, folder.as_str(), name)?)
+    }
+
+    /// The bytes of a file, at most one more than an answer may have.
+    fn bytes_of(&mut self, grant: &Text, name: &Text) -> Result<Vec<u8>, DeviceError>
         ensures counted { self.old.faults ≤ self.new.faults }
         ensures failed { result ≡ Err DeviceError.Failed → Rose self.old.faults self.new.faults }
     {
         let path = self.file_path(grant, name)?;
         let bytes = read_file(&self.rt, self.alloc, path.as_str(), LONGEST_TEXT as u64 + 1);
-        let bytes = self.told(bytes)?;
-        self.text_of(bytes)
+        self.told(bytes)
     }
 
-    fn has(&mut self, grant: &Text, name: &Text) -> Result<bool, DeviceError>
+    fn read(&mut self, grant: &Text, name: &Text) -> Result<Answer, DeviceError>
+        ensures short { IfOk result (IsBytesUpTo text_limit) }
+        ensures counted { self.old.faults ≤ self.new.faults }
+        ensures failed { result ≡ Err DeviceError.Failed → Rose self.old.faults self.new.faults }
+    {
+        let bytes = self.bytes_of(grant, name)?;
+        self.answer(bytes)
+    }
+
+    fn has(&mut self, grant: &Text, name: &Text) -> Result<Answer, DeviceError>
+        ensures truth { IfOk result IsTruth }
         ensures counted { self.old.faults ≤ self.new.faults }
         ensures failed { result ≡ Err DeviceError.Failed → Rose self.old.faults self.new.faults }
     {
         let path = self.file_path(grant, name)?;
         let there = is_plain_file(&self.rt, path.as_str());
-        self.told(there)
+        Ok(Answer::Truth(self.told(there)?))
     }
 
-    fn write(&mut self, grant: &Text, name: &Text, text: &Text) -> Result<(), DeviceError>
+    fn write(&mut self, grant: &Text, name: &Text, text: &Text) -> Result<Answer, DeviceError>
+        ensures unit { IfOk result (λ a. a ≡ Answer.Unit) }
         ensures counted { self.old.faults ≤ self.new.faults }
         ensures failed { result ≡ Err DeviceError.Failed → Rose self.old.faults self.new.faults }
     {
@@ -168,7 +215,8 @@ impl<R: Files + AllocGlobal + Clone + Drop> RealFolder<R> {
         self.done(written)
     }
 
-    fn append(&mut self, grant: &Text, name: &Text, text: &Text) -> Result<(), DeviceError>
+    fn append(&mut self, grant: &Text, name: &Text, text: &Text) -> Result<Answer, DeviceError>
+        ensures unit { IfOk result (λ a. a ≡ Answer.Unit) }
         ensures counted { self.old.faults ≤ self.new.faults }
         ensures failed { result ≡ Err DeviceError.Failed → Rose self.old.faults self.new.faults }
     {
@@ -177,7 +225,8 @@ impl<R: Files + AllocGlobal + Clone + Drop> RealFolder<R> {
         self.done(written)
     }
 
-    fn remove(&mut self, grant: &Text, name: &Text) -> Result<(), DeviceError>
+    fn remove(&mut self, grant: &Text, name: &Text) -> Result<Answer, DeviceError>
+        ensures unit { IfOk result (λ a. a ≡ Answer.Unit) }
         ensures counted { self.old.faults ≤ self.new.faults }
         ensures failed { result ≡ Err DeviceError.Failed → Rose self.old.faults self.new.faults }
     {
@@ -186,17 +235,26 @@ impl<R: Files + AllocGlobal + Clone + Drop> RealFolder<R> {
         self.done(removed)
     }
 
-    fn names(&mut self, grant: &Text) -> Result<Text, DeviceError>
-        ensures listed { IfOk result ListsFileNames }
-        ensures short { IfOk result (λ text. length text ≤ text_limit) }
+    /// The names of the files in a grant's folder.
+    fn names_in(&mut self, grant: &Text) -> Result<BTreeSet<String>, DeviceError>
+        ensures held { IfOk result HoldsFileNames }
         ensures counted { self.old.faults ≤ self.new.faults }
         ensures failed { result ≡ Err DeviceError.Failed → Rose self.old.faults self.new.faults }
     {
         let path = self.folder_path(grant)?;
         let names = file_names(&self.rt, path.as_str());
-        let names = self.told(names)?;
+        self.told(names)
+    }
+
+    fn names(&mut self, grant: &Text) -> Result<Answer, DeviceError>
+        ensures listed { IfOk result (λ a. (text : List ℕ) × (a ≡ Answer.Bytes text) × ListsFileNames text) }
+        ensures short { IfOk result (IsBytesUpTo text_limit) }
+        ensures counted { self.old.faults ≤ self.new.faults }
+        ensures failed { result ≡ Err DeviceError.Failed → Rose self.old.faults self.new.faults }
+    {
+        let names = self.names_in(grant)?;
         let lines = listing(self.alloc, &names)?;
-        self.text_of(lines)
+        self.answer(lines)
     }
 }
 
@@ -216,21 +274,12 @@ impl<R: Files + AllocGlobal + Clone + Drop> Device for RealFolder<R> {
 
     fn perform(&mut self, grant: &Text, op: &Op) -> Result<Answer, DeviceError> {
         match op {
-            Op::FolderRead(name) => Ok(Answer::Bytes(self.read(grant, name)?)),
-            Op::FolderHas(name) => Ok(Answer::Truth(self.has(grant, name)?)),
-            Op::FolderWrite(name, text) => {
-                self.write(grant, name, text)?;
-                Ok(Answer::Unit)
-            }
-            Op::FolderAppend(name, text) => {
-                self.append(grant, name, text)?;
-                Ok(Answer::Unit)
-            }
-            Op::FolderNames => Ok(Answer::Bytes(self.names(grant)?)),
-            Op::FolderRemove(name) => {
-                self.remove(grant, name)?;
-                Ok(Answer::Unit)
-            }
+            Op::FolderRead(name) => self.read(grant, name),
+            Op::FolderHas(name) => self.has(grant, name),
+            Op::FolderWrite(name, text) => self.write(grant, name, text),
+            Op::FolderAppend(name, text) => self.append(grant, name, text),
+            Op::FolderNames => self.names(grant),
+            Op::FolderRemove(name) => self.remove(grant, name),
             _ => unreachable!(),
         }
     }

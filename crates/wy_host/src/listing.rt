@@ -1,4 +1,4 @@
-ghost use Rattle.std.specs.Prelude.{◌≡◌, true, map, string_bytes, IfOk};
+ghost use Rattle.std.specs.Prelude.{◌≡◌, ◌++◌, ◌∷◌, [], true, map, string_bytes, IfOk, OnOk};
 ghost use Rattle.wy_device.specs.FolderFiles.{in_lines};
 ghost use Rattle.wy_device.specs.Requests.{is_file_name};
 ghost use Rattle.wy_host.specs.FolderNames.{HoldsFileNames, ListsFileNames};
@@ -18,13 +18,21 @@ pub fn put_name(alloc: Global, names: &mut BTreeSet<String>, name: &str) -> Resu
     Ok(())
 }
 
+/// Adds a line.
+fn push_line(lines: &mut Vec<u8>, line: &str) -> Result<(), AllocError>
+    ensures { OnOk result (lines.new.items ≡ lines.old.items ++ line.now ++ 10 ∷ []) }
+{
+    lines.extend_from_slice(line.as_bytes())?;
+    lines.push(b'\n')?;
+    Ok(())
+}
+
 fn lines_of(alloc: Global, names: &BTreeSet<String>) -> Result<Vec<u8>, AllocError>
     ensures { IfOk result (λ lines. lines.items ≡ in_lines (map string_bytes names.now.keys)) }
 {
     let mut lines = Vec::new(alloc);
     for name in names {
-        lines.extend_from_slice(name.as_bytes())?;
-        lines.push(b'\n')?;
+        push_line(&mut lines, name)?;
     }
     Ok(lines)
 }

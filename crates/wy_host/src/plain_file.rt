@@ -7,7 +7,7 @@ ghost use Rattle.wy_host.specs.FolderNames.{HoldsFileNames};
 use crate::listing::put_name;
 use std::alloc::Global;
 use std::collections::BTreeSet;
-use std::fs::{self, Metadata, OpenFile, OpenOptions};
+use std::fs::{self, DirEntry, Metadata, OpenFile, OpenOptions};
 use std::io::{self, ErrorKind, Read, Write};
 use std::os::unix::fs::MetadataExt;
 use std::rt::Files;
@@ -118,6 +118,39 @@ pub fn remove_file<R: Files>(rt: &R, path: &str) -> io::Result<()> {
     }
 }
 
+/// Puts the name of an entry among others, where it is a file name and a plain file stands by it.
+fn put_plain<R: Files + AllocGlobal + Clone + Drop>(
+    rt: &R,
+    names: &mut BTreeSet<String>,
+    entry: &DirEntry<R>,
+) -> io::Result<()>
+    requires { HoldsFileNames names.old }
+    ensures { HoldsFileNames names.new }
+{
+    let name = entry.file_name();
+    if is_file_name(name.as_bytes()) && is_plain_file(rt, entry.path().as_str())? {
+        put_name(rt.alloc(), names, name)?;
+    }
+    Ok(())
+}
+
+/// Puts the name of what the machine gave for an entry among others.
+fn put_entry<R: Files + AllocGlobal + Clone + Drop>(
+    rt: &R,
+    names: &mut BTreeSet<String>,
+    entry: io::Result<DirEntry<R>>,
+) -> io::Result<()>
+    requires { HoldsFileNames names.old }
+    ensures { HoldsFileNames names.new }
+{
+    match entry {
+        Ok(entry) => put_plain(rt, names, &entry),
+        // A name that is no text is no file name.
+        Err(error) if error.kind() == ErrorKind::InvalidFilename => Ok(()),
+        Err(error) => Err(error),
+    }
+}
+
 /// The names of the plain files in a folder that are file names. Whatever else is there is left out.
 pub fn file_names<R: Files + AllocGlobal + Clone + Drop>(
     rt: &R,
@@ -127,17 +160,7 @@ pub fn file_names<R: Files + AllocGlobal + Clone + Drop>(
 {
     let mut names = BTreeSet::new(rt.alloc());
     for entry in fs::read_dir(rt, folder)? {
-        match entry {
-            Ok(entry) => {
-                let name = entry.file_name();
-                if is_file_name(name.as_bytes()) && is_plain_file(rt, entry.path().as_str())? {
-                    put_name(rt.alloc(), &mut names, name)?;
-                }
-            }
-            // A name that is no text is no file name.
-            Err(error) if error.kind() == ErrorKind::InvalidFilename => {}
-            Err(error) => return Err(error),
-        }
+        put_entry(rt, &mut names, entry)?;
     }
     Ok(names)
 }

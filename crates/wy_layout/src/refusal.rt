@@ -2,7 +2,7 @@ use wy_text::fault::Place;
 use wy_text::limit::LimitName;
 
 /// Why a file has no tokens (docs/LANGUAGE.md, "What is refused in a file").
-#[derive(Debug, Drop)]
+#[derive(Drop)]
 pub enum LexRefusal {
     /// A byte begins no well-formed character.
     NotUtf8(Place),

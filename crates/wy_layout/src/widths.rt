@@ -3,7 +3,7 @@ ghost use Rattle.wy_layout.specs.Gives.{within_of};
 ghost use Rattle.wy_layout.specs.Layout as layout;
 ghost use Rattle.wy_layout.specs.Lexed.{stack_after};
 ghost use Rattle.wy_layout.specs.Outs.{step_is};
-ghost use Rattle.wy_layout.specs.Widths.{step_of};
+ghost use Rattle.wy_layout.specs.Widths.{above, rest, step_of};
 
 use crate::refusal::Fault;
 use wy_text::limit::{MOST_INDENTS, MOST_TOKENS};
@@ -17,20 +17,29 @@ pub enum Before {
     Wrong(usize),
 }
 
+/// Closes the open widths that are greater than a line's, and tells how many there were.
+fn close_widths(widths: &mut Vec<usize>, width: usize) -> usize
+    ensures count { result ≡ above width (reverse widths.old.items) }
+    ensures left { reverse widths.new.items ≡ rest width (reverse widths.old.items) }
+{
+    let mut outs = 0;
+    while let Some(top) = widths.last() {
+        if *top <= width {
+            break;
+        }
+        let _closed = widths.pop();
+        outs += 1;
+    }
+    outs
+}
+
 /// What stands before a line of a width. The open widths, of which the last one is the greatest, are then
 /// those behind the line.
 pub fn next_line(widths: &mut Vec<usize>, width: usize) -> Result<Before, Memory>
     ensures step { IfOk result (λ s. step_is s ≡ step_of width (reverse widths.old.items)) }
     ensures stack { OnOk result (reverse widths.new.items ≡ stack_after width (reverse widths.old.items)) }
 {
-    let mut outs = 0;
-    while let Some(top) = widths.pop() {
-        if top <= width {
-            widths.push(top)?;
-            break;
-        }
-        outs += 1;
-    }
+    let outs = close_widths(widths, width);
     match widths.last() {
         Some(top) if *top == width => Ok(Before::Out(outs)),
         _ => {

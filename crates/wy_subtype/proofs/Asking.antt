@@ -21,7 +21,7 @@ use Rattle.wy_types.specs.Types.{IsObject, signature, methods_of}
 use Rattle.wy_types.specs.Bounds.{bounds_of}
 use Rattle.wy_types.specs.Subtyping.{ParamsIn, HasCover, LeadsBy}
 use Rattle.wy_subtype.specs.declared.verdict.Mode.{Mode}
-use Rattle.wy_subtype.specs.declared.verdict.Mode.TheVariants.{Annotated, Plain}
+use Rattle.wy_subtype.specs.declared.verdict.Mode.TheVariants.{Annotated}
 use Rattle.wy_subtype.specs.declared.verdict.Cause.{Cause}
 use Rattle.wy_subtype.specs.declared.verdict.Cause.TheVariants.{MissingMethod, Arity, Base, Effect}
 use Rattle.wy_subtype.specs.declared.unfolding.UnfoldedPair.{UnfoldedPair}

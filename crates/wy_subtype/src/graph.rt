@@ -65,6 +65,7 @@ impl<'a> Graph<'a> {
         requires core { IsInRange (program_of self.old.core.now) }
         requires within { number < length self.old.nodes }
         ensures wider { IsWider self.old self.new }
+        ensures unfolded { self.new.unfolded ≡ self.old.unfolded }
         ensures outcome { IfOk result (IsOutcome (about_of self.old) (pairs_in self.new) (pair_at (pairs_in self.old) number)) }
         ensures closed { IfOk result (λ o. IsOpen o → ⊥) }
     {
@@ -98,8 +99,8 @@ impl<'a> Graph<'a> {
         if !self.nodes.at(number).is_open() {
             return Ok(());
         }
-        let outcome = self.test(number)?;
         self.unfolded.reserve(1)?;
+        let outcome = self.test(number)?;
         steps.tick();
         self.nodes.learn(number, outcome);
         self.unfolded.push_reserved(number);
@@ -180,27 +181,27 @@ impl<'a> Graph<'a> {
     /// marked.
     fn explore<L: Ledger>(
         &mut self,
-        mut work: Work,
+        work: &mut Work,
         steps: &mut Steps<L>,
     ) -> Result<Verdict, Memory>
         requires graph { IsGraph self.old }
-        requires numbers { AreNumbers self.old work }
-        requires seen { IsSeen (program_of self.old.core.now) self.old.scope self.old.mode (mets_in self.old work) }
-        requires within { 0 < length work }
+        requires numbers { AreNumbers self.old work.old }
+        requires seen { IsSeen (program_of self.old.core.now) self.old.scope self.old.mode (mets_in self.old work.old) }
+        requires within { 0 < length work.old }
         ensures graph { IsGraph self.new }
-        ensures verdict { IfOk result (λ v. (q : Pair) → BeginsWith q (mets_in self.old work) → IsVerdict (program_of self.old.core.now) self.old.scope self.old.mode q v) }
-        ensures grows { (q : Pair) → BeginsWith q (mets_in self.old work) → Grows q (decided_of self.old) (decided_of self.new) steps.old steps.new }
-        ensures there { IfOk result (λ _. (q : Pair) → BeginsWith q (mets_in self.old work) → IsIn q (decided_of self.new).pairs) }
+        ensures verdict { IfOk result (λ v. (q : Pair) → BeginsWith q (mets_in self.old work.old) → IsVerdict (program_of self.old.core.now) self.old.scope self.old.mode q v) }
+        ensures grows { (q : Pair) → BeginsWith q (mets_in self.old work.old) → Grows q (decided_of self.old) (decided_of self.new) steps.old steps.new }
+        ensures there { IfOk result (λ _. (q : Pair) → BeginsWith q (mets_in self.old work.old) → IsIn q (decided_of self.new).pairs) }
     {
         let mut next = 0;
         while next < work.len() {
-            if let Some(cause) = self.advance(&mut work, next, steps)? {
+            if let Some(cause) = self.advance(work, next, steps)? {
                 let path = path_to(self, work.as_slice(), next)?;
                 return Ok(Verdict::No { path, cause });
             }
             next += 1;
         }
-        self.mark_all(&work);
+        self.mark_all(work);
         Ok(Verdict::Yes)
     }
 
@@ -219,8 +220,8 @@ impl<'a> Graph<'a> {
         if self.nodes.at(number).holds() {
             return Ok(Verdict::Yes);
         }
-        let work = Work::of(self.alloc, number)?;
-        self.explore(work, steps)
+        let mut work = Work::of(self.alloc, number)?;
+        self.explore(&mut work, steps)
     }
 
     /// Whether the first type is a subtype of the second, with a path that refutes it where it is not.

@@ -93,8 +93,8 @@ impl Nodes {
         ensures meets { Meets (left.now, right.now) self.old self.new }
     {
         let number = self.nodes.len();
-        let node = Node::open(self.alloc, left, right)?;
         self.nodes.reserve(1)?;
+        let node = Node::open(self.alloc, left, right)?;
         self.keys.insert(key)?;
         self.nodes.push_reserved(node);
         Ok(number)

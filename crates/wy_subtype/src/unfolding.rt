@@ -1,6 +1,6 @@
 //! The test of one pair of types by itself.
 
-ghost use Rattle.std.specs.Prelude.{◌≡◌, ◌≤◌, ◌+◌, ◌++◌, IfOk, OnOk, OnErr, IfSome, IfNone, map, length};
+ghost use Rattle.std.specs.Prelude.{◌≡◌, ◌≤◌, ◌+◌, ◌++◌, ◌∷◌, [], Some, IfOk, OnOk, OnErr, IfSome, IfNone, map, length};
 ghost use Rattle.std.specs.Option.{option_copied, option_map};
 ghost use Rattle.wy_effects.specs.Members.{In, Within};
 ghost use Rattle.wy_effects.specs.Bounds.{IsOneOf, IsLeastMissing};
@@ -108,6 +108,42 @@ fn method_fault(left: &Method, right: &Method, order: &Order) -> Result<Option<C
     }
 }
 
+/// The pair that is asked for by a part of a method.
+fn asked_pair(
+    alloc: Global,
+    method: &Text,
+    part: Part,
+    left: &TypeRef,
+    right: &TypeRef,
+) -> Result<UnfoldedPair, Memory>
+    ensures { IfOk result (λ p. p ≡ record { step = record { method = method.now; part = part }; left = left.now; right = right.now }) }
+{
+    let left = left.copy(alloc)?;
+    let right = right.copy(alloc)?;
+    Ok(UnfoldedPair {
+        step: Step {
+            method: method.copy()?,
+            part,
+        },
+        left,
+        right,
+    })
+}
+
+/// Adds the pair that is asked for by a part of a method.
+fn add_pair(
+    alloc: Global,
+    into: &mut PairList,
+    method: &Text,
+    part: Part,
+    left: &TypeRef,
+    right: &TypeRef,
+) -> Result<(), Memory>
+    ensures { OnOk result (into.new ≡ into.old ++ record { step = record { method = method.now; part = part }; left = left.now; right = right.now } ∷ []) }
+{
+    into.push(asked_pair(alloc, method, part, left, right)?)
+}
+
 /// Adds the pairs of two methods' parameters, with their sides exchanged.
 fn add_parameters(
     alloc: Global,
@@ -121,14 +157,7 @@ fn add_parameters(
     ensures { OnOk result (into.new ≡ into.old ++ param_pairs name.now 0 left.now right.now) }
 {
     for (i, a) in left.iter().enumerate() {
-        into.push(UnfoldedPair {
-            step: Step {
-                method: name.copy()?,
-                part: Part::Parameter(i as u16),
-            },
-            left: right[i].copy(alloc)?,
-            right: a.copy(alloc)?,
-        })?;
+        add_pair(alloc, into, name, Part::Parameter(i as u16), &right[i], a)?;
     }
     Ok(())
 }
@@ -151,15 +180,35 @@ fn add_pairs(
         left.params.as_slice(),
         right.params.as_slice(),
     )?;
-    into.push(UnfoldedPair {
-        step: Step {
-            method: right.name.copy()?,
-            part: Part::Result,
-        },
-        left: left.result.copy(alloc)?,
-        right: right.result.copy(alloc)?,
-    })?;
-    Ok(())
+    add_pair(
+        alloc,
+        into,
+        &right.name,
+        Part::Result,
+        &left.result,
+        &right.result,
+    )
+}
+
+/// Tests a method of the right side with the left side's of its name, and adds the pairs that it asks for.
+fn meet_found(
+    alloc: Global,
+    into: &mut PairList,
+    left: &Method,
+    right: &Method,
+    order: &Order,
+) -> Result<Option<Cause>, Memory>
+    requires core { IsInRange (program_of order.now.core.now) }
+    requires few { length right.now.params ≤ 16 }
+    ensures met { IfOk result (λ o. IfNone o (IsMet (program_of order.now.core.now) order.now.scope order.now.mode (Some (signature left.now)) (signature right.now))) }
+    ensures added { IfOk result (λ o. IfNone o (into.new ≡ into.old ++ method_pairs (signature left.now) (signature right.now))) }
+    ensures fault { IfOk result (λ o. IfSome o (λ c. CauseOf (program_of order.now.core.now) order.now.scope order.now.mode (signature left.now) (signature right.now) c)) }
+{
+    if let Some(cause) = method_fault(left, right, order)? {
+        return Ok(Some(cause));
+    }
+    add_pairs(alloc, into, left, right)?;
+    Ok(None)
 }
 
 /// Tests one method of the right side, and adds the pairs that it asks for.
@@ -178,13 +227,7 @@ fn meet(
 {
     match find(lefts, &right.name) {
         None => Ok(Some(Cause::MissingMethod(right.name.copy()?))),
-        Some(left) => {
-            if let Some(cause) = method_fault(left, right, order)? {
-                return Ok(Some(cause));
-            }
-            add_pairs(alloc, into, left, right)?;
-            Ok(None)
-        }
+        Some(left) => meet_found(alloc, into, left, right, order),
     }
 }
 

@@ -1,4 +1,4 @@
-ghost use Rattle.std.specs.Prelude.{◌≡◌, ◌≤◌, ◌⊎◌, take, [], IfOk, OnErr, Err, Some, None, Contains};
+ghost use Rattle.std.specs.Prelude.{◌≡◌, ◌≤◌, ◌⊎◌, ◌++◌, ◌∷◌, take, [], IfOk, OnOk, OnErr, Err, Some, None, Contains};
 ghost use Rattle.std.specs.Option.{option_copied};
 ghost use Rattle.wy_text.specs.MemShelf.{faults_after};
 ghost use Rattle.wy_text.specs.Outside.{gained, next_count, Rose};
@@ -44,6 +44,60 @@ impl MemShelf {
             faults: 0,
         })
     }
+
+    /// Notes a read.
+    fn note(&mut self, name: &str, failed: bool) -> Result<(), Memory>
+        ensures ok { OnOk result (self.new ≡ record self.old { reads = self.old.reads ++ record { name = name.now; failed = failed } ∷ [] }) }
+        ensures err { OnErr result (self.new ≡ self.old) }
+    {
+        let asked = from_bytes(self.alloc, name.as_bytes())?;
+        self.reads.push(ReadDone {
+            name: asked,
+            failed,
+        })
+    }
+
+    /// Notes a read that failed and counts a fault, and gives why there are no bytes: memory may be wanting for the note.
+    fn fail(&mut self, name: &str) -> ReadError
+        ensures failed { result ≡ ReadError.Failed → self.new ≡ record self.old {
+          reads = self.old.reads ++ read_badly name.now;
+          faults = next_count self.old.faults;
+        } }
+        ensures none { result ≡ ReadError.Memory → self.new ≡ self.old }
+        ensures counted { self.old.faults ≤ self.new.faults }
+    {
+        match self.note(name, true) {
+            Ok(()) => {
+                self.faults = self.faults.saturating_add(1);
+                ReadError::Failed
+            }
+            Err(_) => ReadError::Memory,
+        }
+    }
+
+    /// Reads at the call that was counted last.
+    fn give(&mut self, name: &str, most: usize) -> Result<Vec<u8>, ReadError>
+        ensures gives { IfOk result (λ v. GivesFile (Some self.old.files) name.now most v.items) }
+        ensures ok { IfOk result (λ _. self.new ≡ record self.old { reads = self.old.reads ++ read_well name.now }) }
+        ensures served { IfOk result (λ _. ¬ Contains self.old.fails self.old.calls) }
+        ensures bad { result ≡ Err ReadError.Failed → self.new ≡ record self.old {
+          reads = self.old.reads ++ read_badly name.now;
+          faults = next_count self.old.faults;
+        } }
+        ensures listed { result ≡ Err ReadError.Failed → Contains self.old.fails self.old.calls ⊎ (file_named name.now self.old.files ≡ None) }
+        ensures none { result ≡ Err ReadError.Memory → self.new ≡ self.old }
+        ensures counted { self.old.faults ≤ self.new.faults }
+    {
+        if !self.fails.contains(self.calls)
+            && let Some(text) = text_named(self.files.as_slice(), name.as_bytes())
+        {
+            let given = first_bytes(self.alloc, text, most)?;
+            self.note(name, false)?;
+            Ok(given)
+        } else {
+            Err(self.fail(name))
+        }
+    }
 }
 
 fn text_named<'a>(files: &'a [NamedText], name: &[u8]) -> Option<&'a Text>
@@ -83,23 +137,6 @@ impl Shelf for MemShelf {
         ensures faults { self.new.faults ≡ faults_after result self.old.faults }
     {
         self.calls = self.calls.saturating_add(1);
-        let asked = from_bytes(self.alloc, name.as_bytes())?;
-        if !self.fails.contains(self.calls)
-            && let Some(text) = text_named(self.files.as_slice(), name.as_bytes())
-        {
-            let given = first_bytes(self.alloc, text, most)?;
-            self.reads.push(ReadDone {
-                name: asked,
-                failed: false,
-            })?;
-            Ok(given)
-        } else {
-            self.reads.push(ReadDone {
-                name: asked,
-                failed: true,
-            })?;
-            self.faults = self.faults.saturating_add(1);
-            Err(ReadError::Failed)
-        }
+        self.give(name, most)
     }
 }

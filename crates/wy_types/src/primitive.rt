@@ -1,7 +1,7 @@
 //! The primitive types, which stand before the declared ones.
 
 ghost use Rattle.std.specs.Prelude.{◌≡◌, ◌<◌, ◌++◌, ◌∷◌, [], None, replicate, OnOk, IfOk};
-ghost use Rattle.wy_types.specs.Primitive.{primitive_method, console, folder, clock, random, full_folder, primitive_types};
+ghost use Rattle.wy_types.specs.Primitive.{primitive_method, primitive_type, console, folder, clock, random, full_folder, primitive_types};
 
 use crate::resolved::{BoundList, TypeDecl};
 use crate::types::{Method, TypeList, TypeRef};
@@ -63,8 +63,28 @@ fn unbounded(alloc: Global, members: usize) -> Result<BoundList, Memory>
     Ok(bounds)
 }
 
-fn make_console(alloc: Global) -> Result<TypeDecl, Memory>
-    ensures { IfOk result (λ d. d ≡ console) }
+/// Adds a type with these members, of which none has a bound, and methods.
+fn add_type(
+    alloc: Global,
+    out: &mut Items<TypeDecl>,
+    name: &str,
+    members: Items<Text>,
+    methods: Items<Method>,
+) -> Result<(), Memory>
+    ensures { OnOk result (out.new ≡ out.old ++ primitive_type name.now members methods ∷ []) }
+{
+    let bounds = unbounded(alloc, members.len())?;
+    out.push(TypeDecl {
+        name: from_bytes(alloc, name.as_bytes())?,
+        members,
+        bounds,
+        defined: Items::new(alloc),
+        methods,
+    })
+}
+
+fn add_console(alloc: Global, out: &mut Items<TypeDecl>) -> Result<(), Memory>
+    ensures { OnOk result (out.new ≡ out.old ++ console ∷ []) }
 {
     let mut members = Items::new(alloc);
     add_member(alloc, &mut members, "In")?;
@@ -72,13 +92,7 @@ fn make_console(alloc: Global) -> Result<TypeDecl, Memory>
     let mut methods = Items::new(alloc);
     add_method(alloc, &mut methods, "read", 0, 0, TypeRef::Text)?;
     add_method(alloc, &mut methods, "write", 1, 1, TypeRef::Unit)?;
-    Ok(TypeDecl {
-        name: from_bytes(alloc, b"Console")?,
-        members,
-        bounds: unbounded(alloc, 2)?,
-        defined: Items::new(alloc),
-        methods,
-    })
+    add_type(alloc, out, "Console", members, methods)
 }
 
 /// Adds the members of a folder.
@@ -104,67 +118,54 @@ fn folder_methods(alloc: Global) -> Result<Items<Method>, Memory>
     Ok(methods)
 }
 
-fn make_folder(alloc: Global) -> Result<TypeDecl, Memory>
-    ensures { IfOk result (λ d. d ≡ folder) }
+fn add_folder(alloc: Global, out: &mut Items<TypeDecl>) -> Result<(), Memory>
+    ensures { OnOk result (out.new ≡ out.old ++ folder ∷ []) }
 {
     let mut members = Items::new(alloc);
     add_folder_members(alloc, &mut members)?;
-    Ok(TypeDecl {
-        name: from_bytes(alloc, b"Folder")?,
-        members,
-        bounds: unbounded(alloc, 4)?,
-        defined: Items::new(alloc),
-        methods: folder_methods(alloc)?,
-    })
+    let methods = folder_methods(alloc)?;
+    add_type(alloc, out, "Folder", members, methods)
 }
 
-fn make_clock(alloc: Global) -> Result<TypeDecl, Memory>
-    ensures { IfOk result (λ d. d ≡ clock) }
+fn add_clock(alloc: Global, out: &mut Items<TypeDecl>) -> Result<(), Memory>
+    ensures { OnOk result (out.new ≡ out.old ++ clock ∷ []) }
 {
     let mut members = Items::new(alloc);
     add_member(alloc, &mut members, "Tick")?;
     let mut methods = Items::new(alloc);
     add_method(alloc, &mut methods, "now", 0, 0, TypeRef::Int)?;
-    Ok(TypeDecl {
-        name: from_bytes(alloc, b"Clock")?,
-        members,
-        bounds: unbounded(alloc, 1)?,
-        defined: Items::new(alloc),
-        methods,
-    })
+    add_type(alloc, out, "Clock", members, methods)
 }
 
-fn make_random(alloc: Global) -> Result<TypeDecl, Memory>
-    ensures { IfOk result (λ d. d ≡ random) }
+fn add_random(alloc: Global, out: &mut Items<TypeDecl>) -> Result<(), Memory>
+    ensures { OnOk result (out.new ≡ out.old ++ random ∷ []) }
 {
     let mut members = Items::new(alloc);
     add_member(alloc, &mut members, "Draw")?;
     let mut methods = Items::new(alloc);
     add_method(alloc, &mut methods, "word", 0, 0, TypeRef::Int)?;
-    Ok(TypeDecl {
-        name: from_bytes(alloc, b"Random")?,
-        members,
-        bounds: unbounded(alloc, 1)?,
-        defined: Items::new(alloc),
-        methods,
-    })
+    add_type(alloc, out, "Random", members, methods)
 }
 
-fn make_full_folder(alloc: Global) -> Result<TypeDecl, Memory>
-    ensures { IfOk result (λ d. d ≡ full_folder) }
+fn add_full_folder(alloc: Global, out: &mut Items<TypeDecl>) -> Result<(), Memory>
+    ensures { OnOk result (out.new ≡ out.old ++ full_folder ∷ []) }
 {
     let mut members = Items::new(alloc);
     add_folder_members(alloc, &mut members)?;
     add_member(alloc, &mut members, "Remove")?;
     let mut methods = folder_methods(alloc)?;
     add_method(alloc, &mut methods, "remove", 1, 4, TypeRef::Unit)?;
-    Ok(TypeDecl {
-        name: from_bytes(alloc, b"FullFolder")?,
-        members,
-        bounds: unbounded(alloc, 5)?,
-        defined: Items::new(alloc),
-        methods,
-    })
+    add_type(alloc, out, "FullFolder", members, methods)
+}
+
+fn add_primitives(alloc: Global, out: &mut Items<TypeDecl>) -> Result<(), Memory>
+    ensures { OnOk result (out.new ≡ out.old ++ primitive_types) }
+{
+    add_console(alloc, out)?;
+    add_folder(alloc, out)?;
+    add_clock(alloc, out)?;
+    add_random(alloc, out)?;
+    add_full_folder(alloc, out)
 }
 
 /// The primitive types in the order of their numbers (docs/LANGUAGE.md, "Effects and types").
@@ -172,10 +173,6 @@ pub fn primitives(alloc: Global) -> Result<Items<TypeDecl>, Memory>
     ensures { IfOk result (λ ds. ds ≡ primitive_types) }
 {
     let mut out = Items::new(alloc);
-    out.push(make_console(alloc)?)?;
-    out.push(make_folder(alloc)?)?;
-    out.push(make_clock(alloc)?)?;
-    out.push(make_random(alloc)?)?;
-    out.push(make_full_folder(alloc)?)?;
+    add_primitives(alloc, &mut out)?;
     Ok(out)
 }

@@ -75,8 +75,11 @@ impl TypeSet {
         if self.types.len() >= MOST_REACHED_TYPES {
             return Err(ReachRefusal::Limit(LimitName::ReachedTypes));
         }
+        if self.types.reserve(1).is_err() {
+            return Err(ReachRefusal::Memory);
+        }
         let copy = t.copy(alloc)?;
-        if self.types.reserve(1).is_err() || self.keys.insert(key).is_err() {
+        if self.keys.insert(key).is_err() {
             return Err(ReachRefusal::Memory);
         }
         self.types.push_reserved(copy);

@@ -1,17 +1,13 @@
-use Rattle.std.proofs.Common.{◌<◌, ◌≤◌, List, true, refl, subst, arith, length}
-use Rattle.wy_types.specs.declared.path.Part.TheVariants.{Result}
+use Rattle.std.proofs.Common.{◌<◌, ◌≤◌, arith, length}
 use Rattle.wy_types.specs.Program.{program_of}
 use Rattle.wy_types.proofs.Finite.{marked_bound}
-use Rattle.wy_bounds.specs.declared.entry.Entry.{Entry}
-use Rattle.wy_bounds.specs.Table.{IsAdded}
 use Rattle.wy_bounds.proofs.Working.{work_start, work_left, work_more, work_all}
 use Rattle.wy_bounds.proofs.reaching.all_reached.Goals as goal
 
 pub loop-next-init : goal.loop-next-init
 loop-next-init c =
-    let e : Entry = record { typ = c.in_ok-copy.field-0; positive = true; parent = 0; step = record { method = c.in_ok-from_bytes.field-0; part = Result } } in
-    let P : List Entry → Type 0 = λ l. IsAdded l e c.add.new.self in
-    work_start (program_of c.args.core.now) c.requires.core c.args.scope c.args.t.now e c.add.new.self c.requires.typ c.in_ok-copy.ensures refl (subst P c.new-table.ensures c.in_ok-add.ensures)
+    let first = c.in_ok-table.ensures in
+    work_start (program_of c.args.core.now) c.requires.core c.args.scope c.args.t.now first.0 c.in_ok-table.table c.requires.typ first.1 first.2 first.3
 
 pub loop-next-smaller : goal.loop-next-smaller
 loop-next-smaller c =

@@ -1,4 +1,5 @@
-use Rattle.std.proofs.Common.{◌≡◌, List, ◌++◌, sym, ap, ◌∙◌, subst, append_assoc}
+use Rattle.std.proofs.Common.{◌≡◌, List, ◌∷◌, ◌++◌, ◌+◌, drop, sym, ap, ◌∙◌, subst, append_assoc}
+use Rattle.std.proofs.lemmas.List.{at_drop_more}
 use Rattle.std.specs.Prelude.{OnOk}
 use Rattle.wy_types.specs.declared.types.TypeRef.{TypeRef}
 use Rattle.wy_types.specs.View.{expr_of, value_of, values_of, block_of}
@@ -38,3 +39,15 @@ add_value-returns-in_ok-add_block-in-If t c =
     append_assoc (c.args.out.now ++ test) first second ∙ append_assoc c.args.out.now test (first ++ second) ∙
     ap (λ x. c.args.out.now ++ value_types x) (sym (value_if c.in-If._place c.in-If.test c.in-If.first c.in-If.second) ∙ ap value_of (sym c.in-If.is)))
     c.add_block-in-If.ensures
+
+pub add_values-loop-value-preserved : goal.add_values-loop-value-preserved
+add_values-loop-value-preserved t c =
+    let items = c.deref-value-items.result.now in
+    let later = drop (c.loop-value.value-index + 1) items in
+    let rest : List TypeRef = values_types (values_of later) in
+    let types : List TypeRef = value_types (value_of c.value-item.result) in
+    ap (λ (l : List TypeRef). l ++ rest) c.in_ok-add_value.ensures ∙ append_assoc c.loop-value.out types rest ∙
+    ap (λ (l : List TypeRef). c.loop-value.out ++ l)
+    (sym (at_drop_more (λ vs. values_types (values_of vs)) items c.loop-value.value-index c.value-item.result c.loop-value-test.true ∙
+    ap (λ x. values_types (values_of (x ∷ later))) (sym c.value-item.is))) ∙
+    c.loop-value.invariant

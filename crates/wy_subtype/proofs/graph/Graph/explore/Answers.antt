@@ -16,19 +16,19 @@ pub loop-next-init : goal.loop-next-init
 loop-next-init g c = record {
   graph = c.requires.graph;
   numbers = c.requires.numbers;
-  exploring = explore_start (mets_in c.args.self.now c.args.work) (decided_of c.args.self.now) c.args.steps.now c.requires.seen;
+  exploring = explore_start (mets_in c.args.self.now c.args.work.now) (decided_of c.args.self.now) c.args.steps.now c.requires.seen;
 }
 
 pub advance-requires-clause-seen : goal.advance-requires-clause-seen
 advance-requires-clause-seen g c =
-    exploring_seen (mets_in c.args.self.now c.args.work) (mets_in c.loop-next.self c.loop-next.work) c.loop-next.next (decided_of c.args.self.now) (decided_of c.loop-next.self) c.args.steps.now c.loop-next.steps c.loop-next.invariant.exploring
+    exploring_seen (mets_in c.args.self.now c.args.work.now) (mets_in c.loop-next.self c.loop-next.work) c.loop-next.next (decided_of c.args.self.now) (decided_of c.loop-next.self) c.args.steps.now c.loop-next.steps c.loop-next.invariant.exploring
 
 pub path_to-requires : goal.path_to-requires
 path_to-requires g c =
     let mid : Graph = c.loop-next.self in
     let new : Graph = c.advance.new.self in
     let es : List Entry = c.advance.new.work in
-    let first : List Met = mets_in c.args.self.now c.args.work in
+    let first : List Met = mets_in c.args.self.now c.args.work.now in
     let ms : List Met = mets_in mid c.loop-next.work in
     let lt : c.loop-next.next < length c.loop-next.work = search rules in
     let lm : c.loop-next.next < length ms = omega (arith, lt, length-map c.loop-next.work (met_by (pairs_in mid))) in
@@ -54,7 +54,7 @@ loop-next-smaller g c =
     let ms : List Met = mets_in c.loop-next.self c.loop-next.work in
     let less : c.loop-next.next < length c.loop-next.work = search rules in
     let lm : c.loop-next.next < length ms = omega (arith, less, length-map c.loop-next.work (met_by (pairs_in c.loop-next.self))) in
-    let lt : c.loop-next.next < pair_bound (program_of old.core.now) old.scope = work_left (program_of old.core.now) old.scope old.mode (mets_in old c.args.work) ms c.loop-next.next lm c.loop-next.invariant.exploring.work in
+    let lt : c.loop-next.next < pair_bound (program_of old.core.now) old.scope = work_left (program_of old.core.now) old.scope old.mode (mets_in old c.args.work.now) ms c.loop-next.next lm c.loop-next.invariant.exploring.work in
     omega arith
 
 pub loop-next-preserved : goal.loop-next-preserved
@@ -68,7 +68,7 @@ loop-next-preserved g c =
     record {
       graph = c.advance.ensures.graph;
       numbers = c.in_ok-cause.ensures.numbers;
-      exploring = explore_more (mets_in old c.args.work) ms c.loop-next.next (decided_of old) (decided_of mid) (decided_of new) c.args.steps.now c.loop-next.steps c.advance.new.steps c.loop-next.invariant.exploring lm c.in_ok-cause.ensures.grows
+      exploring = explore_more (mets_in old c.args.work.now) ms c.loop-next.next (decided_of old) (decided_of mid) (decided_of new) c.args.steps.now c.loop-next.steps c.advance.new.steps c.loop-next.invariant.exploring lm c.in_ok-cause.ensures.grows
           c.in_ok-cause.ensures.there (mets_in new c.advance.new.work) (rw c.in_default.is at c.in_ok-cause.ensures.advances);
     }
 
@@ -77,7 +77,7 @@ returns-in-Some g c =
     let old : Graph = c.args.self.now in
     let mid : Graph = c.loop-next.self in
     let new : Graph = c.advance.new.self in
-    let first : List Met = mets_in old c.args.work in
+    let first : List Met = mets_in old c.args.work.now in
     let ms : List Met = mets_in mid c.loop-next.work in
     let less : c.loop-next.next < length c.loop-next.work = search rules in
     let lm : c.loop-next.next < length ms = omega (arith, less, length-map c.loop-next.work (met_by (pairs_in mid))) in
@@ -108,7 +108,7 @@ mark_all-requires g c =
     record {
       graph = c.loop-next.invariant.graph;
       numbers = c.loop-next.invariant.numbers;
-      holds = λ m i. explored_all (mets_in old c.args.work) ms c.loop-next.next (decided_of old) (decided_of mid) c.args.steps.now c.loop-next.steps c.loop-next.invariant.exploring lm m i;
+      holds = λ m i. explored_all (mets_in old c.args.work.now) ms c.loop-next.next (decided_of old) (decided_of mid) c.args.steps.now c.loop-next.steps c.loop-next.invariant.exploring lm m i;
     }
 
 pub returns-in_err-cause-clause-graph : goal.returns-in_err-cause-clause-graph
@@ -119,7 +119,7 @@ returns-in_err-cause-clause-grows g c = λ q b.
     let mid : Graph = c.loop-next.self in
     let less : c.loop-next.next < length c.loop-next.work = search rules in
     let lm : c.loop-next.next < length (mets_in mid c.loop-next.work) = omega (arith, less, length-map c.loop-next.work (met_by (pairs_in mid))) in
-    explored_grows (mets_in c.args.self.now c.args.work) (mets_in mid c.loop-next.work) c.loop-next.next (decided_of c.args.self.now) (decided_of mid) (decided_of c.advance.new.self) c.args.steps.now c.loop-next.steps c.advance.new.steps
+    explored_grows (mets_in c.args.self.now c.args.work.now) (mets_in mid c.loop-next.work) c.loop-next.next (decided_of c.args.self.now) (decided_of mid) (decided_of c.advance.new.self) c.args.steps.now c.loop-next.steps c.advance.new.steps
     c.loop-next.invariant.exploring lm c.advance.ensures.grows q b
 
 pub returns-in_err-path-clause-graph : goal.returns-in_err-path-clause-graph
@@ -130,18 +130,18 @@ returns-in_err-path-clause-grows g c = λ q b.
     let mid : Graph = c.loop-next.self in
     let less : c.loop-next.next < length c.loop-next.work = search rules in
     let lm : c.loop-next.next < length (mets_in mid c.loop-next.work) = omega (arith, less, length-map c.loop-next.work (met_by (pairs_in mid))) in
-    explored_grows (mets_in c.args.self.now c.args.work) (mets_in mid c.loop-next.work) c.loop-next.next (decided_of c.args.self.now) (decided_of mid) (decided_of c.advance.new.self) c.args.steps.now c.loop-next.steps c.advance.new.steps
+    explored_grows (mets_in c.args.self.now c.args.work.now) (mets_in mid c.loop-next.work) c.loop-next.next (decided_of c.args.self.now) (decided_of mid) (decided_of c.advance.new.self) c.args.steps.now c.loop-next.steps c.advance.new.steps
     c.loop-next.invariant.exploring lm c.advance.ensures.grows q b
 
 pub returns : goal.returns
 returns g c =
     let old : Graph = c.args.self.now in
     let mid : Graph = c.loop-next.self in
-    let first : List Met = mets_in old c.args.work in
+    let first : List Met = mets_in old c.args.work.now in
     let ms : List Met = mets_in mid c.loop-next.work in
     let le : length c.loop-next.work ≤ c.loop-next.next = search rules in
     let lm : length ms ≤ c.loop-next.next = omega (arith, le, length-map c.loop-next.work (met_by (pairs_in mid))) in
-    let some : 0 < length first = omega (arith, c.requires.within, length-map c.args.work (met_by (pairs_in old))) in
+    let some : 0 < length first = omega (arith, c.requires.within, length-map c.args.work.now (met_by (pairs_in old))) in
     record {
       graph = c.mark_all.ensures.graph;
       verdict = λ q b. explored_yes first ms c.loop-next.next (decided_of old) (decided_of mid) c.args.steps.now c.loop-next.steps c.loop-next.invariant.exploring lm q b;

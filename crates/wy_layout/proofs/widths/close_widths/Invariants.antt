@@ -1,6 +1,6 @@
 use Rattle.std.proofs.Common.{◌≡◌, reverse, ◌+◌, ◌≤◌, vec_len}
 use Rattle.wy_layout.specs.Widths.{above, rest}
-use Rattle.wy_layout.proofs.widths.next_line.Given as goal
+use Rattle.wy_layout.proofs.widths.close_widths.Given as goal
 
 abbrev pub invariant-loop-top : goal.invariant-loop-top
 invariant-loop-top l = record {
