@@ -1,7 +1,7 @@
 -- One turn of a loop that reads parts, and how such a loop ends.
-use Rattle.std.proofs.Common.{◌≡◌, ℕ, zero, suc, ◌-◌, ◌<◌, Bool, true, false, cond, List, [], ◌∷◌, ◌++◌, map, refl, sym, ap, subst, ◌∙◌, arith}
+use Rattle.std.proofs.Common.{◌≡◌, ℕ, zero, suc, ◌-◌, ◌<◌, Bool, true, false, cond, List, [], ◌∷◌, ◌++◌, map, refl, sym, ap, subst, ◌∙◌, arith, Box, Global}
 use Rattle.std.proofs.lemmas.List.{map-append}
-use Rattle.std.specs.Prelude.{Result, Err}
+use Rattle.std.specs.Prelude.{Result, Ok, Err}
 use Rattle.std.specs.Borrow.{Bor}
 use Rattle.wy_text.specs.declared.token.Token.{Token}
 use Rattle.wy_syntax.specs.Tokens.{Tok, code, member}
@@ -58,3 +58,10 @@ part_halts k G p add a ts out stops.Memory hk h1 h2 h = tt
 
 pub gives_err : {X A : Type 0} (view : X → A) (r : Result (X × Bor (List Token)) Stop) (e : Stop) (out : Out Tok A) → r ≡ Err e → Halts e out → Gives view r out
 gives_err {X} view r e out h s = subst (λ (r : Result (X × Bor (List Token)) Stop). Gives view r out) (sym h) s
+
+-- what was made as it is, seen as something
+pub gives_view : {X A : Type 0} (view : X → A) (r : Result (Box X Global × Bor (List Token)) Stop) (x : X) (ts : List Tok) → Gives (λ b. b.value) r (Yes x ts) → Gives (λ b. view b.value) r (Yes (view x) ts)
+gives_view view (Ok y) x ts h = ap (λ o. and_then o (λ a r. Yes (view a) r)) h
+gives_view view (Err (stops.At rest)) x ts h = ap (λ o. and_then o (λ a r. Yes (view a) r)) h
+gives_view view (Err stops.Deep) x ts h = ap (λ o. and_then o (λ a r. Yes (view a) r)) h
+gives_view view (Err stops.Memory) x ts h = tt

@@ -10,7 +10,7 @@ ghost use Rattle.wy_parser.specs.ExprParsing.{arg_first, add_binary, minus_of, m
 ghost use Rattle.wy_parser.specs.Reading.{Yes, choose};
 ghost use Rattle.wy_parser.specs.Sorts.{number_of, Gives};
 
-use crate::cursor::{begins, mark, name_of, name_token, take, text_of, word};
+use crate::cursor::{begins, boxed, mark, name_of, name_token, take, text_of, word};
 use crate::operators::{COMPARISONS, Level, operator_of};
 use crate::sort::{Sort, sort_of};
 use crate::stop::Stop;
@@ -79,7 +79,7 @@ fn minus_value(token: &Token) -> i64
 fn node<'a>(alloc: Global, e: Expr, rest: &'a [Token]) -> Result<(Box<Expr>, &'a [Token]), Stop<'a>>
     ensures { Gives (λ b. expr_tree b.value) result (Yes (expr_tree e) (toks rest.now)) }
 {
-    Ok((Box::new(alloc, e)?, rest))
+    boxed(alloc, e, rest)
 }
 
 /// An operator's node with its operands.

@@ -8,7 +8,7 @@ ghost use Rattle.wy_parser.specs.ItemParsing.{inside_lines, inside_of, type_of, 
 ghost use Rattle.wy_parser.specs.Reading.{Yes};
 ghost use Rattle.wy_parser.specs.Sorts.{number_of, Gives};
 
-use crate::cursor::{begins, mark, name_of, name_token};
+use crate::cursor::{begins, boxed, mark, name_of, name_token};
 use crate::lines::{DefineEntry, GrantEntry, init, lines, members_inside, uses};
 use crate::lists::{PARENTHESES, between, row};
 use crate::sort::Sort;
@@ -40,7 +40,7 @@ fn inside_node<'a>(
 ) -> Result<(Box<Inside>, &'a [Token]), Stop<'a>>
     ensures { Gives (λ b. inside_tree b.value) result (Yes (inside_tree inside) (toks rest.now)) }
 {
-    Ok((Box::new(alloc, inside)?, rest))
+    boxed(alloc, inside, rest)
 }
 
 /// An item in a box, and what stands behind it.
@@ -51,7 +51,7 @@ fn item_node<'a>(
 ) -> Result<(Box<Item>, &'a [Token]), Stop<'a>>
     ensures { Gives (λ b. item_tree b.value) result (Yes (item_tree item) (toks rest.now)) }
 {
-    Ok((Box::new(alloc, item)?, rest))
+    boxed(alloc, item, rest)
 }
 
 /// The lines inside a pure or a resource module.

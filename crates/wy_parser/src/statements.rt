@@ -12,7 +12,7 @@ ghost use Rattle.wy_parser.specs.ExprParsing.{p_expr, p_arg};
 ghost use Rattle.wy_parser.specs.StmtParsing.{stmt_first, typed_val, untyped_val, part_first, parts_inside, literal_of, indented_block, branch_rest, if_of, expr_line, rhs_at, untyped_at, val_of, assign_of, stmt_at, block_of, tail_at, field_of, part_at, p_rhs, p_block};
 ghost use Rattle.wy_parser.specs.Sorts.{number_of, Gives};
 
-use crate::cursor::{begins, begins_two, mark, name_of, name_token};
+use crate::cursor::{begins, begins_two, boxed, mark, name_of, name_token};
 use crate::expressions::{ARG_FIRST, choice_rest, expr};
 use crate::sort::Sort;
 use crate::stop::Stop;
@@ -52,7 +52,7 @@ fn side_node<'a>(
 ) -> Result<(Box<Rhs>, &'a [Token]), Stop<'a>>
     ensures { Gives (λ b. rhs_tree b.value) result (Yes (rhs_tree side) (toks rest.now)) }
 {
-    Ok((Box::new(alloc, side)?, rest))
+    boxed(alloc, side, rest)
 }
 
 /// A statement in a box, and what stands behind it.
@@ -63,7 +63,7 @@ fn stmt_node<'a>(
 ) -> Result<(Box<Stmt>, &'a [Token]), Stop<'a>>
     ensures { Gives (λ b. stmt_tree b.value) result (Yes (stmt_tree stmt) (toks rest.now)) }
 {
-    Ok((Box::new(alloc, stmt)?, rest))
+    boxed(alloc, stmt, rest)
 }
 
 /// A part in a box, and what stands behind it.
@@ -74,7 +74,7 @@ fn part_node<'a>(
 ) -> Result<(Box<Part>, &'a [Token]), Stop<'a>>
     ensures { Gives (λ b. part_tree b.value) result (Yes (part_tree part) (toks rest.now)) }
 {
-    Ok((Box::new(alloc, part)?, rest))
+    boxed(alloc, part, rest)
 }
 
 /// A body in a box, and what stands behind it.
@@ -85,7 +85,7 @@ fn tail_node<'a>(
 ) -> Result<(Box<Tail>, &'a [Token]), Stop<'a>>
     ensures { Gives (λ b. tail_tree b.value) result (Yes (tail_tree tail) (toks rest.now)) }
 {
-    Ok((Box::new(alloc, tail)?, rest))
+    boxed(alloc, tail, rest)
 }
 
 /// A `val` with its type, and what stands behind it.
