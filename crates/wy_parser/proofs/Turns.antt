@@ -8,7 +8,7 @@ use Rattle.wy_syntax.specs.Tokens.{Tok, code, member}
 use Rattle.wy_syntax.specs.Trees.{ExprTree}
 use Rattle.wy_parser.specs.declared.stop.Stop.{Stop}
 use Rattle.wy_parser.specs.declared.stop.Stop.TheVariants as stops
-use Rattle.wy_parser.specs.Reading.{Out, Yes, No, Reader, and_then, starts, one_of, fold_many}
+use Rattle.wy_parser.specs.Reading.{Out, Yes, No, Reader, and_then, ◌>>=◌, ret, starts, one_of, fold_many}
 use Rattle.wy_parser.specs.ExprParsing.{operator_part, add_binary}
 use Rattle.wy_parser.specs.Sorts.{Halts, Gives}
 
@@ -65,3 +65,15 @@ gives_view view (Ok y) x ts h = ap (λ o. and_then o (λ a r. Yes (view a) r)) h
 gives_view view (Err (stops.At rest)) x ts h = ap (λ o. and_then o (λ a r. Yes (view a) r)) h
 gives_view view (Err stops.Deep) x ts h = ap (λ o. and_then o (λ a r. Yes (view a) r)) h
 gives_view view (Err stops.Memory) x ts h = tt
+
+-- an operator's symbol stops
+pub symbol_halts : (G : List ℕ) (next : Reader Tok ExprTree) (ts : List Tok) (e : Stop) → Halts e (one_of code G ts) → Halts e (operator_part G next ts)
+symbol_halts G next ts (stops.At rest) h = ap (λ o. and_then o (λ x. next >>= λ right. ret (x, right))) h
+symbol_halts G next ts stops.Deep h = ap (λ o. and_then o (λ x. next >>= λ right. ret (x, right))) h
+symbol_halts G next ts stops.Memory h = tt
+
+-- an operator's right side stops
+pub right_halts : (G : List ℕ) (next : Reader Tok ExprTree) (ts r : List Tok) (op : Tok) (e : Stop) → one_of code G ts ≡ Yes op r → Halts e (next r) → Halts e (operator_part G next ts)
+right_halts G next ts r op (stops.At rest) o h = ap (λ m. and_then m (λ x. next >>= λ right. ret (x, right))) o ∙ ap (λ m. and_then m (λ right. ret (op, right))) h
+right_halts G next ts r op stops.Deep o h = ap (λ m. and_then m (λ x. next >>= λ right. ret (x, right))) o ∙ ap (λ m. and_then m (λ right. ret (op, right))) h
+right_halts G next ts r op stops.Memory o h = tt
