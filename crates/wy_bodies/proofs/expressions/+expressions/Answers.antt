@@ -118,7 +118,7 @@ pub push_value-returns-clause-values : goal.push_value-returns-clause-values
 push_value-returns-clause-values t c =
     let w = lent_within c.args.within.now in
     let s = sight_of c.args.frame.now c.args.variables.now in
-    values_pushed c.args.values.now.items c.push.new.self.items c.in_ok-expr_value.field-0 (expr_value w s (expr_tree c.args.e.now)) c.in_ok-push.ensures.items c.in_ok-expr_value.ensures.value
+    values_pushed c.args.values.now.items c.add.new.list.items c.in_ok-expr_value.field-0 (expr_value w s (expr_tree c.args.e.now)) c.in_ok-add.ensures c.in_ok-expr_value.ensures.value
 
 pub expr_values-loop-e-preserved : goal.expr_values-loop-e-preserved
 expr_values-loop-e-preserved t c =
