@@ -188,6 +188,16 @@ with_params k plain n = do
   line ← mark kinds.Nl
   behind_params plain p w ps t n
 
+-- what stands in a program block behind its lines
+abbrev pub behind_lines : Place → List Grant → List Name → List Line → ℕ → R ItemTree
+behind_lines p gs us ls n = do
+  started ← mark kinds.KwRun
+  colon ← mark kinds.SymColon
+  s ← set n
+  b ← tail_at false n
+  closing ← mark kinds.Out
+  ret (program_item p gs us ls started s b)
+
 unfoldable pub program_of : ℕ → R ItemTree
 program_of n = do
   p ← mark kinds.KwProgram

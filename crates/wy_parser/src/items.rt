@@ -4,7 +4,7 @@ ghost use Rattle.wy_syntax.specs.Tokens.{tok_of, toks};
 ghost use Rattle.wy_syntax.specs.Trees.{type_item, pure_item};
 ghost use Rattle.wy_syntax.specs.Views.{inside_tree, item_tree};
 ghost use Rattle.wy_parser.specs.Parsing.{name_at};
-ghost use Rattle.wy_parser.specs.ItemParsing.{inside_lines, inside_of, type_of, pure_of, behind_params, with_params, program_of, item, items, p_file};
+ghost use Rattle.wy_parser.specs.ItemParsing.{inside_lines, inside_of, type_of, pure_of, behind_params, with_params, behind_lines, program_of, item, items, p_file};
 ghost use Rattle.wy_parser.specs.Reading.{Yes};
 ghost use Rattle.wy_parser.specs.Sorts.{number_of, Gives};
 
@@ -17,9 +17,9 @@ use crate::stop::Stop;
 use crate::types::{ParamEntry, set};
 use std::alloc::Global;
 use wy_syntax::items::{
-    Inside, Item, Member, PlainModule, Program, PureModule, ResourceModule, TypeDecl,
+    Grant, Inside, Item, Line, Member, PlainModule, Program, PureModule, ResourceModule, TypeDecl,
 };
-use wy_syntax::types::ParamList;
+use wy_syntax::types::{NameList, ParamList};
 use wy_text::fault::Place;
 use wy_text::list::Items;
 use wy_text::token::Token;
@@ -255,21 +255,19 @@ fn module_with_params<'a>(
     }
 }
 
-#[tactic(auto, unfolding(crate::specs::ItemParsing::program_of))]
-fn program<'a>(
+/// What stands in a program block behind its lines.
+fn program_end<'a>(
     alloc: Global,
     tokens: &'a [Token],
+    place: Place,
+    grants: Items<Grant>,
+    uses: NameList,
+    lines: Items<Line>,
     turns: usize,
 ) -> Result<(Box<Item>, &'a [Token]), Stop<'a>>
-    ensures { Gives (λ b. item_tree b.value) result (program_of turns (toks tokens.now)) }
+    ensures { Gives (λ b. item_tree b.value) result (behind_lines place grants uses lines turns (toks tokens.now)) }
 {
-    let (place, rest) = mark(tokens, Sort::KwProgram)?;
-    let (_, rest) = mark(rest, Sort::Nl)?;
-    let (_, rest) = mark(rest, Sort::In)?;
-    let (grants, rest) = row(alloc, rest, turns, &[Sort::KwGrant], &GrantEntry)?;
-    let (uses, rest) = uses(alloc, rest, turns)?;
-    let (lines, rest) = lines(alloc, rest, turns)?;
-    let (run, rest) = mark(rest, Sort::KwRun)?;
+    let (run, rest) = mark(tokens, Sort::KwRun)?;
     let (_, rest) = mark(rest, Sort::SymColon)?;
     let (effect, rest) = set(alloc, rest, turns)?;
     let (body, rest) = tail(alloc, rest, false, turns)?;
@@ -284,6 +282,24 @@ fn program<'a>(
         body: Box::into_inner(body),
     });
     item_node(alloc, item, rest)
+}
+
+/// The program block.
+#[tactic(auto, unfolding(crate::specs::ItemParsing::program_of))]
+fn program<'a>(
+    alloc: Global,
+    tokens: &'a [Token],
+    turns: usize,
+) -> Result<(Box<Item>, &'a [Token]), Stop<'a>>
+    ensures { Gives (λ b. item_tree b.value) result (program_of turns (toks tokens.now)) }
+{
+    let (place, rest) = mark(tokens, Sort::KwProgram)?;
+    let (_, rest) = mark(rest, Sort::Nl)?;
+    let (_, rest) = mark(rest, Sort::In)?;
+    let (grants, rest) = row(alloc, rest, turns, &[Sort::KwGrant], &GrantEntry)?;
+    let (uses, rest) = uses(alloc, rest, turns)?;
+    let (lines, rest) = lines(alloc, rest, turns)?;
+    program_end(alloc, rest, place, grants, uses, lines, turns)
 }
 
 /// An item.
