@@ -2,11 +2,10 @@
 //! each loop; it is one less at each expression, argument or operand of a prefix in another.
 ghost use Rattle.std.specs.Prelude.{◌≡◌, [], ◌∷◌, IfOk, map, pos};
 ghost use Rattle.wy_syntax.specs.Tokens.{code, tok_of, toks};
-ghost use Rattle.wy_syntax.specs.Trees.{byte_at, choice, part};
 ghost use Rattle.wy_syntax.specs.Views.{expr_tree};
 ghost use Rattle.wy_parser.specs.Kinds as kinds;
 ghost use Rattle.wy_parser.specs.Parsing.{commas, comma_part, value_of_int, value_of_kind};
-ghost use Rattle.wy_parser.specs.ExprParsing.{arg_first, add_binary, minus_of, minus_digits, minus_edge, is_choice, number_alone, text_alone, one_argument, several_arguments, built, parens, ascription, after_arg, atomic, call_part, add_call, post, minus, unary_at, compare_at, level_at, operand_at, choice_rest, choice_of, p_unary, p_expr, p_arg};
+ghost use Rattle.wy_parser.specs.ExprParsing.{arg_first, add_binary, minus_of, minus_digits, minus_edge, is_choice, number_alone, text_alone, one_argument, third_argument, several_arguments, built, parens, ascription, after_arg, atomic, call_part, add_call, post, minus, unary_at, compare_at, level_at, operand_at, choice_rest, choice_of, p_unary, p_expr, p_arg};
 ghost use Rattle.wy_parser.specs.Reading.{Yes, choose};
 ghost use Rattle.wy_parser.specs.Sorts.{number_of, Gives};
 
@@ -539,6 +538,31 @@ fn one_argument<'a>(
     Ok(((e, place), rest))
 }
 
+/// What stands behind two arguments: the end, or a third one before it.
+#[cycle(expressions)]
+fn third_argument<'a>(
+    alloc: Global,
+    tokens: &'a [Token],
+    three: bool,
+    text: Box<Expr>,
+    from: Box<Expr>,
+    place: Place,
+    plain: bool,
+    inner: usize,
+) -> Result<(Box<Expr>, &'a [Token]), Stop<'a>>
+    ensures { Gives (λ b. expr_tree b.value) result (third_argument three (p_arg plain inner) (expr_tree text.value) (expr_tree from.value) place (toks tokens.now)) }
+{
+    if three {
+        let (_, rest) = mark(tokens, Sort::SymComma)?;
+        let (to, rest) = arg(alloc, rest, plain, inner)?;
+        let (_, rest) = mark(rest, Sort::SymCloseParen)?;
+        node(alloc, Expr::TextPart(text, from, to, place), rest)
+    } else {
+        let (_, rest) = mark(tokens, Sort::SymCloseParen)?;
+        node(alloc, Expr::TextCode(text, from, place), rest)
+    }
+}
+
 /// A word and two arguments in parentheses, or three: `text_code`, or `text_part`.
 #[cycle(expressions)]
 #[tactic(auto, unfolding(crate::specs::ExprParsing::several_arguments))]
@@ -557,14 +581,7 @@ fn several_arguments<'a>(
     let (text, rest) = arg(alloc, rest, plain, inner)?;
     let (_, rest) = mark(rest, Sort::SymComma)?;
     let (from, rest) = arg(alloc, rest, plain, inner)?;
-    if three {
-        let (_, rest) = mark(rest, Sort::SymComma)?;
-        let (to, rest) = arg(alloc, rest, plain, inner)?;
-        let (_, rest) = mark(rest, Sort::SymCloseParen)?;
-        return node(alloc, Expr::TextPart(text, from, to, place), rest);
-    }
-    let (_, rest) = mark(rest, Sort::SymCloseParen)?;
-    node(alloc, Expr::TextCode(text, from, place), rest)
+    third_argument(alloc, rest, three, text, from, place, plain, inner)
 }
 
 /// `: T)` behind an expression in parentheses.

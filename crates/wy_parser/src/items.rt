@@ -1,10 +1,10 @@
 //! Items and files. `turns` is the depth of the bodies too.
-ghost use Rattle.std.specs.Prelude.{◌≡◌, false, map, true};
+ghost use Rattle.std.specs.Prelude.{false, map, true};
 ghost use Rattle.wy_syntax.specs.Tokens.{tok_of, toks};
 ghost use Rattle.wy_syntax.specs.Trees.{type_item, pure_item};
 ghost use Rattle.wy_syntax.specs.Views.{inside_tree, item_tree};
 ghost use Rattle.wy_parser.specs.Parsing.{name_at};
-ghost use Rattle.wy_parser.specs.ItemParsing.{inside_lines, inside_of, type_of, pure_of, behind_params, with_params, behind_lines, program_of, item, items, p_file};
+ghost use Rattle.wy_parser.specs.ItemParsing.{behind_module_lines, inside_lines, inside_of, type_of, pure_of, behind_params, sealed_module, with_params, behind_lines, program_of, item, items, p_file};
 ghost use Rattle.wy_parser.specs.Reading.{Yes};
 ghost use Rattle.wy_parser.specs.Sorts.{number_of, Gives};
 
@@ -54,6 +54,31 @@ fn item_node<'a>(
     boxed(alloc, item, rest)
 }
 
+/// What stands inside a pure or a resource module behind its lines.
+fn inside_end<'a>(
+    alloc: Global,
+    tokens: &'a [Token],
+    uses: NameList,
+    lines: Items<Line>,
+    turns: usize,
+) -> Result<(Box<Inside>, &'a [Token]), Stop<'a>>
+    ensures { Gives (λ b. inside_tree b.value) result (behind_module_lines uses lines turns (toks tokens.now)) }
+{
+    let entry = DefineEntry { turns };
+    let (defines, rest) = row(alloc, tokens, turns, &[Sort::KwEffect], &entry)?;
+    let (init, rest) = init(alloc, rest, turns)?;
+    let (parts, rest) = parts(alloc, rest, false, turns)?;
+    let (_, rest) = mark(rest, Sort::Out)?;
+    let inside = Inside {
+        uses,
+        lines,
+        defines,
+        init,
+        parts,
+    };
+    inside_node(alloc, inside, rest)
+}
+
 /// The lines inside a pure or a resource module.
 #[tactic(auto, unfolding(crate::specs::ItemParsing::inside_lines))]
 fn inside_lines<'a>(
@@ -66,24 +91,7 @@ fn inside_lines<'a>(
     let (_, rest) = mark(tokens, Sort::In)?;
     let (uses, rest) = uses(alloc, rest, turns)?;
     let (lines, rest) = lines(alloc, rest, turns)?;
-    let (defines, rest) = row(
-        alloc,
-        rest,
-        turns,
-        &[Sort::KwEffect],
-        &DefineEntry { turns },
-    )?;
-    let (init, rest) = init(alloc, rest, turns)?;
-    let (parts, rest) = parts(alloc, rest, false, turns)?;
-    let (_, rest) = mark(rest, Sort::Out)?;
-    let inside = Inside {
-        uses,
-        lines,
-        defines,
-        init,
-        parts,
-    };
-    inside_node(alloc, inside, rest)
+    inside_end(alloc, rest, uses, lines, turns)
 }
 
 /// What stands inside a pure or a resource module.
@@ -225,6 +233,28 @@ fn plain_end<'a>(
     item_node(alloc, item, rest)
 }
 
+/// What stands in a module with parameters behind them.
+fn sealed_module<'a>(
+    alloc: Global,
+    tokens: &'a [Token],
+    place: Place,
+    name: &Token,
+    params: ParamList,
+    plain: bool,
+    turns: usize,
+) -> Result<(Box<Item>, &'a [Token]), Stop<'a>>
+    ensures { Gives (λ b. item_tree b.value) result (sealed_module plain place (name_at (tok_of name.now)) params turns (toks tokens.now)) }
+{
+    let (_, rest) = mark(tokens, Sort::SymColon)?;
+    let (sealed, rest) = name_token(rest)?;
+    let (_, rest) = mark(rest, Sort::Nl)?;
+    if plain {
+        plain_end(alloc, rest, place, name, params, sealed, turns)
+    } else {
+        resource_end(alloc, rest, place, name, params, sealed, turns)
+    }
+}
+
 /// A module with parameters, which begins with the word: a resource module, or a plain one.
 #[tactic(auto, unfolding(crate::specs::ItemParsing::with_params))]
 fn module_with_params<'a>(
@@ -245,14 +275,7 @@ fn module_with_params<'a>(
         turns,
     };
     let (params, rest) = between(alloc, rest, turns, PARENTHESES, &entry)?;
-    let (_, rest) = mark(rest, Sort::SymColon)?;
-    let (sealed, rest) = name_token(rest)?;
-    let (_, rest) = mark(rest, Sort::Nl)?;
-    if plain {
-        plain_end(alloc, rest, place, name, params, sealed, turns)
-    } else {
-        resource_end(alloc, rest, place, name, params, sealed, turns)
-    }
+    sealed_module(alloc, rest, place, name, params, plain, turns)
 }
 
 /// What stands in a program block behind its lines.

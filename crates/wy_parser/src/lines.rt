@@ -1,5 +1,5 @@
 //! The lines inside types, modules and programs. `turns` bounds the turns of each loop.
-ghost use Rattle.std.specs.Prelude.{◌≡◌, [], ◌∷◌, false, true};
+ghost use Rattle.std.specs.Prelude.{[], ◌∷◌, false, true};
 ghost use Rattle.wy_syntax.specs.declared.items.Line.TheVariants as lines;
 ghost use Rattle.wy_syntax.specs.declared.items.Member.TheVariants as members;
 ghost use Rattle.wy_syntax.specs.Tokens.{tok_of, toks};

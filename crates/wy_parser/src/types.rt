@@ -1,9 +1,8 @@
 //! Sets, types and signatures. Each function reads what stands first and gives what stands behind it;
 //! `turns` bounds the turns of each loop.
-ghost use Rattle.std.specs.Prelude.{◌≡◌};
 ghost use Rattle.wy_syntax.specs.declared.types.TypeUse.TheVariants as types;
 ghost use Rattle.wy_syntax.specs.Tokens.{tok_of, toks};
-ghost use Rattle.wy_parser.specs.Parsing.{name_at, member_alone, member_of, owned, atom, set, member_set, with_sets, at_set, object_rest, object, type_use, param_of, param_type, param, effect, signature_of, signature};
+ghost use Rattle.wy_parser.specs.Parsing.{name_at, member_alone, member_of, owned, atom, set, member_set, with_sets, at_set, object_rest, object, type_use, param_of, param_type, param, effect, signature_of, behind_params, signature};
 ghost use Rattle.wy_parser.specs.Reading.{Yes};
 ghost use Rattle.wy_parser.specs.Sorts.{Gives};
 
@@ -345,6 +344,25 @@ fn signature_node<'a>(
     boxed(alloc, signature, rest)
 }
 
+/// What stands in a signature behind its parameters.
+fn signature_end<'a>(
+    alloc: Global,
+    tokens: &'a [Token],
+    place: Place,
+    name: &Token,
+    params: ParamList,
+    plain: bool,
+    turns: usize,
+) -> Result<(Box<Signature>, &'a [Token]), Stop<'a>>
+    ensures { Gives (λ s. s.value) result (behind_params plain place (name_at (tok_of name.now)) params turns (toks tokens.now)) }
+{
+    let (_, rest) = mark(tokens, Sort::SymCloseParen)?;
+    let (_, rest) = mark(rest, Sort::SymColon)?;
+    let (effect, rest) = effect(alloc, rest, plain, turns)?;
+    let (result, rest) = type_use(alloc, rest, plain, turns)?;
+    signature_node(alloc, place, name, params, effect, result, rest)
+}
+
 /// What stands before a method's body.
 #[tactic(auto, unfolding(crate::specs::Parsing::signature))]
 pub fn signature<'a>(
@@ -364,9 +382,5 @@ pub fn signature<'a>(
         turns,
     };
     let (params, rest) = named(alloc, rest, turns, &entry)?;
-    let (_, rest) = mark(rest, Sort::SymCloseParen)?;
-    let (_, rest) = mark(rest, Sort::SymColon)?;
-    let (effect, rest) = effect(alloc, rest, plain, turns)?;
-    let (result, rest) = type_use(alloc, rest, plain, turns)?;
-    signature_node(alloc, place, name, params, effect, result, rest)
+    signature_end(alloc, rest, place, name, params, plain, turns)
 }
