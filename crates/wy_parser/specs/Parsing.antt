@@ -167,8 +167,8 @@ abbrev pub signature_of : Place → Name → List Param → Option (List AtomUse
 signature_of p w ps e t = record { place = p; name = w; params = ps; effect = e; result = t }
 
 -- what stands in a signature behind its parameters
-abbrev pub behind_params : Bool → Place → Name → List Param → ℕ → R Signature
-behind_params plain p w ps n = do
+abbrev pub behind_method_params : Bool → Place → Name → List Param → ℕ → R Signature
+behind_method_params plain p w ps n = do
   closing ← mark kinds.SymCloseParen
   colon ← mark kinds.SymColon
   e ← effect plain n

@@ -2,7 +2,7 @@
 //! `turns` bounds the turns of each loop.
 ghost use Rattle.wy_syntax.specs.declared.types.TypeUse.TheVariants as types;
 ghost use Rattle.wy_syntax.specs.Tokens.{tok_of, toks};
-ghost use Rattle.wy_parser.specs.Parsing.{name_at, member_alone, member_of, owned, atom, set, member_set, with_sets, at_set, object_rest, object, type_use, param_of, param_type, param, effect, signature_of, behind_params, signature};
+ghost use Rattle.wy_parser.specs.Parsing.{name_at, member_alone, member_of, owned, atom, set, member_set, with_sets, at_set, object_rest, object, type_use, param_of, param_type, param, effect, signature_of, behind_method_params, signature};
 ghost use Rattle.wy_parser.specs.Reading.{Yes};
 ghost use Rattle.wy_parser.specs.Sorts.{Gives};
 
@@ -354,7 +354,7 @@ fn signature_end<'a>(
     plain: bool,
     turns: usize,
 ) -> Result<(Box<Signature>, &'a [Token]), Stop<'a>>
-    ensures { Gives (λ s. s.value) result (behind_params plain place (name_at (tok_of name.now)) params turns (toks tokens.now)) }
+    ensures { Gives (λ s. s.value) result (behind_method_params plain place (name_at (tok_of name.now)) params turns (toks tokens.now)) }
 {
     let (_, rest) = mark(tokens, Sort::SymCloseParen)?;
     let (_, rest) = mark(rest, Sort::SymColon)?;
