@@ -4,6 +4,7 @@
 ghost use Rattle.std.specs.Prelude.{◌≡◌, ◌∷◌, [], ℕ, false, List, map, IfOk};
 ghost use Rattle.std.specs.Ordering.{nat_cmp};
 ghost use Rattle.std.specs.BTreeMap.{get};
+ghost use Rattle.wy_syntax.specs.Trees.{PartTrees};
 ghost use Rattle.wy_syntax.specs.Views.{expr_tree, expr_trees, rhs_tree, stmt_tree, stmt_trees, part_tree, part_trees, tail_tree};
 ghost use Rattle.wy_bodies.specs.Sight.{written_of};
 ghost use Rattle.wy_bodies.specs.InSight.{entries};
@@ -187,6 +188,22 @@ fn marked(
     Ok(marks)
 }
 
+/// The variables that these names stand for, each once, in the order in which they came into sight.
+fn captured(
+    alloc: Global,
+    variables: &Variables,
+    names: &[&Text],
+) -> Result<Items<Variable>, Memory>
+    ensures { IfOk result (λ vs. (parts : PartTrees) → map lent_text names.now ≡ methods_names parts → vs ≡ written_of (entries variables.now) parts) }
+{
+    let marks = marked(alloc, variables, names)?;
+    let mut captures = Items::new(alloc);
+    for variable in marks.values() {
+        captures.push(*variable)?;
+    }
+    Ok(captures)
+}
+
 /// The variables in sight that the methods write, each once, in the order in which they came into sight.
 pub fn captures(
     alloc: Global,
@@ -196,10 +213,5 @@ pub fn captures(
     ensures { IfOk result (λ vs. vs ≡ written_of (entries variables.now) (part_trees parts.now)) }
 {
     let names = methods_names(alloc, parts)?;
-    let marks = marked(alloc, variables, &names)?;
-    let mut captures = Items::new(alloc);
-    for variable in marks.values() {
-        captures.push(*variable)?;
-    }
-    Ok(captures)
+    captured(alloc, variables, &names)
 }

@@ -13,7 +13,7 @@ ghost use Rattle.wy_bodies.specs.ValueRows.{values_then};
 
 use crate::bodies::Within;
 use crate::sight::{Frame, Variables, binding_of};
-use crate::values::{call, choice, last, operand, operator_of, text_call};
+use crate::values::{add, boxed, boxed_operand, call, choice, last, operator_of, text_call};
 use std::alloc::Global;
 use wy_symbols::{Cause, Refusal, note_at, read_type};
 use wy_syntax::expressions::Expr;
@@ -147,7 +147,7 @@ pub fn expr_value(
         }
         Expr::Ascribe(e, type_use, place) => {
             let value = expr_value(alloc, within, frame, variables, least, e)?;
-            let value = Box::new(alloc, value)?;
+            let value = boxed(alloc, value)?;
             let typ = read_type(alloc, within.atoms, within.plain, type_use, least)?;
             Ok(Value::Plain(code::Expr::Ascribe(*place, value, typ)))
         }
@@ -174,7 +174,7 @@ pub fn operand_value(
     ensures noted { OnOk result (least.new ≡ noted least.old (expr_refusals (lent_within within.now) (sight_of frame.now variables.now) (expr_tree e.now))) }
 {
     let value = expr_value(alloc, within, frame, variables, least, e)?;
-    Ok(Box::new(alloc, operand(value))?)
+    boxed_operand(alloc, value)
 }
 
 /// The values of a call's arguments.
@@ -211,7 +211,10 @@ fn push_value(
     ensures values { OnOk result ((rest : plain.Values) → values_then values.new.items rest ≡ values_then values.old.items (plain.more (expr_value (lent_within within.now) (sight_of frame.now variables.now) (expr_tree e.now)) rest)) }
     ensures noted { OnOk result (least.new ≡ noted least.old (expr_refusals (lent_within within.now) (sight_of frame.now variables.now) (expr_tree e.now))) }
 {
-    values.push(expr_value(alloc, within, frame, variables, least, e)?)?;
+    add(
+        values,
+        expr_value(alloc, within, frame, variables, least, e)?,
+    )?;
     Ok(())
 }
 

@@ -1,7 +1,7 @@
 //! What is in sight in a body (docs/LANGUAGE.md, "Names"). A name is found by tables, and never by going
 //! through what is in sight.
 
-ghost use Rattle.std.specs.Prelude.{◌≡◌, ◌≤◌, ◌++◌, ◌∷◌, ◌-◌, [], List, ℕ, true, false, take, length, IfOk, OnOk};
+ghost use Rattle.std.specs.Prelude.{◌≡◌, ◌≤◌, ◌++◌, ◌∷◌, ◌-◌, [], List, ℕ, None, true, false, take, length, IfOk, OnOk};
 ghost use Rattle.indexmap.specs.IndexMap.{get};
 ghost use Rattle.wy_syntax.specs.Views.{part_trees};
 ghost use Rattle.wy_symbols.specs.Declarations.{same_name, texts};
@@ -155,11 +155,11 @@ impl<'a> Model for Frame<'a> {
     ghost invariant = { λ f. (x : List ℕ) → get same_name f.fields x ≡ seen (field_entries 0 (texts (field_names (part_trees f.parts.now)))) x };
 }
 
-/// The fields by their names; of those with one name the last.
-fn fields_of(alloc: Global, parts: &[Part]) -> Result<IndexMap<Text, Binding>, Memory>
-    ensures { IfOk result (λ m. (x : List ℕ) → get same_name m x ≡ seen (field_entries 0 (texts (field_names (part_trees parts.now)))) x) }
+/// Adds the fields by their names; of those with one name the last stays.
+fn add_fields(fields: &mut IndexMap<Text, Binding>, parts: &[Part]) -> Result<(), Memory>
+    requires { (x : List ℕ) → get same_name fields.old x ≡ None }
+    ensures { OnOk result ((x : List ℕ) → get same_name fields.new x ≡ seen (field_entries 0 (texts (field_names (part_trees parts.now)))) x) }
 {
-    let mut fields = IndexMap::new(alloc);
     let mut number: u16 = 0;
     for part in parts {
         match part {
@@ -170,6 +170,15 @@ fn fields_of(alloc: Global, parts: &[Part]) -> Result<IndexMap<Text, Binding>, M
             Part::Method(_, _) => {}
         }
     }
+    Ok(())
+}
+
+/// The fields by their names; of those with one name the last.
+fn fields_of(alloc: Global, parts: &[Part]) -> Result<IndexMap<Text, Binding>, Memory>
+    ensures { IfOk result (λ m. (x : List ℕ) → get same_name m x ≡ seen (field_entries 0 (texts (field_names (part_trees parts.now)))) x) }
+{
+    let mut fields = IndexMap::new(alloc);
+    add_fields(&mut fields, parts)?;
     Ok(fields)
 }
 

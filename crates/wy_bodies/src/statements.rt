@@ -21,7 +21,7 @@ use crate::bodies::Within;
 use crate::expressions::{bound, expr_value, operand_value};
 use crate::literals::{literal_of, note_repeated_parts};
 use crate::sight::{Frame, Variables};
-use crate::values::{choice, last, object};
+use crate::values::{add, boxed, choice, last, object};
 use std::alloc::Global;
 use std::mem;
 use wy_symbols::{Refusal, read_method, read_type};
@@ -96,12 +96,15 @@ fn ended(alloc: Global, place: Place, mut statements: Vec<code::Stmt>) -> Result
     match statements.pop() {
         None => last(alloc, Value::Plain(code::Expr::Unit(place))),
         Some(code::Stmt::Do(value)) => {
-            let last = Box::new(alloc, value)?;
+            let last = boxed(alloc, value)?;
             Ok(Block { statements, last })
         }
         Some(code::Stmt::Val(place_of, number, typ, value)) => {
-            statements.push(code::Stmt::Val(place_of, number, typ, value))?;
-            let last = Box::new(alloc, Value::Plain(code::Expr::Unit(place)))?;
+            add(
+                &mut statements,
+                code::Stmt::Val(place_of, number, typ, value),
+            )?;
+            let last = boxed(alloc, Value::Plain(code::Expr::Unit(place)))?;
             Ok(Block { statements, last })
         }
     }
@@ -201,7 +204,8 @@ pub fn part_values(
     for part in parts {
         match part {
             Part::Field(_kind, _name, type_use, rhs) => {
-                values.push(field_value(alloc, within, outer, variables, found, type_use, rhs)?)?;
+                let value = field_value(alloc, within, outer, variables, found, type_use, rhs)?;
+                add(&mut values, value)?;
             }
             Part::Method(signature, body) => {
                 method(
@@ -260,7 +264,7 @@ fn method(
     let done = method_body(
         alloc, within, frame, variables, found, owner, signature, body,
     )?;
-    before.push(done)?;
+    add(&mut before, done)?;
     before.append(&mut found.bodies)?;
     found.bodies = before;
     Ok(())
@@ -359,7 +363,10 @@ fn block(
     let depth = variables.len();
     let mut done = Vec::new(alloc);
     for one in statements {
-        done.push(statement(alloc, within, frame, variables, found, one)?)?;
+        add(
+            &mut done,
+            statement(alloc, within, frame, variables, found, one)?,
+        )?;
     }
     variables.truncate(depth);
     ended(alloc, place, done)
@@ -392,7 +399,7 @@ fn statement(
         Stmt::Assign(name, rhs) => {
             let bound = bound(within, frame, variables, &mut found.least, name)?;
             let value = rhs_value(alloc, within, frame, variables, found, rhs)?;
-            let value = Box::new(alloc, value)?;
+            let value = boxed(alloc, value)?;
             Ok(code::Stmt::Do(Value::Plain(code::Expr::Assign(name.place, bound, value))))
         }
         Stmt::Run(rhs) => {

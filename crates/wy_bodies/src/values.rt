@@ -1,6 +1,6 @@
 //! Values and blocks of several parts.
 
-ghost use Rattle.std.specs.Prelude.{◌≡◌, IfOk};
+ghost use Rattle.std.specs.Prelude.{◌≡◌, [], ◌∷◌, ◌++◌, IfOk, OnOk};
 ghost use Rattle.wy_types.specs.Code as code;
 ghost use Rattle.wy_types.specs.View.{expr_of, value_of, values_of, block_of};
 ghost use Rattle.wy_bodies.specs.Bodies.{operand, operator_of};
@@ -71,11 +71,33 @@ pub fn choice(place: Place, test: Box<Expr>, first: Block, second: Block) -> Val
     Value::If(place, test, first, second)
 }
 
+/// Adds an item at the end.
+pub fn add<X: Drop>(list: &mut Vec<X>, item: X) -> Result<(), Memory>
+    ensures { OnOk result (list.new.items ≡ list.old.items ++ item ∷ []) }
+{
+    list.push(item)?;
+    Ok(())
+}
+
+/// A value in a box.
+pub fn boxed(alloc: Global, value: Value) -> Result<Box<Value>, Memory>
+    ensures { IfOk result (λ b. b.value ≡ value) }
+{
+    Ok(Box::new(alloc, value)?)
+}
+
+/// A value as a receiver or an operand, in a box.
+pub fn boxed_operand(alloc: Global, value: Value) -> Result<Box<Expr>, Memory>
+    ensures { IfOk result (λ b. expr_of b.value ≡ operand (value_of value)) }
+{
+    Ok(Box::new(alloc, operand(value))?)
+}
+
 /// A block of one value.
 pub fn last(alloc: Global, value: Value) -> Result<Block, Memory>
     ensures { IfOk result (λ b. block_of b ≡ code.Last (value_of value)) }
 {
-    let last = Box::new(alloc, value)?;
+    let last = boxed(alloc, value)?;
     Ok(Block {
         statements: Vec::new(alloc),
         last,

@@ -81,6 +81,24 @@ fn meaning_set(alloc: Global, meanings: &Meanings, name: &Text) -> Result<EffSet
     }
 }
 
+/// Adds what a module defines for each abstract member.
+fn add_definitions(
+    alloc: Global,
+    list: &mut SetList,
+    heads: &Heads,
+    meanings: &Meanings,
+    members: &[Meaning],
+) -> Result<(), Memory>
+    ensures { OnOk result (list.new ≡ list.old ++ definitions_for heads.now [] meanings.now (abstract_names members.now)) }
+{
+    for member in members {
+        if member.is_abstract {
+            list.push(meaning_set(alloc, meanings, &member.name)?)?;
+        }
+    }
+    Ok(())
+}
+
 /// What a module defines for each abstract member.
 pub fn definitions_for(
     alloc: Global,
@@ -91,11 +109,7 @@ pub fn definitions_for(
     ensures { IfOk result (λ l. l ≡ definitions_for heads.now [] meanings.now (abstract_names members.now)) }
 {
     let mut list = Items::new(alloc);
-    for member in members {
-        if member.is_abstract {
-            list.push(meaning_set(alloc, meanings, &member.name)?)?;
-        }
-    }
+    add_definitions(alloc, &mut list, heads, meanings, members)?;
     Ok(list)
 }
 

@@ -142,6 +142,40 @@ fn some_pass(
     programs_pass(alloc, names, numbers, modules, programs, counts)
 }
 
+/// Whether the number of atoms passes its limit somewhere, by tables of the types' and the modules' names.
+fn atoms_pass_by(
+    alloc: Global,
+    names: &Table,
+    numbers: &Table,
+    types: &[&TypeDecl],
+    modules: &[ModuleView],
+    programs: &[&Program],
+) -> Result<bool, Memory>
+    requires few { length names.now ≤ most_types }
+    requires named { names.now ≡ all_names (map lent_type types.now) }
+    requires numbered { numbers.now ≡ texts (module_names (map module_tree modules.now)) }
+    ensures { IfOk result (λ b. b ≡ passes LimitName.Atoms (lent_declared types.now modules.now programs.now)) }
+{
+    let counts = type_counts(alloc, types)?;
+    some_pass(alloc, names, numbers, &counts, types, modules, programs)
+}
+
+/// Whether the number of atoms passes its limit somewhere, by a table of the types' names.
+fn atoms_pass_among(
+    alloc: Global,
+    names: &Table,
+    types: &[&TypeDecl],
+    modules: &[ModuleView],
+    programs: &[&Program],
+) -> Result<bool, Memory>
+    requires few { length names.now ≤ most_types }
+    requires named { names.now ≡ all_names (map lent_type types.now) }
+    ensures { IfOk result (λ b. b ≡ passes LimitName.Atoms (lent_declared types.now modules.now programs.now)) }
+{
+    let numbers = module_table(alloc, modules)?;
+    atoms_pass_by(alloc, names, &numbers, types, modules, programs)
+}
+
 /// Whether the number of atoms passes its limit somewhere.
 fn atoms_pass(
     alloc: Global,
@@ -153,9 +187,7 @@ fn atoms_pass(
     ensures { IfOk result (λ b. b ≡ passes LimitName.Atoms (lent_declared types.now modules.now programs.now)) }
 {
     let names = type_table(alloc, types)?;
-    let numbers = module_table(alloc, modules)?;
-    let counts = type_counts(alloc, types)?;
-    some_pass(alloc, &names, &numbers, &counts, types, modules, programs)
+    atoms_pass_among(alloc, &names, types, modules, programs)
 }
 
 /// The first limit of this stage that is passed, where there is one (docs/LANGUAGE.md, "Limits").

@@ -5,7 +5,7 @@ ghost use Rattle.std.specs.Prelude.{◌≡◌, ◌≤◌, ◌<◌, ◌+◌, ◌^
 ghost use Rattle.wy_syntax.specs.declared.items.Line.TheVariants as line;
 ghost use Rattle.wy_symbols.specs.Least.{noted};
 ghost use Rattle.wy_symbols.specs.Declarations.{first_from, texts, module_names, module_number};
-ghost use Rattle.wy_symbols.specs.Atoms.{head_names, module_opening, use_owner, line_owner, set_of, owner_names, atom_scope};
+ghost use Rattle.wy_symbols.specs.Atoms.{head_names, module_opening, use_owner, line_owner, set_of, set_refusals, owner_names, atom_scope};
 ghost use Rattle.wy_heads.specs.Lines.{number_or_zero, at_bound, argument_numbers, line_name, line_names, unless_number, uses_refusals, argument_refusals, line_refusals, lines_refusals};
 ghost use Rattle.wy_symbols.specs.Lent.{module_tree};
 
@@ -237,6 +237,21 @@ fn note_arguments(
     }
 }
 
+/// Notes the refusals of the bound of an import line that is the owner of a number.
+fn note_bound(
+    alloc: Global,
+    owners: &Owners,
+    number: usize,
+    set: &SetUse,
+    least: &mut Option<Refusal>,
+)
+    ensures { least.new ≡ noted least.old (set_refusals (atom_scope owners.now.heads owners.now.atoms (take number owners.now.owners) []) set.now) }
+{
+    let nothing = Meanings::new(alloc);
+    let scope = AtomScope::new(owners, number, &nothing);
+    note_set(&scope, set.as_slice(), least);
+}
+
 /// Notes the refusals of a line that is the owner of a number.
 #[tactic(auto, using(wy_symbols::proofs::Leasts::noted_append))]
 fn note_line(
@@ -259,12 +274,7 @@ fn note_line(
         Line::Import(_, named, arguments, set) => {
             note_module(numbers, modules, named, least);
             note_arguments(owners, modules, number, arguments.as_slice(), least);
-            let nothing = Meanings::new(alloc);
-            note_set(
-                &AtomScope::new(owners, number, &nothing),
-                set.as_slice(),
-                least,
-            );
+            note_bound(alloc, owners, number, set, least);
         }
     }
 }

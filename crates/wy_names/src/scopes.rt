@@ -194,20 +194,40 @@ fn program_parts(
     ensures noted { OnOk result (least.new ≡ noted least.old (program_refusals owners.now.heads (map module_tree modules.now) (program_tree program.now))) }
 {
     let nothing = Meanings::new(alloc);
-    let scope = AtomScope::new(owners, owners.names().len(), &nothing);
+    program_parts_with(alloc, owners, numbers, modules, program, &nothing, least)
+}
+
+/// The same, where no names stand for sets of atoms.
+fn program_parts_with(
+    alloc: Global,
+    owners: &Owners,
+    numbers: &Table,
+    modules: &[ModuleView],
+    program: &Program,
+    nothing: &Meanings,
+    least: &mut Option<Refusal>,
+) -> Result<Parts, Memory>
+    requires few { length numbers.now ≤ 256 }
+    requires numbered { numbers.now ≡ texts (module_names (map module_tree modules.now)) }
+    requires owned { owners.now ≡ atom_scope owners.now.heads (program_atoms owners.now.heads (map module_tree modules.now) (program_tree program.now)) (program_owners owners.now.heads (map module_tree modules.now) (program_tree program.now)) [] }
+    requires nothing { nothing.now ≡ [] }
+    ensures parts { IfOk result (ArePartsOfProgram owners.now.heads (map module_tree modules.now) (program_tree program.now)) }
+    ensures noted { OnOk result (least.new ≡ noted least.old (program_refusals owners.now.heads (map module_tree modules.now) (program_tree program.now))) }
+{
+    let scope = AtomScope::new(owners, owners.names().len(), nothing);
     let within = Within {
         atoms: &scope,
         plain: false,
         own: owners.names(),
     };
     let effect = program.effect.as_slice();
-    let definitions = Items::new(alloc);
     let bounds = owners.bounds(alloc)?;
     let own = program_own(alloc, owners, numbers, modules, program)?;
     let start_effect = set_of(alloc, &scope, effect)?;
     note_program(alloc, owners, numbers, modules, program, least)?;
     note_set(&scope, effect, least);
     let resolved = program_block(alloc, &within, program.run, &program.body, least)?;
+    let definitions = Items::new(alloc);
     Ok(Parts {
         bounds,
         names: own,

@@ -1,14 +1,14 @@
 -- One turn of a loop that reads parts, and how such a loop ends.
-use Rattle.std.proofs.Common.{◌≡◌, ℕ, zero, suc, ◌-◌, ◌<◌, Bool, true, false, cond, List, [], ◌∷◌, ◌++◌, map, refl, sym, ap, subst, ◌∙◌, arith}
+use Rattle.std.proofs.Common.{◌≡◌, ℕ, zero, suc, ◌-◌, ◌<◌, Bool, true, false, cond, List, [], ◌∷◌, ◌++◌, map, refl, sym, ap, subst, ◌∙◌, arith, Box, Global}
 use Rattle.std.proofs.lemmas.List.{map-append}
-use Rattle.std.specs.Prelude.{Result, Err}
+use Rattle.std.specs.Prelude.{Result, Ok, Err}
 use Rattle.std.specs.Borrow.{Bor}
 use Rattle.wy_text.specs.declared.token.Token.{Token}
 use Rattle.wy_syntax.specs.Tokens.{Tok, code, member}
 use Rattle.wy_syntax.specs.Trees.{ExprTree}
 use Rattle.wy_parser.specs.declared.stop.Stop.{Stop}
 use Rattle.wy_parser.specs.declared.stop.Stop.TheVariants as stops
-use Rattle.wy_parser.specs.Reading.{Out, Yes, No, Reader, and_then, starts, one_of, fold_many}
+use Rattle.wy_parser.specs.Reading.{Out, Yes, No, Reader, and_then, ◌>>=◌, ret, starts, one_of, fold_many}
 use Rattle.wy_parser.specs.ExprParsing.{operator_part, add_binary}
 use Rattle.wy_parser.specs.Sorts.{Halts, Gives}
 
@@ -58,3 +58,22 @@ part_halts k G p add a ts out stops.Memory hk h1 h2 h = tt
 
 pub gives_err : {X A : Type 0} (view : X → A) (r : Result (X × Bor (List Token)) Stop) (e : Stop) (out : Out Tok A) → r ≡ Err e → Halts e out → Gives view r out
 gives_err {X} view r e out h s = subst (λ (r : Result (X × Bor (List Token)) Stop). Gives view r out) (sym h) s
+
+-- what was made as it is, seen as something
+pub gives_view : {X A : Type 0} (view : X → A) (r : Result (Box X Global × Bor (List Token)) Stop) (x : X) (ts : List Tok) → Gives (λ b. b.value) r (Yes x ts) → Gives (λ b. view b.value) r (Yes (view x) ts)
+gives_view view (Ok y) x ts h = ap (λ o. and_then o (λ a r. Yes (view a) r)) h
+gives_view view (Err (stops.At rest)) x ts h = ap (λ o. and_then o (λ a r. Yes (view a) r)) h
+gives_view view (Err stops.Deep) x ts h = ap (λ o. and_then o (λ a r. Yes (view a) r)) h
+gives_view view (Err stops.Memory) x ts h = tt
+
+-- an operator's symbol stops
+pub symbol_halts : (G : List ℕ) (next : Reader Tok ExprTree) (ts : List Tok) (e : Stop) → Halts e (one_of code G ts) → Halts e (operator_part G next ts)
+symbol_halts G next ts (stops.At rest) h = ap (λ o. and_then o (λ x. next >>= λ right. ret (x, right))) h
+symbol_halts G next ts stops.Deep h = ap (λ o. and_then o (λ x. next >>= λ right. ret (x, right))) h
+symbol_halts G next ts stops.Memory h = tt
+
+-- an operator's right side stops
+pub right_halts : (G : List ℕ) (next : Reader Tok ExprTree) (ts r : List Tok) (op : Tok) (e : Stop) → one_of code G ts ≡ Yes op r → Halts e (next r) → Halts e (operator_part G next ts)
+right_halts G next ts r op (stops.At rest) o h = ap (λ m. and_then m (λ x. next >>= λ right. ret (x, right))) o ∙ ap (λ m. and_then m (λ right. ret (op, right))) h
+right_halts G next ts r op stops.Deep o h = ap (λ m. and_then m (λ x. next >>= λ right. ret (x, right))) o ∙ ap (λ m. and_then m (λ right. ret (op, right))) h
+right_halts G next ts r op stops.Memory o h = tt

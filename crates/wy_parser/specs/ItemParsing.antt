@@ -133,6 +133,15 @@ grant_of = do
 
 -- ---- items
 
+-- what stands inside a module behind its lines
+abbrev pub behind_module_lines : List Name → List Line → ℕ → R InsideTree
+behind_module_lines us ls n = do
+  ds ← each (kinds.KwEffect ∷ []) (define_of n) n
+  i ← init_of n
+  ps ← each part_first (part_at false n) n
+  closing ← mark kinds.Out
+  ret (record { uses = us; lines = ls; defines = ds; init = i; parts = parts_of ps })
+
 unfoldable pub inside_lines : ℕ → R InsideTree
 inside_lines n = do
   opening ← mark kinds.In
@@ -177,6 +186,14 @@ behind_params true p w ps t n = do
   ms ← parts_inside (part_at true n) n
   ret (plain_item p w ps t ms)
 
+-- what stands in a module with parameters behind them
+abbrev pub sealed_module : Bool → Place → Name → List Param → ℕ → R ItemTree
+sealed_module plain p w ps n = do
+  colon ← mark kinds.SymColon
+  t ← word
+  line ← mark kinds.Nl
+  behind_params plain p w ps t n
+
 unfoldable pub with_params : ℕ → Bool → ℕ → R ItemTree
 with_params k plain n = do
   p ← mark k
@@ -187,6 +204,16 @@ with_params k plain n = do
   t ← word
   line ← mark kinds.Nl
   behind_params plain p w ps t n
+
+-- what stands in a program block behind its lines
+abbrev pub behind_lines : Place → List Grant → List Name → List Line → ℕ → R ItemTree
+behind_lines p gs us ls n = do
+  started ← mark kinds.KwRun
+  colon ← mark kinds.SymColon
+  s ← set n
+  b ← tail_at false n
+  closing ← mark kinds.Out
+  ret (program_item p gs us ls started s b)
 
 unfoldable pub program_of : ℕ → R ItemTree
 program_of n = do

@@ -166,6 +166,15 @@ effect false n = do
 abbrev pub signature_of : Place → Name → List Param → Option (List AtomUse) → TypeUse → Signature
 signature_of p w ps e t = record { place = p; name = w; params = ps; effect = e; result = t }
 
+-- what stands in a signature behind its parameters
+abbrev pub behind_method_params : Bool → Place → Name → List Param → ℕ → R Signature
+behind_method_params plain p w ps n = do
+  closing ← mark kinds.SymCloseParen
+  colon ← mark kinds.SymColon
+  e ← effect plain n
+  t ← type_use plain n
+  ret (signature_of p w ps e t)
+
 unfoldable pub signature : Bool → ℕ → R Signature
 signature plain n = do
   p ← mark kinds.KwDef

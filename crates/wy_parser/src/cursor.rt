@@ -1,7 +1,7 @@
 //! The smallest readers: one token of some kinds.
 ghost use Rattle.std.specs.Prelude.{◌≡◌, [], ◌∷◌, IfOk};
 ghost use Rattle.wy_syntax.specs.Tokens.{code, code_of, member, tok_of, toks};
-ghost use Rattle.wy_parser.specs.Reading.{starts, starts2};
+ghost use Rattle.wy_parser.specs.Reading.{Yes, starts, starts2};
 ghost use Rattle.wy_parser.specs.Kinds as kinds;
 ghost use Rattle.wy_parser.specs.Parsing.{tok, mark, word, name_at, text_of_kind};
 ghost use Rattle.wy_parser.specs.Sorts.{number_of, numbers, Gives};
@@ -96,6 +96,17 @@ pub fn word<'a>(alloc: Global, tokens: &'a [Token]) -> Result<(Name, &'a [Token]
 {
     let (token, rest) = name_token(tokens)?;
     Ok((name_of(alloc, token)?, rest))
+}
+
+/// A value in a box, and what stands behind it.
+pub fn boxed<'a, T: Drop>(
+    alloc: Global,
+    value: T,
+    rest: &'a [Token],
+) -> Result<(Box<T>, &'a [Token]), Stop<'a>>
+    ensures { Gives (λ b. b.value) result (Yes value (toks rest.now)) }
+{
+    Ok((Box::new(alloc, value)?, rest))
 }
 
 /// Whether the first token's kind is in the first set and the second one's in the second.

@@ -2,15 +2,14 @@
 //! each loop; it is one less at each expression, argument or operand of a prefix in another.
 ghost use Rattle.std.specs.Prelude.{◌≡◌, [], ◌∷◌, IfOk, map, pos};
 ghost use Rattle.wy_syntax.specs.Tokens.{code, tok_of, toks};
-ghost use Rattle.wy_syntax.specs.Trees.{byte_at, choice, part};
 ghost use Rattle.wy_syntax.specs.Views.{expr_tree};
 ghost use Rattle.wy_parser.specs.Kinds as kinds;
 ghost use Rattle.wy_parser.specs.Parsing.{commas, comma_part, value_of_int, value_of_kind};
-ghost use Rattle.wy_parser.specs.ExprParsing.{arg_first, add_binary, minus_of, minus_digits, minus_edge, is_choice, number_alone, text_alone, one_argument, several_arguments, built, parens, ascription, after_arg, atomic, call_part, add_call, post, minus, unary_at, compare_at, level_at, operand_at, choice_rest, choice_of, p_unary, p_expr, p_arg};
-ghost use Rattle.wy_parser.specs.Reading.{choose};
+ghost use Rattle.wy_parser.specs.ExprParsing.{arg_first, add_binary, minus_of, minus_digits, minus_edge, is_choice, number_alone, text_alone, one_argument, third_argument, several_arguments, built, parens, ascription, after_arg, atomic, call_part, add_call, post, minus, unary_at, compare_at, level_at, operand_at, choice_rest, choice_of, p_unary, p_expr, p_arg};
+ghost use Rattle.wy_parser.specs.Reading.{Yes, choose};
 ghost use Rattle.wy_parser.specs.Sorts.{number_of, Gives};
 
-use crate::cursor::{begins, mark, name_of, name_token, take, text_of, word};
+use crate::cursor::{begins, boxed, mark, name_of, name_token, take, text_of, word};
 use crate::operators::{COMPARISONS, Level, operator_of};
 use crate::sort::{Sort, sort_of};
 use crate::stop::Stop;
@@ -75,6 +74,13 @@ fn minus_value(token: &Token) -> i64
     -value
 }
 
+/// An expression in a box, and what stands behind it.
+fn node<'a>(alloc: Global, e: Expr, rest: &'a [Token]) -> Result<(Box<Expr>, &'a [Token]), Stop<'a>>
+    ensures { Gives (λ b. expr_tree b.value) result (Yes (expr_tree e) (toks rest.now)) }
+{
+    boxed(alloc, e, rest)
+}
+
 /// An operator's node with its operands.
 fn binary(
     alloc: Global,
@@ -100,41 +106,6 @@ fn call(
     Ok(Box::new(alloc, Expr::Call(receiver, name, arguments))?)
 }
 
-fn choice_node(
-    alloc: Global,
-    condition: Box<Expr>,
-    first: Box<Expr>,
-    second: Box<Expr>,
-    place: Place,
-) -> Result<Box<Expr>, AllocError>
-    ensures { IfOk result (λ r. expr_tree r.value ≡ choice (expr_tree condition.value) (expr_tree first.value) (expr_tree second.value) place) }
-{
-    Ok(Box::new(alloc, Expr::Choice(condition, first, second, place))?)
-}
-
-fn code_node(
-    alloc: Global,
-    text: Box<Expr>,
-    at: Box<Expr>,
-    place: Place,
-) -> Result<Box<Expr>, AllocError>
-    ensures { IfOk result (λ r. expr_tree r.value ≡ byte_at (expr_tree text.value) (expr_tree at.value) place) }
-{
-    Ok(Box::new(alloc, Expr::TextCode(text, at, place))?)
-}
-
-fn part_node(
-    alloc: Global,
-    text: Box<Expr>,
-    from: Box<Expr>,
-    to: Box<Expr>,
-    place: Place,
-) -> Result<Box<Expr>, AllocError>
-    ensures { IfOk result (λ r. expr_tree r.value ≡ part (expr_tree text.value) (expr_tree from.value) (expr_tree to.value) place) }
-{
-    Ok(Box::new(alloc, Expr::TextPart(text, from, to, place))?)
-}
-
 /// Whether an expression is an `if`, which stands in parentheses only with a type.
 fn is_choice(e: &Expr) -> bool
     ensures { result ≡ is_choice (expr_tree e.now) }
@@ -149,10 +120,7 @@ fn number<'a>(alloc: Global, tokens: &'a [Token]) -> Result<(Box<Expr>, &'a [Tok
     ensures { Gives (λ b. expr_tree b.value) result (number_alone (toks tokens.now)) }
 {
     let (token, rest) = take(tokens, &[Sort::Number])?;
-    Ok((
-        Box::new(alloc, Expr::Number(value_of(token), token.place))?,
-        rest,
-    ))
+    node(alloc, Expr::Number(value_of(token), token.place), rest)
 }
 
 fn text<'a>(alloc: Global, tokens: &'a [Token]) -> Result<(Box<Expr>, &'a [Token]), Stop<'a>>
@@ -160,7 +128,7 @@ fn text<'a>(alloc: Global, tokens: &'a [Token]) -> Result<(Box<Expr>, &'a [Token
 {
     let (token, rest) = take(tokens, &[Sort::Text])?;
     let bytes = text_of(alloc, token)?;
-    Ok((Box::new(alloc, Expr::Text(bytes, token.place))?, rest))
+    node(alloc, Expr::Text(bytes, token.place), rest)
 }
 
 /// The number behind a `-` whose place is given.
@@ -173,13 +141,10 @@ fn negative<'a>(
 {
     if begins(tokens, &[Sort::Number]) {
         let (token, rest) = take(tokens, &[Sort::Number])?;
-        return Ok((
-            Box::new(alloc, Expr::Number(minus_value(token), place))?,
-            rest,
-        ));
+        return node(alloc, Expr::Number(minus_value(token), place), rest);
     }
     let (_, rest) = mark(tokens, Sort::Edge)?;
-    Ok((Box::new(alloc, Expr::Number(i64::MIN, place))?, rest))
+    node(alloc, Expr::Number(i64::MIN, place), rest)
 }
 
 /// An argument: `if` with an expression on each side, or an expression.
@@ -253,7 +218,7 @@ pub fn choice_rest<'a>(
     let (first, rest) = arg(alloc, rest, plain, inner)?;
     let (_, rest) = mark(rest, Sort::KwElse)?;
     let (second, rest) = arg(alloc, rest, plain, inner)?;
-    Ok((choice_node(alloc, condition, first, second, place)?, rest))
+    node(alloc, Expr::Choice(condition, first, second, place), rest)
 }
 
 /// Operands with operators of one level between, in groups to the left.
@@ -356,7 +321,7 @@ fn prefix_in<'a>(
         } else {
             let (place, rest) = mark(tokens, Sort::SymNot)?;
             let (e, rest) = prefix(alloc, rest, plain, inner)?;
-            Ok((Box::new(alloc, Expr::Not(e, place))?, rest))
+            node(alloc, Expr::Not(e, place), rest)
         }
     } else {
         postfix(alloc, tokens, plain, inner)
@@ -379,7 +344,7 @@ fn minus<'a>(
         return negative(alloc, rest, place);
     }
     let (e, rest) = prefix(alloc, rest, plain, inner)?;
-    Ok((Box::new(alloc, Expr::Negate(e, place))?, rest))
+    node(alloc, Expr::Negate(e, place), rest)
 }
 
 /// Something and the calls behind it.
@@ -484,19 +449,19 @@ fn atomic<'a>(
     }
     if begins(tokens, &[Sort::KwTrue]) {
         let (place, rest) = mark(tokens, Sort::KwTrue)?;
-        return Ok((Box::new(alloc, Expr::True(place))?, rest));
+        return node(alloc, Expr::True(place), rest);
     }
     if begins(tokens, &[Sort::KwFalse]) {
         let (place, rest) = mark(tokens, Sort::KwFalse)?;
-        return Ok((Box::new(alloc, Expr::False(place))?, rest));
+        return node(alloc, Expr::False(place), rest);
     }
     if begins(tokens, &[Sort::KwThis]) {
         let (place, rest) = mark(tokens, Sort::KwThis)?;
-        return Ok((Box::new(alloc, Expr::This(place))?, rest));
+        return node(alloc, Expr::This(place), rest);
     }
     if begins(tokens, &[Sort::Name]) {
         let (name, rest) = word(alloc, tokens)?;
-        return Ok((Box::new(alloc, Expr::Name(name))?, rest));
+        return node(alloc, Expr::Name(name), rest);
     }
     if begins(tokens, &BUILT) {
         built(alloc, tokens, plain, inner)
@@ -519,7 +484,7 @@ fn parens<'a>(
     let (place, rest) = mark(tokens, Sort::SymOpenParen)?;
     if begins(rest, &[Sort::SymCloseParen]) {
         let (_, rest) = mark(rest, Sort::SymCloseParen)?;
-        return Ok((Box::new(alloc, Expr::Unit(place))?, rest));
+        return node(alloc, Expr::Unit(place), rest);
     }
     let (e, rest) = arg(alloc, rest, plain, inner)?;
     after_arg(alloc, rest, place, e, plain, inner)
@@ -538,7 +503,7 @@ fn built<'a>(
 {
     if begins(tokens, &[Sort::KwTextSize]) {
         let ((e, place), rest) = one_argument(alloc, tokens, Sort::KwTextSize, plain, inner)?;
-        return Ok((Box::new(alloc, Expr::TextSize(e, place))?, rest));
+        return node(alloc, Expr::TextSize(e, place), rest);
     }
     if begins(tokens, &[Sort::KwTextPart]) {
         return several_arguments(alloc, tokens, Sort::KwTextPart, true, plain, inner);
@@ -548,10 +513,10 @@ fn built<'a>(
     }
     if begins(tokens, &[Sort::KwTextByte]) {
         let ((e, place), rest) = one_argument(alloc, tokens, Sort::KwTextByte, plain, inner)?;
-        return Ok((Box::new(alloc, Expr::TextByte(e, place))?, rest));
+        return node(alloc, Expr::TextByte(e, place), rest);
     }
     let ((e, place), rest) = one_argument(alloc, tokens, Sort::KwTextShow, plain, inner)?;
-    Ok((Box::new(alloc, Expr::TextShow(e, place))?, rest))
+    node(alloc, Expr::TextShow(e, place), rest)
 }
 
 /// A word and one argument in parentheses.
@@ -573,6 +538,31 @@ fn one_argument<'a>(
     Ok(((e, place), rest))
 }
 
+/// What stands behind two arguments: the end, or a third one before it.
+#[cycle(expressions)]
+fn third_argument<'a>(
+    alloc: Global,
+    tokens: &'a [Token],
+    three: bool,
+    text: Box<Expr>,
+    from: Box<Expr>,
+    place: Place,
+    plain: bool,
+    inner: usize,
+) -> Result<(Box<Expr>, &'a [Token]), Stop<'a>>
+    ensures { Gives (λ b. expr_tree b.value) result (third_argument three (p_arg plain inner) (expr_tree text.value) (expr_tree from.value) place (toks tokens.now)) }
+{
+    if three {
+        let (_, rest) = mark(tokens, Sort::SymComma)?;
+        let (to, rest) = arg(alloc, rest, plain, inner)?;
+        let (_, rest) = mark(rest, Sort::SymCloseParen)?;
+        node(alloc, Expr::TextPart(text, from, to, place), rest)
+    } else {
+        let (_, rest) = mark(tokens, Sort::SymCloseParen)?;
+        node(alloc, Expr::TextCode(text, from, place), rest)
+    }
+}
+
 /// A word and two arguments in parentheses, or three: `text_code`, or `text_part`.
 #[cycle(expressions)]
 #[tactic(auto, unfolding(crate::specs::ExprParsing::several_arguments))]
@@ -591,14 +581,7 @@ fn several_arguments<'a>(
     let (text, rest) = arg(alloc, rest, plain, inner)?;
     let (_, rest) = mark(rest, Sort::SymComma)?;
     let (from, rest) = arg(alloc, rest, plain, inner)?;
-    if three {
-        let (_, rest) = mark(rest, Sort::SymComma)?;
-        let (to, rest) = arg(alloc, rest, plain, inner)?;
-        let (_, rest) = mark(rest, Sort::SymCloseParen)?;
-        return Ok((part_node(alloc, text, from, to, place)?, rest));
-    }
-    let (_, rest) = mark(rest, Sort::SymCloseParen)?;
-    Ok((code_node(alloc, text, from, place)?, rest))
+    third_argument(alloc, rest, three, text, from, place, plain, inner)
 }
 
 /// `: T)` behind an expression in parentheses.
@@ -616,8 +599,11 @@ fn ascription<'a>(
     let (_, rest) = mark(tokens, Sort::SymColon)?;
     let (type_use, rest) = type_use(alloc, rest, plain, inner)?;
     let (_, rest) = mark(rest, Sort::SymCloseParen)?;
-    let type_use = Box::into_inner(type_use);
-    Ok((Box::new(alloc, Expr::Ascribe(e, type_use, place))?, rest))
+    node(
+        alloc,
+        Expr::Ascribe(e, Box::into_inner(type_use), place),
+        rest,
+    )
 }
 
 /// What stands behind an argument in parentheses: an `if` must have a type there.

@@ -1,13 +1,14 @@
 //! Items and files. `turns` is the depth of the bodies too.
-ghost use Rattle.std.specs.Prelude.{◌≡◌, IfOk, map};
+ghost use Rattle.std.specs.Prelude.{false, map, true};
 ghost use Rattle.wy_syntax.specs.Tokens.{tok_of, toks};
-ghost use Rattle.wy_syntax.specs.Trees.{type_item, pure_item, resource_item, plain_item};
-ghost use Rattle.wy_syntax.specs.Views.{inside_tree, item_tree, part_trees};
+ghost use Rattle.wy_syntax.specs.Trees.{type_item, pure_item};
+ghost use Rattle.wy_syntax.specs.Views.{inside_tree, item_tree};
 ghost use Rattle.wy_parser.specs.Parsing.{name_at};
-ghost use Rattle.wy_parser.specs.ItemParsing.{inside_lines, inside_of, type_of, pure_of, with_params, program_of, item, items, p_file};
+ghost use Rattle.wy_parser.specs.ItemParsing.{behind_module_lines, inside_lines, inside_of, type_of, pure_of, behind_params, sealed_module, with_params, behind_lines, program_of, item, items, p_file};
+ghost use Rattle.wy_parser.specs.Reading.{Yes};
 ghost use Rattle.wy_parser.specs.Sorts.{number_of, Gives};
 
-use crate::cursor::{begins, mark, name_of, name_token};
+use crate::cursor::{begins, boxed, mark, name_of, name_token};
 use crate::lines::{DefineEntry, GrantEntry, init, lines, members_inside, uses};
 use crate::lists::{PARENTHESES, between, row};
 use crate::sort::Sort;
@@ -16,13 +17,11 @@ use crate::stop::Stop;
 use crate::types::{ParamEntry, set};
 use std::alloc::Global;
 use wy_syntax::items::{
-    Inside, Item, Member, PlainModule, Program, PureModule, ResourceModule, TypeDecl,
+    Grant, Inside, Item, Line, Member, PlainModule, Program, PureModule, ResourceModule, TypeDecl,
 };
-use wy_syntax::statements::Part;
-use wy_syntax::types::ParamList;
+use wy_syntax::types::{NameList, ParamList};
 use wy_text::fault::Place;
 use wy_text::list::Items;
-use wy_text::text::Memory;
 use wy_text::token::Token;
 
 const ITEM_FIRST: [Sort; 5] = [
@@ -33,6 +32,54 @@ const ITEM_FIRST: [Sort; 5] = [
     Sort::KwProgram,
 ];
 
+/// What stands inside a module in a box, and what stands behind it.
+fn inside_node<'a>(
+    alloc: Global,
+    inside: Inside,
+    rest: &'a [Token],
+) -> Result<(Box<Inside>, &'a [Token]), Stop<'a>>
+    ensures { Gives (λ b. inside_tree b.value) result (Yes (inside_tree inside) (toks rest.now)) }
+{
+    boxed(alloc, inside, rest)
+}
+
+/// An item in a box, and what stands behind it.
+fn item_node<'a>(
+    alloc: Global,
+    item: Item,
+    rest: &'a [Token],
+) -> Result<(Box<Item>, &'a [Token]), Stop<'a>>
+    ensures { Gives (λ b. item_tree b.value) result (Yes (item_tree item) (toks rest.now)) }
+{
+    boxed(alloc, item, rest)
+}
+
+/// What stands inside a pure or a resource module behind its lines.
+fn inside_end<'a>(
+    alloc: Global,
+    tokens: &'a [Token],
+    uses: NameList,
+    lines: Items<Line>,
+    turns: usize,
+) -> Result<(Box<Inside>, &'a [Token]), Stop<'a>>
+    ensures { Gives (λ b. inside_tree b.value) result (behind_module_lines uses lines turns (toks tokens.now)) }
+{
+    let entry = DefineEntry { turns };
+    let (defines, rest) = row(alloc, tokens, turns, &[Sort::KwEffect], &entry)?;
+    let (init, rest) = init(alloc, rest, turns)?;
+    let (parts, rest) = parts(alloc, rest, false, turns)?;
+    let (_, rest) = mark(rest, Sort::Out)?;
+    let inside = Inside {
+        uses,
+        lines,
+        defines,
+        init,
+        parts,
+    };
+    inside_node(alloc, inside, rest)
+}
+
+/// The lines inside a pure or a resource module.
 #[tactic(auto, unfolding(crate::specs::ItemParsing::inside_lines))]
 fn inside_lines<'a>(
     alloc: Global,
@@ -44,24 +91,7 @@ fn inside_lines<'a>(
     let (_, rest) = mark(tokens, Sort::In)?;
     let (uses, rest) = uses(alloc, rest, turns)?;
     let (lines, rest) = lines(alloc, rest, turns)?;
-    let (defines, rest) = row(
-        alloc,
-        rest,
-        turns,
-        &[Sort::KwEffect],
-        &DefineEntry { turns },
-    )?;
-    let (init, rest) = init(alloc, rest, turns)?;
-    let (parts, rest) = parts(alloc, rest, false, turns)?;
-    let (_, rest) = mark(rest, Sort::Out)?;
-    let inside = Inside {
-        uses,
-        lines,
-        defines,
-        init,
-        parts,
-    };
-    Ok((Box::new(alloc, inside)?, rest))
+    inside_end(alloc, rest, uses, lines, turns)
 }
 
 /// What stands inside a pure or a resource module.
@@ -83,16 +113,18 @@ fn inside<'a>(
         init: None,
         parts: Vec::new(alloc),
     };
-    Ok((Box::new(alloc, inside)?, tokens))
+    inside_node(alloc, inside, tokens)
 }
 
-fn type_node(
+/// A type declaration, and what stands behind it.
+fn type_node<'a>(
     alloc: Global,
     place: Place,
     name: &Token,
     members: Items<Member>,
-) -> Result<Box<Item>, Memory>
-    ensures { IfOk result (λ b. item_tree b.value ≡ type_item (record { place = place; name = name_at (tok_of name.now); members = members })) }
+    rest: &'a [Token],
+) -> Result<(Box<Item>, &'a [Token]), Stop<'a>>
+    ensures { Gives (λ b. item_tree b.value) result (Yes (type_item (record { place = place; name = name_at (tok_of name.now); members = members })) (toks rest.now)) }
 {
     let name = name_of(alloc, name)?;
     let item = Item::Type(TypeDecl {
@@ -100,7 +132,7 @@ fn type_node(
         name,
         members,
     });
-    Ok(Box::new(alloc, item)?)
+    item_node(alloc, item, rest)
 }
 
 #[tactic(auto, unfolding(crate::specs::ItemParsing::type_of))]
@@ -115,17 +147,19 @@ fn type_decl<'a>(
     let (name, rest) = name_token(rest)?;
     let (_, rest) = mark(rest, Sort::Nl)?;
     let (members, rest) = members_inside(alloc, rest, turns)?;
-    Ok((type_node(alloc, place, name, members)?, rest))
+    type_node(alloc, place, name, members, rest)
 }
 
-fn pure_node(
+/// A pure module, and what stands behind it.
+fn pure_node<'a>(
     alloc: Global,
     place: Place,
     name: &Token,
     sealed: &Token,
     inside: Box<Inside>,
-) -> Result<Box<Item>, Memory>
-    ensures { IfOk result (λ b. item_tree b.value ≡ pure_item place (name_at (tok_of name.now)) (name_at (tok_of sealed.now)) (inside_tree inside.value)) }
+    rest: &'a [Token],
+) -> Result<(Box<Item>, &'a [Token]), Stop<'a>>
+    ensures { Gives (λ b. item_tree b.value) result (Yes (pure_item place (name_at (tok_of name.now)) (name_at (tok_of sealed.now)) (inside_tree inside.value)) (toks rest.now)) }
 {
     let item = Item::Pure(PureModule {
         place,
@@ -133,7 +167,7 @@ fn pure_node(
         sealed: name_of(alloc, sealed)?,
         inside: Box::into_inner(inside),
     });
-    Ok(Box::new(alloc, item)?)
+    item_node(alloc, item, rest)
 }
 
 #[tactic(auto, unfolding(crate::specs::ItemParsing::pure_of))]
@@ -150,19 +184,22 @@ fn pure_module<'a>(
     let (sealed, rest) = name_token(rest)?;
     let (_, rest) = mark(rest, Sort::Nl)?;
     let (inside, rest) = inside(alloc, rest, turns)?;
-    Ok((pure_node(alloc, place, name, sealed, inside)?, rest))
+    pure_node(alloc, place, name, sealed, inside, rest)
 }
 
-fn resource_node(
+/// What stands inside a resource module, behind its first line.
+fn resource_end<'a>(
     alloc: Global,
+    tokens: &'a [Token],
     place: Place,
     name: &Token,
     params: ParamList,
     sealed: &Token,
-    inside: Box<Inside>,
-) -> Result<Box<Item>, Memory>
-    ensures { IfOk result (λ b. item_tree b.value ≡ resource_item place (name_at (tok_of name.now)) params (name_at (tok_of sealed.now)) (inside_tree inside.value)) }
+    turns: usize,
+) -> Result<(Box<Item>, &'a [Token]), Stop<'a>>
+    ensures { Gives (λ b. item_tree b.value) result (behind_params false place (name_at (tok_of name.now)) params (name_at (tok_of sealed.now)) turns (toks tokens.now)) }
 {
+    let (inside, rest) = inside(alloc, tokens, turns)?;
     let item = Item::Resource(ResourceModule {
         place,
         name: name_of(alloc, name)?,
@@ -170,19 +207,22 @@ fn resource_node(
         sealed: name_of(alloc, sealed)?,
         inside: Box::into_inner(inside),
     });
-    Ok(Box::new(alloc, item)?)
+    item_node(alloc, item, rest)
 }
 
-fn plain_node(
+/// What stands inside a plain module, behind its first line.
+fn plain_end<'a>(
     alloc: Global,
+    tokens: &'a [Token],
     place: Place,
     name: &Token,
     params: ParamList,
     sealed: &Token,
-    parts: Vec<Part>,
-) -> Result<Box<Item>, Memory>
-    ensures { IfOk result (λ b. item_tree b.value ≡ plain_item place (name_at (tok_of name.now)) params (name_at (tok_of sealed.now)) (part_trees parts.items)) }
+    turns: usize,
+) -> Result<(Box<Item>, &'a [Token]), Stop<'a>>
+    ensures { Gives (λ b. item_tree b.value) result (behind_params true place (name_at (tok_of name.now)) params (name_at (tok_of sealed.now)) turns (toks tokens.now)) }
 {
+    let (parts, rest) = parts_inside(alloc, tokens, true, turns)?;
     let item = Item::Plain(PlainModule {
         place,
         name: name_of(alloc, name)?,
@@ -190,7 +230,29 @@ fn plain_node(
         sealed: name_of(alloc, sealed)?,
         parts,
     });
-    Ok(Box::new(alloc, item)?)
+    item_node(alloc, item, rest)
+}
+
+/// What stands in a module with parameters behind them.
+fn sealed_module<'a>(
+    alloc: Global,
+    tokens: &'a [Token],
+    place: Place,
+    name: &Token,
+    params: ParamList,
+    plain: bool,
+    turns: usize,
+) -> Result<(Box<Item>, &'a [Token]), Stop<'a>>
+    ensures { Gives (λ b. item_tree b.value) result (sealed_module plain place (name_at (tok_of name.now)) params turns (toks tokens.now)) }
+{
+    let (_, rest) = mark(tokens, Sort::SymColon)?;
+    let (sealed, rest) = name_token(rest)?;
+    let (_, rest) = mark(rest, Sort::Nl)?;
+    if plain {
+        plain_end(alloc, rest, place, name, params, sealed, turns)
+    } else {
+        resource_end(alloc, rest, place, name, params, sealed, turns)
+    }
 }
 
 /// A module with parameters, which begins with the word: a resource module, or a plain one.
@@ -213,18 +275,39 @@ fn module_with_params<'a>(
         turns,
     };
     let (params, rest) = between(alloc, rest, turns, PARENTHESES, &entry)?;
-    let (_, rest) = mark(rest, Sort::SymColon)?;
-    let (sealed, rest) = name_token(rest)?;
-    let (_, rest) = mark(rest, Sort::Nl)?;
-    if plain {
-        let (parts, rest) = parts_inside(alloc, rest, true, turns)?;
-        return Ok((plain_node(alloc, place, name, params, sealed, parts)?, rest));
-    }
-    let (inside, rest) = inside(alloc, rest, turns)?;
-    let module = resource_node(alloc, place, name, params, sealed, inside)?;
-    Ok((module, rest))
+    sealed_module(alloc, rest, place, name, params, plain, turns)
 }
 
+/// What stands in a program block behind its lines.
+fn program_end<'a>(
+    alloc: Global,
+    tokens: &'a [Token],
+    place: Place,
+    grants: Items<Grant>,
+    uses: NameList,
+    lines: Items<Line>,
+    turns: usize,
+) -> Result<(Box<Item>, &'a [Token]), Stop<'a>>
+    ensures { Gives (λ b. item_tree b.value) result (behind_lines place grants uses lines turns (toks tokens.now)) }
+{
+    let (run, rest) = mark(tokens, Sort::KwRun)?;
+    let (_, rest) = mark(rest, Sort::SymColon)?;
+    let (effect, rest) = set(alloc, rest, turns)?;
+    let (body, rest) = tail(alloc, rest, false, turns)?;
+    let (_, rest) = mark(rest, Sort::Out)?;
+    let item = Item::Program(Program {
+        place,
+        grants,
+        uses,
+        lines,
+        run,
+        effect,
+        body: Box::into_inner(body),
+    });
+    item_node(alloc, item, rest)
+}
+
+/// The program block.
 #[tactic(auto, unfolding(crate::specs::ItemParsing::program_of))]
 fn program<'a>(
     alloc: Global,
@@ -239,21 +322,7 @@ fn program<'a>(
     let (grants, rest) = row(alloc, rest, turns, &[Sort::KwGrant], &GrantEntry)?;
     let (uses, rest) = uses(alloc, rest, turns)?;
     let (lines, rest) = lines(alloc, rest, turns)?;
-    let (run, rest) = mark(rest, Sort::KwRun)?;
-    let (_, rest) = mark(rest, Sort::SymColon)?;
-    let (effect, rest) = set(alloc, rest, turns)?;
-    let (body, rest) = tail(alloc, rest, false, turns)?;
-    let (_, rest) = mark(rest, Sort::Out)?;
-    let item = Item::Program(Program {
-        place,
-        grants,
-        uses,
-        lines,
-        run,
-        effect,
-        body: Box::into_inner(body),
-    });
-    Ok((Box::new(alloc, item)?, rest))
+    program_end(alloc, rest, place, grants, uses, lines, turns)
 }
 
 /// An item.

@@ -1,14 +1,15 @@
 //! The lines inside types, modules and programs. `turns` bounds the turns of each loop.
-ghost use Rattle.std.specs.Prelude.{◌≡◌, [], ◌∷◌, IfOk};
+ghost use Rattle.std.specs.Prelude.{[], ◌∷◌, false, true};
 ghost use Rattle.wy_syntax.specs.declared.items.Line.TheVariants as lines;
 ghost use Rattle.wy_syntax.specs.declared.items.Member.TheVariants as members;
 ghost use Rattle.wy_syntax.specs.Tokens.{tok_of, toks};
 ghost use Rattle.wy_parser.specs.Kinds as kinds;
 ghost use Rattle.wy_parser.specs.Parsing.{each, name_at, word};
-ghost use Rattle.wy_parser.specs.ItemParsing.{set_line, member_with, set_member, abstract_member, effect_member, method_member, member_of, members_inside, use_of, line_with, line_of, line_first, define_of, init_of, grant_of};
+ghost use Rattle.wy_parser.specs.Reading.{Yes};
+ghost use Rattle.wy_parser.specs.ItemParsing.{set_line, member_with, set_member, abstract_member, effect_member, method_member, member_of, members_inside, use_of, behind_arguments, line_with, line_of, line_first, define_of, init_of, grant_of};
 ghost use Rattle.wy_parser.specs.Sorts.{number_of, Gives};
 
-use crate::cursor::{begins, mark, name_of, name_token, word};
+use crate::cursor::{begins, boxed, mark, name_of, name_token, word};
 use crate::lists::{Entry, PARENTHESES, between, row};
 use crate::sort::Sort;
 use crate::stop::Stop;
@@ -17,7 +18,6 @@ use std::alloc::Global;
 use wy_syntax::items::{Define, Grant, Init, Line, Member};
 use wy_syntax::types::{Name, NameList, SetUse};
 use wy_text::list::Items;
-use wy_text::text::Memory;
 use wy_text::token::Token;
 
 /// A sign, a set and the end of the line.
@@ -35,21 +35,34 @@ fn set_line<'a>(
     Ok((set, rest))
 }
 
-fn set_node(alloc: Global, name: &Token, bounded: bool, set: SetUse) -> Result<Box<Member>, Memory>
-    ensures { IfOk result (λ b. b.value ≡ member_with bounded (name_at (tok_of name.now)) set) }
+/// A member with its bound or its definition, and what stands behind it.
+fn set_node<'a>(
+    alloc: Global,
+    name: &Token,
+    bounded: bool,
+    set: SetUse,
+    rest: &'a [Token],
+) -> Result<(Box<Member>, &'a [Token]), Stop<'a>>
+    ensures { Gives (λ x. x.value) result (Yes (member_with bounded (name_at (tok_of name.now)) set) (toks rest.now)) }
 {
     let name = name_of(alloc, name)?;
     if bounded {
-        return Ok(Box::new(alloc, Member::Bounded(name, set))?);
+        boxed(alloc, Member::Bounded(name, set), rest)
+    } else {
+        boxed(alloc, Member::Defined(name, set), rest)
     }
-    Ok(Box::new(alloc, Member::Defined(name, set))?)
 }
 
-fn abstract_node(alloc: Global, name: &Token) -> Result<Box<Member>, Memory>
-    ensures { IfOk result (λ b. b.value ≡ members.Abstract (name_at (tok_of name.now))) }
+/// A member by its name alone, and what stands behind it.
+fn abstract_node<'a>(
+    alloc: Global,
+    name: &Token,
+    rest: &'a [Token],
+) -> Result<(Box<Member>, &'a [Token]), Stop<'a>>
+    ensures { Gives (λ x. x.value) result (Yes (members.Abstract (name_at (tok_of name.now))) (toks rest.now)) }
 {
     let name = name_of(alloc, name)?;
-    Ok(Box::new(alloc, Member::Abstract(name))?)
+    boxed(alloc, Member::Abstract(name), rest)
 }
 
 /// The set of a defined member, or the upper bound of an abstract one, behind the sign.
@@ -64,7 +77,7 @@ fn set_member<'a>(
     ensures { Gives (λ x. x.value) result (set_member (number_of sign) bounded (name_at (tok_of name.now)) turns (toks tokens.now)) }
 {
     let (set, rest) = set_line(alloc, tokens, sign, turns)?;
-    Ok((set_node(alloc, name, bounded, set)?, rest))
+    set_node(alloc, name, bounded, set, rest)
 }
 
 /// The end of the line of an abstract member without a bound.
@@ -76,7 +89,7 @@ fn abstract_member<'a>(
     ensures { Gives (λ x. x.value) result (abstract_member (name_at (tok_of name.now)) (toks tokens.now)) }
 {
     let (_, rest) = mark(tokens, Sort::Nl)?;
-    Ok((abstract_node(alloc, name)?, rest))
+    abstract_node(alloc, name, rest)
 }
 
 /// An abstract or defined member, or an abstract one with an upper bound.
@@ -109,10 +122,7 @@ fn method_member<'a>(
 {
     let (signature, rest) = signature(alloc, tokens, false, turns)?;
     let (_, rest) = mark(rest, Sort::Nl)?;
-    Ok((
-        Box::new(alloc, Member::Method(Box::into_inner(signature)))?,
-        rest,
-    ))
+    boxed(alloc, Member::Method(Box::into_inner(signature)), rest)
 }
 
 /// A member of a type declaration.
@@ -219,31 +229,37 @@ impl Entry for NameEntry {
     }
 }
 
-fn instance_node(
+/// The end of an `instance` line behind its arguments.
+fn instance_end<'a>(
     alloc: Global,
+    tokens: &'a [Token],
     name: &Token,
-    module_name: &Token,
+    maker: &Token,
     names: NameList,
-) -> Result<Box<Line>, Memory>
-    ensures { IfOk result (λ b. b.value ≡ lines.Instance (name_at (tok_of name.now)) (name_at (tok_of module_name.now)) names) }
+) -> Result<(Box<Line>, &'a [Token]), Stop<'a>>
+    ensures { Gives (λ x. x.value) result (behind_arguments false (name_at (tok_of name.now)) (name_at (tok_of maker.now)) names 0 (toks tokens.now)) }
 {
+    let (_, rest) = mark(tokens, Sort::Nl)?;
     let name = name_of(alloc, name)?;
-    let module = name_of(alloc, module_name)?;
-    Ok(Box::new(alloc, Line::Instance(name, module, names))?)
+    let maker = name_of(alloc, maker)?;
+    boxed(alloc, Line::Instance(name, maker, names), rest)
 }
 
-fn import_node(
+/// The bound of an `import` line behind its arguments.
+fn import_end<'a>(
     alloc: Global,
+    tokens: &'a [Token],
     name: &Token,
-    module_name: &Token,
+    maker: &Token,
     names: NameList,
-    bound: SetUse,
-) -> Result<Box<Line>, Memory>
-    ensures { IfOk result (λ b. b.value ≡ lines.Import (name_at (tok_of name.now)) (name_at (tok_of module_name.now)) names bound) }
+    turns: usize,
+) -> Result<(Box<Line>, &'a [Token]), Stop<'a>>
+    ensures { Gives (λ x. x.value) result (behind_arguments true (name_at (tok_of name.now)) (name_at (tok_of maker.now)) names turns (toks tokens.now)) }
 {
+    let (bound, rest) = set_line(alloc, tokens, Sort::KwAt, turns)?;
     let name = name_of(alloc, name)?;
-    let module = name_of(alloc, module_name)?;
-    Ok(Box::new(alloc, Line::Import(name, module, names, bound))?)
+    let maker = name_of(alloc, maker)?;
+    boxed(alloc, Line::Import(name, maker, names, bound), rest)
 }
 
 /// A line that begins with the word: an `instance`, or an `import`, which has a bound.
@@ -260,14 +276,13 @@ fn line_with<'a>(
     let (_, rest) = mark(tokens, sort)?;
     let (name, rest) = name_token(rest)?;
     let (_, rest) = mark(rest, Sort::SymEqual)?;
-    let (module, rest) = name_token(rest)?;
+    let (maker, rest) = name_token(rest)?;
     let (names, rest) = between(alloc, rest, turns, PARENTHESES, &NameEntry)?;
     if bounded {
-        let (bound, rest) = set_line(alloc, rest, Sort::KwAt, turns)?;
-        return Ok((import_node(alloc, name, module, names, bound)?, rest));
+        import_end(alloc, rest, name, maker, names, turns)
+    } else {
+        instance_end(alloc, rest, name, maker, names)
     }
-    let (_, rest) = mark(rest, Sort::Nl)?;
-    Ok((instance_node(alloc, name, module, names)?, rest))
 }
 
 /// An `instance` or `import` line.

@@ -1,28 +1,27 @@
 //! Right sides, statements, parts and bodies by recursive descent. `inner` is the depth that is left
 //! inside, and bounds the turns of each loop; it is one less at each right side behind an equals sign
 //! and at each block.
-ghost use Rattle.std.specs.Prelude.{◌≡◌, ◌||◌, IfOk, map};
+ghost use Rattle.std.specs.Prelude.{◌≡◌, ◌||◌, None, Some, map};
 ghost use Rattle.wy_syntax.specs.Tokens.{code, tok_of, toks};
-ghost use Rattle.wy_syntax.specs.Trees.{assign, branch, field, method, run, short, val, value};
+ghost use Rattle.wy_syntax.specs.Trees.{assign, field, val};
 ghost use Rattle.wy_syntax.specs.Views.{expr_tree, part_tree, rhs_tree, stmt_tree, tail_tree, part_trees, stmt_trees};
 ghost use Rattle.wy_syntax.specs.StmtGrammar.{is_val};
-ghost use Rattle.wy_parser.specs.Reading.{blocks, starts};
+ghost use Rattle.wy_parser.specs.Reading.{Yes, blocks, starts};
 ghost use Rattle.wy_parser.specs.Parsing.{each, name_at};
 ghost use Rattle.wy_parser.specs.ExprParsing.{p_expr, p_arg};
 ghost use Rattle.wy_parser.specs.StmtParsing.{stmt_first, typed_val, untyped_val, part_first, parts_inside, literal_of, indented_block, branch_rest, if_of, expr_line, rhs_at, untyped_at, val_of, assign_of, stmt_at, block_of, tail_at, field_of, part_at, p_rhs, p_block};
 ghost use Rattle.wy_parser.specs.Sorts.{number_of, Gives};
 
-use crate::cursor::{begins, begins_two, mark, name_of, name_token};
+use crate::cursor::{begins, begins_two, boxed, mark, name_of, name_token};
 use crate::expressions::{ARG_FIRST, choice_rest, expr};
 use crate::sort::Sort;
 use crate::stop::Stop;
 use crate::types::{signature, type_use};
-use std::alloc::{AllocError, Global};
+use std::alloc::Global;
 use wy_syntax::expressions::Expr;
 use wy_syntax::statements::{FieldKind, Part, Rhs, Stmt, Tail};
-use wy_syntax::types::{Signature, TypeUse};
+use wy_syntax::types::TypeUse;
 use wy_text::fault::Place;
-use wy_text::text::Memory;
 use wy_text::token::Token;
 
 const PART_FIRST: [Sort; 3] = [Sort::KwDef, Sort::KwVal, Sort::KwVar];
@@ -45,82 +44,110 @@ fn must_go_on(stmt: &Stmt, after: &[Token]) -> bool
     is_val(stmt) || begins(after, &[Sort::KwVal, Sort::KwNew]) || begins(after, &ARG_FIRST)
 }
 
-fn value_node(alloc: Global, e: Box<Expr>) -> Result<Box<Rhs>, AllocError>
-    ensures { IfOk result (λ b. rhs_tree b.value ≡ value (expr_tree e.value)) }
-{
-    Ok(Box::new(alloc, Rhs::Value(Box::into_inner(e)))?)
-}
-
-fn branch_node(
+/// A right side in a box, and what stands behind it.
+fn side_node<'a>(
     alloc: Global,
-    place: Place,
-    condition: Box<Expr>,
-    first: Vec<Stmt>,
-    second: Vec<Stmt>,
-) -> Result<Box<Rhs>, AllocError>
-    ensures { IfOk result (λ b. rhs_tree b.value ≡ branch place (expr_tree condition.value) (stmt_trees first.items) (stmt_trees second.items)) }
+    side: Rhs,
+    rest: &'a [Token],
+) -> Result<(Box<Rhs>, &'a [Token]), Stop<'a>>
+    ensures { Gives (λ b. rhs_tree b.value) result (Yes (rhs_tree side) (toks rest.now)) }
 {
-    let condition = Box::into_inner(condition);
-    Ok(Box::new(alloc, Rhs::Branch(place, condition, first, second))?)
+    boxed(alloc, side, rest)
 }
 
-fn run_node(alloc: Global, side: Box<Rhs>) -> Result<Box<Stmt>, AllocError>
-    ensures { IfOk result (λ b. stmt_tree b.value ≡ run (rhs_tree side.value)) }
+/// A statement in a box, and what stands behind it.
+fn stmt_node<'a>(
+    alloc: Global,
+    stmt: Stmt,
+    rest: &'a [Token],
+) -> Result<(Box<Stmt>, &'a [Token]), Stop<'a>>
+    ensures { Gives (λ b. stmt_tree b.value) result (Yes (stmt_tree stmt) (toks rest.now)) }
 {
-    Ok(Box::new(alloc, Stmt::Run(Box::into_inner(side)))?)
+    boxed(alloc, stmt, rest)
 }
 
-fn val_node(
+/// A part in a box, and what stands behind it.
+fn part_node<'a>(
+    alloc: Global,
+    part: Part,
+    rest: &'a [Token],
+) -> Result<(Box<Part>, &'a [Token]), Stop<'a>>
+    ensures { Gives (λ b. part_tree b.value) result (Yes (part_tree part) (toks rest.now)) }
+{
+    boxed(alloc, part, rest)
+}
+
+/// A body in a box, and what stands behind it.
+fn tail_node<'a>(
+    alloc: Global,
+    tail: Tail,
+    rest: &'a [Token],
+) -> Result<(Box<Tail>, &'a [Token]), Stop<'a>>
+    ensures { Gives (λ b. tail_tree b.value) result (Yes (tail_tree tail) (toks rest.now)) }
+{
+    boxed(alloc, tail, rest)
+}
+
+/// A `val` with its type, and what stands behind it.
+fn typed_node<'a>(
     alloc: Global,
     name: &Token,
-    type_use: Option<TypeUse>,
+    type_use: Box<TypeUse>,
     side: Box<Rhs>,
-) -> Result<Box<Stmt>, Memory>
-    ensures { IfOk result (λ b. stmt_tree b.value ≡ val (name_at (tok_of name.now)) type_use (rhs_tree side.value)) }
+    rest: &'a [Token],
+) -> Result<(Box<Stmt>, &'a [Token]), Stop<'a>>
+    ensures { Gives (λ b. stmt_tree b.value) result (Yes (val (name_at (tok_of name.now)) (Some type_use.value) (rhs_tree side.value)) (toks rest.now)) }
 {
     let name = name_of(alloc, name)?;
-    let side = Box::into_inner(side);
-    Ok(Box::new(alloc, Stmt::Val(name, type_use, side))?)
+    let type_use = Some(Box::into_inner(type_use));
+    stmt_node(
+        alloc,
+        Stmt::Val(name, type_use, Box::into_inner(side)),
+        rest,
+    )
 }
 
-fn assign_node(alloc: Global, name: &Token, side: Box<Rhs>) -> Result<Box<Stmt>, Memory>
-    ensures { IfOk result (λ b. stmt_tree b.value ≡ assign (name_at (tok_of name.now)) (rhs_tree side.value)) }
+/// A `val` without a type, and what stands behind it.
+fn untyped_node<'a>(
+    alloc: Global,
+    name: &Token,
+    side: Box<Rhs>,
+    rest: &'a [Token],
+) -> Result<(Box<Stmt>, &'a [Token]), Stop<'a>>
+    ensures { Gives (λ b. stmt_tree b.value) result (Yes (val (name_at (tok_of name.now)) None (rhs_tree side.value)) (toks rest.now)) }
 {
     let name = name_of(alloc, name)?;
-    Ok(Box::new(alloc, Stmt::Assign(name, Box::into_inner(side)))?)
+    stmt_node(alloc, Stmt::Val(name, None, Box::into_inner(side)), rest)
 }
 
-fn field_node(
+/// An assignment, and what stands behind it.
+fn assign_node<'a>(
+    alloc: Global,
+    name: &Token,
+    side: Box<Rhs>,
+    rest: &'a [Token],
+) -> Result<(Box<Stmt>, &'a [Token]), Stop<'a>>
+    ensures { Gives (λ b. stmt_tree b.value) result (Yes (assign (name_at (tok_of name.now)) (rhs_tree side.value)) (toks rest.now)) }
+{
+    let name = name_of(alloc, name)?;
+    stmt_node(alloc, Stmt::Assign(name, Box::into_inner(side)), rest)
+}
+
+/// A field, and what stands behind it.
+fn field_node<'a>(
     alloc: Global,
     kind: FieldKind,
     name: &Token,
     type_use: Box<TypeUse>,
     side: Box<Rhs>,
-) -> Result<Box<Part>, Memory>
-    ensures { IfOk result (λ b. part_tree b.value ≡ field kind (name_at (tok_of name.now)) type_use.value (rhs_tree side.value)) }
+    rest: &'a [Token],
+) -> Result<(Box<Part>, &'a [Token]), Stop<'a>>
+    ensures { Gives (λ b. part_tree b.value) result (Yes (field kind (name_at (tok_of name.now)) type_use.value (rhs_tree side.value)) (toks rest.now)) }
 {
     let name = name_of(alloc, name)?;
     let type_use = Box::into_inner(type_use);
     let side = Box::into_inner(side);
-    Ok(Box::new(alloc, Part::Field(kind, name, type_use, side))?)
-}
-
-fn method_node(
-    alloc: Global,
-    signature: Box<Signature>,
-    body: Box<Tail>,
-) -> Result<Box<Part>, AllocError>
-    ensures { IfOk result (λ b. part_tree b.value ≡ method signature.value (tail_tree body.value)) }
-{
-    let signature = Box::into_inner(signature);
-    let body = Box::into_inner(body);
-    Ok(Box::new(alloc, Part::Method(signature, body))?)
-}
-
-fn short_node(alloc: Global, side: Box<Rhs>) -> Result<Box<Tail>, AllocError>
-    ensures { IfOk result (λ b. tail_tree b.value ≡ short (rhs_tree side.value)) }
-{
-    Ok(Box::new(alloc, Tail::Short(Box::into_inner(side)))?)
+    part_node(alloc, Part::Field(kind, name, type_use, side), rest)
 }
 
 /// An expression and its line's end.
@@ -135,7 +162,7 @@ fn expr_line<'a>(
 {
     let (e, rest) = expr(alloc, tokens, plain, inner)?;
     let (_, rest) = mark(rest, Sort::Nl)?;
-    Ok((value_node(alloc, e)?, rest))
+    side_node(alloc, Rhs::Value(Box::into_inner(e)), rest)
 }
 
 /// A right side behind an equals sign.
@@ -208,7 +235,7 @@ fn either<'a>(
     if begins(rest, &[Sort::KwThen]) {
         let (e, rest) = choice_rest(alloc, rest, place, condition, plain, inner)?;
         let (_, rest) = mark(rest, Sort::Nl)?;
-        Ok((value_node(alloc, e)?, rest))
+        side_node(alloc, Rhs::Value(Box::into_inner(e)), rest)
     } else {
         branch_rest(alloc, rest, place, condition, plain, inner)
     }
@@ -232,7 +259,8 @@ fn branch_rest<'a>(
     let (_, rest) = mark(rest, Sort::KwElse)?;
     let (_, rest) = mark(rest, Sort::Nl)?;
     let (second, rest) = indented_block(alloc, rest, plain, inner)?;
-    Ok((branch_node(alloc, place, condition, first, second)?, rest))
+    let condition = Box::into_inner(condition);
+    side_node(alloc, Rhs::Branch(place, condition, first, second), rest)
 }
 
 /// A block in lines of its own.
@@ -326,7 +354,7 @@ fn stmt<'a>(
         return assign(alloc, tokens, plain, inner);
     }
     let (value, rest) = right_side_in(alloc, tokens, plain, inner)?;
-    Ok((run_node(alloc, value)?, rest))
+    stmt_node(alloc, Stmt::Run(Box::into_inner(value)), rest)
 }
 
 /// The type and the right side of a `val`.
@@ -345,8 +373,7 @@ fn typed_val<'a>(
     let (type_use, rest) = type_use(alloc, rest, plain, inner)?;
     let (_, rest) = mark(rest, Sort::SymEqual)?;
     let (value, rest) = right_side(alloc, rest, plain, inner)?;
-    let type_use = Some(Box::into_inner(type_use));
-    Ok((val_node(alloc, name, type_use, value)?, rest))
+    typed_node(alloc, name, type_use, value, rest)
 }
 
 /// The right side of a `val` without a type.
@@ -363,7 +390,7 @@ fn untyped_val<'a>(
 {
     let (_, rest) = mark(tokens, Sort::SymEqual)?;
     let (value, rest) = untyped_side(alloc, rest, plain, inner)?;
-    Ok((val_node(alloc, name, None, value)?, rest))
+    untyped_node(alloc, name, value, rest)
 }
 
 /// A `val` with a type or without one.
@@ -400,7 +427,7 @@ fn assign<'a>(
     let (name, rest) = name_token(tokens)?;
     let (_, rest) = mark(rest, Sort::SymEqual)?;
     let (value, rest) = right_side(alloc, rest, plain, inner)?;
-    Ok((assign_node(alloc, name, value)?, rest))
+    assign_node(alloc, name, value, rest)
 }
 
 /// `new` with its fields and methods.
@@ -417,7 +444,7 @@ fn literal<'a>(
     let (place, rest) = mark(tokens, Sort::KwNew)?;
     let (_, rest) = mark(rest, Sort::Nl)?;
     let (parts, rest) = parts_inside(alloc, rest, plain, inner)?;
-    Ok((Box::new(alloc, Rhs::New(place, parts))?, rest))
+    side_node(alloc, Rhs::New(place, parts), rest)
 }
 
 /// Indented parts, or none.
@@ -477,7 +504,8 @@ fn part<'a>(
     if begins(tokens, &[Sort::KwDef]) {
         let (signature, rest) = signature(alloc, tokens, plain, inner)?;
         let (body, rest) = tail(alloc, rest, plain, inner)?;
-        return Ok((method_node(alloc, signature, body)?, rest));
+        let signature = Box::into_inner(signature);
+        return part_node(alloc, Part::Method(signature, Box::into_inner(body)), rest);
     }
     if begins(tokens, &[Sort::KwVal]) {
         return field(alloc, tokens, Sort::KwVal, FieldKind::Val, plain, inner);
@@ -504,7 +532,7 @@ fn field<'a>(
     let (type_use, rest) = type_use(alloc, rest, plain, inner)?;
     let (_, rest) = mark(rest, Sort::SymEqual)?;
     let (value, rest) = right_side(alloc, rest, plain, inner)?;
-    Ok((field_node(alloc, kind, name, type_use, value)?, rest))
+    field_node(alloc, kind, name, type_use, value, rest)
 }
 
 /// A body: behind an equals sign, or a block of its own.
@@ -521,9 +549,9 @@ pub fn tail<'a>(
     if begins(tokens, &[Sort::SymEqual]) {
         let (_, rest) = mark(tokens, Sort::SymEqual)?;
         let (value, rest) = right_side(alloc, rest, plain, inner)?;
-        return Ok((short_node(alloc, value)?, rest));
+        return tail_node(alloc, Tail::Short(Box::into_inner(value)), rest);
     }
     let (_, rest) = mark(tokens, Sort::Nl)?;
     let (stmts, rest) = indented_block(alloc, rest, plain, inner)?;
-    Ok((Box::new(alloc, Tail::Long(stmts))?, rest))
+    tail_node(alloc, Tail::Long(stmts), rest)
 }

@@ -1,12 +1,12 @@
 //! Sets, types and signatures. Each function reads what stands first and gives what stands behind it;
 //! `turns` bounds the turns of each loop.
-ghost use Rattle.std.specs.Prelude.{◌≡◌, IfOk};
 ghost use Rattle.wy_syntax.specs.declared.types.TypeUse.TheVariants as types;
 ghost use Rattle.wy_syntax.specs.Tokens.{tok_of, toks};
-ghost use Rattle.wy_parser.specs.Parsing.{name_at, member_alone, member_of, owned, atom, set, member_set, with_sets, at_set, object_rest, object, type_use, param_of, param_type, param, effect, signature_of, signature};
+ghost use Rattle.wy_parser.specs.Parsing.{name_at, member_alone, member_of, owned, atom, set, member_set, with_sets, at_set, object_rest, object, type_use, param_of, param_type, param, effect, signature_of, behind_method_params, signature};
+ghost use Rattle.wy_parser.specs.Reading.{Yes};
 ghost use Rattle.wy_parser.specs.Sorts.{Gives};
 
-use crate::cursor::{begins, mark, name_of, name_token};
+use crate::cursor::{begins, boxed, mark, name_of, name_token};
 use crate::lists::{BRACES, Entry, between, named, separated};
 use crate::sort::Sort;
 use crate::stop::Stop;
@@ -14,25 +14,33 @@ use std::alloc::Global;
 use wy_syntax::types::{AtomUse, MemberSet, Param, ParamList, SetUse, Signature, TypeUse};
 use wy_text::fault::Place;
 use wy_text::list::Items;
-use wy_text::text::Memory;
 use wy_text::token::Token;
 
-fn member_alone(alloc: Global, member: &Token) -> Result<AtomUse, Memory>
-    ensures { IfOk result (λ a. a ≡ member_alone (name_at (tok_of member.now))) }
+/// A member by itself, and what stands behind it.
+fn member_alone<'a>(
+    alloc: Global,
+    member: &Token,
+    rest: &'a [Token],
+) -> Result<(AtomUse, &'a [Token]), Stop<'a>>
+    ensures { Gives (λ a. a) result (Yes (member_alone (name_at (tok_of member.now))) (toks rest.now)) }
 {
     let member = name_of(alloc, member)?;
-    Ok(AtomUse {
-        owner: None,
-        member,
-    })
+    let owner = None;
+    Ok((AtomUse { owner, member }, rest))
 }
 
-fn member_of(alloc: Global, owner: &Token, member: &Token) -> Result<AtomUse, Memory>
-    ensures { IfOk result (λ a. a ≡ member_of (name_at (tok_of owner.now)) (name_at (tok_of member.now))) }
+/// A member of its owner, and what stands behind it.
+fn member_of<'a>(
+    alloc: Global,
+    owner: &Token,
+    member: &Token,
+    rest: &'a [Token],
+) -> Result<(AtomUse, &'a [Token]), Stop<'a>>
+    ensures { Gives (λ a. a) result (Yes (member_of (name_at (tok_of owner.now)) (name_at (tok_of member.now))) (toks rest.now)) }
 {
     let owner = Some(name_of(alloc, owner)?);
     let member = name_of(alloc, member)?;
-    Ok(AtomUse { owner, member })
+    Ok((AtomUse { owner, member }, rest))
 }
 
 /// A dot and a member behind its owner.
@@ -45,7 +53,7 @@ fn owned<'a>(
 {
     let (_, rest) = mark(tokens, Sort::SymDot)?;
     let (member, rest) = name_token(rest)?;
-    Ok((member_of(alloc, owner, member)?, rest))
+    member_of(alloc, owner, member, rest)
 }
 
 /// What stands between the commas of a set: a member, or an owner and its member.
@@ -66,7 +74,7 @@ impl Entry for AtomEntry {
         if begins(rest, &[Sort::SymDot]) {
             return owned(alloc, rest, name);
         }
-        Ok((member_alone(alloc, name)?, rest))
+        member_alone(alloc, name, rest)
     }
 }
 
@@ -121,25 +129,42 @@ pub fn object<'a>(
     object_rest(alloc, rest, name, plain, turns)
 }
 
-fn bare(alloc: Global, name: &Token) -> Result<Box<TypeUse>, Memory>
-    ensures { IfOk result (λ b. b.value ≡ types.Bare (name_at (tok_of name.now))) }
+/// A declared type by its name alone, and what stands behind it.
+fn bare<'a>(
+    alloc: Global,
+    name: &Token,
+    rest: &'a [Token],
+) -> Result<(Box<TypeUse>, &'a [Token]), Stop<'a>>
+    ensures { Gives (λ t. t.value) result (Yes (types.Bare (name_at (tok_of name.now))) (toks rest.now)) }
 {
     let name = name_of(alloc, name)?;
-    Ok(Box::new(alloc, TypeUse::Bare(name))?)
+    boxed(alloc, TypeUse::Bare(name), rest)
 }
 
-fn with(alloc: Global, name: &Token, sets: Items<MemberSet>) -> Result<Box<TypeUse>, Memory>
-    ensures { IfOk result (λ b. b.value ≡ types.With (name_at (tok_of name.now)) sets) }
+/// A declared type with its members' sets, and what stands behind it.
+fn with<'a>(
+    alloc: Global,
+    name: &Token,
+    sets: Items<MemberSet>,
+    rest: &'a [Token],
+) -> Result<(Box<TypeUse>, &'a [Token]), Stop<'a>>
+    ensures { Gives (λ t. t.value) result (Yes (types.With (name_at (tok_of name.now)) sets) (toks rest.now)) }
 {
     let name = name_of(alloc, name)?;
-    Ok(Box::new(alloc, TypeUse::With(name, sets))?)
+    boxed(alloc, TypeUse::With(name, sets), rest)
 }
 
-fn at(alloc: Global, name: &Token, effect: SetUse) -> Result<Box<TypeUse>, Memory>
-    ensures { IfOk result (λ b. b.value ≡ types.At (name_at (tok_of name.now)) effect) }
+/// A declared type with one set, and what stands behind it.
+fn at<'a>(
+    alloc: Global,
+    name: &Token,
+    effect: SetUse,
+    rest: &'a [Token],
+) -> Result<(Box<TypeUse>, &'a [Token]), Stop<'a>>
+    ensures { Gives (λ t. t.value) result (Yes (types.At (name_at (tok_of name.now)) effect) (toks rest.now)) }
 {
     let name = name_of(alloc, name)?;
-    Ok(Box::new(alloc, TypeUse::At(name, effect))?)
+    boxed(alloc, TypeUse::At(name, effect), rest)
 }
 
 /// A declared type's members in brackets, each with its set.
@@ -154,7 +179,7 @@ fn with_sets<'a>(
     let (_, rest) = mark(tokens, Sort::SymOpenBracket)?;
     let (sets, rest) = separated(alloc, rest, turns, &MemberSetEntry { turns })?;
     let (_, rest) = mark(rest, Sort::SymCloseBracket)?;
-    Ok((with(alloc, name, sets)?, rest))
+    with(alloc, name, sets, rest)
 }
 
 /// A declared type's one set.
@@ -168,7 +193,7 @@ fn at_set<'a>(
 {
     let (_, rest) = mark(tokens, Sort::KwAt)?;
     let (effect, rest) = set(alloc, rest, turns)?;
-    Ok((at(alloc, name, effect)?, rest))
+    at(alloc, name, effect, rest)
 }
 
 /// What stands behind a declared type's name.
@@ -183,7 +208,7 @@ fn object_rest<'a>(
     ensures { Gives (λ t. t.value) result (object_rest plain (name_at (tok_of name.now)) turns (toks tokens.now)) }
 {
     if plain {
-        return Ok((bare(alloc, name)?, tokens));
+        return bare(alloc, name, tokens);
     }
     if begins(tokens, &[Sort::SymOpenBracket]) {
         return with_sets(alloc, tokens, name, turns);
@@ -191,7 +216,7 @@ fn object_rest<'a>(
     if begins(tokens, &[Sort::KwAt]) {
         return at_set(alloc, tokens, name, turns);
     }
-    Ok((bare(alloc, name)?, tokens))
+    bare(alloc, name, tokens)
 }
 
 /// A base type or a declared one.
@@ -206,29 +231,35 @@ pub fn type_use<'a>(
 {
     if begins(tokens, &[Sort::KwInt]) {
         let (place, rest) = mark(tokens, Sort::KwInt)?;
-        return Ok((Box::new(alloc, TypeUse::Int(place))?, rest));
+        return boxed(alloc, TypeUse::Int(place), rest);
     }
     if begins(tokens, &[Sort::KwBool]) {
         let (place, rest) = mark(tokens, Sort::KwBool)?;
-        return Ok((Box::new(alloc, TypeUse::Bool(place))?, rest));
+        return boxed(alloc, TypeUse::Bool(place), rest);
     }
     if begins(tokens, &[Sort::KwString]) {
         let (place, rest) = mark(tokens, Sort::KwString)?;
-        return Ok((Box::new(alloc, TypeUse::Text(place))?, rest));
+        return boxed(alloc, TypeUse::Text(place), rest);
     }
     if begins(tokens, &[Sort::KwUnit]) {
         let (place, rest) = mark(tokens, Sort::KwUnit)?;
-        return Ok((Box::new(alloc, TypeUse::Unit(place))?, rest));
+        return boxed(alloc, TypeUse::Unit(place), rest);
     }
     object(alloc, tokens, plain, turns)
 }
 
-fn param_node(alloc: Global, name: &Token, type_use: Box<TypeUse>) -> Result<Box<Param>, Memory>
-    ensures { IfOk result (λ b. b.value ≡ param_of (name_at (tok_of name.now)) type_use.value) }
+/// A parameter with its type, and what stands behind it.
+fn param_node<'a>(
+    alloc: Global,
+    name: &Token,
+    type_use: Box<TypeUse>,
+    rest: &'a [Token],
+) -> Result<(Param, &'a [Token]), Stop<'a>>
+    ensures { Gives (λ p. p) result (Yes (param_of (name_at (tok_of name.now)) type_use.value) (toks rest.now)) }
 {
     let name = name_of(alloc, name)?;
     let type_use = Box::into_inner(type_use);
-    Ok(Box::new(alloc, Param { name, type_use })?)
+    Ok((Param { name, type_use }, rest))
 }
 
 /// The type of a method's parameter, or of a module's, which is a declared one.
@@ -270,8 +301,7 @@ impl Entry for ParamEntry {
         let (name, rest) = name_token(tokens)?;
         let (_, rest) = mark(rest, Sort::SymColon)?;
         let (type_use, rest) = param_type(alloc, rest, self.declared, self.plain, self.turns)?;
-        let item = param_node(alloc, name, type_use)?;
-        Ok((Box::into_inner(item), rest))
+        param_node(alloc, name, type_use, rest)
     }
 }
 
@@ -292,15 +322,17 @@ fn effect<'a>(
     Ok((Some(effect), rest))
 }
 
-fn signature_node(
+/// A signature of these parts, and what stands behind it.
+fn signature_node<'a>(
     alloc: Global,
     place: Place,
     name: &Token,
     params: ParamList,
     effect: Option<SetUse>,
     result_type: Box<TypeUse>,
-) -> Result<Box<Signature>, Memory>
-    ensures { IfOk result (λ b. b.value ≡ signature_of place (name_at (tok_of name.now)) params effect result_type.value) }
+    rest: &'a [Token],
+) -> Result<(Box<Signature>, &'a [Token]), Stop<'a>>
+    ensures { Gives (λ s. s.value) result (Yes (signature_of place (name_at (tok_of name.now)) params effect result_type.value) (toks rest.now)) }
 {
     let signature = Signature {
         place,
@@ -309,7 +341,26 @@ fn signature_node(
         effect,
         result: Box::into_inner(result_type),
     };
-    Ok(Box::new(alloc, signature)?)
+    boxed(alloc, signature, rest)
+}
+
+/// What stands in a signature behind its parameters.
+fn signature_end<'a>(
+    alloc: Global,
+    tokens: &'a [Token],
+    place: Place,
+    name: &Token,
+    params: ParamList,
+    plain: bool,
+    turns: usize,
+) -> Result<(Box<Signature>, &'a [Token]), Stop<'a>>
+    ensures { Gives (λ s. s.value) result (behind_method_params plain place (name_at (tok_of name.now)) params turns (toks tokens.now)) }
+{
+    let (_, rest) = mark(tokens, Sort::SymCloseParen)?;
+    let (_, rest) = mark(rest, Sort::SymColon)?;
+    let (effect, rest) = effect(alloc, rest, plain, turns)?;
+    let (result, rest) = type_use(alloc, rest, plain, turns)?;
+    signature_node(alloc, place, name, params, effect, result, rest)
 }
 
 /// What stands before a method's body.
@@ -331,10 +382,5 @@ pub fn signature<'a>(
         turns,
     };
     let (params, rest) = named(alloc, rest, turns, &entry)?;
-    let (_, rest) = mark(rest, Sort::SymCloseParen)?;
-    let (_, rest) = mark(rest, Sort::SymColon)?;
-    let (effect, rest) = effect(alloc, rest, plain, turns)?;
-    let (result, rest) = type_use(alloc, rest, plain, turns)?;
-    let signature = signature_node(alloc, place, name, params, effect, result)?;
-    Ok((signature, rest))
+    signature_end(alloc, rest, place, name, params, plain, turns)
 }

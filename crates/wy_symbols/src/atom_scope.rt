@@ -89,6 +89,30 @@ fn bounds_of(alloc: Global, heads: &Heads, list: &[Opened]) -> Result<BoundList,
     Ok(bounds)
 }
 
+/// Adds owners with the sets of their atoms, their names and the atoms.
+fn add_owners(
+    alloc: Global,
+    heads: &Heads,
+    owners: &[Owner],
+    atoms: &mut AtomTable,
+    list: &mut Vec<Opened>,
+    names: &mut Vec<Text>,
+) -> Result<(), Memory>
+    requires no_atoms { atoms.old ≡ [] }
+    requires no_owners { list.old.items ≡ [] }
+    requires no_names { names.old.items ≡ [] }
+    ensures atoms { OnOk result (atoms.new ≡ atoms_of heads.now owners.now) }
+    ensures owners { OnOk result (map (λ (p : Opened). p.owner) list.new.items ≡ owners.now) }
+    ensures sets { OnOk result (HaveSets heads.now atoms.new list.new.items) }
+    ensures names { OnOk result (names.new.items ≡ owner_names owners.now) }
+{
+    for owner in owners {
+        let sets = open(alloc, atoms, heads, owner)?;
+        add_owner(list, names, owner, sets)?;
+    }
+    Ok(())
+}
+
 impl<'a> Owners<'a> {
     /// These owners with their atoms, which have numbers by the order of their owners, and then by that of
     /// abstract members.
@@ -98,10 +122,7 @@ impl<'a> Owners<'a> {
         let mut atoms = AtomTable::new(alloc);
         let mut list = Vec::new(alloc);
         let mut names = Vec::new(alloc);
-        for owner in owners {
-            let sets = open(alloc, &mut atoms, heads, owner)?;
-            add_owner(&mut list, &mut names, owner, sets)?;
-        }
+        add_owners(alloc, heads, owners, &mut atoms, &mut list, &mut names)?;
         let names = Table::new(alloc, names)?;
         Ok(Owners {
             heads,

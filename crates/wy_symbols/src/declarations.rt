@@ -141,8 +141,47 @@ fn add_method(
     Ok(())
 }
 
-/// The methods of a declaration. The refusals inside its members are noted: the set of a defined one
-/// and an upper bound see those before it, a signature all.
+/// Adds the methods of a declaration, and its effect members as those before the next one. The refusals inside
+/// them are noted: the set of a defined one and an upper bound see those before it, a signature all.
+fn add_members(
+    alloc: Global,
+    nothing: &Owners,
+    scope: &AtomScope,
+    members: &[Member],
+    before: &mut Meanings,
+    methods: &mut Items<Method>,
+    least: &mut Option<Refusal>,
+) -> Result<(), Memory>
+    requires empty { nothing.now ≡ member_scope [] }
+    requires first { before.old ≡ [] }
+    ensures methods { OnOk result (methods.new ≡ methods.old ++ declared_methods scope.now members.now) }
+    ensures noted { OnOk result (least.new ≡ noted least.old (members_refusals scope.now [] 0 members.now)) }
+{
+    let mut number = 0;
+    for member in members {
+        match member {
+            Member::Abstract(name) => {
+                add_abstract(alloc, before, &name.text, number)?;
+                number += 1;
+            }
+            Member::Bounded(name, set) => {
+                let set = set.as_slice();
+                read_bounded(alloc, nothing, before, &name.text, number, set, least)?;
+                number += 1;
+            }
+            Member::Defined(name, set) => {
+                let set = set.as_slice();
+                read_defined(alloc, nothing, before, &name.text, set, least)?;
+            }
+            Member::Method(signature) => {
+                add_method(alloc, scope, methods, signature, least)?;
+            }
+        }
+    }
+    Ok(())
+}
+
+/// The methods of a declaration. The refusals inside its members are noted.
 fn read_members(
     alloc: Global,
     nothing: &Owners,
@@ -156,27 +195,15 @@ fn read_members(
 {
     let mut methods = Items::new(alloc);
     let mut before = Meanings::new(alloc);
-    let mut number = 0;
-    for member in members {
-        match member {
-            Member::Abstract(name) => {
-                add_abstract(alloc, &mut before, &name.text, number)?;
-                number += 1;
-            }
-            Member::Bounded(name, set) => {
-                let set = set.as_slice();
-                read_bounded(alloc, nothing, &mut before, &name.text, number, set, least)?;
-                number += 1;
-            }
-            Member::Defined(name, set) => {
-                let set = set.as_slice();
-                read_defined(alloc, nothing, &mut before, &name.text, set, least)?;
-            }
-            Member::Method(signature) => {
-                add_method(alloc, scope, &mut methods, signature, least)?;
-            }
-        }
-    }
+    add_members(
+        alloc,
+        nothing,
+        scope,
+        members,
+        &mut before,
+        &mut methods,
+        least,
+    )?;
     Ok(methods)
 }
 

@@ -5,6 +5,7 @@ ghost use Rattle.wy_syntax.specs.Views.{item_tree, file_tree};
 ghost use Rattle.wy_symbols.specs.Declarations.{item_types, item_modules, item_programs, all_items, types_of, modules_of, programs_of};
 ghost use Rattle.wy_symbols.specs.Lent.{lent_type, lent_program, module_tree};
 
+use crate::items::add;
 use std::alloc::Global;
 use wy_syntax::items::{
     Define, Init, Item, Line, PlainModule, Program, PureModule, ResourceModule, Tree, TypeDecl,
@@ -97,13 +98,12 @@ fn add_item<'a>(found: &mut Gathered<'a>, item: &'a Item) -> Result<(), Memory>
     ensures programs { OnOk result (map lent_program found.new.programs.items ≡ map lent_program found.old.programs.items ++ item_programs (item_tree item.now)) }
 {
     match item {
-        Item::Type(decl) => found.types.push(decl)?,
-        Item::Pure(item) => found.modules.push(pure_view(item))?,
-        Item::Resource(item) => found.modules.push(resource_view(item))?,
-        Item::Plain(item) => found.modules.push(plain_view(item))?,
-        Item::Program(program) => found.programs.push(program)?,
+        Item::Type(decl) => add(&mut found.types, decl),
+        Item::Pure(item) => add(&mut found.modules, pure_view(item)),
+        Item::Resource(item) => add(&mut found.modules, resource_view(item)),
+        Item::Plain(item) => add(&mut found.modules, plain_view(item)),
+        Item::Program(program) => add(&mut found.programs, program),
     }
-    Ok(())
 }
 
 /// Adds what the items of a file declare.

@@ -9,6 +9,7 @@ ghost use Rattle.wy_symbols.specs.Lent.{lent_type};
 use crate::atom_scope::{AtomScope, Owners};
 use crate::atoms::single;
 use crate::heads::Heads;
+use crate::items::add;
 use crate::meanings::Meanings;
 use crate::refusal::Refusal;
 use crate::scoping::{Head, Meaning};
@@ -127,6 +128,37 @@ pub fn read_defined(
     add_defined(alloc, nothing, members, name, set)
 }
 
+/// Adds the effect members of a type declaration, in their order.
+fn add_members(
+    alloc: Global,
+    nothing: &Owners,
+    members: &[Member],
+    before: &mut Meanings,
+) -> Result<(), Memory>
+    requires { nothing.now ≡ member_scope [] }
+    ensures { OnOk result (before.new ≡ members_after before.old 0 members.now) }
+{
+    let mut number = 0;
+    for member in members {
+        match member {
+            Member::Abstract(name) => {
+                add_abstract(alloc, before, &name.text, number)?;
+                number += 1;
+            }
+            Member::Bounded(name, set) => {
+                let set = set.as_slice();
+                add_bounded(alloc, nothing, before, &name.text, number, set)?;
+                number += 1;
+            }
+            Member::Defined(name, set) => {
+                add_defined(alloc, nothing, before, &name.text, set.as_slice())?;
+            }
+            Member::Method(_) => {}
+        }
+    }
+    Ok(())
+}
+
 /// The effect members of a type declaration, in their order.
 pub fn members_after(
     alloc: Global,
@@ -137,41 +169,50 @@ pub fn members_after(
     ensures { IfOk result (λ ms. ms ≡ members_after [] 0 members.now) }
 {
     let mut before = Meanings::new(alloc);
-    let mut number = 0;
-    for member in members {
-        match member {
-            Member::Abstract(name) => {
-                add_abstract(alloc, &mut before, &name.text, number)?;
-                number += 1;
-            }
-            Member::Bounded(name, set) => {
-                let set = set.as_slice();
-                add_bounded(alloc, nothing, &mut before, &name.text, number, set)?;
-                number += 1;
-            }
-            Member::Defined(name, set) => {
-                add_defined(alloc, nothing, &mut before, &name.text, set.as_slice())?;
-            }
-            Member::Method(_) => {}
-        }
-    }
+    add_members(alloc, nothing, members, &mut before)?;
     Ok(before)
+}
+
+/// Adds abstract members of these names with their numbers, from 0 on.
+fn add_abstracts(alloc: Global, members: &mut Meanings, names: &[Text]) -> Result<(), Memory>
+    ensures { OnOk result (members.new ≡ members.old ++ abstract_members 0 names.now) }
+{
+    let mut number = 0;
+    for name in names {
+        add_abstract(alloc, members, name, number)?;
+        number += 1;
+    }
+    Ok(())
 }
 
 /// A primitive type with its members.
 fn primitive_head(alloc: Global, decl: &resolved::TypeDecl) -> Result<Head, Memory>
     ensures { IfOk result (λ h. h ≡ primitive_head decl.now) }
 {
+    let name = decl.name.copy()?;
     let mut members = Meanings::new(alloc);
-    let mut number = 0;
-    for name in decl.members.as_slice() {
-        add_abstract(alloc, &mut members, name, number)?;
-        number += 1;
+    add_abstracts(alloc, &mut members, decl.members.as_slice())?;
+    Ok(Head { name, members })
+}
+
+/// A declared type with its members.
+fn declared_head(alloc: Global, nothing: &Owners, decl: &TypeDecl) -> Result<Head, Memory>
+    requires { nothing.now ≡ member_scope [] }
+    ensures { IfOk result (λ h. h ≡ head decl.now) }
+{
+    let name = decl.name.text.copy()?;
+    let members = members_after(alloc, nothing, decl.members.as_slice())?;
+    Ok(Head { name, members })
+}
+
+/// Adds the names of types.
+fn add_head_names(names: &mut Vec<Text>, heads: &[Head]) -> Result<(), Memory>
+    ensures { OnOk result (names.new.items ≡ names.old.items ++ head_names heads.now) }
+{
+    for head in heads {
+        add(names, head.name.copy()?)?;
     }
-    Ok(Head {
-        name: decl.name.copy()?,
-        members,
-    })
+    Ok(())
 }
 
 /// The names of types as a table.
@@ -179,9 +220,7 @@ pub fn head_table(alloc: Global, heads: &[Head]) -> Result<Table, Memory>
     ensures { IfOk result (λ t. t ≡ head_names heads.now) }
 {
     let mut names = Vec::new(alloc);
-    for head in heads {
-        names.push(head.name.copy()?)?;
-    }
+    add_head_names(&mut names, heads)?;
     Table::new(alloc, names)
 }
 
@@ -194,7 +233,7 @@ fn add_primitives(
     ensures { OnOk result (heads.new.items ≡ heads.old.items ++ map primitive_head primitives.now) }
 {
     for decl in primitives {
-        heads.push(primitive_head(alloc, decl)?)?;
+        add(heads, primitive_head(alloc, decl)?)?;
     }
     Ok(())
 }
@@ -210,10 +249,7 @@ fn add_declared(
     ensures { OnOk result (heads.new.items ≡ heads.old.items ++ map head (map lent_type types.now)) }
 {
     for decl in types {
-        heads.push(Head {
-            name: decl.name.text.copy()?,
-            members: members_after(alloc, nothing, decl.members.as_slice())?,
-        })?;
+        add(heads, declared_head(alloc, nothing, decl)?)?;
     }
     Ok(())
 }

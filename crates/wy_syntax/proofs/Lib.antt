@@ -4,3 +4,4 @@ pub mod Layers
 mod Numbers
 mod Sums
 pub mod TokensSpelled
+mod Turns

@@ -1,5 +1,5 @@
 -- Tokens of which each is `Ok`, and what they spell: the tokens of each part of it are `Ok` too.
-use Rattle.std.proofs.Common.{◌≡◌, ℕ, zero, suc, List, [], ◌∷◌, ◌++◌, subst}
+use Rattle.std.proofs.Common.{ℕ, zero, suc, List, [], ◌∷◌, ◌++◌, subst}
 use Rattle.std.specs.List.{AllByRecursion}
 use Rattle.wy_syntax.specs.Tokens.{Tok}
 use Rattle.wy_syntax.specs.Languages.{Lang, Then, ◌⨟◌, Lines}

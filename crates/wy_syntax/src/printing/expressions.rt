@@ -11,6 +11,7 @@ ghost use Rattle.wy_syntax.specs.Canonical.{arguments_text, enclosed, expr_text,
 use crate::expressions::{Expr, Operator};
 use crate::printing::pieces::{Printed, push};
 use crate::printing::types::push_type;
+use crate::types::{Name, TypeUse};
 use wy_text::text::{Memory, Text};
 
 /// The level that the condition of an `if` asks for.
@@ -157,6 +158,24 @@ fn push_operator(out: &mut Vec<u8>, operator: Operator) -> Result<(), Memory>
     push(out, b" ")
 }
 
+/// Adds a dot, a method's name and the parenthesis that opens its arguments.
+fn push_method(out: &mut Vec<u8>, name: &Name) -> Result<(), Memory>
+    ensures { OnOk result (out.new.items ≡ out.old.items ++ (codes "." ++ name.now.text ++ codes "(")) }
+{
+    push(out, b".")?;
+    name.push_to(out)?;
+    push(out, b"(")
+}
+
+/// Adds a colon, a type and the parenthesis that closes them.
+fn push_ascribed(out: &mut Vec<u8>, type_use: &TypeUse) -> Result<(), Memory>
+    ensures { OnOk result (out.new.items ≡ out.old.items ++ (codes " : " ++ type_text type_use.now ++ codes ")")) }
+{
+    push(out, b" : ")?;
+    push_type(out, type_use)?;
+    push(out, b")")
+}
+
 /// Adds an expression.
 #[cycle(printing)]
 pub fn push_expr(out: &mut Vec<u8>, e: &Expr) -> Result<(), Memory>
@@ -185,9 +204,7 @@ pub fn push_expr(out: &mut Vec<u8>, e: &Expr) -> Result<(), Memory>
         }
         Expr::Call(receiver, name, arguments) => {
             push_enclosed(out, receiver, is_lower(receiver, POST))?;
-            push(out, b".")?;
-            name.push_to(out)?;
-            push(out, b"(")?;
+            push_method(out, name)?;
             push_arguments(out, arguments)?;
             push(out, b")")
         }
@@ -207,9 +224,7 @@ pub fn push_enclosed(out: &mut Vec<u8>, e: &Expr, enclose: bool) -> Result<(), M
     ensures { OnOk result (out.new.items ≡ out.old.items ++ enclosed enclose (expr_text (expr_tree e.now))) }
 {
     if enclose {
-        push(out, b"(")?;
-        push_expr(out, e)?;
-        push(out, b")")
+        push_last(out, b"(", e)
     } else {
         push_expr(out, e)
     }
@@ -237,36 +252,37 @@ fn push_worded(out: &mut Vec<u8>, e: &Expr) -> Result<(), Memory>
     match e {
         Expr::TextSize(e, _) => push_last(out, b"text_size(", e),
         Expr::TextPart(e, from, to, _) => {
-            push(out, b"text_part(")?;
-            push_expr(out, e)?;
-            push(out, b", ")?;
-            push_expr(out, from)?;
+            push_behind(out, b"text_part(", e)?;
+            push_behind(out, b", ", from)?;
             push_last(out, b", ", to)
         }
         Expr::TextCode(e, at, _) => {
-            push(out, b"text_code(")?;
-            push_expr(out, e)?;
+            push_behind(out, b"text_code(", e)?;
             push_last(out, b", ", at)
         }
         Expr::TextByte(e, _) => push_last(out, b"text_byte(", e),
         Expr::TextShow(e, _) => push_last(out, b"text_show(", e),
         Expr::Ascribe(e, type_use, _) => {
-            push(out, b"(")?;
-            push_expr(out, e)?;
-            push(out, b" : ")?;
-            push_type(out, type_use)?;
-            push(out, b")")
+            push_behind(out, b"(", e)?;
+            push_ascribed(out, type_use)
         }
         Expr::Choice(condition, first, second, _) => {
             push(out, b"if ")?;
             push_enclosed(out, condition, is_lower(condition, CONDITION))?;
-            push(out, b" then ")?;
-            push_expr(out, first)?;
-            push(out, b" else ")?;
-            push_expr(out, second)
+            push_behind(out, b" then ", first)?;
+            push_behind(out, b" else ", second)
         }
         _ => Ok(()),
     }
+}
+
+/// Adds an operand behind what is before it.
+#[cycle(printing)]
+fn push_behind(out: &mut Vec<u8>, before: &[u8], e: &Expr) -> Result<(), Memory>
+    ensures { OnOk result (out.new.items ≡ out.old.items ++ (before.now ++ expr_text (expr_tree e.now))) }
+{
+    push(out, before)?;
+    push_expr(out, e)
 }
 
 /// Adds an operand behind what is before it, and a closing parenthesis.
@@ -274,7 +290,6 @@ fn push_worded(out: &mut Vec<u8>, e: &Expr) -> Result<(), Memory>
 fn push_last(out: &mut Vec<u8>, before: &[u8], e: &Expr) -> Result<(), Memory>
     ensures { OnOk result (out.new.items ≡ out.old.items ++ (before.now ++ expr_text (expr_tree e.now) ++ codes ")")) }
 {
-    push(out, before)?;
-    push_expr(out, e)?;
+    push_behind(out, before, e)?;
     push(out, b")")
 }

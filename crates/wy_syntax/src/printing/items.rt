@@ -46,18 +46,13 @@ impl Printed for Member {
     }
 }
 
-/// Adds what a line makes: its name, its module and the arguments.
-fn push_made(
-    out: &mut Vec<u8>,
-    name: &Name,
-    module: &Name,
-    arguments: &[Name],
-) -> Result<(), Memory>
-    ensures { OnOk result (out.new.items ≡ out.old.items ++ (name.now.text ++ codes " = " ++ module.now.text ++ codes "(" ++ with_commas name_text arguments.now ++ codes ")")) }
+/// Adds what a line makes: its name, the module that makes it and the arguments.
+fn push_made(out: &mut Vec<u8>, name: &Name, maker: &Name, arguments: &[Name]) -> Result<(), Memory>
+    ensures { OnOk result (out.new.items ≡ out.old.items ++ (name.now.text ++ codes " = " ++ maker.now.text ++ codes "(" ++ with_commas name_text arguments.now ++ codes ")")) }
 {
     name.push_to(out)?;
     push(out, b" = ")?;
-    module.push_to(out)?;
+    maker.push_to(out)?;
     push(out, b"(")?;
     push_with_commas(out, arguments)?;
     push(out, b")")
@@ -152,15 +147,15 @@ fn push_type_decl(out: &mut Vec<u8>, decl: &TypeDecl) -> Result<(), Memory>
     push_each(out, decl.members.as_slice())
 }
 
-fn push_pure(out: &mut Vec<u8>, module: &PureModule) -> Result<(), Memory>
-    ensures { OnOk result (out.new.items ≡ out.old.items ++ item_text (item_tree (Item.Pure module.now))) }
+fn push_pure(out: &mut Vec<u8>, pure: &PureModule) -> Result<(), Memory>
+    ensures { OnOk result (out.new.items ≡ out.old.items ++ item_text (item_tree (Item.Pure pure.now))) }
 {
     push(out, b"module ")?;
-    module.name.push_to(out)?;
+    pure.name.push_to(out)?;
     push(out, b": ")?;
-    module.sealed.push_to(out)?;
+    pure.sealed.push_to(out)?;
     push(out, b"\n")?;
-    push_inside(out, &module.inside)
+    push_inside(out, &pure.inside)
 }
 
 /// Adds the rest of the heading of a module with parameters, from its name on.
@@ -180,20 +175,25 @@ fn push_heading(
     push(out, b"\n")
 }
 
-fn push_resource(out: &mut Vec<u8>, module: &ResourceModule) -> Result<(), Memory>
-    ensures { OnOk result (out.new.items ≡ out.old.items ++ item_text (item_tree (Item.Resource module.now))) }
+fn push_resource(out: &mut Vec<u8>, resource: &ResourceModule) -> Result<(), Memory>
+    ensures { OnOk result (out.new.items ≡ out.old.items ++ item_text (item_tree (Item.Resource resource.now))) }
 {
     push(out, b"resource module ")?;
-    push_heading(out, &module.name, module.params.as_slice(), &module.sealed)?;
-    push_inside(out, &module.inside)
+    push_heading(
+        out,
+        &resource.name,
+        resource.params.as_slice(),
+        &resource.sealed,
+    )?;
+    push_inside(out, &resource.inside)
 }
 
-fn push_plain(out: &mut Vec<u8>, module: &PlainModule) -> Result<(), Memory>
-    ensures { OnOk result (out.new.items ≡ out.old.items ++ item_text (item_tree (Item.Plain module.now))) }
+fn push_plain(out: &mut Vec<u8>, plain: &PlainModule) -> Result<(), Memory>
+    ensures { OnOk result (out.new.items ≡ out.old.items ++ item_text (item_tree (Item.Plain plain.now))) }
 {
     push(out, b"plain module ")?;
-    push_heading(out, &module.name, module.params.as_slice(), &module.sealed)?;
-    push_parts(out, &module.parts, 1)
+    push_heading(out, &plain.name, plain.params.as_slice(), &plain.sealed)?;
+    push_parts(out, &plain.parts, 1)
 }
 
 fn push_program(out: &mut Vec<u8>, program: &Program) -> Result<(), Memory>

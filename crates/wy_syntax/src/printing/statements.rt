@@ -1,13 +1,14 @@
 //! Right sides, statements, parts and bodies, in lines with some indentations.
 ghost use Rattle.std.specs.Prelude.{◌≡◌, ◌++◌, codes, suc, IfOk, OnOk};
-ghost use Rattle.wy_syntax.specs.Views.{part_tree, part_trees, rhs_tree, stmt_tree, stmt_trees, tail_tree};
-ghost use Rattle.wy_syntax.specs.Canonical.{block_text, field_text, part_text, parts_text, rhs_text, stmt_text, tail_text, written_type_text};
+ghost use Rattle.wy_syntax.specs.Views.{expr_tree, part_tree, part_trees, rhs_tree, stmt_tree, stmt_trees, tail_tree};
+ghost use Rattle.wy_syntax.specs.Canonical.{block_text, expr_text, field_text, indented, level_of, newline, part_text, parts_text, placed, rhs_text, stmt_text, tail_text, type_text, written_type_text};
 
+use crate::expressions::Expr;
 use crate::printing::expressions::{CONDITION, is_lower, push_enclosed, push_expr};
 use crate::printing::pieces::{Printed, push, push_indentation};
 use crate::printing::types::{push_signature, push_type};
 use crate::statements::{FieldKind, Part, Rhs, Stmt, Tail};
-use crate::types::TypeUse;
+use crate::types::{Name, TypeUse};
 use wy_text::text::Memory;
 
 /// Adds the word that begins a field.
@@ -31,6 +32,47 @@ fn push_written_type(out: &mut Vec<u8>, type_use: &Option<TypeUse>) -> Result<()
     Ok(())
 }
 
+/// Adds what stands before the equals sign of a `val`.
+fn push_val(out: &mut Vec<u8>, name: &Name, type_use: &Option<TypeUse>) -> Result<(), Memory>
+    ensures { OnOk result (out.new.items ≡ out.old.items ++ (codes "val " ++ name.now.text ++ written_type_text type_use.now)) }
+{
+    push(out, b"val ")?;
+    name.push_to(out)?;
+    push_written_type(out, type_use)
+}
+
+/// Adds what stands before the equals sign of a field.
+fn push_field(
+    out: &mut Vec<u8>,
+    kind: FieldKind,
+    name: &Name,
+    type_use: &TypeUse,
+) -> Result<(), Memory>
+    ensures { OnOk result (out.new.items ≡ out.old.items ++ (field_text kind ++ name.now.text ++ codes ": " ++ type_text type_use.now)) }
+{
+    push_field_word(out, kind)?;
+    name.push_to(out)?;
+    push(out, b": ")?;
+    push_type(out, type_use)
+}
+
+/// Adds the line of an `if` before its first block.
+fn push_if(out: &mut Vec<u8>, condition: &Expr) -> Result<(), Memory>
+    ensures { OnOk result (out.new.items ≡ out.old.items ++ (codes "if " ++ placed 1 (level_of (expr_tree condition.now)) (expr_text (expr_tree condition.now)) ++ newline)) }
+{
+    push(out, b"if ")?;
+    push_enclosed(out, condition, is_lower(condition, CONDITION))?;
+    push(out, b"\n")
+}
+
+/// Adds the line between the two blocks of an `if`.
+fn push_else(out: &mut Vec<u8>, indents: usize) -> Result<(), Memory>
+    ensures { OnOk result (out.new.items ≡ out.old.items ++ (indented indents ++ codes "else" ++ newline)) }
+{
+    push_indentation(out, indents)?;
+    push(out, b"else\n")
+}
+
 /// One indentation more; no memory has room for lines that pass the greatest number.
 fn deeper(indents: usize) -> Result<usize, Memory>
     ensures { IfOk result (λ inside. inside ≡ suc indents) }
@@ -50,12 +92,9 @@ fn push_rhs(out: &mut Vec<u8>, rhs: &Rhs, indents: usize) -> Result<(), Memory>
         }
         Rhs::Branch(_, condition, first, second) => {
             let inside = deeper(indents)?;
-            push(out, b"if ")?;
-            push_enclosed(out, condition, is_lower(condition, CONDITION))?;
-            push(out, b"\n")?;
+            push_if(out, condition)?;
             push_block(out, first, inside)?;
-            push_indentation(out, indents)?;
-            push(out, b"else\n")?;
+            push_else(out, indents)?;
             push_block(out, second, inside)
         }
         Rhs::Value(e) => {
@@ -81,9 +120,7 @@ fn push_stmt(out: &mut Vec<u8>, stmt: &Stmt, indents: usize) -> Result<(), Memor
 {
     match stmt {
         Stmt::Val(name, type_use, rhs) => {
-            push(out, b"val ")?;
-            name.push_to(out)?;
-            push_written_type(out, type_use)?;
+            push_val(out, name, type_use)?;
             push_assigned(out, rhs, indents)
         }
         Stmt::Assign(name, rhs) => {
@@ -113,10 +150,7 @@ fn push_part(out: &mut Vec<u8>, part: &Part, indents: usize) -> Result<(), Memor
 {
     match part {
         Part::Field(kind, name, type_use, rhs) => {
-            push_field_word(out, *kind)?;
-            name.push_to(out)?;
-            push(out, b": ")?;
-            push_type(out, type_use)?;
+            push_field(out, *kind, name, type_use)?;
             push_assigned(out, rhs, indents)
         }
         Part::Method(signature, body) => {

@@ -1,23 +1,8 @@
-use Rattle.std.proofs.Common.{◌≡◌, List, [], ◌∷◌, ◌++◌, map, refl, sym, ap, ◌∙◌, rules}
-use Rattle.std.specs.BTreeMap.{values}
+use Rattle.std.proofs.Common.{ap, map, ◌∙◌}
+use Rattle.std.proofs.lemmas.Result.{IfOk-weaker}
 use Rattle.wy_syntax.specs.Views.{part_trees}
-use Rattle.wy_types.specs.declared.code.Variable.{Variable}
 use Rattle.wy_symbols.specs.Lent.{lent_text}
-use Rattle.wy_bodies.specs.Written.{methods_names}
-use Rattle.wy_bodies.proofs.Marks.{marks_are, marked_of, marked_written}
 use Rattle.wy_bodies.proofs.captures.captures.Goals as goal
 
-append_nil : (xs : List Variable) → xs ++ [] ≡ xs
-append_nil [] = refl
-append_nil (x ∷ xs) = ap (λ l. x ∷ l) (append_nil xs)
-
 pub returns : goal.returns
-returns c =
-    let vs = c.args.variables.now in
-    let names : map lent_text c.deref.result.now ≡ methods_names (part_trees c.args.parts.now) = ap (map lent_text) c.deref.ensures.value ∙ c.in_ok-names.ensures in
-    let all : c.loop-variable.captures ≡ values c.in_ok-marks.marks =
-    sym (append_nil c.loop-variable.captures) ∙ ap (λ l. c.loop-variable.captures ++ l) (sym c.in-None.ensures.steps.0) ∙ c.loop-variable.invariant ∙ (search rules) in
-    all
-    ∙ marks_are vs (map lent_text c.deref.result.now) c.in_ok-marks.marks.entries c.values-variable-items.ensures.ordered c.in_ok-marks.ensures
-    ∙ ap (marked_of vs) names
-    ∙ marked_written vs (part_trees c.args.parts.now)
+returns c = IfOk-weaker c.captured.result _ _ (λ vs h. h (part_trees c.args.parts.now) (ap (map lent_text) c.deref.ensures.value ∙ c.in_ok-names.ensures)) c.captured.ensures

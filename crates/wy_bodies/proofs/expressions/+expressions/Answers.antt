@@ -1,12 +1,13 @@
-use Rattle.std.proofs.Common.{◌≡◌, ◌<◌, ◌+◌, length, drop, rules, sym, ap, ◌∙◌}
+use Rattle.std.proofs.Common.{◌≡◌, ◌<◌, ◌+◌, length, drop, rules, sym, ap, ap₂, ◌∙◌}
 use Rattle.std.proofs.lemmas.List.{drop_all}
 use Rattle.wy_types.specs.declared.code.TextOperator.TheVariants as texts
 use Rattle.wy_types.specs.Code as plain
+use Rattle.wy_types.specs.View.{expr_of, value_of, values_of}
 use Rattle.wy_syntax.specs.Views.{expr_tree, expr_trees}
 use Rattle.wy_symbols.specs.Least.{noted}
 use Rattle.wy_bodies.specs.Lending.{lent_within}
 use Rattle.wy_bodies.specs.InSight.{sight_of}
-use Rattle.wy_bodies.specs.Bodies.{operand, expr_value, expr_values}
+use Rattle.wy_bodies.specs.Bodies.{operand, operator_of, expr_value, expr_values}
 use Rattle.wy_bodies.specs.BodyRefusals.{expr_refusals, exprs_refusals, typed_refusals}
 use Rattle.wy_bodies.proofs.Notings.{noted_two, noted_three, noted_turn}
 use Rattle.wy_syntax.proofs.Layers.{expr_tree-Binary, expr_tree-Call, expr_tree-TextPart, expr_tree-TextCode, expr_tree-Choice}
@@ -24,6 +25,35 @@ expr_value-returns-in_ok-right-in-Binary-clause-noted t c =
     let second = c.in_ok-right-in-Binary.ensures.noted ∙ ap (λ e. noted c.operand_value-in-Binary.new.least (expr_refusals w s (expr_tree e))) c.deref-in-Binary-2.ensures in
     noted_two c.args.least.now c.operand_value-in-Binary.new.least c.operand_value-in-Binary-2.new.least (expr_refusals w s (expr_tree c.in-Binary.left.value)) (expr_refusals w s (expr_tree c.in-Binary.right.value)) first second
     ∙ ap (λ e. noted c.args.least.now (expr_refusals w s e)) (sym (expr_tree-Binary c.in-Binary.operator c.in-Binary.left c.in-Binary.right c.in-Binary.place) ∙ ap expr_tree (sym c.in-Binary.is))
+
+pub expr_value-returns-in_ok-right-in-Binary-clause-value : goal.expr_value-returns-in_ok-right-in-Binary-clause-value
+expr_value-returns-in_ok-right-in-Binary-clause-value t c =
+    let w = lent_within c.args.within.now in
+    let s = sight_of c.args.frame.now c.args.variables.now in
+    let left = c.in_ok-left-in-Binary.ensures.value ∙ ap (λ e. operand (expr_value w s (expr_tree e))) c.deref-in-Binary.ensures in
+    let right = c.in_ok-right-in-Binary.ensures.value ∙ ap (λ e. operand (expr_value w s (expr_tree e))) c.deref-in-Binary-2.ensures in
+    ap (λ o. plain.Plain (plain.Binary c.in-Binary.place o (expr_of c.in_ok-left-in-Binary.left.value) (expr_of c.in_ok-right-in-Binary.right.value))) c.operator_of.ensures
+    ∙ ap₂ (λ a b. plain.Plain (plain.Binary c.in-Binary.place (operator_of c.in-Binary.operator) a b)) left right
+    ∙ ap (expr_value w s) (sym (expr_tree-Binary c.in-Binary.operator c.in-Binary.left c.in-Binary.right c.in-Binary.place) ∙ ap expr_tree (sym c.in-Binary.is))
+
+pub expr_value-returns-in_ok-copy-in-Call-clause-value : goal.expr_value-returns-in_ok-copy-in-Call-clause-value
+expr_value-returns-in_ok-copy-in-Call-clause-value t c =
+    let w = lent_within c.args.within.now in
+    let s = sight_of c.args.frame.now c.args.variables.now in
+    let receiver = c.in_ok-receiver-in-Call.ensures.value ∙ ap (λ e. operand (expr_value w s (expr_tree e))) c.deref-in-Call.ensures in
+    let values = c.in_ok-arguments-in-Call.ensures.value ∙ ap (λ es. expr_values w s (expr_trees es)) c.deref-in-Call-2.ensures.value in
+    c.call.ensures
+    ∙ ap (λ n. plain.Plain (plain.Call c.in-Call.name.place (expr_of c.in_ok-receiver-in-Call.receiver.value) n (values_of c.in_ok-arguments-in-Call.arguments.items))) c.in_ok-copy-in-Call.ensures
+    ∙ ap₂ (λ a l. plain.Plain (plain.Call c.in-Call.name.place a c.in-Call.name.text l)) receiver values
+    ∙ ap (expr_value w s) (sym (expr_tree-Call c.in-Call.receiver c.in-Call.name c.in-Call.arguments) ∙ ap expr_tree (sym c.in-Call.is))
+
+pub expr_value-returns-in_ok-typ-in-Ascribe-clause-value : goal.expr_value-returns-in_ok-typ-in-Ascribe-clause-value
+expr_value-returns-in_ok-typ-in-Ascribe-clause-value t c =
+    let w = lent_within c.args.within.now in
+    let s = sight_of c.args.frame.now c.args.variables.now in
+    let value = ap value_of c.in_ok-value-in-Ascribe-2.ensures ∙ c.in_ok-value-in-Ascribe.ensures.value ∙ ap (λ e. expr_value w s (expr_tree e)) c.deref-in-Ascribe.ensures in
+    ap₂ (λ v u. plain.Plain (plain.Ascribe c.in-Ascribe.place v u)) value c.in_ok-typ-in-Ascribe.ensures.value
+    ∙ ap (expr_value w s) (sym (expr_tree-Ascribe c.in-Ascribe.e c.in-Ascribe.type_use c.in-Ascribe.place) ∙ ap expr_tree (sym c.in-Ascribe.is))
 
 pub expr_value-returns-in_ok-copy-in-Call-clause-noted : goal.expr_value-returns-in_ok-copy-in-Call-clause-noted
 expr_value-returns-in_ok-copy-in-Call-clause-noted t c =
@@ -118,7 +148,7 @@ pub push_value-returns-clause-values : goal.push_value-returns-clause-values
 push_value-returns-clause-values t c =
     let w = lent_within c.args.within.now in
     let s = sight_of c.args.frame.now c.args.variables.now in
-    values_pushed c.args.values.now.items c.push.new.self.items c.in_ok-expr_value.field-0 (expr_value w s (expr_tree c.args.e.now)) c.in_ok-push.ensures.items c.in_ok-expr_value.ensures.value
+    values_pushed c.args.values.now.items c.add.new.list.items c.in_ok-expr_value.field-0 (expr_value w s (expr_tree c.args.e.now)) c.in_ok-add.ensures c.in_ok-expr_value.ensures.value
 
 pub expr_values-loop-e-preserved : goal.expr_values-loop-e-preserved
 expr_values-loop-e-preserved t c =

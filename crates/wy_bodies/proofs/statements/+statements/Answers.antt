@@ -28,7 +28,7 @@ use Rattle.wy_bodies.proofs.ValueRows.{values_turn, values_then-none, if_of}
 use Rattle.wy_bodies.proofs.Walks.{on_ok, made, value_next, branch_next, val_next, assign_next, field_next, parts_turn, parts_end, method_turn, body_found, literal_turn, bodies_are, with_params_is, variables_are, inside_is}
 use Rattle.wy_bodies.proofs.Blocks.{joined, joined_none, longer_none, longer_back, longer_start, found_end, block_longer, block_found, block_value, start_kept}
 use Rattle.wy_bodies.proofs.statements.+statements.Goals as goal
-use Rattle.wy_bodies.proofs.statements.+statements.Goals.{part_values-in-Field+in_ok-field_value-in-Field+in_ok-push-in-Field, part_values-in-Method+in_ok-method-in-Method}
+use Rattle.wy_bodies.proofs.statements.+statements.Goals.{part_values-in-Field+in_ok-value-in-Field+in_ok-add-in-Field, part_values-in-Method+in_ok-method-in-Method}
 
 abbrev body_with : ℕ → Place → Method → code.Block → Body
 body_with owner place signature block = record { owner = owner; place = place; signature = signature; block = block }
@@ -73,8 +73,8 @@ block-loop-one-preserved t c =
       sight = block_longer w fr ks now next g h x q left le at hk hf c.loop-one.invariant.sight;
       start = start_kept w fr now next g.count x le hk;
       found = block_found w fr ks now next g h x q left le at hk hf (after_stmts w s f (stmt_trees stmts)) c.loop-one.invariant.found;
-      value = block_value w fr ks now next g h x q left le at hk hf c.args.place c.loop-one.done.items c.push.new.self.items c.in_ok-statement.field-0 (stmts_block w c.args.place s f.count (stmt_trees stmts))
-          c.in_ok-push.ensures.items c.in_ok-statement.ensures.form c.loop-one.invariant.value;
+      value = block_value w fr ks now next g h x q left le at hk hf c.args.place c.loop-one.done.items c.add.new.list.items c.in_ok-statement.field-0 (stmts_block w c.args.place s f.count (stmt_trees stmts))
+          c.in_ok-add.ensures c.in_ok-statement.ensures.form c.loop-one.invariant.value;
     }
 
 pub block-returns-clause-sight : goal.block-returns-clause-sight
@@ -247,8 +247,8 @@ method-returns-clause-found t c =
     let b = tail_tree c.args.body.now in
     let m = found_of c.method_body.new.found in
     let none = ap (λ (v : Vec resolved.Body Global). map body_of v.items) c.replace-before.ensures.after ∙ ap (map body_of) c.new.ensures.items in
-    let all = bodies_are c.args.found.now.bodies.items c.replace-before.result.items c.method_body.new.found.bodies.items c.push.new.self.items c.append.new.self.items c.in_ok-done.done
-    (ap (λ (v : Vec resolved.Body Global). v.items) c.replace-before.ensures.value) c.in_ok-push.ensures.items c.in_ok-append.ensures.items in
+    let all = bodies_are c.args.found.now.bodies.items c.replace-before.result.items c.method_body.new.found.bodies.items c.add.new.list.items c.append.new.self.items c.in_ok-done.done
+    (ap (λ (v : Vec resolved.Body Global). v.items) c.replace-before.ensures.value) c.in_ok-add.ensures c.in_ok-append.ensures.items in
     λ round. method_turn w round s c.args.owner f m g b (map body_of c.replace-before.new.dest.items) (map body_of c.append.new.self.items) (body_of c.in_ok-done.done)
     none c.in_ok-done.ensures.found c.in_ok-done.ensures.body all
 
@@ -273,7 +273,7 @@ part_values-loop-part-preserved t c =
     let values = part_values w s f.count (part_trees parts) in
     let same = c.loop-part.invariant.sight in
     elim c.match-part.branch [
-      | part_values-in-Field+in_ok-field_value-in-Field+in_ok-push-in-Field d ↦
+      | part_values-in-Field+in_ok-value-in-Field+in_ok-add-in-Field d ↦
           let kind = d.in-Field._kind in
           let name = d.in-Field._name in
           let u = d.in-Field.type_use in
@@ -281,14 +281,14 @@ part_values-loop-part-preserved t c =
           let p = trees.field kind name u r in
           let tree = ap part_tree d.in-Field.is ∙ part_tree-Field kind name u d.in-Field.rhs in
           let here = at ∙ ap (λ x. trees.more_parts x left) tree in
-          let hf = ap found_of d.found-is ∙ d.in_ok-field_value-in-Field.ensures.found
+          let hf = ap found_of d.found-is ∙ d.in_ok-value-in-Field.ensures.found
           ∙ ap (λ k. after_rhs w (sight_of c.args.outer.now k) (noting g (typed_refusals w u)) r) same ∙ field_next w s within owner g kind name u r in
           record {
-            sight = d.variables-is ∙ d.in_ok-field_value-in-Field.ensures.sight ∙ same;
+            sight = d.variables-is ∙ d.in_ok-value-in-Field.ensures.sight ∙ same;
             found = parts_turn w s within owner g (found_of c.match-part.found) p q left all here hf c.loop-part.invariant.found;
-            value = values_turn c.loop-part.values.items c.match-part.values.items d.in_ok-field_value-in-Field.field-0 values (part_values w s g.count q) (part_values w s (found_of c.match-part.found).count left) (rhs_value w s g.count r)
-                (ap (λ (v : Vec Value Global). v.items) d.values-is ∙ d.in_ok-push-in-Field.ensures.items)
-                (d.in_ok-field_value-in-Field.ensures.value ∙ ap (λ k. rhs_value w (sight_of c.args.outer.now k) g.count r) same)
+            value = values_turn c.loop-part.values.items c.match-part.values.items d.in_ok-value-in-Field.value values (part_values w s g.count q) (part_values w s (found_of c.match-part.found).count left) (rhs_value w s g.count r)
+                (ap (λ (v : Vec Value Global). v.items) d.values-is ∙ d.in_ok-add-in-Field.ensures)
+                (d.in_ok-value-in-Field.ensures.value ∙ ap (λ k. rhs_value w (sight_of c.args.outer.now k) g.count r) same)
                 (ap (part_values w s g.count) here ∙ ap (λ (x : Found). code.more (rhs_value w s g.count r) (part_values w s x.count left)) (sym hf))
                 c.loop-part.invariant.value;
           }
@@ -422,7 +422,7 @@ statement-returns-in_ok-value-in-Assign-2-clause-form t c =
     let r = rhs_tree c.in-Assign.rhs in
     let tree = sym (ap stmt_tree c.in-Assign.is ∙ stmt_tree-Assign x c.in-Assign.rhs) in
     ap₂ (λ b v. alone (code.Plain (code.Assign x.place b v))) c.in_ok-bound-in-Assign.ensures.value
-    (ap value_of c.in_ok-value-in-Assign-2.ensures.ok ∙ c.in_ok-value-in-Assign.ensures.value)
+    (ap value_of c.in_ok-value-in-Assign-2.ensures ∙ c.in_ok-value-in-Assign.ensures.value)
     ∙ ap (stmt_form w s f.count) tree
 
 pub statement-returns-in_ok-value-in-Run-clause-sight : goal.statement-returns-in_ok-value-in-Run-clause-sight

@@ -17,7 +17,7 @@ abbrev pub decreases-atomic : goal.decreases-atomic
 decreases-atomic l = 20 * l.inner + 5
 
 abbrev pub decreases-built : goal.decreases-built
-decreases-built l = 20 * l.inner + 2
+decreases-built l = 20 * l.inner + 3
 
 abbrev pub decreases-call_part : goal.decreases-call_part
 decreases-call_part l = 20 * l.inner + 4
@@ -62,7 +62,10 @@ abbrev pub decreases-prefix_in : goal.decreases-prefix_in
 decreases-prefix_in l = 20 * l.inner + 7
 
 abbrev pub decreases-several_arguments : goal.decreases-several_arguments
-decreases-several_arguments l = 20 * l.inner + 1
+decreases-several_arguments l = 20 * l.inner + 2
+
+abbrev pub decreases-third_argument : goal.decreases-third_argument
+decreases-third_argument l = 20 * l.inner + 1
 
 abbrev pub invariant-operation-loop : goal.invariant-operation-loop
 invariant-operation-loop l = fold_many code (l.inner - l.counter) (symbols_of l.level) (operator_part (symbols_of l.level) (operand_at l.plain l.inner l.level)) add_binary (expr_tree l.left.value) (toks l.rest) ≡ level_at l.plain l.inner l.level (toks l.tokens)

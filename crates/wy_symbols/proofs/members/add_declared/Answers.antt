@@ -8,4 +8,4 @@ use Rattle.wy_symbols.proofs.members.add_declared.Goals as goal
 pub loop-decl-preserved : goal.loop-decl-preserved
 loop-decl-preserved c =
     let lt : c.loop-decl.decl-index < length c.args.types.now = search rules in
-    added_next c.args.types.now c.loop-decl.decl-index c.decl-item.result lt c.decl-item.is (λ (ds : List (Bor TypeDecl)). map head (map lent_type ds)) c.loop-decl.heads.items c.push.new.self.items (head c.decl-item.result.now ∷ []) (c.args.heads.now.items ++ map head (map lent_type c.args.types.now)) (search rules) refl c.loop-decl.invariant
+    added_next c.args.types.now c.loop-decl.decl-index c.decl-item.result lt c.decl-item.is (λ (ds : List (Bor TypeDecl)). map head (map lent_type ds)) c.loop-decl.heads.items c.add.new.list.items (head c.decl-item.result.now ∷ []) (c.args.heads.now.items ++ map head (map lent_type c.args.types.now)) (search rules) refl c.loop-decl.invariant

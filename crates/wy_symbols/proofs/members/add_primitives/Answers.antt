@@ -6,4 +6,4 @@ use Rattle.wy_symbols.proofs.members.add_primitives.Goals as goal
 pub loop-decl-preserved : goal.loop-decl-preserved
 loop-decl-preserved c =
     let lt : c.loop-decl.decl-index < length c.args.primitives.now = search rules in
-    added_next c.args.primitives.now c.loop-decl.decl-index c.decl-item.result lt c.decl-item.is (map primitive_head) c.loop-decl.heads.items c.push.new.self.items (primitive_head c.decl-item.result ∷ []) (c.args.heads.now.items ++ map primitive_head c.args.primitives.now) (search rules) refl c.loop-decl.invariant
+    added_next c.args.primitives.now c.loop-decl.decl-index c.decl-item.result lt c.decl-item.is (map primitive_head) c.loop-decl.heads.items c.add.new.list.items (primitive_head c.decl-item.result ∷ []) (c.args.heads.now.items ++ map primitive_head c.args.primitives.now) (search rules) refl c.loop-decl.invariant

@@ -1,8 +1,10 @@
-use Rattle.std.proofs.Common.{◌≡◌, rules}
+use Rattle.std.proofs.Common.{◌≡◌, ◌<◌, ℕ, List, length, refl, rules, true}
+use Rattle.wy_syntax.specs.declared.expressions.Expr.{Expr}
 use Rattle.wy_syntax.specs.Nodes.{expr_nodes, exprs_nodes, is_before, one_if}
 use Rattle.wy_syntax.specs.Views.{expr_tree, expr_trees}
 use Rattle.wy_syntax.proofs.Layers.{expr_tree-Binary, expr_tree-Call, expr_tree-Choice, expr_tree-TextCode, expr_tree-TextPart}
 use Rattle.wy_syntax.proofs.Sums.{sum_of_four, sum_of_three}
+use Rattle.wy_syntax.proofs.Turns.{counted_turn, within_turn}
 use Rattle.wy_syntax.proofs.counting.+expressions.Goals as goal
 
 pub expr_nodes-returns-in-Binary-clause-count : goal.expr_nodes-returns-in-Binary-clause-count
@@ -41,3 +43,16 @@ expr_nodes-returns-in-TextCode-clause-count t c =
     let first : c.expr_nodes-in-TextCode.result ≡ expr_nodes (λ p. is_before p c.args.place) (expr_tree c.in-TextCode.a.value) = search rules in
     let second : c.expr_nodes-in-TextCode-2.result ≡ expr_nodes (λ p. is_before p c.args.place) (expr_tree c.in-TextCode.b.value) = search rules in
     rw (c.in-TextCode.is, expr_tree-TextCode c.in-TextCode.a c.in-TextCode.b c.in-TextCode.mark) (sum_of_three here first second)
+
+pub exprs_nodes-loop-e-preserved : goal.exprs_nodes-loop-e-preserved
+exprs_nodes-loop-e-preserved t c =
+    let es = c.args.es.now in
+    let i = c.loop-e.e-index in
+    let e = c.e-item.result in
+    let lt : i < length es = search rules in
+    let before : List Expr → ℕ = λ xs. exprs_nodes (λ p. is_before p c.args.place) (expr_trees xs) in
+    let all : List Expr → ℕ = λ xs. exprs_nodes (λ p. true) (expr_trees xs) in
+    record {
+      count = counted_turn es i e lt c.e-item.is before c.loop-e.count c.expr_nodes-count.result (expr_nodes (λ p. is_before p c.args.place) (expr_tree e)) (before es) c.expr_nodes-count.ensures.count refl c.loop-e.invariant.count;
+      within = within_turn es i e lt c.e-item.is all c.loop-e.count c.expr_nodes-count.result (expr_nodes (λ p. true) (expr_tree e)) (all es) c.expr_nodes-count.ensures.within refl c.loop-e.invariant.within;
+    }

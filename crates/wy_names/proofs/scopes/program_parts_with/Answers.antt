@@ -11,7 +11,7 @@ use Rattle.wy_heads.specs.ScopeHeads.{program_atoms, program_owners, program_sco
 use Rattle.wy_names.specs.Scopes.{program_within}
 use Rattle.wy_symbols.specs.Lent.{module_tree, program_tree}
 use Rattle.wy_names.proofs.ScopesMade.{program_noted, whole_scope}
-use Rattle.wy_names.proofs.scopes.program_parts.Goals as goal
+use Rattle.wy_names.proofs.scopes.program_parts_with.Goals as goal
 
 pub returns-clause-parts : goal.returns-clause-parts
 returns-clause-parts c =
@@ -22,7 +22,7 @@ returns-clause-parts c =
     let owners = ap (λ (s : AtomScope). s.owners) c.requires.owned in
     let visible = c.len.ensures ∙ ap (λ (l : List (List ℕ)). length l) c.names.ensures ∙ length-map o.owners (λ (x : Owner). x.name) in
     let scope : c.new-scope.result ≡ program_scope o.heads modules g =
-    c.new-scope.ensures ∙ ap (λ l. atom_scope o.heads o.atoms (take c.len.result o.owners) l) c.new-nothing.ensures ∙ whole_scope o.heads o.atoms (program_atoms o.heads modules g) o.owners (program_owners o.heads modules g) c.len.result atoms owners visible in
+    c.new-scope.ensures ∙ ap (λ l. atom_scope o.heads o.atoms (take c.len.result o.owners) l) c.requires.nothing ∙ whole_scope o.heads o.atoms (program_atoms o.heads modules g) o.owners (program_owners o.heads modules g) c.len.result atoms owners visible in
     let W = λ (a : AtomScope) (own : _). let w : Within = record { atoms = a; plain = false; own = own } in w in
     let within = ap (λ a. W a c.names-2.result.now) scope ∙ ap (W (program_scope o.heads modules g)) (c.names-2.ensures ∙ ap owner_names owners) in
     let effect : c.in_ok-start_effect.start_effect ≡ set_of c.new-scope.result g.effect = search rules in
@@ -45,7 +45,7 @@ returns-clause-noted c =
     let owners = ap (λ (s : AtomScope). s.owners) c.requires.owned in
     let visible = c.len.ensures ∙ ap (λ (l : List (List ℕ)). length l) c.names.ensures ∙ length-map o.owners (λ (x : Owner). x.name) in
     let scope : c.new-scope.result ≡ program_scope o.heads modules g =
-    c.new-scope.ensures ∙ ap (λ l. atom_scope o.heads o.atoms (take c.len.result o.owners) l) c.new-nothing.ensures ∙ whole_scope o.heads o.atoms (program_atoms o.heads modules g) o.owners (program_owners o.heads modules g) c.len.result atoms owners visible in
+    c.new-scope.ensures ∙ ap (λ l. atom_scope o.heads o.atoms (take c.len.result o.owners) l) c.requires.nothing ∙ whole_scope o.heads o.atoms (program_atoms o.heads modules g) o.owners (program_owners o.heads modules g) c.len.result atoms owners visible in
     let W = λ (a : AtomScope) (own : _). let w : Within = record { atoms = a; plain = false; own = own } in w in
     let within = ap (λ a. W a c.names-2.result.now) scope ∙ ap (W (program_scope o.heads modules g)) (c.names-2.ensures ∙ ap owner_names owners) in
     let set : c.note_set.new.least ≡ noted c.note_program.new.least (set_refusals (program_scope o.heads modules g) g.effect) =

@@ -10,8 +10,8 @@ use Rattle.wy_bodies.specs.InSight.{field_entries, or_else}
 use Rattle.wy_bodies.proofs.TreeLayers.{part_tree-Field, part_tree-Method}
 use Rattle.wy_symbols.proofs.Turns.{next_of}
 use Rattle.wy_bodies.proofs.FieldsSeen.{field_seen}
-use Rattle.wy_bodies.proofs.sight.fields_of.Goals as goal
-use Rattle.wy_bodies.proofs.sight.fields_of.Goals.{in-Method, in-Field+in_ok-copy-in-Field+in_ok-insert-in-Field+in_ok-number-in-Field}
+use Rattle.wy_bodies.proofs.sight.add_fields.Goals as goal
+use Rattle.wy_bodies.proofs.sight.add_fields.Goals.{in-Method, in-Field+in_ok-copy-in-Field+in_ok-insert-in-Field+in_ok-number-in-Field}
 
 pub loop-part-preserved : goal.loop-part-preserved
 loop-part-preserved c =

@@ -4,7 +4,7 @@ use Rattle.wy_symbols.specs.declared.scoping.Owner.{Owner}
 use Rattle.wy_symbols.specs.Atoms.{owner_sets, opened_names}
 use Rattle.wy_symbols.proofs.Filling.{Fills, turn}
 use Rattle.wy_symbols.proofs.Turns.{next_of}
-use Rattle.wy_symbols.proofs.atom_scope.Owners.new.Goals as goal
+use Rattle.wy_symbols.proofs.atom_scope.add_owners.Goals as goal
 
 pub loop-owner-preserved : goal.loop-owner-preserved
 loop-owner-preserved c =
@@ -16,10 +16,7 @@ loop-owner-preserved c =
     c.loop-owner.names.items c.add_owner.new.names.items c.owner-item.result c.in_ok-sets.sets left
     c.in_ok-sets.ensures.put c.in_ok-sets.ensures.sets c.in_ok-add_owner.ensures.list c.in_ok-add_owner.ensures.names h
 
-pub invariant_of-result : goal.invariant_of-result
-invariant_of-result c = (
-  c.in_ok-names.ensures ∙ c.loop-owner.invariant.named,
-  λ p i.
-      ap (λ x. owner_sets x p.owner.name (opened_names c.args.heads.now p.owner.opening)) (sym (append-nil c.loop-owner.atoms))
-      ∙ c.loop-owner.invariant.sets p i [],
-)
+pub returns-clause-sets : goal.returns-clause-sets
+returns-clause-sets c = λ p i.
+    ap (λ x. owner_sets x p.owner.name (opened_names c.args.heads.now p.owner.opening)) (sym (append-nil c.loop-owner.atoms))
+    ∙ c.loop-owner.invariant.sets p i []

@@ -1,4 +1,4 @@
-use Rattle.std.proofs.Common.{◌≡◌, ◌<◌, ◌+◌, ◌∷◌, [], List, ℕ, true, false, ap, ◌∙◌, drop, length, rules}
+use Rattle.std.proofs.Common.{◌≡◌, ◌<◌, ◌+◌, ◌++◌, ◌∷◌, [], List, ℕ, true, false, ap, ◌∙◌, drop, length, rules}
 use Rattle.wy_symbols.specs.declared.scoping.Meaning.{Meaning}
 use Rattle.wy_symbols.specs.Meanings.{abstract_names, meaning_of}
 use Rattle.wy_symbols.specs.Atoms.{meaning_set}
@@ -6,8 +6,8 @@ use Rattle.wy_heads.specs.ScopeHeads.{definitions_for}
 use Rattle.wy_symbols.proofs.AbstractNames.{abstract_first, defined_first}
 use Rattle.wy_symbols.proofs.Nexts.{added_turn, kept_turn}
 use Rattle.wy_symbols.proofs.Turns.{next_of}
-use Rattle.wy_heads.proofs.definitions.definitions_for.Goals as goal
-use Rattle.wy_heads.proofs.definitions.definitions_for.Goals.{then-member+in_ok-meaning_set+in_ok-push, else-member}
+use Rattle.wy_heads.proofs.definitions.add_definitions.Goals as goal
+use Rattle.wy_heads.proofs.definitions.add_definitions.Goals.{then-member+in_ok-meaning_set+in_ok-push, else-member}
 
 pub loop-member-preserved : goal.loop-member-preserved
 loop-member-preserved c =
@@ -23,12 +23,12 @@ loop-member-preserved c =
     elim c.if-member.branch [
       | then-member+in_ok-meaning_set+in_ok-push w ↦ (
           let yes : x.is_abstract ≡ true = search rules in
-          added_turn old new (meaning_set (meaning_of c.args.meanings.now x.name) ∷ []) (f (abstract_names left)) (f (abstract_names (drop i members))) (f (abstract_names members))
+          added_turn old new (meaning_set (meaning_of c.args.meanings.now x.name) ∷ []) (f (abstract_names left)) (f (abstract_names (drop i members))) (c.args.list.now ++ f (abstract_names members))
           (search rules) (next ∙ ap f (abstract_first x left yes)) c.loop-member.invariant
           )
       | else-member w ↦ (
           let no : x.is_abstract ≡ false = search rules in
-          kept_turn old new (f (abstract_names left)) (f (abstract_names (drop i members))) (f (abstract_names members))
+          kept_turn old new (f (abstract_names left)) (f (abstract_names (drop i members))) (c.args.list.now ++ f (abstract_names members))
           w.list-is (next ∙ ap f (defined_first x left no)) c.loop-member.invariant
           )
     ]

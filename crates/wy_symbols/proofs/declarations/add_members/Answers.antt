@@ -7,8 +7,8 @@ use Rattle.wy_symbols.specs.TypeUses.{method_of, declared_methods, members_refus
 use Rattle.wy_symbols.proofs.Turns.{next_of}
 use Rattle.wy_symbols.proofs.Leasts.{noted_turn, noted_same}
 use Rattle.wy_symbols.proofs.Nexts.{added_turn, kept_turn}
-use Rattle.wy_symbols.proofs.declarations.read_members.Goals as goal
-use Rattle.wy_symbols.proofs.declarations.read_members.Goals.{in-Abstract+in_ok-add_abstract-in-Abstract, in-Bounded+in_ok-read_bounded-in-Bounded, in-Defined+in_ok-read_defined-in-Defined, in-Method+in_ok-add_method-in-Method}
+use Rattle.wy_symbols.proofs.declarations.add_members.Goals as goal
+use Rattle.wy_symbols.proofs.declarations.add_members.Goals.{in-Abstract+in_ok-add_abstract-in-Abstract, in-Bounded+in_ok-read_bounded-in-Bounded, in-Defined+in_ok-read_defined-in-Defined, in-Method+in_ok-add_method-in-Method}
 
 pub loop-member-preserved : goal.loop-member-preserved
 loop-member-preserved c =
@@ -26,7 +26,7 @@ loop-member-preserved c =
     elim c.match-member.branch [
       | in-Abstract+in_ok-add_abstract-in-Abstract w ↦ record {
         number = search rules;
-        methods = kept_turn c.loop-member.methods c.match-member.methods (methods left) given (methods c.args.members.now) w.methods-is
+        methods = kept_turn c.loop-member.methods c.match-member.methods (methods left) given (c.args.methods.now ++ methods c.args.members.now) w.methods-is
             (ap methods (next ∙ ap (λ (m : Member). m ∷ left) w.in-Abstract.is)) c.loop-member.invariant.methods;
         least = noted_same c.loop-member.least c.match-member.least c.args.least.now now (follows c.match-member.before c.match-member.number) all w.least-is
             (ap (members_refusals s before k) (next ∙ ap (λ (m : Member). m ∷ left) w.in-Abstract.is)
@@ -35,7 +35,7 @@ loop-member-preserved c =
       }
       | in-Bounded+in_ok-read_bounded-in-Bounded w ↦ record {
         number = search rules;
-        methods = kept_turn c.loop-member.methods c.match-member.methods (methods left) given (methods c.args.members.now) w.methods-is
+        methods = kept_turn c.loop-member.methods c.match-member.methods (methods left) given (c.args.methods.now ++ methods c.args.members.now) w.methods-is
             (ap methods (next ∙ ap (λ (m : Member). m ∷ left) w.in-Bounded.is)) c.loop-member.invariant.methods;
         least = noted_turn c.loop-member.least c.match-member.least c.args.least.now (set_refusals (member_scope before) w.in-Bounded.set) (follows c.match-member.before c.match-member.number) now all
             (search rules)
@@ -46,7 +46,7 @@ loop-member-preserved c =
       }
       | in-Defined+in_ok-read_defined-in-Defined w ↦ record {
         number = search rules;
-        methods = kept_turn c.loop-member.methods c.match-member.methods (methods left) given (methods c.args.members.now) w.methods-is
+        methods = kept_turn c.loop-member.methods c.match-member.methods (methods left) given (c.args.methods.now ++ methods c.args.members.now) w.methods-is
             (ap methods (next ∙ ap (λ (m : Member). m ∷ left) w.in-Defined.is)) c.loop-member.invariant.methods;
         least = noted_turn c.loop-member.least c.match-member.least c.args.least.now (set_refusals (member_scope before) w.in-Defined.set) (follows c.match-member.before c.match-member.number) now all
             (search rules)
@@ -57,7 +57,7 @@ loop-member-preserved c =
       }
       | in-Method+in_ok-add_method-in-Method w ↦ record {
         number = search rules;
-        methods = added_turn c.loop-member.methods c.match-member.methods (method_of s false w.in-Method.signature ∷ []) (methods left) given (methods c.args.members.now)
+        methods = added_turn c.loop-member.methods c.match-member.methods (method_of s false w.in-Method.signature ∷ []) (methods left) given (c.args.methods.now ++ methods c.args.members.now)
             (search rules) (ap methods (next ∙ ap (λ (m : Member). m ∷ left) w.in-Method.is)) c.loop-member.invariant.methods;
         least = noted_turn c.loop-member.least c.match-member.least c.args.least.now (signature_refusals s false w.in-Method.signature) (follows c.match-member.before c.match-member.number) now all
             (search rules)

@@ -5,7 +5,7 @@ use Rattle.wy_symbols.specs.Declarations.{same_name, texts}
 use Rattle.wy_bodies.specs.BodyRefusals.{field_names}
 use Rattle.wy_bodies.specs.Sight.{seen}
 use Rattle.wy_bodies.specs.InSight.{field_entries, or_else}
-use Rattle.wy_bodies.proofs.sight.fields_of.Given as goal
+use Rattle.wy_bodies.proofs.sight.add_fields.Given as goal
 
 abbrev pub invariant-loop-part : goal.invariant-loop-part
 invariant-loop-part l =

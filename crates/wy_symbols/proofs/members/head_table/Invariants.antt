@@ -1,6 +1,0 @@
-use Rattle.std.proofs.Common.{◌≡◌, ◌++◌, drop}
-use Rattle.wy_symbols.specs.Atoms.{head_names}
-use Rattle.wy_symbols.proofs.members.head_table.Given as goal
-
-abbrev pub invariant-loop-head : goal.invariant-loop-head
-invariant-loop-head l = l.names.items ++ head_names (drop l.head-index l.heads) ≡ head_names l.heads
