@@ -16,7 +16,10 @@ fn tree_of(alloc: Global, file: u16, text: &str) -> Result<Tree, Fail> {
     let Ok(tokens) = lex(alloc, file, text.as_bytes()) else {
         return Err(Fail::new(format_args!("a text has no tokens")));
     };
-    Ok(parse(alloc, tokens.as_slice())?)
+    match parse(alloc, tokens.as_slice()) {
+        Ok(tree) => Ok(tree),
+        Err(_) => Err(Fail::new(format_args!("a text has no tree"))),
+    }
 }
 
 /// The trees of these files.

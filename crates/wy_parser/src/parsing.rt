@@ -11,18 +11,15 @@ use crate::copying::copy_kind;
 use crate::items::file;
 use crate::stop::Stop;
 use std::alloc::Global;
-use thiserror::Error;
 use wy_syntax::items::Tree;
 use wy_text::fault::Place;
 use wy_text::text::Memory;
 use wy_text::token::{Token, TokenKind};
 
 /// Why there is no tree: the first token that fits nothing, or want of memory.
-#[derive(Debug, Drop, Error)]
+#[derive(Drop)]
 pub enum ParseRefusal {
-    #[error("unexpected token")]
     Unexpected { place: Place, token: TokenKind },
-    #[error("no memory")]
     Memory,
 }
 
