@@ -22,7 +22,7 @@ use std::sync::ledger::Ledger;
 use wy_cert::{CertPair, CertScope};
 use wy_subtype::{Mode, Steps, UnfoldedPair, Unfolding, unfold};
 use wy_text::text::Memory;
-use wy_types::reading::{erase, erase_types};
+use wy_types::reading::erase_types;
 use wy_types::resolved::Core;
 use wy_types::types::TypeRef;
 
@@ -73,11 +73,7 @@ impl Closing<'_> {
     {
         match self.mode {
             Mode::Annotated => self.listed.contains(self.alloc, left, right),
-            Mode::Plain => {
-                let left = erase(self.alloc, left)?;
-                let right = erase(self.alloc, right)?;
-                self.listed.contains(self.alloc, &left, &right)
-            }
+            Mode::Plain => self.listed.contains_erased(self.alloc, left, right),
         }
     }
 
