@@ -1,4 +1,4 @@
-use Rattle.std.proofs.Common.{◌≡◌, ◌+◌, ◌<◌, ◌≤◌, Err, Ok, Option, Some, None, drop, length, refl, arith, rules, subst, sym, ap, ◌∙◌, true}
+use Rattle.std.proofs.Common.{◌≡◌, ◌+◌, ◌<◌, ◌≤◌, Err, Option, Some, None, drop, length, refl, arith, rules, subst, sym, ap, ◌∙◌, true}
 use Rattle.std.specs.Prelude.{slice_get}
 use Rattle.std.proofs.lemmas.Option.{slice_get_read}
 use Rattle.wy_types.specs.declared.types.TypeRef.{TypeRef}
@@ -8,7 +8,6 @@ use Rattle.wy_types.specs.Code.{Unary, Ascribe, Assign, If, Last}
 use Rattle.wy_types.specs.Program.{program_of, scope_of}
 use Rattle.wy_types.specs.View.{expr_of, value_of, values_of, block_of, stmts_block}
 use Rattle.wy_types.proofs.Rows.{expr_text_call, expr_call, expr_new, value_if}
-use Rattle.wy_judge.specs.declared.outcomes.Least.{Least}
 use Rattle.wy_judge.specs.declared.targets.Target.TheVariants.{Without, Found}
 use Rattle.wy_judge.specs.Inference as inferred
 use Rattle.wy_judge.specs.Fit as fit
