@@ -7,7 +7,7 @@ use std::alloc::Global;
 use wy_spelling::{WholeError, read_whole};
 
 /// Why bytes are no certificate.
-#[derive(Clone, Copy, PartialEq, Eq)]
+#[derive(Clone, Copy)]
 pub enum ReadRefusal {
     /// So many bytes can stand, and not one more.
     BadCert(u64),

@@ -12,7 +12,7 @@ ghost use Rattle.wy_certify.specs.Asking.{argument_asks, asked_in, subs_in, asks
 ghost use Rattle.wy_certify.specs.Pair.{pair_of};
 ghost use Rattle.wy_certify.specs.Step.{steps_of};
 
-use crate::pair::TypePair;
+use crate::pair::{TypePair, copied_pair};
 use crate::step::Step;
 use std::alloc::Global;
 use wy_effects::set::{EffSet, copy_sets};
@@ -167,15 +167,22 @@ impl Asking<'_> {
         }
     }
 
+    /// Adds what each of these rules asks.
+    fn add_each(&self, rules: &[LineRule<'_>], out: &mut Items<TypePair>) -> Result<(), Memory>
+        ensures { OnOk result ((k : ℕ) → map pair_of out.new ≡ map pair_of out.old ++ asked_by_all (asked_in self.now.mode (program_of self.now.core.now) k (scope_of self.now.scope.now)) (map rule_of rules.now)) }
+    {
+        for rule in rules {
+            self.add(rule, out)?;
+        }
+        Ok(())
+    }
+
     /// Adds the pairs that all rules of the scope ask, in their order.
     fn add_rules(&self, out: &mut Items<TypePair>) -> Result<(), Memory>
         ensures { OnOk result ((k : ℕ) → map pair_of out.new ≡ map pair_of out.old ++ asked_by_all (asked_in self.now.mode (program_of self.now.core.now) k (scope_of self.now.scope.now)) (scope_rules (scope_of self.now.scope.now))) }
     {
         let rules = rules_of(self.alloc, self.scope)?;
-        for rule in rules.as_slice() {
-            self.add(rule, out)?;
-        }
-        Ok(())
+        self.add_each(rules.as_slice(), out)
     }
 
     /// Adds the pair of a step, where it is a T-Sub.
@@ -183,10 +190,7 @@ impl Asking<'_> {
         ensures { OnOk result (map pair_of out.new ≡ map pair_of out.old ++ pair_of_sub step.now.below step.now.typ) }
     {
         match (&step.below, &step.typ) {
-            (Some(left), Some(right)) => out.push(TypePair {
-                left: left.copy(self.alloc)?,
-                right: right.copy(self.alloc)?,
-            }),
+            (Some(left), Some(right)) => out.push(copied_pair(self.alloc, left, right)?),
             (Some(_), None) | (None, _) => Ok(()),
         }
     }

@@ -25,7 +25,7 @@ use wy_text::text::{Memory, Text};
 use wy_types::resolved::Core;
 
 /// Why no certificate of a program is given.
-#[derive(Clone, Copy, PartialEq, Eq)]
+#[derive(Clone, Copy)]
 pub enum CertifyRefusal {
     /// It has more bytes than the limit of this name, `CertificateBytes`, four being counted for each number.
     Limit(LimitName),

@@ -21,7 +21,7 @@ use wy_text::text::Memory;
 use wy_types::types::TypeRef;
 
 /// Why nothing is said of a scope.
-#[derive(Clone, Copy, Debug, PartialEq, Eq)]
+#[derive(Clone, Copy)]
 pub enum PartRefusal {
     /// There are 4,294,967,296 types or more, or a step has as many parts, and four bytes cannot say so.
     Limit,

@@ -23,6 +23,21 @@ pub struct Typed {
     pub effect: EffSet,
 }
 
+/// Adds a step of a rule that gives what this part does.
+fn add_given(
+    alloc: Global,
+    out: &mut Items<Step>,
+    rule: Rule,
+    place: Place,
+    parts: usize,
+    part: &Typed,
+) -> Result<(), Memory>
+    ensures { OnOk result (steps_of out.new ≡ steps_of out.old ++ step rule place parts (Some part.now.typ) part.now.effect ∷ []) }
+{
+    let typ = part.typ.copy(alloc)?;
+    add_step(out, rule, place, parts, Some(typ), part.effect.copy()?)
+}
+
 /// A step of a rule that gives a type, which is the last of its part.
 pub fn given(
     alloc: Global,
@@ -36,9 +51,9 @@ pub fn given(
     ensures steps { OnOk result (steps_of out.new ≡ steps_of out.old ++ step rule place parts (Some typ) effect ∷ []) }
     ensures given { IfOk result (λ m. (m.typ ≡ typ) × (m.effect ≡ effect)) }
 {
-    let copied = typ.copy(alloc)?;
-    add_step(out, rule, place, parts, Some(copied), effect.copy()?)?;
-    Ok(Typed { typ, effect })
+    let part = Typed { typ, effect };
+    add_given(alloc, out, rule, place, parts, &part)?;
+    Ok(part)
 }
 
 /// .. of a rule without parts, which has no effect.
@@ -70,6 +85,22 @@ pub fn operation(
 {
     let effect = united(first, others)?;
     given(alloc, out, Rule::Op, place, parts, typ, effect)
+}
+
+/// .. of an operation on two operands, with these effects.
+pub fn two_operands(
+    alloc: Global,
+    out: &mut Items<Step>,
+    place: Place,
+    typ: TypeRef,
+    first: EffSet,
+    second: EffSet,
+) -> Result<Typed, Memory>
+    ensures steps { OnOk result (steps_of out.new ≡ steps_of out.old ++ step Op place 2 (Some typ) (union first (union second [])) ∷ []) }
+    ensures given { IfOk result (λ m. (m.typ ≡ typ) × (m.effect ≡ union first (union second []))) }
+{
+    let others = united(second, EffSet::empty(alloc))?;
+    operation(alloc, out, place, 2, typ, first, others)
 }
 
 /// Adds T-Sub where another type is asked for, and gives the effect of the part.

@@ -34,8 +34,7 @@ impl<'a> Writer<'a> {
             Expr::TextCall(_, operator, _) => Ok(text_result(*operator)),
             Expr::Call(_, x, name, _) => {
                 let receiver = self.expr_type(x)?;
-                let method = self.method_of(&receiver, name)?;
-                Ok(method.result)
+                self.call_type(&receiver, name)
             }
             Expr::New(_, literal, _) => Ok(TypeRef::Own { literal: *literal }),
             Expr::Ascribe(_, _, typ) => typ.copy(self.alloc),

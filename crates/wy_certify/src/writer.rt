@@ -100,4 +100,12 @@ impl<'a> Writer<'a> {
             }),
         }
     }
+
+    /// The type of a call of a method of a name on a receiver of a type.
+    pub fn call_type(&self, receiver: &TypeRef, name: &Text) -> Result<TypeRef, Memory>
+        ensures { IfOk result (λ t. t ≡ result_of (context_of self.now) (method_at (context_of self.now) receiver.now name.now)) }
+    {
+        let method = self.method_of(receiver, name)?;
+        Ok(method.result)
+    }
 }

@@ -1,20 +1,21 @@
 //! The steps of the parts of a body: a walk that adds those of each part before its own.
 
-ghost use Rattle.std.specs.Prelude.{◌≡◌, ◌++◌, ◌∷◌, [], IfOk, OnOk, Some, map};
+ghost use Rattle.std.specs.Prelude.{◌≡◌, ◌++◌, ◌∷◌, [], IfOk, OnOk, None, Some, map};
 ghost use Rattle.wy_effects.specs.EffSet.{union};
 ghost use Rattle.wy_types.specs.Code.{Name, Unary, TextCall, New, Ascribe, Assign, Plain};
 ghost use Rattle.wy_types.specs.View.{expr_of, value_of, values_of, block_of};
 ghost use Rattle.wy_rules.specs.Derivations.{block_mark};
-ghost use Rattle.wy_cert.specs.declared.certificate.Rule.TheVariants.{If};
+ghost use Rattle.wy_cert.specs.declared.certificate.Rule.TheVariants.{If, Val as ValRule, Seq as SeqRule};
 ghost use Rattle.wy_proving.specs.Steps.{step};
 ghost use Rattle.wy_certify.specs.Step.{steps_of};
-ghost use Rattle.wy_certify.specs.Written.{expr_steps, expr_typ, expr_effect, own_steps, own_typ, own_effect, at_steps, second_steps, second_effect, result_typ, method_at, result_of, call_steps, call_effect, all_steps, all_effect, run_steps, run_typ, run_effect, run_at_steps, stmt_steps, stmt_effect, stmt_mark, front_steps, joined_effect, back_steps};
+ghost use Rattle.wy_certify.specs.Written.{local_typ, expr_steps, expr_typ, expr_effect, own_steps, own_typ, own_effect, at_steps, second_steps, second_effect, result_typ, method_at, result_of, call_steps, call_effect, all_steps, all_effect, run_steps, run_typ, run_effect, run_at_steps, stmt_steps, stmt_effect, stmt_mark, front_steps, joined_effect, back_steps};
 ghost use Rattle.wy_certify.specs.Writer.{context_of};
 
 use crate::rows::{binary_row, unary_row};
 use crate::step::{Step, add_step};
-use crate::typed::{Typed, given, leaf, operation, subsumed};
+use crate::typed::{Typed, given, leaf, operation, subsumed, two_operands};
 use crate::writer::Writer;
+use std::alloc::Global;
 use wy_cert::Rule;
 use wy_effects::set::{EffSet, SetList};
 use wy_premises::{expr_mark, mark, text_operands, text_result, united};
@@ -51,6 +52,37 @@ fn joined(first: EffSet, second: EffSet, third: EffSet) -> Result<EffSet, Memory
     ensures { IfOk result (λ e. e ≡ union first (union second third)) }
 {
     united(first, united(second, third)?)
+}
+
+/// T-Val, of a `val` whose initialiser has this effect.
+fn add_val(out: &mut Items<Step>, place: Place, effect: &EffSet) -> Result<(), Memory>
+    ensures { OnOk result (steps_of out.new ≡ steps_of out.old ++ step ValRule place 1 None effect.now ∷ []) }
+{
+    add_step(out, Rule::Val, place, 1, None, effect.copy()?)
+}
+
+/// T-Seq, of a statement with this effect and of what stands behind it, which gives what both do.
+fn close_statement(
+    alloc: Global,
+    out: &mut Items<Step>,
+    statement: &Stmt,
+    effect: &EffSet,
+    rest: &mut Typed,
+) -> Result<(), Memory>
+    ensures steps { OnOk result (steps_of out.new ≡ steps_of out.old ++ step SeqRule (stmt_mark statement.now) 2 (Some rest.old.typ) (union effect.now rest.old.effect) ∷ []) }
+    ensures typ { OnOk result (rest.new.typ ≡ rest.old.typ) }
+    ensures effect { OnOk result (rest.new.effect ≡ union effect.now rest.old.effect) }
+{
+    effect.union_into(&mut rest.effect)?;
+    let typ = rest.typ.copy(alloc)?;
+    add_step(
+        out,
+        Rule::Seq,
+        stmt_mark(statement),
+        2,
+        Some(typ),
+        rest.effect.copy()?,
+    )
 }
 
 impl<'a> Writer<'a> {
@@ -173,8 +205,7 @@ impl<'a> Writer<'a> {
         let row = binary_row(operator, &first.typ);
         let effect = subsumed(self.alloc, out, first_mark, first, &row.operand)?;
         let second = self.write_operand(out, y, &row.operand)?;
-        let others = united(second, EffSet::empty(self.alloc))?;
-        operation(self.alloc, out, place, 2, row.result, effect, others)
+        two_operands(self.alloc, out, place, row.result, effect, second)
     }
 
     /// An operation on texts.
@@ -355,6 +386,21 @@ impl<'a> Writer<'a> {
         Ok(sofar)
     }
 
+    /// The initialiser of the `val` of a number, at its type: its effect.
+    #[cycle(writing)]
+    fn write_initialiser(
+        &self,
+        out: &mut Items<Step>,
+        number: u32,
+        value: &Value,
+    ) -> Result<EffSet, Memory>
+        ensures steps { OnOk result (steps_of out.new ≡ steps_of out.old ++ at_steps (context_of self.now) (value_of value.now) (local_typ (context_of self.now) number)) }
+        ensures effect { IfOk result (λ e. e ≡ own_effect (context_of self.now) (value_of value.now) (local_typ (context_of self.now) number)) }
+    {
+        let typ = self.local_type(number)?;
+        self.write_at(out, value, &typ)
+    }
+
     /// A statement: its effect. What T-Seq says of it comes after the rest of its block.
     #[cycle(writing)]
     fn write_statement(&self, out: &mut Items<Step>, statement: &Stmt) -> Result<EffSet, Memory>
@@ -363,9 +409,8 @@ impl<'a> Writer<'a> {
     {
         match statement {
             Stmt::Val(place, number, _, value) => {
-                let typ = self.local_type(*number)?;
-                let effect = self.write_at(out, value, &typ)?;
-                add_step(out, Rule::Val, *place, 1, None, effect.copy()?)?;
+                let effect = self.write_initialiser(out, *number, value)?;
+                add_val(out, *place, &effect)?;
                 Ok(effect)
             }
             Stmt::Do(value) => self.write_at(out, value, &TypeRef::Unit),
@@ -401,23 +446,11 @@ impl<'a> Writer<'a> {
         ensures steps { OnOk result (steps_of out.new ≡ steps_of out.old ++ back_steps (context_of self.now) statements.now.items last.typ last.effect) }
         ensures given { IfOk result (λ m. (m.typ ≡ last.typ) × (m.effect ≡ joined_effect (context_of self.now) statements.now.items last.effect)) }
     {
-        let mut effect = last.effect;
+        let mut rest = last;
         for i in (0..statements.len()).rev() {
-            effects[i].union_into(&mut effect)?;
-            let typ = last.typ.copy(self.alloc)?;
-            add_step(
-                out,
-                Rule::Seq,
-                stmt_mark(&statements[i]),
-                2,
-                Some(typ),
-                effect.copy()?,
-            )?;
+            close_statement(self.alloc, out, &statements[i], &effects[i], &mut rest)?;
         }
-        Ok(Typed {
-            typ: last.typ,
-            effect,
-        })
+        Ok(rest)
     }
 
     /// A block: where its last value is an `if` it has the type that is asked for, else that value's own.

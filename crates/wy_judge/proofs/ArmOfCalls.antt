@@ -9,14 +9,14 @@ use Rattle.wy_judge.specs.Inference.{Inference}
 use Rattle.wy_judge.specs.declared.targets.Target.{Target}
 use Rattle.wy_judge.specs.declared.targets.Target.TheVariants.{Without, Found}
 use Rattle.wy_judge.specs.Tables.{Table, IsScopeOf}
-use Rattle.wy_judge.specs.Targets.{IsTargetOf}
+use Rattle.wy_judge.specs.Targets.{IsInRangeOf, IsTargetOf}
 use Rattle.wy_judge.specs.Judging.{InfersTo, IsCallable, ArgumentsTo}
 use Rattle.wy_judge.proofs.ArmsOfCalls.{without_to, found_types, found_count, found_to}
 
 module _ (p : Program) (k : ℕ) (s : Scope) (c : IsScopeOf p k s) (owner : Option ℕ) where
-  pub callable : (old mid : Table) (x : Expr) (name : List ℕ) (xs : List v.Value) (receiver : Inference) (target : Target) → InfersTo p k s owner old mid x receiver → IsTargetOf p k receiver name (length xs) target → IsCallable p k s owner xs target
-  callable old mid x name xs receiver (Without premise) h t = tt
-  callable old mid x name xs receiver (Found effect m) h t = (found_types p k s c owner receiver name (length xs) effect m h.range t, found_count p k s c owner receiver name (length xs) effect m t)
+  pub callable : (name : List ℕ) (xs : List v.Value) (receiver : Inference) (target : Target) → IsInRangeOf p k receiver → IsTargetOf p k receiver name (length xs) target → IsCallable p k s owner xs target
+  callable name xs receiver (Without premise) h t = tt
+  callable name xs receiver (Found effect m) h t = (found_types p k s c owner receiver name (length xs) effect m h t, found_count p k s c owner receiver name (length xs) effect m t)
 
   pub called_to : (old mid new : Table) (q : Place) (x : Expr) (name : List ℕ) (xs : List v.Value) (receiver u : Inference) (target : Target) → InfersTo p k s owner old mid x receiver →
       IsTargetOf p k receiver name (length xs) target → ArgumentsTo p k s owner mid new q target xs u → InfersTo p k s owner old new (Call q x name (values_of xs)) u

@@ -4,6 +4,7 @@ use Rattle.std.specs.Prelude.{◌≡◌, ℕ, List, [], ◌∷◌, ◌++◌, Opt
 use Rattle.wy_text.specs.declared.fault.Place.{Place}
 use Rattle.wy_text.specs.declared.fault.Fault.{Fault}
 use Rattle.wy_types.specs.declared.types.TypeRef.{TypeRef}
+use Rattle.wy_types.specs.declared.code.BinaryOperator.{BinaryOperator}
 use Rattle.wy_types.specs.declared.code.Value as v
 use Rattle.wy_types.specs.declared.code.Stmt as st
 use Rattle.wy_types.specs.Code.{Expr, Value, Block, Last}
@@ -27,9 +28,9 @@ use Rattle.wy_judge.specs.declared.targets.Target.TheVariants.{Without, Found}
 use Rattle.wy_judge.specs.Step.{Step}
 use Rattle.wy_judge.specs.Step as step
 use Rattle.wy_judge.specs.Judged.{Inferred, Fitted, BlockFitted, Probed, BlockProbed, AllFitted, AllProbed, Carries, CarriesProbed, Stated, Steps}
-use Rattle.wy_judge.specs.Outcomes.{NoneFails, uncalled_outcome, call_outcome}
+use Rattle.wy_judge.specs.Outcomes.{NoneFails, IsBoth, uncalled_outcome, call_outcome}
 use Rattle.wy_judge.specs.Tables.{Table, Agrees, Moves, BlockReady, ValueReady, ValuesReady}
-use Rattle.wy_judge.specs.Targets.{IsInRangeOf}
+use Rattle.wy_judge.specs.Targets.{IsInRangeOf, IsTargetOf}
 
 -- no node fails
 abbrev pub InferenceStands : Inference → Type 0
@@ -133,6 +134,13 @@ module _ (p : Program) (k : ℕ) (s : Scope) (owner : Option ℕ) where
     abbrev pub ArgumentsTo : Place → Target → List v.Value → Inference → Type 0
     ArgumentsTo place (Without premise) xs u = (o : Option Fault) × AllProbeTo xs o × (u ≡ uncalled_outcome place premise o)
     ArgumentsTo place (Found effect m) xs u = (w : Fits) × AllFitTo xs m.params w × (u ≡ call_outcome place m.result m.effect effect w)
+
+    -- an operation whose first operand came to this, and a call whose receiver did
+    abbrev pub SecondTo : Place → BinaryOperator → Inference → Expr → Inference → Type 0
+    SecondTo place op u z r = (w : Inference) × InfersTo z w × IsBoth place op u w r
+
+    abbrev pub CalledTo : Place → Inference → List ℕ → List v.Value → Inference → Type 0
+    CalledTo place u name xs r = (target : Target) × IsTargetOf p k u name (length xs) target × ArgumentsTo place target xs r
 
     -- a statement, after which the rest of its block can be judged
     pub record StatesTo (x : st.Stmt) (u : Step) : Type 0 where

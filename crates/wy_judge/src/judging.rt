@@ -13,7 +13,7 @@ ghost use Rattle.wy_judge.specs.Outcomes.{IsBoth, chosen_fit, push_fit};
 ghost use Rattle.wy_judge.specs.Results.{IfInferred, IfFit, IfFits, IfStep, IfPassed, fit_of, fits_of};
 ghost use Rattle.wy_judge.specs.Tables.{ExprReady, ValueReady, ValuesReady, BlockReady};
 ghost use Rattle.wy_judge.specs.Walk.{IsWalk, Asks, Here};
-ghost use Rattle.wy_judge.specs.Judging.{TypesInRange, StmtReady, IsCallable, ArgumentsTo, InfersTo, FitsTo, AllFitTo, BlockFitsTo, ProbesTo, AllProbeTo, BlockProbesTo, StatesTo, StepsTo};
+ghost use Rattle.wy_judge.specs.Judging.{TypesInRange, StmtReady, IsCallable, ArgumentsTo, CalledTo, SecondTo, InfersTo, FitsTo, AllFitTo, BlockFitsTo, ProbesTo, AllProbeTo, BlockProbesTo, StatesTo, StepsTo};
 
 use crate::outcomes::{Fit, Fits, Least, Stop, fails};
 use crate::targets::{Target, fitted, target_of, type_of_binding};
@@ -23,15 +23,15 @@ use wy_premises::{
     binary_result, field_types, mark, text_operands, text_result, unary_result, united, var_field,
 };
 use wy_text::fault::{Place, RuleName};
-use wy_text::text::Memory;
+use wy_text::text::{Memory, Text};
 use wy_types::code::{
     BinaryOperator, Binding, Block, Expr, Stmt, TextOperator, UnaryOperator, Value,
 };
 use wy_types::types::{Method, TypeRef};
 
 /// A call of this method, on a receiver with an effect and with arguments with another.
-fn called(method: Method, effect: EffSet, arguments: EffSet) -> Result<Least, Memory>
-    ensures { IfOk result (λ l. l ≡ record { typ = method.result; effect = union effect (union arguments method.effect) }) }
+fn called(method: Method, effect: EffSet, arguments: EffSet) -> Result<Least, Stop>
+    ensures { IfInferred result (λ u. u ≡ inferred.Least method.result (union effect (union arguments method.effect))) }
 {
     let rest = united(arguments, method.effect)?;
     Ok(Least {
@@ -129,23 +129,14 @@ impl<'a> Walk<'a> {
             Expr::Unary(place, operator, x) => self.infer_unary(known, *place, *operator, x),
             Expr::Binary(place, operator, x, y) => {
                 let first = self.infer(known, x)?;
-                let second = self.infer(known, y)?;
-                operation(*place, *operator, first, second)
+                self.infer_second(known, *place, *operator, first, y)
             }
             Expr::TextCall(place, operator, values) => {
                 self.infer_text_call(known, *place, *operator, values)
             }
             Expr::Call(place, receiver, name, values) => {
                 let receiver = self.infer(known, receiver)?;
-                let target = target_of(
-                    self.alloc,
-                    self.core,
-                    self.number,
-                    receiver,
-                    name,
-                    values.len(),
-                )?;
-                self.infer_arguments(known, *place, target, values)
+                self.infer_call(known, *place, receiver, name, values)
             }
             Expr::New(place, literal, values) => self.infer_new(known, *place, *literal, values),
             Expr::Ascribe(place, value, typ) => self.infer_ascription(known, *place, value, typ),
@@ -180,6 +171,26 @@ impl<'a> Walk<'a> {
         }
     }
 
+    /// An operation on two operands, the first of which came to this.
+    #[cycle(judging)]
+    fn infer_second(
+        &self,
+        known: &mut Known<'_>,
+        place: Place,
+        operator: BinaryOperator,
+        first: Least,
+        y: &Expr,
+    ) -> Result<Least, Stop>
+        requires walk { IsWalk self.now }
+        requires asks { Asks self.now known.old.pairs.about }
+        requires ready { Here self.now ExprReady self.now.owner known.old.vals.items (expr_of y.now) }
+        ensures outcome { IfInferred result (λ u. Here self.now SecondTo self.now.owner known.old.vals.items known.new.vals.items place operator (inferred.Least first.typ first.effect) (expr_of y.now) u) }
+        ensures asks { Asks self.now known.new.pairs.about }
+    {
+        let second = self.infer(known, y)?;
+        operation(place, operator, first, second)
+    }
+
     /// An operation on texts.
     #[cycle(judging)]
     fn infer_text_call(
@@ -205,6 +216,28 @@ impl<'a> Walk<'a> {
         }
     }
 
+    /// A call of a method of this name, whose receiver came to this.
+    #[cycle(judging)]
+    fn infer_call(
+        &self,
+        known: &mut Known<'_>,
+        place: Place,
+        receiver: Least,
+        name: &Text,
+        values: &Vec<Value>,
+    ) -> Result<Least, Stop>
+        requires walk { IsWalk self.now }
+        requires asks { Asks self.now known.old.pairs.about }
+        requires range { IsTypeOf (program_of self.now.core.now) self.now.number receiver.typ }
+        requires ready { Here self.now ValuesReady self.now.owner known.old.vals.items (values_of values.now.items) }
+        ensures outcome { IfInferred result (λ u. Here self.now CalledTo self.now.owner known.old.vals.items known.new.vals.items place (inferred.Least receiver.typ receiver.effect) name.now values.now.items u) }
+        ensures asks { Asks self.now known.new.pairs.about }
+    {
+        let arity = values.len();
+        let target = target_of(self.alloc, self.core, self.number, receiver, name, arity)?;
+        self.infer_arguments(known, place, target, values)
+    }
+
     /// The arguments of a call, by what its receiver offers.
     #[cycle(judging)]
     fn infer_arguments(
@@ -222,16 +255,52 @@ impl<'a> Walk<'a> {
         ensures asks { Asks self.now known.new.pairs.about }
     {
         match target {
-            Target::Without(premise) => {
-                self.probe_all(known, values)?;
-                Err(fails(place, RuleName::TCall, premise))
-            }
+            Target::Without(premise) => self.probe_arguments(known, place, premise, values),
             Target::Found(effect, method) => {
-                match self.fit_all(known, values, method.params.as_slice())? {
-                    Fits::Have(arguments) => Ok(called(method, effect, arguments)?),
-                    Fits::Misfit(_) => Err(fails(place, RuleName::TCall, 4)),
-                }
+                self.fit_arguments(known, place, effect, method, values)
             }
+        }
+    }
+
+    /// The arguments of a call whose receiver offers no method for them: this premise is false.
+    #[cycle(judging)]
+    fn probe_arguments(
+        &self,
+        known: &mut Known<'_>,
+        place: Place,
+        premise: u8,
+        values: &Vec<Value>,
+    ) -> Result<Least, Stop>
+        requires walk { IsWalk self.now }
+        requires asks { Asks self.now known.old.pairs.about }
+        requires ready { Here self.now ValuesReady self.now.owner known.old.vals.items (values_of values.now.items) }
+        ensures outcome { IfInferred result (λ u. Here self.now ArgumentsTo self.now.owner known.old.vals.items known.new.vals.items place (Target.Without premise) values.now.items u) }
+        ensures asks { Asks self.now known.new.pairs.about }
+    {
+        self.probe_all(known, values)?;
+        Err(fails(place, RuleName::TCall, premise))
+    }
+
+    /// The arguments of a call of this method, on a receiver with an effect.
+    #[cycle(judging)]
+    fn fit_arguments(
+        &self,
+        known: &mut Known<'_>,
+        place: Place,
+        effect: EffSet,
+        method: Method,
+        values: &Vec<Value>,
+    ) -> Result<Least, Stop>
+        requires walk { IsWalk self.now }
+        requires asks { Asks self.now known.old.pairs.about }
+        requires method { Here self.now IsCallable self.now.owner values.now.items (Target.Found effect method) }
+        requires ready { Here self.now ValuesReady self.now.owner known.old.vals.items (values_of values.now.items) }
+        ensures outcome { IfInferred result (λ u. Here self.now ArgumentsTo self.now.owner known.old.vals.items known.new.vals.items place (Target.Found effect method) values.now.items u) }
+        ensures asks { Asks self.now known.new.pairs.about }
+    {
+        match self.fit_all(known, values, method.params.as_slice())? {
+            Fits::Have(arguments) => called(method, effect, arguments),
+            Fits::Misfit(_) => Err(fails(place, RuleName::TCall, 4)),
         }
     }
 

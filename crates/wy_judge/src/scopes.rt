@@ -160,6 +160,23 @@ impl<'a> Walk<'a> {
         self.judge_bodies(known)?;
         self.judge_seal(&mut known.pairs)
     }
+
+    /// What the scope comes to, with the types that its walk finds.
+    fn judged(&self, known: &mut Known<'_>) -> Result<Judged, Memory>
+        requires walk { IsWalk self.now }
+        requires asks { Asks self.now known.old.pairs.about }
+        requires owner { self.now.owner ≡ None }
+        requires empty { known.old.vals.items ≡ [] }
+        ensures { IfOk result (λ j. Here self.now IsJudged j) }
+    {
+        match self.judge(known) {
+            Ok(()) => {
+                let types = settled_types(self.alloc, known.vals.as_slice())?;
+                Ok(Judged::Passes(types))
+            }
+            Err(stop) => stopped(stop),
+        }
+    }
 }
 
 /// The type of a `val`; one that is not known has none that matters.
@@ -214,11 +231,5 @@ pub fn judge_scope(alloc: Global, core: &Core, number: u16) -> Result<Judged, Me
         pairs: PairTable::new(alloc, core, number, mode_of(scope)),
         vals: Vec::new(alloc),
     };
-    match walk.judge(&mut known) {
-        Ok(()) => {
-            let types = settled_types(alloc, known.vals.as_slice())?;
-            Ok(Judged::Passes(types))
-        }
-        Err(stop) => stopped(stop),
-    }
+    walk.judged(&mut known)
 }

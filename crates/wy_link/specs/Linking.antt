@@ -1,5 +1,5 @@
 -- The start list of a program.
-use Rattle.std.specs.Prelude.{◌≡◌, ℕ, ◌+◌, ◌<◌, ◌≤◌, List, [], ◌∷◌, ◌++◌, length, Result, Ok, Err}
+use Rattle.std.specs.Prelude.{◌≡◌, ℕ, ◌+◌, ◌<◌, ◌≤◌, List, [], ◌∷◌, ◌++◌, length, codes, slice_get, Result, Ok, Err}
 use Rattle.wy_text.specs.declared.limit.LimitName.TheVariants.{Instances}
 use Rattle.wy_types.specs.Program.{Program}
 use Rattle.wy_types.specs.declared.linked.Instance.{Instance}
@@ -7,7 +7,7 @@ use Rattle.wy_types.specs.declared.linked.Actual.TheVariants as actual
 use Rattle.wy_types.specs.declared.resolved.Origin.{Origin}
 use Rattle.wy_types.specs.declared.resolved.Origin.TheVariants.{Parameter, Grant, Use, Instance as InstanceLine, Import}
 use Rattle.wy_types.specs.declared.resolved.OwnName.{OwnName}
-use Rattle.wy_types.specs.Ground.{Visited, members_of, start_list, program_sets}
+use Rattle.wy_types.specs.Ground.{Visited, members_of, names_of, visit, start_list, program_sets}
 use Rattle.wy_rules.specs.Ends.{StartsTooMany}
 use Rattle.wy_link.specs.declared.linking.Links.{Links}
 use Rattle.wy_link.specs.declared.linking.Settled.{Settled}
@@ -61,6 +61,10 @@ abbrev pub ComesTo : Visited → List Instance → Settled → Result (Unit {0})
 ComesTo v started own (Ok u) = (visited started own ≡ v) × (length started ≤ 1024)
 ComesTo v started own (Err (Limit name)) = (name ≡ Instances) × (1024 < length v.started)
 ComesTo v started own (Err Memory) = Unit {0}
+
+-- the visit of the module of a line of this name, whose own instances are named with the line's name
+abbrev pub module_visit : Program → ℕ → List ℕ → List ℕ → ℕ → Visited → Visited
+module_visit p k prefix name m v = (let names = names_of (slice_get p.scopes m) in visit p k names (prefix ++ (name ++ codes ".")) names v)
 
 -- an instance that is added last, and the own name that stands for it
 abbrev pub with_instance : Visited → Instance → Visited

@@ -173,6 +173,31 @@ fn name_fault(
 // ----------------------------------------------------------------------------
 // Scopes and programs
 
+/// The first fault of a scope's own names in their order.
+fn names_fault(
+    alloc: Global,
+    core: &Core,
+    number: u16,
+    scope: &Scope,
+    annotated: &mut PairTable<'_>,
+    plain: &mut PairTable<'_>,
+) -> Result<Option<Fault>, Memory>
+    requires context { IsScopeOf (program_of core.now) number (scope_of scope.now) }
+    requires annotated_pairs { annotated.old.about ≡ about_in (program_of core.now) number Mode.Annotated }
+    requires plain_pairs { plain.old.about ≡ about_in (program_of core.now) number Mode.Plain }
+    requires plain { AllGoOn (program_of core.now) (scopes_of plain_modules 0 (program_of core.now).scopes) }
+    ensures { IfOk result (λ o. ScopeComesTo (program_of core.now) number (scope_of scope.now) o) }
+{
+    let names = scope.names.as_slice();
+    for name in names {
+        let next = name_fault(alloc, core, number, scope, annotated, plain, name)?;
+        if next.is_some() {
+            return Ok(next);
+        }
+    }
+    Ok(None)
+}
+
 /// The first fault of a scope's lines. M-Inst asks annotated subtyping, and I-Import plain subtyping: each pair of types
 /// is unfolded once in the scope and in each of the two.
 fn scope_fault(
@@ -187,14 +212,7 @@ fn scope_fault(
 {
     let mut annotated = PairTable::new(alloc, core, number, Mode::Annotated);
     let mut plain = PairTable::new(alloc, core, number, Mode::Plain);
-    let names = scope.names.as_slice();
-    for name in names {
-        let next = name_fault(alloc, core, number, scope, &mut annotated, &mut plain, name)?;
-        if next.is_some() {
-            return Ok(next);
-        }
-    }
-    Ok(None)
+    names_fault(alloc, core, number, scope, &mut annotated, &mut plain)
 }
 
 /// The first fault of the lines of all modules in file order, and then of the program's, each where it stands: M-Use,

@@ -6,9 +6,9 @@ ghost use Rattle.wy_effects.specs.EffSet.{replace};
 ghost use Rattle.wy_types.specs.declared.linked.Actual.TheVariants as actual;
 ghost use Rattle.wy_types.specs.Program.{program_of};
 ghost use Rattle.wy_types.specs.Core.{IsCore};
-ghost use Rattle.wy_types.specs.Ground.{arguments_sets, members_of, names_of, visit, visit_name, used, lined, number_from, single_sets, defined_sets, definitions_of, instance_of, program_number, uses_among, ground_sets};
+ghost use Rattle.wy_types.specs.Ground.{arguments_sets, members_of, names_of, visit, visit_name, used, lined, number_from, single_sets, defined_sets, definitions_of, instance_of, program_number, program_visited, uses_among, ground_sets};
 ghost use Rattle.wy_rules.specs.Resolved.{CoreKeeps};
-ghost use Rattle.wy_link.specs.Linking.{IsLinked, IsLinkRefusal, ComesTo, CanSettle, CanSettleAll, visited, with_instance};
+ghost use Rattle.wy_link.specs.Linking.{IsLinked, IsLinkRefusal, ComesTo, CanSettle, CanSettleAll, visited, with_instance, module_visit};
 
 use crate::started::Started;
 use std::alloc::Global;
@@ -294,9 +294,9 @@ fn visit_name(
         Origin::Use { module } => visit_use(alloc, core, scopes, &name.name, *module, started, own),
         Origin::Instance { module, arguments } => {
             let mut inner = handed(alloc, core, outer, own, *module, arguments.as_slice())?;
-            let inside = prefix_inside(alloc, prefix, &name.name)?;
-            let names = names_of(core, *module);
-            visit(alloc, core, scopes, names, &inside, started, &mut inner)?;
+            visit_module(
+                alloc, core, scopes, prefix, &name.name, *module, started, &mut inner,
+            )?;
             let line = prefix.joined(&name.name)?;
             settle_line(core, line, *module, inner, started, own)
         }
@@ -306,13 +306,35 @@ fn visit_name(
             bound,
         } => {
             let mut inner = handed(alloc, core, outer, own, *module, arguments.as_slice())?;
-            let inside = prefix_inside(alloc, prefix, &name.name)?;
-            let names = names_of(core, *module);
-            visit(alloc, core, scopes, names, &inside, started, &mut inner)?;
+            visit_module(
+                alloc, core, scopes, prefix, &name.name, *module, started, &mut inner,
+            )?;
             let line = prefix.joined(&name.name)?;
             settle_import(line, *module, bound, inner, started, own)
         }
     }
+}
+
+/// Visits the own names of a line's module: its instances are named with the prefix and the line's name.
+#[cycle(visiting)]
+fn visit_module(
+    alloc: Global,
+    core: &Core,
+    scopes: usize,
+    prefix: &Text,
+    name: &Text,
+    scope: u16,
+    started: &mut Started,
+    inner: &mut Settled,
+) -> Result<(), LinkRefusal>
+    requires core { IsCore (program_of core.now) }
+    requires few { length started.old ≤ 1024 }
+    requires there { scope + 1 < length (program_of core.now).scopes }
+    ensures { ComesTo (module_visit (program_of core.now) scopes prefix.now name.now scope (visited started.old inner.old)) started.new inner.new result }
+{
+    let inside = prefix_inside(alloc, prefix, name)?;
+    let names = names_of(core, scope);
+    visit(alloc, core, scopes, names, &inside, started, inner)
 }
 
 /// Visits a use: a pure module has one instance, which its first use adds.
@@ -376,6 +398,24 @@ fn program_names(core: &Core) -> &[OwnName]
     }
 }
 
+/// Visits the program's own names, where nothing is settled yet.
+fn visit_program(
+    alloc: Global,
+    core: &Core,
+    started: &mut Started,
+    own: &mut Settled,
+) -> Result<(), LinkRefusal>
+    requires keeps { CoreKeeps (program_of core.now) }
+    requires none { started.old ≡ [] }
+    requires actuals { own.old.actuals ≡ [] }
+    requires sets { own.old.sets ≡ [] }
+    ensures { ComesTo (program_visited (program_of core.now)) started.new own.new result }
+{
+    let prefix = from_bytes(alloc, b"")?;
+    let names = program_names(core);
+    visit(alloc, core, core.scopes.len(), names, &prefix, started, own)
+}
+
 /// The instances of a program in start order, whether or not the rules for its lines hold. `Limit` comes exactly
 /// where there are more than 1,024 (docs/LANGUAGE.md, "Start order and ground sets" and "Limits").
 pub fn link(alloc: Global, core: &Core) -> Result<Links, LinkRefusal>
@@ -388,17 +428,7 @@ pub fn link(alloc: Global, core: &Core) -> Result<Links, LinkRefusal>
         actuals: Items::new(alloc),
         sets: Items::new(alloc),
     };
-    let names = program_names(core);
-    let prefix = from_bytes(alloc, b"")?;
-    visit(
-        alloc,
-        core,
-        core.scopes.len(),
-        names,
-        &prefix,
-        &mut started,
-        &mut own,
-    )?;
+    visit_program(alloc, core, &mut started, &mut own)?;
     Ok(Links {
         instances: started.into_linked(alloc)?,
         sets: own.sets,

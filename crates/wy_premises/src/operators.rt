@@ -1,6 +1,6 @@
 //! Operators: the types that they take and give, and the effect of what is done one after the other.
 
-ghost use Rattle.std.specs.Prelude.{◌≡◌, ◌∷◌, [], IfOk};
+ghost use Rattle.std.specs.Prelude.{◌≡◌, ◌∷◌, ◌++◌, [], IfOk, OnOk};
 ghost use Rattle.wy_effects.specs.EffSet.{union};
 ghost use Rattle.wy_types.specs.declared.types.TypeRef.TheVariants as base;
 ghost use Rattle.wy_rules.specs.Operators.{row, equality_rows};
@@ -90,24 +90,31 @@ pub fn binary_result(operator: BinaryOperator, typ: &TypeRef) -> Option<TypeRef>
     }
 }
 
+/// Adds the types of the operands of an operation on texts.
+fn add_text_operands(types: &mut TypeList, operator: TextOperator) -> Result<(), Memory>
+    ensures { OnOk result (types.new ≡ types.old ++ text_operands operator) }
+{
+    match operator {
+        TextOperator::Size => types.push(TypeRef::Text),
+        TextOperator::Part => {
+            types.push(TypeRef::Text)?;
+            types.push(TypeRef::Int)?;
+            types.push(TypeRef::Int)
+        }
+        TextOperator::Code => {
+            types.push(TypeRef::Text)?;
+            types.push(TypeRef::Int)
+        }
+        TextOperator::Byte | TextOperator::Show => types.push(TypeRef::Int),
+    }
+}
+
 /// The types of the operands of an operation on texts.
 pub fn text_operands(alloc: Global, operator: TextOperator) -> Result<TypeList, Memory>
     ensures { IfOk result (λ ts. ts ≡ text_operands operator) }
 {
     let mut types = Items::new(alloc);
-    match operator {
-        TextOperator::Size => types.push(TypeRef::Text)?,
-        TextOperator::Part => {
-            types.push(TypeRef::Text)?;
-            types.push(TypeRef::Int)?;
-            types.push(TypeRef::Int)?;
-        }
-        TextOperator::Code => {
-            types.push(TypeRef::Text)?;
-            types.push(TypeRef::Int)?;
-        }
-        TextOperator::Byte | TextOperator::Show => types.push(TypeRef::Int)?,
-    }
+    add_text_operands(&mut types, operator)?;
     Ok(types)
 }
 

@@ -1,24 +1,22 @@
 -- The nodes of bodies: of what is behind a block or values, of a scope's start, and of all bodies.
 use Rattle.std.proofs.Common.{◌≡◌, ℕ, ◌+◌, ◌<◌, ◌≤◌, List, [], ◌∷◌, length, drop, refl, sym, ap, ◌∙◌, subst, None, Bool as Truth}
-use Rattle.std.specs.Prelude.{Result, Ok, Err, map, if◌then◌else◌}
+use Rattle.std.specs.Prelude.{Result, Ok, Err, if◌then◌else◌}
 use Rattle.wy_text.specs.declared.fault.Place.{Place}
 use Rattle.wy_effects.proofs.Walks.{drop_at, drop_none}
 use Rattle.wy_types.specs.declared.types.TypeRef.{TypeRef}
 use Rattle.wy_types.specs.declared.types.TypeRef.TheVariants.{Unit as Nothing}
 use Rattle.wy_types.specs.Code.{Values, Block}
 use Rattle.wy_types.specs.Program.{Init, Run, scope_of}
-use Rattle.wy_types.specs.Core.{value_count}
-use Rattle.wy_rules.specs.Typing.{field_types}
 use Rattle.wy_rules.specs.Canonical.{both, same_type}
 use Rattle.wy_cert.specs.declared.certificate.CertNode.{CertNode}
 use Rattle.wy_cert.specs.declared.certificate.Rule.TheVariants as by
-use Rattle.wy_proving.specs.Reading.{Part, part_stands, part_fails, Parts, parts_stand, parts_fail, Bodies, bodies_stand, bodies_fail, bodies_then, block_then, values_then, at_end, same_types, says_untyped, read_values, read_block, read_body_node, read_start, read_bodies}
+use Rattle.wy_proving.specs.Reading.{Part, part_stands, part_fails, Parts, parts_stand, parts_fail, Bodies, bodies_stand, bodies_fail, bodies_then, block_then, values_then, at_end, says_untyped, read_body_node, read_start, read_bodies}
 use Rattle.wy_recheck.specs.declared.failure.Failure.{Failure}
 use Rattle.wy_recheck.specs.declared.reader.Reader.{Reader}
 use Rattle.wy_recheck.specs.declared.reader.Read.{Read}
 use Rattle.wy_recheck.specs.declared.reader.Several.{Several}
 use Rattle.wy_recheck.specs.Standing.{FailsFirst}
-use Rattle.wy_recheck.specs.Nodes.{reading_of, lists_of, left, values_read, block_read, start_read, bodies_read, scope_read, NextFails, IsNotNext, IsPassed, BodiesAreRead}
+use Rattle.wy_recheck.specs.Nodes.{reading_of, lists_of, left, block_body_read, fields_read, start_read, bodies_read, scope_read, NextFails, IsNotNext, IsPassed, BodiesAreRead}
 use Rattle.wy_recheck.proofs.NodesFailing.{first_weaker}
 
 ------------------------------------------------------------
@@ -65,24 +63,18 @@ module _ (nodes : List CertNode) (whole : Bodies) (parts : Parts TypeRef) (f : L
 
 module _ (r : Reader) where
   module _ (owner : r.owner ≡ None) (at : ℕ) where
-    abbrev behind_start : Truth → List ℕ → ℕ → ℕ → List CertNode → Bodies
-    behind_start holds e n i rest = read_body_node (both holds ((lists_of r).allows e (scope_of r.scope.now).start_effect)) (scope_of r.scope.now).start_place n i rest
-
     -- the initialisers of fields
-    pub starts_with_values : (values : Values) → (scope_of r.scope.now).start ≡ Init values →
-        start_read r at ≡ values_then (values_read r at values)
-        (λ ts e i rest. behind_start (same_types (reading_of r) same_type (lists_of r) ts (map (reading_of r).read (field_types (scope_of r.scope.now) 0))) e (value_count values) i rest)
+    pub starts_with_values : (values : Values) → (scope_of r.scope.now).start ≡ Init values → start_read r at ≡ fields_read r at values
     starts_with_values values h =
         ap (λ st. read_start (reading_of r) same_type (lists_of r) (scope_of r.scope.now) r.locals.now st at (left r at)) h ∙
-        ap (λ o. values_then (read_values (reading_of r) same_type (lists_of r) (scope_of r.scope.now) r.locals.now o values at (left r at))
-        (λ ts e i rest. behind_start (same_types (reading_of r) same_type (lists_of r) ts (map (reading_of r).read (field_types (scope_of r.scope.now) 0))) e (value_count values) i rest)) (sym owner)
+        ap (λ o. fields_read (record r { owner = o }) at values) (sym owner)
 
     -- the block of `run`
     pub starts_with_block : (block : Block) → (scope_of r.scope.now).start ≡ Run block →
-        start_read r at ≡ block_then (block_read r at block) (λ t e i rest. behind_start (same_type t Nothing) e 1 i rest)
+        start_read r at ≡ block_body_read r at (scope_of r.scope.now).start_place block Nothing (scope_of r.scope.now).start_effect
     starts_with_block block h =
         ap (λ st. read_start (reading_of r) same_type (lists_of r) (scope_of r.scope.now) r.locals.now st at (left r at)) h ∙
-        ap (λ o. block_then (read_block (reading_of r) same_type (lists_of r) (scope_of r.scope.now) r.locals.now o block at (left r at)) (λ t e i rest. behind_start (same_type t Nothing) e 1 i rest)) (sym owner)
+        ap (λ o. block_body_read (record r { owner = o }) at (scope_of r.scope.now).start_place block Nothing (scope_of r.scope.now).start_effect) (sym owner)
 
   abbrev behind_bodies : Bodies → Bodies
   behind_bodies p = at_end (bodies_then p (λ i rest. read_bodies (reading_of r) same_type (lists_of r) (scope_of r.scope.now) r.locals.now (scope_of r.scope.now).bodies i rest))

@@ -14,6 +14,9 @@ use Rattle.wy_cert.specs.declared.certificate.CertScope.{CertScope}
 use Rattle.wy_premises.specs.Tried.{OfEach, HasOpened, FirstLack, missing_atom, Agrees, Disagrees, OrFails}
 use Rattle.wy_premises.proofs.Trying.{first_breaks}
 use Rattle.wy_proving.specs.Proving.{RuleStands, instance_of, IsListed}
+use Rattle.wy_recheck.specs.declared.lines.Asked.{Asked}
+use Rattle.wy_recheck.specs.declared.lines.Asked.TheVariants.{Substituted, Annotated, Erased}
+use Rattle.wy_recheck.specs.Rules.{AskedOf, AskedOfType}
 use Rattle.wy_recheck.proofs.Purity.{true_not_false}
 
 -- what an answer denies is denied by it
@@ -34,6 +37,12 @@ second_tells A B a b tells t tells' = (λ e. (tells.0 t, tells'.0 e), λ h. tell
 -- what was found of the parameters of a module, as code has them
 pub of_parameters : (P : Handed → Type 0) (ps qs : List OwnName) (arguments : List ℕ) (b : Truth) → ps ≡ qs → (b ≡ true) ↔ OfEach P (handed_to ps arguments) → (b ≡ true) ↔ OfEach P (handed_to qs arguments)
 of_parameters P ps qs arguments b e tells = subst (λ l. (b ≡ true) ↔ OfEach P (handed_to l arguments)) e tells
+
+-- .. of an argument, by its type
+pub asked_as : (s : Scope) (c : CertScope) (a : Asked) (h : Handed) (b : Truth) → (b ≡ true) ↔ AskedOfType c a h.parameter.typ (type_of (slice_get s.names h.argument)) → (b ≡ true) ↔ AskedOf s c a h
+asked_as s c (Substituted sets) h b tells = tells
+asked_as s c (Annotated bound) h b tells = tells
+asked_as s c Erased h b tells = tells
 
 agreed : (A : Type 0) (D : ℕ → Type 0) (o : Option ℕ) → OrFails A D o → is_some o ≡ false → A
 agreed A D None h e = h
@@ -67,9 +76,6 @@ module _ (p : Program) (k : ℕ) (s : Scope) (c : CertScope) (m : ℕ) (argument
 
   pub sets_as : (ns outer : List OwnName) (sets slice : List (List ℕ)) → ns ≡ names_of (slice_get p.scopes m) → outer ≡ s.names → sets ≡ arguments_sets p outer ns arguments → slice ≡ sets → slice ≡ Sets
   sets_as ns outer sets slice e f is same = same ∙ is ∙ ap (λ l. arguments_sets p outer l arguments) e ∙ ap (λ o. arguments_sets p o (names_of (slice_get p.scopes m)) arguments) f
-
-  pub listed_as : (ps : List OwnName) (es : List (List ℕ)) (b : Truth) → ps ≡ parameters_of p m → es ≡ Sets → (b ≡ true) ↔ OfEach (IsListedAt es) (handed_to ps arguments) → (b ≡ true) ↔ Listed
-  listed_as ps es b e f tells = subst (λ v. (b ≡ true) ↔ OfEach (IsListedAt v) handing) f (subst (λ l. (b ≡ true) ↔ OfEach (IsListedAt es) (handed_to l arguments)) e tells)
 
   -- the pair of an argument is not listed
   pub not_listed : (b : Truth) → (b ≡ true) ↔ Listed → b ≡ false → ◌≡◌ {A = Truth} false true ↔ Rule

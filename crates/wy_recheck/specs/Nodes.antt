@@ -17,7 +17,7 @@ use Rattle.wy_types.specs.Program.{Program, Scope, Body, program_of, scope_of}
 use Rattle.wy_types.specs.Signature.{find_method}
 use Rattle.wy_types.specs.Types.{erased}
 use Rattle.wy_types.specs.Bounds.{bounds_of}
-use Rattle.wy_types.specs.Core.{IsCore}
+use Rattle.wy_types.specs.Core.{IsCore, value_count}
 use Rattle.wy_rules.specs.Readings.{Reading}
 use Rattle.wy_rules.specs.Operators.{unary_rows, binary_rows, text_rows}
 use Rattle.wy_rules.specs.Typing.{field_types, var_field, binding_type}
@@ -28,7 +28,7 @@ use Rattle.wy_cert.specs.declared.certificate.CertNode.{CertNode}
 use Rattle.wy_cert.specs.declared.certificate.CertScope.{CertScope}
 use Rattle.wy_proving.specs.Certified.{Pair, types_of, annotated_pairs, plain_pairs, has_pair}
 use Rattle.wy_proving.specs.OneReading.{reading_at}
-use Rattle.wy_proving.specs.Reading.{Lists, Part, part_stands, part_fails, part_then, Parts, parts_stand, parts_fail, Bodies, bodies_stand, bodies_fail, same_types, is_sub_of, read_subs, read_node, read_name, read_this, read_call, read_set, read_expr, read_value, read_values, read_block, read_val, read_body_node, read_start, read_body, read_bodies, read_scope}
+use Rattle.wy_proving.specs.Reading.{Lists, Part, part_stands, part_fails, part_then, Parts, parts_stand, parts_fail, parts_then, Bodies, bodies_stand, bodies_fail, block_then, values_then, says_rule, is_below, same_types, is_sub_of, read_subs, read_node, read_name, read_this, read_call, read_set, read_expr, read_value, read_values, read_block, read_val, read_body_node, read_start, read_body, read_bodies, read_scope}
 use Rattle.wy_proving.specs.Proving.{ascends, is_empty}
 use Rattle.wy_recheck.specs.declared.failure.Failure.{Failure}
 use Rattle.wy_recheck.specs.declared.reader.Reader.{Reader}
@@ -120,12 +120,24 @@ module _ (r : Reader) (at : ℕ) where
       let w = row_of (reading_of r) same_type (binary_rows op) x.typ in
       node_read (both (same_type x.typ (first_operand (reading_of r) w.operands)) (same_type z.typ (second_operand (reading_of r) w.operands))) by.Op q 2 w.result (union x.effect (union z.effect []))
 
+  -- .. whose first operand is read
+  abbrev pub second_read : Place → BinaryOperator → Read → Expr → Part TypeRef
+  second_read q op x z =
+      part_then (expr_read z) (λ t f i rest.
+      let w = row_of (reading_of r) same_type (binary_rows op) x.typ in
+      read_node (reading_of r) same_type (lists_of r) (both (same_type x.typ (first_operand (reading_of r) w.operands)) (same_type t (second_operand (reading_of r) w.operands))) by.Op q 2 w.result (union x.effect (union f [])) i rest)
+
   abbrev pub text_read : Place → TextOperator → ℕ → Several → Part TypeRef
   text_read q op n xs =
       node_read (same_types (reading_of r) same_type (lists_of r) xs.types (map (reading_of r).read (first_row (text_rows op)).operands)) by.Op q n (first_row (text_rows op)).result xs.effect
 
   abbrev pub call_read : Place → List ℕ → ℕ → Read → Several → Part TypeRef
   call_read q name n x xs = read_call (reading_of r) same_type (lists_of r) (find_method name ((reading_of r).methods x.typ)) q n xs.types x.effect xs.effect at left
+
+  -- .. whose receiver is read
+  abbrev pub called_read : Place → Read → List ℕ → Values → Part TypeRef
+  called_read q x name xs =
+      parts_then (values_read xs) (λ ts f i rest. read_call (reading_of r) same_type (lists_of r) (find_method name ((reading_of r).methods x.typ)) q (value_count xs + 1) ts x.effect f i rest)
 
   abbrev pub new_read : Place → ℕ → ℕ → Several → Part TypeRef
   new_read q l n xs =
@@ -189,6 +201,15 @@ abbrev pub SetStands : (List ℕ → Truth) → List ℕ → Option (List ℕ) �
 SetStands stands e None = stands e ≡ false
 SetStands stands e (Some f) = (stands e ≡ true) × (f ≡ e)
 
+-- the type and the effect that a T-Sub over a part gives, if the node may be one by these
+abbrev pub IsSubType : Reader → Place → TypeRef → CertNode → Option TypeRef → Type 0
+IsSubType r q t n None = both (says_rule by.Sub q 1 n) (is_below (reading_of r) same_type (lists_of r) t ((lists_of r).named n.typ)) ≡ false
+IsSubType r q t n (Some u) = (both (says_rule by.Sub q 1 n) (is_below (reading_of r) same_type (lists_of r) t ((lists_of r).named n.typ)) ≡ true) × ((lists_of r).named n.typ ≡ Some u)
+
+abbrev pub IsSubEffect : Reader → List ℕ → CertNode → Option (List ℕ) → Type 0
+IsSubEffect r e n None = both ((lists_of r).stands n.effect) ((lists_of r).includes e n.effect) ≡ false
+IsSubEffect r e n (Some f) = (both ((lists_of r).stands n.effect) ((lists_of r).includes e n.effect) ≡ true) × (f ≡ n.effect)
+
 -- the part that a T-Sub over one gives, if the node is one
 abbrev pub IsSubOf : Reader → Place → Read → CertNode → Option Read → Type 0
 IsSubOf r q x n None = is_sub_of (reading_of r) same_type (lists_of r) q x.typ x.effect n ≡ false
@@ -210,6 +231,15 @@ module _ (r : Reader) (at : ℕ) where
   -- the node of a body
   abbrev pub body_node_read : Truth → List ℕ → List ℕ → Place → ℕ → Bodies
   body_node_read holds e declared q parts = read_body_node (both holds ((lists_of r).allows e declared)) q parts at (left r at)
+
+  -- a block at a type and within an effect, and the initialisers of the scope's fields, each with the node of its body
+  abbrev pub block_body_read : Place → Block → TypeRef → List ℕ → Bodies
+  block_body_read q b t declared = block_then (block_read r at b) (λ u e i rest. read_body_node (both (same_type u t) ((lists_of r).allows e declared)) q 1 i rest)
+
+  abbrev pub fields_read : Values → Bodies
+  fields_read xs =
+      values_then (values_read r at xs) (λ ts e i rest.
+      read_body_node (both (same_types (reading_of r) same_type (lists_of r) ts (map (reading_of r).read (field_types (scope_of r.scope.now) 0))) ((lists_of r).allows e (scope_of r.scope.now).start_effect)) (scope_of r.scope.now).start_place (value_count xs) i rest)
 
   -- what the scope does at its start, a body, and bodies in their order
   abbrev pub start_read : Bodies

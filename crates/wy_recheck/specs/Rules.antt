@@ -1,9 +1,10 @@
 -- The rules of a scope as code has them, and what is decided of them by listed pairs (docs/LANGUAGE.md, "Certificates").
-use Rattle.std.specs.Prelude.{◌≡◌, ◌↔◌, Bool as Truth, true, slice_get}
+use Rattle.std.specs.Prelude.{◌≡◌, ◌↔◌, ℕ, List, Bool as Truth, true, slice_get}
 use Rattle.wy_effects.specs.Members.{In}
-use Rattle.wy_types.specs.Program.{Scope}
+use Rattle.wy_types.specs.declared.types.TypeRef.{TypeRef}
+use Rattle.wy_types.specs.Program.{Program, Scope}
 use Rattle.wy_types.specs.Types.{substituted, annotated, erased}
-use Rattle.wy_types.specs.Ground.{type_of}
+use Rattle.wy_types.specs.Ground.{type_of, names_of, arguments_sets}
 use Rattle.wy_rules.specs.Acceptance.{Handed}
 use Rattle.wy_cert.specs.declared.certificate.CertScope.{CertScope}
 use Rattle.wy_proving.specs.Certified.{Pair, annotated_pairs, plain_pairs}
@@ -33,8 +34,18 @@ pub record IsListedBy (r : Rules) (c : CertScope) : Type 0 where
 abbrev pub Decides : Rules → (CertScope → Type 0) → Truth → Type 0
 Decides r P b = (c : CertScope) → IsListedBy r c → (b ≡ true) ↔ P c
 
+-- the pair that is asked of an argument of a type is listed, by the type of the parameter
+abbrev pub AskedOfType : CertScope → Asked → TypeRef → TypeRef → Type 0
+AskedOfType c (Substituted sets) u t = In {X = Pair} (t, substituted sets.now u) (annotated_pairs c)
+AskedOfType c (Annotated bound) u t = In {X = Pair} (t, annotated bound.now (erased t)) (annotated_pairs c)
+AskedOfType c Erased u t = In {X = Pair} (erased t, erased u) (plain_pairs c)
+
 -- the pair that is asked of an argument is listed
 abbrev pub AskedOf : Scope → CertScope → Asked → Handed → Type 0
 AskedOf s c (Substituted sets) h = In {X = Pair} (type_of (slice_get s.names h.argument), substituted sets.now h.parameter.typ) (annotated_pairs c)
 AskedOf s c (Annotated bound) h = In {X = Pair} (type_of (slice_get s.names h.argument), annotated bound.now (erased (type_of (slice_get s.names h.argument)))) (annotated_pairs c)
 AskedOf s c Erased h = In {X = Pair} (erased (type_of (slice_get s.names h.argument)), erased h.parameter.typ) (plain_pairs c)
+
+-- .. by M-Inst, with the sets that the arguments of a module put in
+abbrev pub ArgumentOf : Program → Scope → CertScope → ℕ → List ℕ → Handed → Type 0
+ArgumentOf p s c m arguments h = In {X = Pair} (type_of (slice_get s.names h.argument), substituted (arguments_sets p s.names (names_of (slice_get p.scopes m)) arguments) h.parameter.typ) (annotated_pairs c)

@@ -1,13 +1,14 @@
 //! The own node of each form, behind those of its parts.
 
-ghost use Rattle.std.specs.Prelude.{◌≡◌, [], true, slice_get};
+ghost use Rattle.std.specs.Prelude.{◌≡◌, [], IfOk, true, slice_get};
 ghost use Rattle.std.specs.Option.{option_copied};
+ghost use Rattle.wy_effects.specs.EffSet.{union};
 ghost use Rattle.wy_types.specs.Program.{scope_of};
 ghost use Rattle.wy_types.specs.View.{value_of};
 ghost use Rattle.wy_rules.specs.Typing.{binding_type};
 ghost use Rattle.wy_rules.specs.Canonical.{same_type};
 ghost use Rattle.wy_cert.specs.declared.certificate.Rule.TheVariants as by;
-ghost use Rattle.wy_proving.specs.Reading.{val_holds, part_stands};
+ghost use Rattle.wy_proving.specs.Reading.{same_types, val_holds, part_stands};
 ghost use Rattle.wy_recheck.specs.Nodes.{IsReader, reading_of, lists_of, node_read, this_read, name_read, unary_read, binary_read, text_read, call_read, new_read, ascribed_read, assigned_read, chosen_read, closed, closing, left, IsVal, IsRead};
 
 use crate::failure::Failure;
@@ -19,10 +20,10 @@ use wy_premises::{
     var_field,
 };
 use wy_text::fault::Place;
-use wy_text::text::Text;
+use wy_text::text::{Memory, Text};
 use wy_types::code::{BinaryOperator, Binding, TextOperator, UnaryOperator, Value, Variable};
 use wy_types::methods::find_method;
-use wy_types::types::TypeRef;
+use wy_types::types::{Method, TypeRef};
 
 /// A statement that was read: a node of T-Seq is to come behind the rest of the block.
 #[derive(Drop)]
@@ -32,6 +33,13 @@ pub struct Waiting {
     pub place: Place,
     /// The effect of the statement.
     pub effect: EffSet,
+}
+
+/// The effect of what has three parts.
+fn joined(first: EffSet, second: EffSet, third: EffSet) -> Result<EffSet, Memory>
+    ensures { IfOk result (λ e. e ≡ union first (union second third)) }
+{
+    united(first, united(second, third)?)
 }
 
 impl Reader<'_> {
@@ -209,14 +217,26 @@ impl Reader<'_> {
         };
         match find_method(self.alloc, self.core, self.number, &receiver.typ, name)? {
             None => Err(Failure::At(*at as u64)),
-            Some(method) => {
-                let holds = self.same_types(arguments.types.as_slice(), method.params.as_slice());
-                let rest = united(arguments.effect, method.effect)?;
-                let effect = united(receiver.effect, rest)?;
-                let typ = method.result;
-                self.read_node(at, holds, form, Read { typ, effect })
-            }
+            Some(method) => self.found_call(at, form, receiver.effect, arguments, method),
         }
+    }
+
+    /// .. of a call of this method, on a receiver with an effect.
+    fn found_call(
+        &self,
+        at: &mut usize,
+        form: Form,
+        effect: EffSet,
+        arguments: Several,
+        method: Method,
+    ) -> Result<Read, Failure>
+        requires reader { IsReader self.now }
+        ensures { IsRead self.now.nodes.now (node_read self.now at.old (same_types (reading_of self.now) same_type (lists_of self.now) arguments.types method.params) form.rule form.place form.parts method.result (union effect (union arguments.effect method.effect))) at.new result }
+    {
+        let holds = self.same_types(arguments.types.as_slice(), method.params.as_slice());
+        let effect = joined(effect, arguments.effect, method.effect)?;
+        let typ = method.result;
+        self.read_node(at, holds, form, Read { typ, effect })
     }
 
     /// .. of a new object of a literal.
@@ -310,8 +330,7 @@ impl Reader<'_> {
             parts: 3,
         };
         let holds = same(&test.typ, &TypeRef::Bool) && same(&second.typ, &first.typ);
-        let branches = united(first.effect, second.effect)?;
-        let effect = united(test.effect, branches)?;
+        let effect = joined(test.effect, first.effect, second.effect)?;
         let typ = first.typ;
         self.read_node(at, holds, form, Read { typ, effect })
     }

@@ -5,7 +5,7 @@ ghost use Rattle.wy_effects.specs.Members.{In};
 ghost use Rattle.wy_types.specs.declared.resolved.Field.{Field as AnyField};
 ghost use Rattle.wy_types.specs.declared.resolved.OwnName.{OwnName as AnyName};
 ghost use Rattle.wy_types.specs.Program.{Scope as ProgramScope, program_of, scope_of};
-ghost use Rattle.wy_types.specs.Types.{is_plain};
+ghost use Rattle.wy_types.specs.Types.{is_plain, annotated, erased};
 ghost use Rattle.wy_types.specs.Core.{IsCore};
 ghost use Rattle.wy_types.specs.InRange.{IsInRange};
 ghost use Rattle.wy_rules.specs.Acceptance.{PureHolds, IsLine, MembersHold, handed_to};
@@ -17,7 +17,7 @@ ghost use Rattle.wy_proving.specs.Proving.{AllStand, scope_rules, kind_rules, as
 ghost use Rattle.wy_proving.specs.Unproved.{FailsAt, IsFirstWithout};
 ghost use Rattle.wy_recheck.specs.PairSet.{StandsFor};
 ghost use Rattle.wy_recheck.specs.Standing.{FailsFirst};
-ghost use Rattle.wy_recheck.specs.Rules.{rule_of, IsListedBy, Decides, AskedOf};
+ghost use Rattle.wy_recheck.specs.Rules.{rule_of, IsListedBy, Decides, AskedOf, AskedOfType, ArgumentOf};
 
 use crate::failure::Failure;
 use crate::pair_set::PairSet;
@@ -120,14 +120,21 @@ fn add_ascription_rules(
     }
 }
 
+/// Adds the rules of a scope, in their order.
+fn add_rules<'a>(scope: &'a Scope, rules: &mut Items<LineRule<'a>>) -> Result<(), Memory>
+    ensures { OnOk result (map rule_of rules.new ≡ map rule_of rules.old ++ scope_rules (scope_of scope.now)) }
+{
+    add_kind_rules(scope.kind, rules)?;
+    add_ascription_rules(scope.ascribed, rules)?;
+    add_names_rules(scope.names.as_slice(), rules)
+}
+
 /// The rules of a scope in their order: of its kind, of its seal, and of its own names (docs/LANGUAGE.md, "Certificates").
 pub fn rules_of<'a>(alloc: Global, scope: &'a Scope) -> Result<Items<LineRule<'a>>, Memory>
     ensures { IfOk result (λ rules. map rule_of rules ≡ scope_rules (scope_of scope.now)) }
 {
     let mut rules = Items::new(alloc);
-    add_kind_rules(scope.kind, &mut rules)?;
-    add_ascription_rules(scope.ascribed, &mut rules)?;
-    add_names_rules(scope.names.as_slice(), &mut rules)?;
+    add_rules(scope, &mut rules)?;
     Ok(rules)
 }
 
@@ -194,14 +201,20 @@ struct Rules<'a> {
     plain: &'a PairSet,
 }
 
+/// A type's erasure, annotated at a bound.
+fn annotated_type(alloc: Global, typ: &TypeRef, bound: &EffSet) -> Result<TypeRef, Memory>
+    ensures { IfOk result (λ t. t ≡ annotated bound.now (erased typ.now)) }
+{
+    let bare = erase(alloc, typ)?;
+    annotate(alloc, &bare, bound)
+}
+
 impl Rules<'_> {
     /// Whether a pair is listed, by its erasure.
     fn is_listed_plain(&self, left: &TypeRef, right: &TypeRef) -> Result<bool, Memory>
         ensures { IfOk result (Decides self.now (λ c. IsListedPlain (program_of self.now.core.now) self.now.number (scope_of self.now.scope.now) c left.now right.now)) }
     {
-        let left = erase(self.alloc, left)?;
-        let right = erase(self.alloc, right)?;
-        self.plain.contains(self.alloc, &left, &right)
+        self.plain.contains_erased(self.alloc, left, right)
     }
 
     /// Whether a pair is listed, as the kind of the scope looks it up.
@@ -226,17 +239,28 @@ impl Rules<'_> {
         ensures { IfOk result (Decides self.now (λ c. AskedOf (scope_of self.now.scope.now) c asked.now (handed_pair parameter.now argument))) }
     {
         let typ = argument_type(self.alloc, self.scope.names.as_slice(), argument)?;
+        self.type_is_asked(asked, parameter, &typ)
+    }
+
+    /// Whether it is of an argument of a type.
+    fn type_is_asked(
+        &self,
+        asked: &Asked<'_>,
+        parameter: &OwnName,
+        typ: &TypeRef,
+    ) -> Result<bool, Memory>
+        ensures { IfOk result (Decides self.now (λ c. AskedOfType c asked.now parameter.now.typ typ.now)) }
+    {
         match asked {
             Asked::Substituted(sets) => {
                 let expected = substitute(self.alloc, &parameter.typ, sets)?;
-                self.annotated.contains(self.alloc, &typ, &expected)
+                self.annotated.contains(self.alloc, typ, &expected)
             }
             Asked::Annotated(bound) => {
-                let bare = erase(self.alloc, &typ)?;
-                let wide = annotate(self.alloc, &bare, bound)?;
-                self.annotated.contains(self.alloc, &typ, &wide)
+                let wide = annotated_type(self.alloc, typ, bound)?;
+                self.annotated.contains(self.alloc, typ, &wide)
             }
-            Asked::Erased => self.is_listed_plain(&typ, &parameter.typ),
+            Asked::Erased => self.is_listed_plain(typ, &parameter.typ),
         }
     }
 
@@ -295,6 +319,21 @@ impl Rules<'_> {
         self.members_hold()
     }
 
+    /// Whether what M-Inst asks of the arguments of a module is listed, their sets put in.
+    fn are_arguments(
+        &self,
+        target: u16,
+        parameters: &[OwnName],
+        arguments: &[u32],
+    ) -> Result<bool, Memory>
+        ensures { IfOk result (Decides self.now (λ c. OfEach (ArgumentOf (program_of self.now.core.now) (scope_of self.now.scope.now) c target arguments.now) (handed_to parameters.now arguments.now))) }
+    {
+        let outer = self.scope.names.as_slice();
+        let names = names_of(self.core, target);
+        let sets = arguments_sets(self.alloc, self.core, outer, names, arguments)?;
+        self.all_are_asked(&Asked::Substituted(sets.as_slice()), parameters, arguments)
+    }
+
     /// M-Inst.
     fn instance_stands(&self, target: u16, arguments: &[u32]) -> Result<bool, Memory>
         requires core { IsInRange (program_of self.now.core.now) }
@@ -308,10 +347,7 @@ impl Rules<'_> {
         if !all_have_opened(self.alloc, self.core, outer, parameters, arguments)? {
             return Ok(false);
         }
-        let names = names_of(self.core, target);
-        let sets = arguments_sets(self.alloc, self.core, outer, names, arguments)?;
-        let substituted = Asked::Substituted(sets.as_slice());
-        if !self.all_are_asked(&substituted, parameters, arguments)? {
+        if !self.are_arguments(target, parameters, arguments)? {
             return Ok(false);
         }
         let outside = first_outside_member(

@@ -3,7 +3,7 @@
 
 ghost use Rattle.std.specs.Prelude.{◌≡◌, ◌<◌, ◌++◌, ◌∷◌, [], ℕ, IfErr, OnOk, IfOk, None, length, slice_get, Some};
 ghost use Rattle.wy_effects.specs.EffSet.{union};
-ghost use Rattle.wy_types.specs.Code.{New, TextCall};
+ghost use Rattle.wy_types.specs.Code.{Unary, TextCall, New, Ascribe, Assign};
 ghost use Rattle.wy_types.specs.View.{expr_of, value_of, values_of, block_of};
 ghost use Rattle.wy_types.specs.Program.{Scope as ProgramScope, program_of, scope_of, body_of};
 ghost use Rattle.wy_types.specs.Types.{is_plain};
@@ -15,7 +15,7 @@ ghost use Rattle.wy_proving.specs.Unproved.{FailsAt};
 ghost use Rattle.wy_proving.specs.declared.proof.CertTest.TheVariants.{Nodes};
 ghost use Rattle.wy_recheck.specs.PairSet.{StandsFor};
 ghost use Rattle.wy_recheck.specs.Standing.{FailsFirst};
-ghost use Rattle.wy_recheck.specs.Nodes.{IsReader, pairs_in, expr_read, value_read, values_read, block_read, body_node_read, start_read, body_read, bodies_read, scope_read, IsRead, AreRead, BodiesAreRead, ScopeIsRead, IsStatement, AreStatements};
+ghost use Rattle.wy_recheck.specs.Nodes.{IsReader, pairs_in, expr_read, value_read, values_read, block_read, body_node_read, block_body_read, fields_read, second_read, called_read, start_read, body_read, bodies_read, scope_read, IsRead, AreRead, BodiesAreRead, ScopeIsRead, IsStatement, AreStatements};
 
 use crate::failure::Failure;
 use crate::forms::Waiting;
@@ -29,8 +29,10 @@ use wy_effects::set::EffSet;
 use wy_premises::{field_types, mark, united};
 use wy_text::fault::Place;
 use wy_text::list::Items;
-use wy_text::text::Memory;
-use wy_types::code::{Block, Expr, Stmt, TextOperator, Value};
+use wy_text::text::{Memory, Text};
+use wy_types::code::{
+    BinaryOperator, Binding, Block, Expr, Stmt, TextOperator, UnaryOperator, Value,
+};
 use wy_types::resolved::{Body, Core, ScopeKind, Start};
 use wy_types::types::{TypeList, TypeRef};
 
@@ -59,33 +61,55 @@ impl Reader<'_> {
             Expr::Unit(place) => self.literal(at, *place, TypeRef::Unit),
             Expr::This(place) => self.this(at, *place),
             Expr::Name(place, binding) => self.name(at, *place, *binding),
-            Expr::Unary(place, operator, x) => {
-                let operand = self.read_expr(at, x)?;
-                self.unary(at, *place, *operator, operand)
-            }
+            Expr::Unary(place, operator, x) => self.read_unary(at, *place, *operator, x),
             Expr::Binary(place, operator, x, y) => {
                 let first = self.read_expr(at, x)?;
-                let second = self.read_expr(at, y)?;
-                self.binary(at, *place, *operator, first, second)
+                self.read_second(at, *place, *operator, first, y)
             }
             Expr::TextCall(place, operator, values) => {
                 self.read_text_call(at, *place, *operator, values)
             }
             Expr::Call(place, x, name, values) => {
                 let receiver = self.read_expr(at, x)?;
-                let arguments = self.read_values(at, values)?;
-                self.call(at, *place, name, values.len() + 1, receiver, arguments)
+                self.read_arguments(at, *place, receiver, name, values)
             }
             Expr::New(place, literal, values) => self.read_new(at, *place, *literal, values),
-            Expr::Ascribe(place, x, typ) => {
-                let value = self.read_value(at, x)?;
-                self.ascription(at, *place, typ, value)
-            }
-            Expr::Assign(place, binding, x) => {
-                let value = self.read_value(at, x)?;
-                self.assignment(at, *place, *binding, value)
-            }
+            Expr::Ascribe(place, x, typ) => self.read_ascription(at, *place, x, typ),
+            Expr::Assign(place, binding, x) => self.read_assignment(at, *place, *binding, x),
         }
+    }
+
+    /// An operation on one operand.
+    #[cycle(reading)]
+    fn read_unary(
+        &self,
+        at: &mut usize,
+        place: Place,
+        operator: UnaryOperator,
+        x: &Expr,
+    ) -> Result<Read, Failure>
+        requires reader { IsReader self.now }
+        ensures { IsRead self.now.nodes.now (expr_read self.now at.old (Unary place operator (expr_of x.now))) at.new result }
+    {
+        let operand = self.read_expr(at, x)?;
+        self.unary(at, place, operator, operand)
+    }
+
+    /// An operation on two operands, the first of which is read.
+    #[cycle(reading)]
+    fn read_second(
+        &self,
+        at: &mut usize,
+        place: Place,
+        operator: BinaryOperator,
+        first: Read,
+        y: &Expr,
+    ) -> Result<Read, Failure>
+        requires reader { IsReader self.now }
+        ensures { IsRead self.now.nodes.now (second_read self.now at.old place operator first (expr_of y.now)) at.new result }
+    {
+        let second = self.read_expr(at, y)?;
+        self.binary(at, place, operator, first, second)
     }
 
     /// An operation on texts.
@@ -104,6 +128,23 @@ impl Reader<'_> {
         self.text_call(at, place, operator, values.len(), operands)
     }
 
+    /// A call of a method of this name, whose receiver is read.
+    #[cycle(reading)]
+    fn read_arguments(
+        &self,
+        at: &mut usize,
+        place: Place,
+        receiver: Read,
+        name: &Text,
+        values: &Vec<Value>,
+    ) -> Result<Read, Failure>
+        requires reader { IsReader self.now }
+        ensures { IsRead self.now.nodes.now (called_read self.now at.old place receiver name.now (values_of values.now.items)) at.new result }
+    {
+        let arguments = self.read_values(at, values)?;
+        self.call(at, place, name, values.len() + 1, receiver, arguments)
+    }
+
     /// An object literal.
     #[cycle(reading)]
     fn read_new(
@@ -118,6 +159,38 @@ impl Reader<'_> {
     {
         let initialisers = self.read_values(at, values)?;
         self.new_object(at, place, literal, values.len(), initialisers)
+    }
+
+    /// A value at a type that is written.
+    #[cycle(reading)]
+    fn read_ascription(
+        &self,
+        at: &mut usize,
+        place: Place,
+        x: &Value,
+        typ: &TypeRef,
+    ) -> Result<Read, Failure>
+        requires reader { IsReader self.now }
+        ensures { IsRead self.now.nodes.now (expr_read self.now at.old (Ascribe place (value_of x.now) typ.now)) at.new result }
+    {
+        let value = self.read_value(at, x)?;
+        self.ascription(at, place, typ, value)
+    }
+
+    /// An assignment.
+    #[cycle(reading)]
+    fn read_assignment(
+        &self,
+        at: &mut usize,
+        place: Place,
+        binding: Binding,
+        x: &Value,
+    ) -> Result<Read, Failure>
+        requires reader { IsReader self.now }
+        ensures { IsRead self.now.nodes.now (expr_read self.now at.old (Assign place binding (value_of x.now))) at.new result }
+    {
+        let value = self.read_value(at, x)?;
+        self.assignment(at, place, binding, value)
     }
 
     /// A value.
@@ -231,6 +304,42 @@ impl Reader<'_> {
         self.pass_untyped(at, holds, form, &EffSet::empty(self.alloc))
     }
 
+    /// A block that a body is, at its type and within its effect.
+    fn read_block_body(
+        &self,
+        at: &mut usize,
+        place: Place,
+        block: &Block,
+        typ: &TypeRef,
+        declared: &EffSet,
+    ) -> Result<(), Failure>
+        requires reader { IsReader self.now }
+        ensures { BodiesAreRead self.now.nodes.now (block_body_read self.now at.old place (block_of block.now) typ.now declared.now) at.new result }
+    {
+        let read = self.read_block(at, block)?;
+        let holds = same(&read.typ, typ);
+        self.body_node(at, place, 1, holds, &read.effect, declared)
+    }
+
+    /// The initialisers of a scope's fields.
+    fn read_fields(&self, at: &mut usize, values: &Vec<Value>) -> Result<(), Failure>
+        requires reader { IsReader self.now }
+        ensures { BodiesAreRead self.now.nodes.now (fields_read self.now at.old (values_of values.now.items)) at.new result }
+    {
+        let scope = self.scope;
+        let types = field_types(self.alloc, scope, 0)?;
+        let read = self.read_values(at, values)?;
+        let holds = self.same_types(read.types.as_slice(), types.as_slice());
+        self.body_node(
+            at,
+            scope.start_place,
+            values.len(),
+            holds,
+            &read.effect,
+            &scope.start_effect,
+        )
+    }
+
     /// The start of a scope.
     fn read_start(&self, at: &mut usize) -> Result<(), Failure>
         requires reader { IsReader self.now }
@@ -239,30 +348,10 @@ impl Reader<'_> {
     {
         let scope = self.scope;
         match &scope.start {
-            Start::Init(values) => {
-                let read = self.read_values(at, values)?;
-                let types = field_types(self.alloc, scope, 0)?;
-                let holds = self.same_types(read.types.as_slice(), types.as_slice());
-                self.body_node(
-                    at,
-                    scope.start_place,
-                    values.len(),
-                    holds,
-                    &read.effect,
-                    &scope.start_effect,
-                )
-            }
+            Start::Init(values) => self.read_fields(at, values),
             Start::Run(block) => {
-                let read = self.read_block(at, block)?;
-                let holds = same(&read.typ, &TypeRef::Unit);
-                self.body_node(
-                    at,
-                    scope.start_place,
-                    1,
-                    holds,
-                    &read.effect,
-                    &scope.start_effect,
-                )
+                let declared = &scope.start_effect;
+                self.read_block_body(at, scope.start_place, block, &TypeRef::Unit, declared)
             }
         }
     }
@@ -276,15 +365,13 @@ impl Reader<'_> {
             owner: Some(body.owner),
             ..*self
         };
-        let read = reader.read_block(at, &body.block)?;
-        let holds = same(&read.typ, &body.signature.result);
-        self.body_node(
+        let signature = &body.signature;
+        reader.read_block_body(
             at,
             body.place,
-            1,
-            holds,
-            &read.effect,
-            &body.signature.effect,
+            &body.block,
+            &signature.result,
+            &signature.effect,
         )
     }
 

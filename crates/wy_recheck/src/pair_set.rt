@@ -2,6 +2,7 @@
 
 ghost use Rattle.std.specs.Prelude.{◌≡◌, ◌++◌, [], ◌∷◌, List, IfOk, OnOk};
 ghost use Rattle.wy_effects.specs.Members.{In as IsIn};
+ghost use Rattle.wy_types.specs.Types.{erased};
 ghost use Rattle.wy_proving.specs.Certified.{Pair};
 ghost use Rattle.wy_recheck.specs.PairSet.{StandsFor, Tells};
 
@@ -10,6 +11,7 @@ use std::alloc::Global;
 use std::marker::Model;
 use wy_text::text::Memory;
 use wy_types::key::{Key, key_of_pair};
+use wy_types::reading::erase;
 use wy_types::types::TypeRef;
 
 /// Pairs of types, each found by its key in a time that does not grow with their number. Contracts see the keys; `StandsFor` says of
@@ -57,5 +59,19 @@ impl PairSet {
     {
         let key = key_of_pair(alloc, left, right)?;
         Ok(self.keys.contains(&key))
+    }
+
+    /// Whether the erasure of a pair is one of those that the set stands for.
+    pub(crate) fn contains_erased(
+        &self,
+        alloc: Global,
+        left: &TypeRef,
+        right: &TypeRef,
+    ) -> Result<bool, Memory>
+        ensures { IfOk result (Tells self.now (λ pairs. IsIn {X = Pair} (erased left.now, erased right.now) pairs)) }
+    {
+        let left = erase(alloc, left)?;
+        let right = erase(alloc, right)?;
+        self.contains(alloc, &left, &right)
     }
 }

@@ -5,8 +5,8 @@ ghost use Rattle.wy_effects.specs.Members.{In as IsIn};
 ghost use Rattle.wy_types.specs.Program.{Scope as ProgramScope, program_of};
 ghost use Rattle.wy_types.specs.InRange.{IsInRange};
 ghost use Rattle.wy_subtype.specs.declared.unfolding.UnfoldedPair.{UnfoldedPair as Asked};
-ghost use Rattle.wy_subtype.specs.Unfolding.{sides};
-ghost use Rattle.wy_proving.specs.Certified.{Pair, pair_of, typed_pairs, types_of, annotated_pairs, plain_pairs};
+ghost use Rattle.wy_subtype.specs.Unfolding.{sides, IsUnfolded};
+ghost use Rattle.wy_proving.specs.Certified.{Pair, pair_of, bare, typed_pairs, types_of, annotated_pairs, plain_pairs};
 ghost use Rattle.wy_proving.specs.Proving.{AllStand, PairsHold, PlainPairsHold};
 ghost use Rattle.wy_proving.specs.Unproved.{IsFirstWithout, FailsAt};
 ghost use Rattle.wy_proving.specs.declared.proof.CertTest.TheVariants.{Pairs, Plain as PlainPairs};
@@ -22,7 +22,7 @@ use std::sync::ledger::Ledger;
 use wy_cert::{CertPair, CertScope};
 use wy_subtype::{Mode, Steps, UnfoldedPair, Unfolding, unfold};
 use wy_text::text::Memory;
-use wy_types::reading::{erase, erase_types};
+use wy_types::reading::erase_types;
 use wy_types::resolved::Core;
 use wy_types::types::TypeRef;
 
@@ -55,6 +55,14 @@ fn listed_pairs(alloc: Global, types: &[TypeRef], pairs: &[CertPair]) -> Result<
     Ok(set)
 }
 
+/// .. as erased.
+fn erased_pairs(alloc: Global, types: &[TypeRef], pairs: &[CertPair]) -> Result<PairSet, Memory>
+    ensures { IfOk result (λ set. StandsFor set (map bare (typed_pairs types.now pairs.now))) }
+{
+    let erased = erase_types(alloc, types)?;
+    listed_pairs(alloc, erased.as_slice(), pairs)
+}
+
 /// What pairs are tested by: how, in which scope, the types that their numbers name, and the pairs that are listed.
 #[derive(Drop)]
 struct Closing<'a> {
@@ -73,11 +81,7 @@ impl Closing<'_> {
     {
         match self.mode {
             Mode::Annotated => self.listed.contains(self.alloc, left, right),
-            Mode::Plain => {
-                let left = erase(self.alloc, left)?;
-                let right = erase(self.alloc, right)?;
-                self.listed.contains(self.alloc, &left, &right)
-            }
+            Mode::Plain => self.listed.contains_erased(self.alloc, left, right),
         }
     }
 
@@ -93,6 +97,16 @@ impl Closing<'_> {
         Ok(true)
     }
 
+    /// Whether a pair is closed in the listed ones, by what its own test says.
+    fn has_unfolded(&self, unfolding: &Unfolding) -> Result<bool, Memory>
+        ensures { IfOk result (λ b. (q : Pair) → IsUnfolded (program_of self.now.core.now) self.now.scope self.now.mode q unfolding.now → Tells self.now.listed.now (λ pairs. ClosedIn (program_of self.now.core.now) self.now.scope self.now.mode pairs q) b) }
+    {
+        match unfolding {
+            Unfolding::Fails(_) => Ok(false),
+            Unfolding::Closed(asked) => self.has_all(asked.as_slice()),
+        }
+    }
+
     /// Whether a pair is closed in the listed ones.
     fn is_closed<L: Ledger>(
         &self,
@@ -104,12 +118,10 @@ impl Closing<'_> {
         ensures closed { IfOk result (Tells self.now.listed.now (λ pairs. ClosedIn (program_of self.now.core.now) self.now.scope self.now.mode pairs (left.now, right.now))) }
         ensures steps { steps.new ≤ steps.old + 1 }
     {
-        match unfold(
+        let unfolding = unfold(
             self.alloc, self.core, self.scope, left, right, self.mode, steps,
-        )? {
-            Unfolding::Fails(_) => Ok(false),
-            Unfolding::Closed(asked) => self.has_all(asked.as_slice()),
-        }
+        )?;
+        self.has_unfolded(&unfolding)
     }
 
     /// Whether a pair's numbers name types and it is closed in the listed ones.
@@ -195,8 +207,7 @@ pub fn closed_plain_pairs<L: Ledger>(
     ensures steps { steps.new ≤ steps.old + length part.now.plain }
 {
     let pairs = part.plain.as_slice();
-    let erased = erase_types(alloc, types)?;
-    let listed = listed_pairs(alloc, erased.as_slice(), pairs)?;
+    let listed = erased_pairs(alloc, types, pairs)?;
     let closing = Closing {
         alloc,
         core,

@@ -1,11 +1,12 @@
 //! Nodes one after the other: whether the next one says what a form gives, and the T-Subs that may follow.
 
 ghost use Rattle.std.specs.Prelude.{◌≡◌, IfOk, nat_eq};
+ghost use Rattle.std.specs.Option.{option_copied};
 ghost use Rattle.wy_types.specs.Program.{program_of, scope_of};
 ghost use Rattle.wy_cert.specs.Spelled.{rule_byte};
 ghost use Rattle.wy_rules.specs.Canonical.{both, same_type, same_numbers};
 ghost use Rattle.wy_proving.specs.Reading.{same_types, says_rule, says_typed, says_untyped};
-ghost use Rattle.wy_recheck.specs.Nodes.{IsReader, reading_of, lists_of, subs_read, node_read, IsRead, IsPassed, SetStands, IsSubOf, stands_in, included_in, allowed_in, listed_in};
+ghost use Rattle.wy_recheck.specs.Nodes.{IsReader, reading_of, lists_of, subs_read, node_read, IsRead, IsPassed, SetStands, IsSubType, IsSubEffect, IsSubOf, stands_in, included_in, allowed_in, listed_in};
 
 use crate::failure::Failure;
 use crate::pair_set::PairSet;
@@ -17,7 +18,6 @@ use wy_proving::laws::lists_are_exact;
 use wy_text::fault::Place;
 use wy_text::text::Memory;
 use wy_types::bounds::widened;
-use wy_types::reading::erase;
 use wy_types::resolved::{Core, Scope};
 use wy_types::types::{TypeList, TypeRef};
 
@@ -208,9 +208,7 @@ impl Reader<'_> {
         if !self.plain {
             return self.listed.contains(self.alloc, left, right);
         }
-        let left = erase(self.alloc, left)?;
-        let right = erase(self.alloc, right)?;
-        self.listed.contains(self.alloc, &left, &right)
+        self.listed.contains_erased(self.alloc, left, right)
     }
 
     /// The set of a T-Sub, where it stands: one of the scope's atoms, in a plain module the empty one.
@@ -246,10 +244,15 @@ impl Reader<'_> {
         self.plain || widened(self.core, self.number, declared).includes(effect)
     }
 
-    /// The part that a T-Sub over one gives; none where the node is no such T-Sub.
-    fn read_sub(&self, place: Place, part: &Read, node: &CertNode) -> Result<Option<Read>, Memory>
+    /// The type that a T-Sub over a part gives; none where the node is of another form, or its pair is not listed.
+    fn sub_type(
+        &self,
+        place: Place,
+        part: &Read,
+        node: &CertNode,
+    ) -> Result<Option<&TypeRef>, Memory>
         requires reader { IsReader self.now }
-        ensures { IfOk result (IsSubOf self.now place part.now node.now) }
+        ensures { IfOk result (λ o. IsSubType self.now place part.now.typ node.now (option_copied o)) }
     {
         let form = Form {
             rule: Rule::Sub,
@@ -265,12 +268,36 @@ impl Reader<'_> {
         if !self.lists(&part.typ, typ)? {
             return Ok(None);
         }
-        let Some(effect) = self.standing(node.effect.as_slice())? else {
+        Ok(Some(typ))
+    }
+
+    /// The effect that it gives; none where that is no set, or does not include the part's.
+    fn sub_effect(&self, part: &Read, node: &CertNode) -> Result<Option<EffSet>, Memory>
+        requires reader { IsReader self.now }
+        ensures { IfOk result (IsSubEffect self.now part.now.effect node.now) }
+    {
+        match self.standing(node.effect.as_slice())? {
+            None => Ok(None),
+            Some(effect) => {
+                if !self.includes(&part.effect, &effect) {
+                    return Ok(None);
+                }
+                Ok(Some(effect))
+            }
+        }
+    }
+
+    /// The part that a T-Sub over one gives; none where the node is no such T-Sub.
+    fn read_sub(&self, place: Place, part: &Read, node: &CertNode) -> Result<Option<Read>, Memory>
+        requires reader { IsReader self.now }
+        ensures { IfOk result (IsSubOf self.now place part.now node.now) }
+    {
+        let Some(typ) = self.sub_type(place, part, node)? else {
             return Ok(None);
         };
-        if !self.includes(&part.effect, &effect) {
+        let Some(effect) = self.sub_effect(part, node)? else {
             return Ok(None);
-        }
+        };
         Ok(Some(Read {
             typ: typ.copy(self.alloc)?,
             effect,

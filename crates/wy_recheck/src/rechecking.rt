@@ -4,11 +4,16 @@ ghost use Rattle.std.specs.Prelude.{◌≡◌, ◌<◌, IfErr, OnOk, length, sli
 ghost use Rattle.wy_types.specs.Program.{Scope as ProgramScope, program_of};
 ghost use Rattle.wy_types.specs.Core.{IsCore};
 ghost use Rattle.wy_proving.specs.Proving.{ScopeProof, IsProof};
+ghost use Rattle.wy_proving.specs.Certified.{types_of, annotated_pairs, plain_pairs};
+ghost use Rattle.wy_proving.specs.Unproved.{HoldsBefore};
+ghost use Rattle.wy_proving.specs.declared.proof.CertTest.TheVariants.{Lines};
+ghost use Rattle.wy_recheck.specs.PairSet.{StandsFor};
 ghost use Rattle.wy_recheck.specs.Rechecked.{IsTold, refusal_of, unproved, StopsIn, StopsAt, IsProvedBy, IsRefusedBy};
 
 use crate::failure::Failure;
 use crate::lines::standing_lines;
 use crate::nodes::read_nodes;
+use crate::pair_set::PairSet;
 use crate::pairs::{closed_pairs, closed_plain_pairs};
 use crate::types::standing_types;
 use std::alloc::Global;
@@ -18,6 +23,7 @@ use wy_cert::{CertScope, ReadRefusal, read_certificate};
 use wy_proving::CertTest;
 use wy_subtype::Steps;
 use wy_types::resolved::Core;
+use wy_types::types::TypeRef;
 
 /// Why a certificate does not prove a program (docs/LANGUAGE.md, "Certificates").
 #[derive(Drop)]
@@ -66,6 +72,35 @@ where
     }
 }
 
+/// Makes the tests of one scope that come behind those of its types and pairs.
+fn prove_rules(
+    alloc: Global,
+    core: &Core,
+    number: u16,
+    types: &[TypeRef],
+    pairs: &PairSet,
+    plain: &PairSet,
+    part: &CertScope,
+) -> Result<(), Stop>
+    requires core { IsCore (program_of core.now) }
+    requires there { number < length core.now.scopes }
+    requires types { types.now ≡ types_of part.now }
+    requires pairs { StandsFor pairs.now (annotated_pairs part.now) }
+    requires plain { StandsFor plain.now (plain_pairs part.now) }
+    requires before { (s : ProgramScope) → slice_get (program_of core.now).scopes number ≡ Some s → HoldsBefore (program_of core.now) number s part.now Lines }
+    ensures proved { OnOk result ((s : ProgramScope) → slice_get (program_of core.now).scopes number ≡ Some s → ScopeProof (program_of core.now) number s part.now) }
+    ensures stopped { IfErr result (λ stop. (s : ProgramScope) → slice_get (program_of core.now).scopes number ≡ Some s → StopsIn (program_of core.now) number s part.now stop) }
+{
+    told(
+        CertTest::Lines,
+        standing_lines(alloc, core, number, pairs, plain, part),
+    )?;
+    told(
+        CertTest::Nodes,
+        read_nodes(alloc, core, number, types, pairs, plain, part),
+    )
+}
+
 /// Makes the tests of one scope.
 fn prove_scope<L: Ledger>(
     alloc: Global,
@@ -89,14 +124,7 @@ fn prove_scope<L: Ledger>(
         CertTest::Plain,
         closed_plain_pairs(alloc, core, number, types, part, steps),
     )?;
-    told(
-        CertTest::Lines,
-        standing_lines(alloc, core, number, &pairs, &plain, part),
-    )?;
-    told(
-        CertTest::Nodes,
-        read_nodes(alloc, core, number, types, &pairs, &plain, part),
-    )
+    prove_rules(alloc, core, number, types, &pairs, &plain, part)
 }
 
 /// The refusal of a certificate by the part of a scope.

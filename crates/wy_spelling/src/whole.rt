@@ -8,7 +8,7 @@ use crate::spelled::{ReadError, Spelled};
 use std::alloc::Global;
 
 /// Why bytes are no value's.
-#[derive(Clone, Copy, PartialEq, Eq)]
+#[derive(Clone, Copy)]
 pub enum WholeError {
     /// So many bytes can stand, and not one more.
     Bad(usize),

@@ -5,10 +5,13 @@ use Rattle.wy_link.specs.Linking.{CanSettleAll, visited}
 use Rattle.wy_link.proofs.linking.+visiting.Given as goal
 
 abbrev pub decreases-visit_name : goal.decreases-visit_name
-decreases-visit_name l = 2 * l.scopes + 1
+decreases-visit_name l = 3 * l.scopes + 2
+
+abbrev pub decreases-visit_module : goal.decreases-visit_module
+decreases-visit_module l = 3 * l.scopes + 1
 
 abbrev pub decreases-visit : goal.decreases-visit
-decreases-visit l = 2 * l.scopes
+decreases-visit l = 3 * l.scopes
 
 abbrev pub invariant-visit-loop-name : goal.invariant-visit-loop-name
 invariant-visit-loop-name l =

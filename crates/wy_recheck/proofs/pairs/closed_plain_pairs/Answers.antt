@@ -1,4 +1,4 @@
-use Rattle.std.proofs.Common.{◌≡◌, List, map, ◌∙◌, rules}
+use Rattle.std.proofs.Common.{◌≡◌, List, map, rules}
 use Rattle.std.specs.Prelude.{Err}
 use Rattle.wy_types.specs.declared.types.TypeRef.{TypeRef}
 use Rattle.wy_types.specs.Program.{program_of}
@@ -6,7 +6,7 @@ use Rattle.wy_cert.specs.declared.certificate.CertPair.{CertPair}
 use Rattle.wy_cert.specs.declared.certificate.CertScope.{CertScope}
 use Rattle.wy_proving.specs.Certified.{Pair, typed_pairs, bare}
 use Rattle.wy_recheck.specs.PairSet.{StandsFor}
-use Rattle.wy_recheck.proofs.ListsHold.{as_erased, plain_kept, plain_hold, plain_fail}
+use Rattle.wy_recheck.proofs.ListsHold.{plain_kept, plain_hold, plain_fail}
 use Rattle.wy_recheck.proofs.pairs.closed_plain_pairs.Goals as goal
 
 pub returns-in_err-test-clause-first : goal.returns-in_err-test-clause-first
@@ -18,7 +18,7 @@ returns-in_err-test-clause-first g c =
     let qs : List CertPair = c.as_slice-pairs.result.now in
     let listed = c.as_slice-pairs.ensures in
     let pairs : List Pair = map bare (typed_pairs types qs) in
-    let stands : StandsFor c.in_ok-listed.listed pairs = as_erased types c.as_slice.result.now qs c.in_ok-listed.listed (c.as_slice.ensures ∙ c.in_ok-erased.ensures) c.in_ok-listed.ensures in
+    let stands : StandsFor c.in_ok-listed.listed pairs = c.in_ok-listed.ensures in
     let e : c.from_residual-in_err-test.result ≡ Err c.in_err-test.field-0.0 = search rules in
     rw e (λ s. plain_fail p c.args.number s part types same qs listed c.in_err-test.field-0.0 (c.in_err-test.ensures.first pairs stands))
 
@@ -31,7 +31,7 @@ returns-clause-set g c =
     let qs : List CertPair = c.as_slice-pairs.result.now in
     let listed = c.as_slice-pairs.ensures in
     let pairs : List Pair = map bare (typed_pairs types qs) in
-    let stands : StandsFor c.in_ok-listed.listed pairs = as_erased types c.as_slice.result.now qs c.in_ok-listed.listed (c.as_slice.ensures ∙ c.in_ok-erased.ensures) c.in_ok-listed.ensures in
+    let stands : StandsFor c.in_ok-listed.listed pairs = c.in_ok-listed.ensures in
     plain_kept part types same qs c.in_ok-listed.listed listed stands
 
 pub returns-clause-hold : goal.returns-clause-hold
@@ -43,5 +43,5 @@ returns-clause-hold g c = λ s.
     let qs : List CertPair = c.as_slice-pairs.result.now in
     let listed = c.as_slice-pairs.ensures in
     let pairs : List Pair = map bare (typed_pairs types qs) in
-    let stands : StandsFor c.in_ok-listed.listed pairs = as_erased types c.as_slice.result.now qs c.in_ok-listed.listed (c.as_slice.ensures ∙ c.in_ok-erased.ensures) c.in_ok-listed.ensures in
+    let stands : StandsFor c.in_ok-listed.listed pairs = c.in_ok-listed.ensures in
     plain_hold p c.args.number s part types same qs listed (c.in_ok-test.ensures.stand pairs stands)

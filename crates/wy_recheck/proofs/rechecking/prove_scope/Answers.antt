@@ -1,16 +1,14 @@
-use Rattle.std.proofs.Common.{◌≡◌, ℕ, Some, [], rules}
+use Rattle.std.proofs.Common.{◌≡◌, Some, rules}
 use Rattle.std.specs.Prelude.{slice_get, Err}
 use Rattle.wy_types.specs.Program.{Scope, program_of}
 use Rattle.wy_types.proofs.Arities.{core_in_range}
 use Rattle.wy_cert.specs.declared.certificate.CertScope.{CertScope}
-use Rattle.wy_proving.specs.declared.proof.CertTest.TheVariants.{Types, Pairs, Plain, Lines, Nodes}
-use Rattle.wy_proving.specs.Proving.{TypesHold, PairsHold, PlainPairsHold, LinesHold, ScopeProof, nodes_read}
-use Rattle.wy_proving.specs.Reading.{bodies_stand}
+use Rattle.wy_proving.specs.declared.proof.CertTest.TheVariants.{Types, Pairs, Plain}
+use Rattle.wy_proving.specs.Proving.{TypesHold, PairsHold, PlainPairsHold}
 use Rattle.wy_proving.specs.Unproved.{FailsAt}
-use Rattle.wy_proving.proofs.CertifiedNodes.{nodes_are_read}
 use Rattle.wy_recheck.specs.Standing.{FailsFirst}
 use Rattle.wy_recheck.specs.Rechecked.{StopsIn}
-use Rattle.wy_recheck.proofs.Told.{given_has, given_holds, given_fails, told_holds, told_fails}
+use Rattle.wy_recheck.proofs.Told.{given_has, given_holds, given_fails}
 use Rattle.wy_recheck.proofs.ScopesTold.{stops}
 use Rattle.wy_recheck.proofs.rechecking.prove_scope.Goals as goal
 
@@ -43,42 +41,12 @@ returns-in_err-plain-clause-stopped g c =
     given_fails Plain c.closed_plain_pairs.result c.told-3.result c.in_err-plain.field-0.0 (λ f. (v : Scope) → FailsFirst (FailsAt p k v part Plain) f) (StopsIn p k s part) c.told-3.ensures c.in_err-plain.was c.closed_plain_pairs.ensures.first
     (λ f h. stops p k s part Plain (types, pairs) f (h s)))
 
-pub returns-in_err-told-clause-stopped : goal.returns-in_err-told-clause-stopped
-returns-in_err-told-clause-stopped g c =
+pub prove_rules-requires-clause-before : goal.prove_rules-requires-clause-before
+prove_rules-requires-clause-before g c = λ s at. (
     let p = program_of c.args.core.now in
     let k = c.args.number in
     let part : CertScope = c.args.part.now in
-    let e : c.from_residual-in_err-told.result ≡ Err c.in_err-told.field-0.0 = search rules in
-    rw e (λ s at.
     let types = given_has Types c.standing_types.result c.told.result c.in_ok-types.types (λ ts. (v : Scope) → slice_get p.scopes k ≡ Some v → TypesHold p k v part) c.told.ensures c.in_ok-types.was c.standing_types.ensures.stand s at in
     let pairs = given_holds Pairs c.closed_pairs.result c.told-2.result c.in_ok-pairs.pairs ((v : Scope) → PairsHold p k v part) c.told-2.ensures c.in_ok-pairs.was c.closed_pairs.ensures.hold s in
     let plain = given_holds Plain c.closed_plain_pairs.result c.told-3.result c.in_ok-plain.plain ((v : Scope) → PlainPairsHold p k v part) c.told-3.ensures c.in_ok-plain.was c.closed_plain_pairs.ensures.hold s in
-    given_fails Lines c.standing_lines.result c.told-4.result c.in_err-told.field-0.0 (λ f. (v : Scope) → slice_get p.scopes k ≡ Some v → FailsFirst (FailsAt p k v part Lines) f) (StopsIn p k s part) c.told-4.ensures c.in_err-told.was c.standing_lines.ensures.first
-    (λ f h. stops p k s part Lines (types, pairs, plain) f (h s at)))
-
-pub returns-clause-proved : goal.returns-clause-proved
-returns-clause-proved g c =
-    let p = program_of c.args.core.now in
-    let k = c.args.number in
-    let part : CertScope = c.args.part.now in
-    let Q : Type 0 = (s : Scope) → slice_get p.scopes k ≡ Some s → ScopeProof p k s part in
-    told_holds Nodes c.read_nodes.result c.told-5.result ((s : Scope) → slice_get p.scopes k ≡ Some s → (at : ℕ) × (nodes_read p k s part ≡ bodies_stand at [])) Q c.told-5.ensures c.read_nodes.ensures.hold
-    (λ h s at.
-    let types = given_has Types c.standing_types.result c.told.result c.in_ok-types.types (λ ts. (v : Scope) → slice_get p.scopes k ≡ Some v → TypesHold p k v part) c.told.ensures c.in_ok-types.was c.standing_types.ensures.stand s at in
-    let pairs = given_holds Pairs c.closed_pairs.result c.told-2.result c.in_ok-pairs.pairs ((v : Scope) → PairsHold p k v part) c.told-2.ensures c.in_ok-pairs.was c.closed_pairs.ensures.hold s in
-    let plain = given_holds Plain c.closed_plain_pairs.result c.told-3.result c.in_ok-plain.plain ((v : Scope) → PlainPairsHold p k v part) c.told-3.ensures c.in_ok-plain.was c.closed_plain_pairs.ensures.hold s in
-    let lines = given_holds Lines c.standing_lines.result c.told-4.result c.in_ok-told.field-0 ((v : Scope) → slice_get p.scopes k ≡ Some v → LinesHold p k v part) c.told-4.ensures c.in_ok-told.was c.standing_lines.ensures.hold s at in
-    record { types = types; pairs = pairs; plain = plain; lines = lines; nodes = (nodes_are_read p k s part c.requires.core at pairs plain).0 (h s at) })
-
-pub returns-clause-stopped : goal.returns-clause-stopped
-returns-clause-stopped g c =
-    let p = program_of c.args.core.now in
-    let k = c.args.number in
-    let part : CertScope = c.args.part.now in
-    told_fails Nodes c.read_nodes.result c.told-5.result (λ f. (v : Scope) → slice_get p.scopes k ≡ Some v → FailsFirst (FailsAt p k v part Nodes) f) (λ stop. (s : Scope) → slice_get p.scopes k ≡ Some s → StopsIn p k s part stop) c.told-5.ensures c.read_nodes.ensures.first
-    (λ f h s at.
-    let types = given_has Types c.standing_types.result c.told.result c.in_ok-types.types (λ ts. (v : Scope) → slice_get p.scopes k ≡ Some v → TypesHold p k v part) c.told.ensures c.in_ok-types.was c.standing_types.ensures.stand s at in
-    let pairs = given_holds Pairs c.closed_pairs.result c.told-2.result c.in_ok-pairs.pairs ((v : Scope) → PairsHold p k v part) c.told-2.ensures c.in_ok-pairs.was c.closed_pairs.ensures.hold s in
-    let plain = given_holds Plain c.closed_plain_pairs.result c.told-3.result c.in_ok-plain.plain ((v : Scope) → PlainPairsHold p k v part) c.told-3.ensures c.in_ok-plain.was c.closed_plain_pairs.ensures.hold s in
-    let lines = given_holds Lines c.standing_lines.result c.told-4.result c.in_ok-told.field-0 ((v : Scope) → slice_get p.scopes k ≡ Some v → LinesHold p k v part) c.told-4.ensures c.in_ok-told.was c.standing_lines.ensures.hold s at in
-    stops p k s part Nodes (types, pairs, plain, lines) f (h s at))
+    (types, pairs, plain))

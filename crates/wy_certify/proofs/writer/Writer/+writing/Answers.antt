@@ -254,14 +254,12 @@ write_second-returns-clause-steps t c =
     let first : c.in_ok-effect.effect ≡ e = c.in_ok-effect.ensures.effect in
     let part : steps_of c.write_operand.new.out ≡ steps_of c.subsumed.new.out ++ at_steps w (Plain y) c.binary_row-row.result.operand = c.in_ok-second.ensures.steps in
     let second : c.in_ok-second.second ≡ expr_effect w y = c.in_ok-second.ensures.effect in
-    let none : c.empty.result ≡ [] = c.empty.ensures in
-    let others : c.in_ok-others.others ≡ union c.in_ok-second.second c.empty.result = c.in_ok-others.ensures in
     let own : List (Step TypeRef) = step by.Op c.args.place 2 (Some (result_typ w c.args.operator k)) (union e (union (expr_effect w y) [])) ∷ [] in
     let a = sub_steps c.args.first_mark k u e in
     let b = at_steps w (Plain y) u in
     let group = append_assoc (steps_of c.args.out.now ++ a) b own in
     let group2 = append_assoc (steps_of c.args.out.now) a (b ++ own) in
-    on_ok_weaker c.operation.result (λ h. cc) c.operation.ensures.steps
+    on_ok_weaker c.two_operands.result (λ h. cc) c.two_operands.ensures.steps
 
 pub write_second-returns-clause-given : goal.write_second-returns-clause-given
 unfolding second_effect
@@ -271,9 +269,7 @@ write_second-returns-clause-given t c =
     let result : c.binary_row-row.result.result ≡ result_typ w c.args.operator c.args.first.typ = c.binary_row-row.ensures.result w in
     let first : c.in_ok-effect.effect ≡ c.args.first.effect = c.in_ok-effect.ensures.effect in
     let second : c.in_ok-second.second ≡ expr_effect w y = c.in_ok-second.ensures.effect in
-    let none : c.empty.result ≡ [] = c.empty.ensures in
-    let others : c.in_ok-others.others ≡ union c.in_ok-second.second c.empty.result = c.in_ok-others.ensures in
-    IfOk-weaker c.operation.result _ _ (λ m h. (h.0 ∙ result, (let e = h.1 in cc))) c.operation.ensures.given
+    IfOk-weaker c.two_operands.result _ _ (λ m h. (h.0 ∙ result, (let e = h.1 in cc))) c.two_operands.ensures.given
 
 pub write_text_call-returns-clause-steps : goal.write_text_call-returns-clause-steps
 write_text_call-returns-clause-steps t c =
@@ -498,36 +494,39 @@ pub write_statement-returns-in-Do-clause-steps : goal.write_statement-returns-in
 write_statement-returns-in-Do-clause-steps t c =
     let w = context_of c.args.self.now in
     let whole = ap (stmt_steps w) c.in-Do.is ∙ do_steps w c.in-Do.value in
-    on_ok_weaker c.write_at-in-Do.result (λ h. h ∙ ap (λ (l : List (Step TypeRef)). steps_of c.args.out.now ++ l) (sym whole)) c.write_at-in-Do.ensures.steps
+    on_ok_weaker c.write_at.result (λ h. h ∙ ap (λ (l : List (Step TypeRef)). steps_of c.args.out.now ++ l) (sym whole)) c.write_at.ensures.steps
 
 pub write_statement-returns-in-Do-clause-effect : goal.write_statement-returns-in-Do-clause-effect
 write_statement-returns-in-Do-clause-effect t c =
     let w = context_of c.args.self.now in
     let whole = ap (stmt_effect w) c.in-Do.is ∙ do_effect w c.in-Do.value in
-    IfOk-weaker c.write_at-in-Do.result _ _ (λ e h. h ∙ sym whole) c.write_at-in-Do.ensures.effect
+    IfOk-weaker c.write_at.result _ _ (λ e h. h ∙ sym whole) c.write_at.ensures.effect
 
-pub write_statement-returns-in_ok-add_step-in-Val-clause-steps : goal.write_statement-returns-in_ok-add_step-in-Val-clause-steps
-write_statement-returns-in_ok-add_step-in-Val-clause-steps t c =
+pub write_statement-returns-in_ok-add_val-in-Val-clause-steps : goal.write_statement-returns-in_ok-add_val-in-Val-clause-steps
+write_statement-returns-in_ok-add_val-in-Val-clause-steps t c =
     let w = context_of c.args.self.now in
     let x = value_of c.in-Val.value in
     let u = local_typ w c.in-Val.number in
-    let typ : c.in_ok-typ-in-Val.typ ≡ u = c.in_ok-typ-in-Val.ensures in
-    let part : steps_of c.write_at.new.out ≡ steps_of c.args.out.now ++ at_steps w x c.in_ok-typ-in-Val.typ = c.in_ok-effect-in-Val.ensures.steps in
-    let effect : c.in_ok-effect-in-Val.effect ≡ own_effect w x c.in_ok-typ-in-Val.typ = c.in_ok-effect-in-Val.ensures.effect in
-    let copied : c.in_ok-copy-in-Val.field-0 ≡ c.in_ok-effect-in-Val.effect = c.in_ok-copy-in-Val.ensures in
-    let added : steps_of c.add_step.new.out ≡ steps_of c.write_at.new.out ++ step by.Val c.in-Val.place 1 None c.in_ok-copy-in-Val.field-0 ∷ [] = c.in_ok-add_step-in-Val.ensures in
+    let part : steps_of c.write_initialiser.new.out ≡ steps_of c.args.out.now ++ at_steps w x u = c.in_ok-effect-in-Val.ensures.steps in
+    let effect : c.in_ok-effect-in-Val.effect ≡ own_effect w x u = c.in_ok-effect-in-Val.ensures.effect in
+    let added : steps_of c.add_val.new.out ≡ steps_of c.write_initialiser.new.out ++ step by.Val c.in-Val.place 1 None c.in_ok-effect-in-Val.effect ∷ [] = c.in_ok-add_val-in-Val.ensures in
     let whole = ap (stmt_steps w) c.in-Val.is ∙ val_steps w c.in-Val.place c.in-Val.number c.in-Val.field-2 c.in-Val.value in
     let group = append_assoc (steps_of c.args.out.now) (at_steps w x u) (step by.Val c.in-Val.place 1 None (own_effect w x u) ∷ []) in
     cc
 
-pub write_statement-returns-in_ok-add_step-in-Val-clause-effect : goal.write_statement-returns-in_ok-add_step-in-Val-clause-effect
-write_statement-returns-in_ok-add_step-in-Val-clause-effect t c =
+pub write_statement-returns-in_ok-add_val-in-Val-clause-effect : goal.write_statement-returns-in_ok-add_val-in-Val-clause-effect
+write_statement-returns-in_ok-add_val-in-Val-clause-effect t c =
     let w = context_of c.args.self.now in
-    let x = value_of c.in-Val.value in
-    let typ : c.in_ok-typ-in-Val.typ ≡ local_typ w c.in-Val.number = c.in_ok-typ-in-Val.ensures in
-    let effect : c.in_ok-effect-in-Val.effect ≡ own_effect w x c.in_ok-typ-in-Val.typ = c.in_ok-effect-in-Val.ensures.effect in
-    let whole = ap (stmt_effect w) c.in-Val.is ∙ val_effect w c.in-Val.place c.in-Val.number c.in-Val.field-2 c.in-Val.value in
-    effect ∙ ap (own_effect w x) typ ∙ sym whole
+    c.in_ok-effect-in-Val.ensures.effect ∙ sym (ap (stmt_effect w) c.in-Val.is ∙ val_effect w c.in-Val.place c.in-Val.number c.in-Val.field-2 c.in-Val.value)
+
+pub write_initialiser-returns-clause-steps : goal.write_initialiser-returns-clause-steps
+write_initialiser-returns-clause-steps t c =
+    let w = context_of c.args.self.now in
+    on_ok_weaker c.write_at.result (λ h. subst (λ u. steps_of c.write_at.new.out ≡ steps_of c.args.out.now ++ at_steps w (value_of c.args.value.now) u) c.in_ok-typ.ensures h) c.write_at.ensures.steps
+
+pub write_initialiser-returns-clause-effect : goal.write_initialiser-returns-clause-effect
+write_initialiser-returns-clause-effect t c =
+    IfOk-weaker c.write_at.result _ _ (λ e h. h ∙ ap (own_effect (context_of c.args.self.now) (value_of c.args.value.now)) c.in_ok-typ.ensures) c.write_at.ensures.effect
 
 pub write_statements-loop-i-init : goal.write_statements-loop-i-init
 write_statements-loop-i-init t c =

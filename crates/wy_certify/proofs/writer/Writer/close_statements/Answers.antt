@@ -1,4 +1,4 @@
-use Rattle.std.proofs.Common.{◌≡◌, ◌+◌, ◌-◌, ◌<◌, ◌≤◌, ◌++◌, ◌∷◌, [], List, ℕ, Some, length, drop, sym, ap, subst, ◌∙◌, arith, rules}
+use Rattle.std.proofs.Common.{◌≡◌, ◌+◌, ◌-◌, ◌<◌, ◌≤◌, ◌++◌, ◌∷◌, [], List, ℕ, Some, length, drop, refl, sym, ap, subst, ◌∙◌, arith, rules}
 use Rattle.wy_effects.specs.EffSet.{union}
 use Rattle.wy_cert.specs.declared.certificate.Rule.TheVariants.{Seq}
 use Rattle.wy_proving.specs.Steps.{step}
@@ -13,7 +13,7 @@ loop-i-init c =
     let w = context_of c.args.self.now in
     let xs = c.args.statements.now.items in
     let short : length xs ≤ c.len-i.result = search rules in
-    record { steps = back_start w xs c.len-i.result short c.args.last.typ c.args.last.effect _; effect = joined_start w xs c.len-i.result short c.args.last.effect }
+    record { steps = back_start w xs c.len-i.result short c.args.last.typ c.args.last.effect _; typ = refl; effect = joined_start w xs c.len-i.result short c.args.last.effect }
 
 pub loop-i-preserved : goal.loop-i-preserved
 loop-i-preserved c =
@@ -25,15 +25,13 @@ loop-i-preserved c =
     let up : j + 1 ≡ c.loop-i.i = omega arith in
     let lt : j < length xs = omega arith in
     let x = c.index.result.now in
-    let g = c.union_into.new.target in
+    let g = c.close_statement.new.rest.effect in
     let is = effect_at w xs j x c.args.effects.now c.index-effects-i.result lt c.index.ensures c.requires c.index-effects-i.is in
-    let next : g ≡ union c.index-effects-i.result c.loop-i.effect = c.in_ok-union_into.ensures.ok in
-    let after = subst (λ (n : ℕ). c.loop-i.effect ≡ joined_effect w (drop n xs) f) (sym up) c.loop-i.invariant.effect in
-    let joined = joined_turn w xs j x lt c.index.ensures f c.loop-i.effect g after (next ∙ ap (λ (k : List ℕ). union k c.loop-i.effect) is) in
+    let next : g ≡ union c.index-effects-i.result c.loop-i.rest.effect = c.in_ok-close_statement.ensures.effect in
+    let after = subst (λ (n : ℕ). c.loop-i.rest.effect ≡ joined_effect w (drop n xs) f) (sym up) c.loop-i.invariant.effect in
+    let joined = joined_turn w xs j x lt c.index.ensures f c.loop-i.rest.effect g after (next ∙ ap (λ (k : List ℕ). union k c.loop-i.rest.effect) is) in
     let written = subst (λ (n : ℕ). steps_of c.loop-i.out ≡ steps_of c.args.out.now ++ back_steps w (drop n xs) t f) (sym up) c.loop-i.invariant.steps in
-    let typ : c.in_ok-typ.typ ≡ t = c.in_ok-typ.ensures in
-    let copied : c.in_ok-copy.field-0 ≡ g = c.in_ok-copy.ensures in
-    let place : c.stmt_mark.result ≡ stmt_mark x = c.stmt_mark.ensures in
-    let added : steps_of c.add_step.new.out ≡ steps_of c.loop-i.out ++ step Seq c.stmt_mark.result 2 (Some c.in_ok-typ.typ) c.in_ok-copy.field-0 ∷ [] = c.in_ok-add_step.ensures in
-    let own : steps_of c.add_step.new.out ≡ steps_of c.loop-i.out ++ step Seq (stmt_mark x) 2 (Some t) g ∷ [] = cc in
-    record { steps = back_turn w xs j x lt c.index.ensures t f g (steps_of c.args.out.now) (steps_of c.loop-i.out) (steps_of c.add_step.new.out) written joined own; effect = joined }
+    let typ : c.loop-i.rest.typ ≡ t = c.loop-i.invariant.typ in
+    let added : steps_of c.close_statement.new.out ≡ steps_of c.loop-i.out ++ step Seq (stmt_mark x) 2 (Some c.loop-i.rest.typ) (union c.index-effects-i.result c.loop-i.rest.effect) ∷ [] = c.in_ok-close_statement.ensures.steps in
+    let own : steps_of c.close_statement.new.out ≡ steps_of c.loop-i.out ++ step Seq (stmt_mark x) 2 (Some t) g ∷ [] = cc in
+    record { steps = back_turn w xs j x lt c.index.ensures t f g (steps_of c.args.out.now) (steps_of c.loop-i.out) (steps_of c.close_statement.new.out) written joined own; typ = c.in_ok-close_statement.ensures.typ ∙ typ; effect = joined }

@@ -7,5 +7,6 @@ use Rattle.wy_certify.proofs.writer.Writer.close_statements.Given as goal
 abbrev pub invariant-loop-i : goal.invariant-loop-i
 invariant-loop-i l = record {
   steps : steps_of l.out ≡ steps_of l.initial.out ++ back_steps (context_of l.self) (drop l.i l.statements.items) l.fn.last.typ l.fn.last.effect;
-  effect : l.effect ≡ joined_effect (context_of l.self) (drop l.i l.statements.items) l.fn.last.effect;
+  typ : l.rest.typ ≡ l.fn.last.typ;
+  effect : l.rest.effect ≡ joined_effect (context_of l.self) (drop l.i l.statements.items) l.fn.last.effect;
 }

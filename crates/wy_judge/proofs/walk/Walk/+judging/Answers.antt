@@ -1,4 +1,4 @@
-use Rattle.std.proofs.Common.{◌≡◌, ◌+◌, ◌<◌, ◌≤◌, Err, Ok, Option, Some, None, drop, length, refl, arith, rules, subst, sym, ap, ◌∙◌, true}
+use Rattle.std.proofs.Common.{◌≡◌, ◌+◌, ◌<◌, ◌≤◌, Err, Option, Some, None, drop, length, refl, arith, rules, subst, sym, ap, ◌∙◌, true}
 use Rattle.std.specs.Prelude.{slice_get}
 use Rattle.std.proofs.lemmas.Option.{slice_get_read}
 use Rattle.wy_types.specs.declared.types.TypeRef.{TypeRef}
@@ -8,7 +8,6 @@ use Rattle.wy_types.specs.Code.{Unary, Ascribe, Assign, If, Last}
 use Rattle.wy_types.specs.Program.{program_of, scope_of}
 use Rattle.wy_types.specs.View.{expr_of, value_of, values_of, block_of, stmts_block}
 use Rattle.wy_types.proofs.Rows.{expr_text_call, expr_call, expr_new, value_if}
-use Rattle.wy_judge.specs.declared.outcomes.Least.{Least}
 use Rattle.wy_judge.specs.declared.targets.Target.TheVariants.{Without, Found}
 use Rattle.wy_judge.specs.Inference as inferred
 use Rattle.wy_judge.specs.Fit as fit
@@ -17,7 +16,7 @@ use Rattle.wy_judge.specs.Results.{fit_of, fits_of}
 use Rattle.wy_judge.specs.Tables.{ExprReady, ValueReady, IsPut}
 use Rattle.wy_judge.specs.Targets.{IsTargetOf, type_of_binding}
 use Rattle.wy_judge.specs.Walk.{Here}
-use Rattle.wy_judge.specs.Judging.{TypesInRange, StmtReady, ArgumentsTo, InfersTo, FitsTo, AllFitTo, BlockFitsTo, Fitting, Stepping}
+use Rattle.wy_judge.specs.Judging.{TypesInRange, StmtReady, ArgumentsTo, SecondTo, InfersTo, FitsTo, AllFitTo, BlockFitsTo, Fitting, Stepping}
 use Rattle.wy_judge.proofs.Asked.{asked_type, fitted_in}
 use Rattle.wy_judge.proofs.ArmsOfNames.{number_to, quoted_to, truth_to, nothing_to, this_to, name_to}
 use Rattle.wy_judge.proofs.ArmsOfOperators.{unary_to, unary_by, binary_first, binary_second, binary_fails, binary_to}
@@ -82,35 +81,35 @@ infer-infer-requires t c =
     let form = ap expr_of c.in-Binary.is in
     (search (rules, the_lemmas), (c.requires.walk, (c.requires.asks, subst (ExprReady _ _ _ _ _) (ap expr_of (sym c.deref-in-Binary.ensures)) (binary_first _ _ _ c.requires.walk.context _ _ c.in-Binary.place c.in-Binary.operator (expr_of c.in-Binary.x.value) (expr_of c.in-Binary.y.value) (subst (ExprReady _ _ _ _ _) form c.requires.ready)))))
 
-pub infer-infer-requires-in-Binary : goal.infer-infer-requires-in-Binary
-infer-infer-requires-in-Binary t c =
-    let form = ap expr_of c.in-Binary.is in
-    let u = inferred.Least c.in_ok-first-in-Binary.first.typ c.in_ok-first-in-Binary.first.effect in
-    let first = infers_as (ap expr_of (sym c.deref-in-Binary.ensures)) c.in_ok-first-in-Binary.ensures.outcome in
-    (search (rules, the_lemmas), (c.requires.walk, (c.infer.ensures.asks, subst (ExprReady _ _ _ _ _) (ap expr_of (sym c.deref-in-Binary-2.ensures)) (binary_second _ _ _ c.requires.walk.context _ _ _ c.in-Binary.place c.in-Binary.operator (expr_of c.in-Binary.x.value) (expr_of c.in-Binary.y.value) u (subst (ExprReady _ _ _ _ _) form c.requires.ready) first))))
-
 pub infer-returns-in_err-first-in-Binary-clause-outcome : goal.infer-returns-in_err-first-in-Binary-clause-outcome
 infer-returns-in_err-first-in-Binary-clause-outcome t c =
     let form = ap expr_of c.in-Binary.is in
     let e : c.from_residual-in_err-first-in-Binary.result ≡ Err c.in_err-first-in-Binary.field-0.0 = search rules in
     rw e (fault_weaker _ _ _ (λ f g. infers_as form (binary_fails _ _ _ c.requires.walk.context _ _ _ c.in-Binary.place c.in-Binary.operator (expr_of c.in-Binary.x.value) (expr_of c.in-Binary.y.value) f (infers_as (ap expr_of (sym c.deref-in-Binary.ensures)) g))) c.in_err-first-in-Binary.ensures.outcome)
 
-pub infer-returns-in_err-second-in-Binary-clause-outcome : goal.infer-returns-in_err-second-in-Binary-clause-outcome
-infer-returns-in_err-second-in-Binary-clause-outcome t c =
+pub infer-infer_second-requires : goal.infer-infer_second-requires
+infer-infer_second-requires t c =
     let form = ap expr_of c.in-Binary.is in
     let u = inferred.Least c.in_ok-first-in-Binary.first.typ c.in_ok-first-in-Binary.first.effect in
     let first = infers_as (ap expr_of (sym c.deref-in-Binary.ensures)) c.in_ok-first-in-Binary.ensures.outcome in
-    let e : c.from_residual-in_err-second-in-Binary.result ≡ Err c.in_err-second-in-Binary.field-0.0 = search rules in
-    rw e (fault_weaker _ _ _ (λ f g. infers_as form (binary_to _ _ _ c.requires.walk.context _ _ _ _ c.in-Binary.place c.in-Binary.operator (expr_of c.in-Binary.x.value) (expr_of c.in-Binary.y.value) u (inferred.Fails f) (inferred.Fails f) first (infers_as (ap expr_of (sym c.deref-in-Binary-2.ensures)) g) (true, tt, refl))) c.in_err-second-in-Binary.ensures.outcome)
+    (search (rules, the_lemmas), (c.requires.walk, (c.infer.ensures.asks, subst (ExprReady _ _ _ _ _) (ap expr_of (sym c.deref-in-Binary-2.ensures)) (binary_second _ _ _ c.requires.walk.context _ _ _ c.in-Binary.place c.in-Binary.operator (expr_of c.in-Binary.x.value) (expr_of c.in-Binary.y.value) u (subst (ExprReady _ _ _ _ _) form c.requires.ready) first))))
 
-pub infer-returns-in_ok-second-in-Binary-clause-outcome : goal.infer-returns-in_ok-second-in-Binary-clause-outcome
-infer-returns-in_ok-second-in-Binary-clause-outcome t c =
+pub infer-returns-in_ok-first-in-Binary-clause-outcome : goal.infer-returns-in_ok-first-in-Binary-clause-outcome
+infer-returns-in_ok-first-in-Binary-clause-outcome t c =
     let form = ap expr_of c.in-Binary.is in
     let u = inferred.Least c.in_ok-first-in-Binary.first.typ c.in_ok-first-in-Binary.first.effect in
-    let v = inferred.Least c.in_ok-second-in-Binary.second.typ c.in_ok-second-in-Binary.second.effect in
     let first = infers_as (ap expr_of (sym c.deref-in-Binary.ensures)) c.in_ok-first-in-Binary.ensures.outcome in
-    let second = infers_as (ap expr_of (sym c.deref-in-Binary-2.ensures)) c.in_ok-second-in-Binary.ensures.outcome in
-    inferred_weaker c.operation.result _ _ (λ r e. infers_as form (binary_to _ _ _ c.requires.walk.context _ _ _ _ c.in-Binary.place c.in-Binary.operator (expr_of c.in-Binary.x.value) (expr_of c.in-Binary.y.value) u v r first second e)) c.operation.ensures
+    inferred_weaker c.infer_second.result _ _ (λ r e. infers_as form (binary_to _ _ _ c.requires.walk.context _ _ _ _ c.in-Binary.place c.in-Binary.operator (expr_of c.in-Binary.x.value) (expr_of c.in-Binary.y.value) u e.0 r first (infers_as (ap expr_of (sym c.deref-in-Binary-2.ensures)) e.1) e.2)) c.infer_second.ensures.outcome
+
+pub infer_second-returns-in_err-second-clause-outcome : goal.infer_second-returns-in_err-second-clause-outcome
+infer_second-returns-in_err-second-clause-outcome t c =
+    let e : c.from_residual.result ≡ Err c.in_err-second.field-0.0 = search rules in
+    let u = inferred.Least c.args.first.typ c.args.first.effect in
+    rw e (fault_weaker _ _ (λ f. SecondTo _ _ _ _ _ _ c.args.place c.args.operator u (expr_of c.args.y.now) (inferred.Fails f)) (λ f g. (inferred.Fails f, g, (true, tt, refl))) c.in_err-second.ensures.outcome)
+
+pub infer_second-returns-clause-outcome : goal.infer_second-returns-clause-outcome
+infer_second-returns-clause-outcome t c =
+    inferred_weaker c.operation.result _ _ (λ r e. (inferred.Least c.in_ok-second.second.typ c.in_ok-second.second.effect, c.in_ok-second.ensures.outcome, e)) c.operation.ensures
 
 pub infer_text_call-fit_all-requires : goal.infer_text_call-fit_all-requires
 infer_text_call-fit_all-requires t c =
@@ -143,27 +142,35 @@ infer_text_call-overflow_add-number t c =
     let types = c.as_slice.ensures ∙ c.in_ok-types.ensures in
     (let few : c.in-Misfit.number < 3 = text_few _ _ _ c.requires.walk.context _ _ _ c.args.place c.args.operator c.args.values.now.items (fits.Misfit c.in-Misfit.number) c.requires.ready (all_fit_as (sym types) (subst (AllFitTo _ _ _ _ _ _ _ _) (ap fits_of c.in-Misfit.is) c.in_ok-effect.ensures.outcome)) in omega (arith, few))
 
-pub infer_arguments-returns-in_err-probe_all-in-Without-clause-outcome : goal.infer_arguments-returns-in_err-probe_all-in-Without-clause-outcome
-infer_arguments-returns-in_err-probe_all-in-Without-clause-outcome t c =
-    let e : c.from_residual.result ≡ Err c.in_err-probe_all-in-Without.field-0.0 = search rules in
-    arguments_as _ _ _ _ _ _ c.from_residual.result _ _ _ _ c.in-Without.is (rw e (fault_weaker _ _ (λ f. ArgumentsTo _ _ _ _ _ _ c.args.place (Without c.in-Without.premise) c.args.values.now.items (inferred.Fails f)) (λ f g. (Some f, g, refl)) c.in_err-probe_all-in-Without.ensures.outcome))
+pub infer_arguments-returns-in-Without-clause-outcome : goal.infer_arguments-returns-in-Without-clause-outcome
+infer_arguments-returns-in-Without-clause-outcome t c =
+    arguments_as _ _ _ _ _ _ c.probe_arguments.result _ _ _ _ c.in-Without.is c.probe_arguments.ensures.outcome
 
-pub infer_arguments-returns-in_ok-probe_all-in-Without-clause-outcome : goal.infer_arguments-returns-in_ok-probe_all-in-Without-clause-outcome
-infer_arguments-returns-in_ok-probe_all-in-Without-clause-outcome t c =
-    arguments_as _ _ _ _ _ _ (Err c.fails.result) _ _ _ _ c.in-Without.is (rw c.fails.ensures (None, c.in_ok-probe_all-in-Without.ensures.outcome, refl))
+pub infer_arguments-returns-in-Found-clause-outcome : goal.infer_arguments-returns-in-Found-clause-outcome
+infer_arguments-returns-in-Found-clause-outcome t c =
+    arguments_as _ _ _ _ _ _ c.fit_arguments.result _ _ _ _ c.in-Found.is c.fit_arguments.ensures.outcome
 
-pub infer_arguments-returns-in_err-arguments-in-Found-clause-outcome : goal.infer_arguments-returns-in_err-arguments-in-Found-clause-outcome
-infer_arguments-returns-in_err-arguments-in-Found-clause-outcome t c =
-    let e : c.from_residual-in_err-arguments-in-Found.result ≡ Err c.in_err-arguments-in-Found.field-0.0 = search rules in
-    arguments_as _ _ _ _ _ _ c.from_residual-in_err-arguments-in-Found.result _ _ _ _ c.in-Found.is (rw e (fault_weaker _ _ (λ f. ArgumentsTo _ _ _ _ _ _ c.args.place (Found c.in-Found.effect c.in-Found.method) c.args.values.now.items (inferred.Fails f)) (λ f g. (fits.Fails f, all_fit_as (sym c.as_slice.ensures) g, refl)) c.in_err-arguments-in-Found.ensures.outcome))
+pub probe_arguments-returns-in_err-probe_all-clause-outcome : goal.probe_arguments-returns-in_err-probe_all-clause-outcome
+probe_arguments-returns-in_err-probe_all-clause-outcome t c =
+    let e : c.from_residual.result ≡ Err c.in_err-probe_all.field-0.0 = search rules in
+    rw e (fault_weaker _ _ (λ f. ArgumentsTo _ _ _ _ _ _ c.args.place (Without c.args.premise) c.args.values.now.items (inferred.Fails f)) (λ f g. (Some f, g, refl)) c.in_err-probe_all.ensures.outcome)
 
-pub infer_arguments-returns-in_ok-called-in-Have-clause-outcome : goal.infer_arguments-returns-in_ok-called-in-Have-clause-outcome
-infer_arguments-returns-in_ok-called-in-Have-clause-outcome t c =
-    arguments_as _ _ _ _ _ _ (Ok c.in_ok-called-in-Have.field-0) _ _ _ _ c.in-Found.is ((fits.Have c.in-Have.arguments, all_fit_as (sym c.as_slice.ensures) (subst (AllFitTo _ _ _ _ _ _ _ _) (ap fits_of c.in-Have.is) c.in_ok-arguments-in-Found.ensures.outcome), ap (λ (l : Least). inferred.Least l.typ l.effect) c.in_ok-called-in-Have.ensures))
+pub probe_arguments-returns-clause-outcome : goal.probe_arguments-returns-clause-outcome
+probe_arguments-returns-clause-outcome t c = rw c.fails.ensures (None, c.in_ok-probe_all.ensures.outcome, refl)
 
-pub infer_arguments-returns-in-Misfit-clause-outcome : goal.infer_arguments-returns-in-Misfit-clause-outcome
-infer_arguments-returns-in-Misfit-clause-outcome t c =
-    arguments_as _ _ _ _ _ _ (Err c.fails-in-Misfit.result) _ _ _ _ c.in-Found.is (rw c.fails-in-Misfit.ensures (fits.Misfit c.in-Misfit.field-0, all_fit_as (sym c.as_slice.ensures) (subst (AllFitTo _ _ _ _ _ _ _ _) (ap fits_of c.in-Misfit.is) c.in_ok-arguments-in-Found.ensures.outcome), refl))
+pub fit_arguments-returns-in_err-arguments-clause-outcome : goal.fit_arguments-returns-in_err-arguments-clause-outcome
+fit_arguments-returns-in_err-arguments-clause-outcome t c =
+    let e : c.from_residual.result ≡ Err c.in_err-arguments.field-0.0 = search rules in
+    rw e (fault_weaker _ _ (λ f. ArgumentsTo _ _ _ _ _ _ c.args.place (Found c.args.effect c.args.method) c.args.values.now.items (inferred.Fails f)) (λ f g. (fits.Fails f, all_fit_as (sym c.as_slice.ensures) g, refl)) c.in_err-arguments.ensures.outcome)
+
+pub fit_arguments-returns-in-Have-clause-outcome : goal.fit_arguments-returns-in-Have-clause-outcome
+fit_arguments-returns-in-Have-clause-outcome t c =
+    let all = all_fit_as (sym c.as_slice.ensures) (subst (AllFitTo _ _ _ _ _ _ _ _) (ap fits_of c.in-Have.is) c.in_ok-arguments.ensures.outcome) in
+    inferred_weaker c.called.result _ (ArgumentsTo _ _ _ _ _ _ c.args.place (Found c.args.effect c.args.method) c.args.values.now.items) (λ u e. (fits.Have c.in-Have.arguments, all, e)) c.called.ensures
+
+pub fit_arguments-returns-in-Misfit-clause-outcome : goal.fit_arguments-returns-in-Misfit-clause-outcome
+fit_arguments-returns-in-Misfit-clause-outcome t c =
+    rw c.fails.ensures (fits.Misfit c.in-Misfit.field-0, all_fit_as (sym c.as_slice.ensures) (subst (AllFitTo _ _ _ _ _ _ _ _) (ap fits_of c.in-Misfit.is) c.in_ok-arguments.ensures.outcome), refl)
 
 pub infer_new-fit_all-requires : goal.infer_new-fit_all-requires
 infer_new-fit_all-requires t c =
@@ -291,29 +298,45 @@ infer-returns-in_err-receiver-in-Call-clause-outcome t c =
     let e : c.from_residual-in_err-receiver-in-Call.result ≡ Err c.in_err-receiver-in-Call.field-0.0 = search rules in
     rw e (fault_weaker _ _ _ (λ f g. infers_as form (call_fails _ _ _ c.requires.walk.context _ _ _ c.in-Call.place x c.in-Call.name (values_of c.in-Call.values.items) f (infers_as (ap expr_of (sym c.deref-in-Call.ensures)) g))) c.in_err-receiver-in-Call.ensures.outcome)
 
-pub infer-infer_arguments-requires : goal.infer-infer_arguments-requires
-infer-infer_arguments-requires t c =
+pub infer-infer_call-requires : goal.infer-infer_call-requires
+infer-infer_call-requires t c =
     let p = program_of c.args.self.now.core.now in
     let k = c.args.self.now.number in
     let form = ap expr_of c.in-Call.is ∙ expr_call c.in-Call.place c.in-Call.receiver c.in-Call.name c.in-Call.values in
     let x = expr_of c.in-Call.receiver.value in
     let u = inferred.Least c.in_ok-receiver-in-Call.receiver.typ c.in_ok-receiver-in-Call.receiver.effect in
-    let w = c.in_ok-target-in-Call.target in
     let first = infers_as (ap expr_of (sym c.deref-in-Call.ensures)) c.in_ok-receiver-in-Call.ensures.outcome in
-    let target = subst (λ n. IsTargetOf p k u c.in-Call.name n w) (c.len.ensures ∙ c.in-Call.values.ok.0) c.in_ok-target-in-Call.ensures in
-    (search (rules, the_lemmas), (c.requires.walk, (c.infer-in-Call.ensures.asks, (callable p k _ c.requires.walk.context _ _ _ x c.in-Call.name c.in-Call.values.items u w first target, call_arguments p k _ c.requires.walk.context _ _ _ c.in-Call.place x c.in-Call.name (values_of c.in-Call.values.items) u (subst (ExprReady _ _ _ _ _) form c.requires.ready) first))))
+    (search (rules, the_lemmas), (c.requires.walk, (c.infer-in-Call.ensures.asks, (first.range, call_arguments p k _ c.requires.walk.context _ _ _ c.in-Call.place x c.in-Call.name (values_of c.in-Call.values.items) u (subst (ExprReady _ _ _ _ _) form c.requires.ready) first))))
 
-pub infer-returns-in_ok-target-in-Call-clause-outcome : goal.infer-returns-in_ok-target-in-Call-clause-outcome
-infer-returns-in_ok-target-in-Call-clause-outcome t c =
+pub infer-returns-in_ok-receiver-in-Call-clause-outcome : goal.infer-returns-in_ok-receiver-in-Call-clause-outcome
+infer-returns-in_ok-receiver-in-Call-clause-outcome t c =
     let p = program_of c.args.self.now.core.now in
     let k = c.args.self.now.number in
     let form = ap expr_of c.in-Call.is ∙ expr_call c.in-Call.place c.in-Call.receiver c.in-Call.name c.in-Call.values in
     let x = expr_of c.in-Call.receiver.value in
     let u = inferred.Least c.in_ok-receiver-in-Call.receiver.typ c.in_ok-receiver-in-Call.receiver.effect in
-    let w = c.in_ok-target-in-Call.target in
     let first = infers_as (ap expr_of (sym c.deref-in-Call.ensures)) c.in_ok-receiver-in-Call.ensures.outcome in
-    let target = subst (λ n. IsTargetOf p k u c.in-Call.name n w) (c.len.ensures ∙ c.in-Call.values.ok.0) c.in_ok-target-in-Call.ensures in
-    inferred_weaker c.infer_arguments.result _ _ (λ v a. infers_as form (called_to p k _ c.requires.walk.context _ _ _ _ c.in-Call.place x c.in-Call.name c.in-Call.values.items u v w first target a)) c.infer_arguments.ensures.outcome
+    inferred_weaker c.infer_call.result _ _ (λ v a. infers_as form (called_to p k _ c.requires.walk.context _ _ _ _ c.in-Call.place x c.in-Call.name c.in-Call.values.items u v a.0 first a.1 a.2)) c.infer_call.ensures.outcome
+
+pub infer_call-infer_arguments-requires : goal.infer_call-infer_arguments-requires
+infer_call-infer_arguments-requires t c =
+    let p = program_of c.args.self.now.core.now in
+    let k = c.args.self.now.number in
+    let xs = c.args.values.now in
+    let u = inferred.Least c.args.receiver.typ c.args.receiver.effect in
+    let w = c.in_ok-target.target in
+    let target = subst (λ n. IsTargetOf p k u c.args.name.now n w) (c.len-arity.ensures ∙ xs.ok.0) c.in_ok-target.ensures in
+    (search (rules, the_lemmas), (c.requires.walk, (c.requires.asks, (callable p k _ c.requires.walk.context c.args.self.now.owner c.args.name.now xs.items u w c.requires.range target, c.requires.ready))))
+
+pub infer_call-returns-clause-outcome : goal.infer_call-returns-clause-outcome
+infer_call-returns-clause-outcome t c =
+    let p = program_of c.args.self.now.core.now in
+    let k = c.args.self.now.number in
+    let xs = c.args.values.now in
+    let u = inferred.Least c.args.receiver.typ c.args.receiver.effect in
+    let w = c.in_ok-target.target in
+    let target = subst (λ n. IsTargetOf p k u c.args.name.now n w) (c.len-arity.ensures ∙ xs.ok.0) c.in_ok-target.ensures in
+    inferred_weaker c.infer_arguments.result _ _ (λ v a. (w, target, a)) c.infer_arguments.ensures.outcome
 
 pub fit-returns-in_err-least-in-Plain-clause-outcome : goal.fit-returns-in_err-least-in-Plain-clause-outcome
 fit-returns-in_err-least-in-Plain-clause-outcome t c =

@@ -1,9 +1,11 @@
 use Rattle.std.proofs.Common.{◌≡◌, ◌↔◌, true, false, subst}
 use Rattle.std.specs.Option.{is_some}
 use Rattle.wy_types.specs.Program.{program_of, scope_of}
+use Rattle.wy_rules.specs.Acceptance.{parameters_of}
 use Rattle.wy_premises.specs.Tried.{missing_atom}
 use Rattle.wy_proving.specs.Proving.{RuleStands, instance_of}
-use Rattle.wy_recheck.proofs.RulesTold.{not_back, opened_as, not_opened, sets_as, listed_as, not_listed, outside_as, rule_told}
+use Rattle.wy_recheck.specs.Rules.{ArgumentOf}
+use Rattle.wy_recheck.proofs.RulesTold.{not_back, of_parameters, opened_as, not_opened, not_listed, outside_as, rule_told}
 use Rattle.wy_recheck.proofs.lines.Rules.instance_stands.Goals as goal
 
 pub returns-then-not-branch : goal.returns-then-not-branch
@@ -24,10 +26,8 @@ returns-then-not-branch-2 c = λ x by.
     let s = scope_of c.args.self.now.scope.now in
     let m = c.args.target in
     let arguments = c.args.arguments.now in
-    let sets = sets_as p k s x m arguments c.names_of-names.result.now c.as_slice-outer.result.now c.in_ok-sets.sets c.as_slice.result.now c.names_of-names.ensures c.as_slice-outer.ensures c.in_ok-sets.ensures c.as_slice.ensures in
-    not_listed p k s x m arguments c.in_ok-all_are_asked.field-0
-    (listed_as p k s x m arguments c.parameters_of-parameters.result.now c.as_slice.result.now c.in_ok-all_are_asked.field-0 c.parameters_of-parameters.ensures sets (c.in_ok-all_are_asked.ensures x by))
-    c.if-not-branch-2.true
+    let listed = of_parameters (ArgumentOf p s x m arguments) c.parameters_of-parameters.result.now (parameters_of p m) arguments c.in_ok-are_arguments.field-0 c.parameters_of-parameters.ensures (c.in_ok-are_arguments.ensures x by) in
+    not_listed p k s x m arguments c.in_ok-are_arguments.field-0 listed c.if-not-branch-2.true
 
 pub returns : goal.returns
 returns c = λ x by.
@@ -37,9 +37,8 @@ returns c = λ x by.
     let m = c.args.target in
     let arguments = c.args.arguments.now in
     let opened = opened_as p k s x m arguments c.parameters_of-parameters.result.now c.as_slice-outer.result.now c.in_ok-all_have_opened.field-0 c.parameters_of-parameters.ensures c.as_slice-outer.ensures c.in_ok-all_have_opened.ensures in
-    let sets = sets_as p k s x m arguments c.names_of-names.result.now c.as_slice-outer.result.now c.in_ok-sets.sets c.as_slice.result.now c.names_of-names.ensures c.as_slice-outer.ensures c.in_ok-sets.ensures c.as_slice.ensures in
-    let listed = listed_as p k s x m arguments c.parameters_of-parameters.result.now c.as_slice.result.now c.in_ok-all_are_asked.field-0 c.parameters_of-parameters.ensures sets (c.in_ok-all_are_asked.ensures x by) in
+    let listed = of_parameters (ArgumentOf p s x m arguments) c.parameters_of-parameters.result.now (parameters_of p m) arguments c.in_ok-are_arguments.field-0 c.parameters_of-parameters.ensures (c.in_ok-are_arguments.ensures x by) in
     let lack = outside_as p k s x m arguments c.parameters_of-parameters.result.now c.as_slice-outer.result.now (missing_atom c.in_ok-outside.outside) c.parameters_of-parameters.ensures c.as_slice-outer.ensures c.in_ok-outside.ensures in
     let none : is_some c.disagreement.result ≡ false = cc in
     let Rule = RuleStands p k s x (instance_of m arguments) in
-    subst (λ v. (v ≡ true) ↔ Rule) (not_back (is_some c.in_ok-outside.outside) c.is_none.result c.is_none.ensures) (rule_told p k s x m arguments c.disagreement.result c.disagreement.ensures none c.in_ok-all_have_opened.field-0 c.in_ok-all_are_asked.field-0 opened c.if-not-branch.false listed c.if-not-branch-2.false c.in_ok-outside.outside lack)
+    subst (λ v. (v ≡ true) ↔ Rule) (not_back (is_some c.in_ok-outside.outside) c.is_none.result c.is_none.ensures) (rule_told p k s x m arguments c.disagreement.result c.disagreement.ensures none c.in_ok-all_have_opened.field-0 c.in_ok-are_arguments.field-0 opened c.if-not-branch.false listed c.if-not-branch-2.false c.in_ok-outside.outside lack)

@@ -2,14 +2,14 @@ use Rattle.std.proofs.Common.{◌≡◌, ◌+◌, ◌<◌, ◌≤◌, length, dr
 use Rattle.wy_text.specs.declared.fault.Place.{Place}
 use Rattle.wy_types.specs.declared.code.Stmt.{Stmt}
 use Rattle.wy_types.specs.declared.code.Value as v
-use Rattle.wy_types.specs.Code.{Block, Last}
+use Rattle.wy_types.specs.Code.{Block, Last, Unary, Ascribe, Assign}
 use Rattle.wy_types.specs.View.{expr_of, value_of, values_of, block_of, stmt_block, stmts_block}
 use Rattle.wy_types.proofs.Rows.{expr_text_call, expr_call, expr_new, value_if}
 use Rattle.wy_proving.specs.Reading.{part_fails, part_stands, parts_fail}
 use Rattle.wy_recheck.specs.declared.reader.Several.{Several}
 use Rattle.wy_recheck.specs.declared.forms.Waiting.{Waiting}
 use Rattle.wy_recheck.specs.Standing.{FailsFirst}
-use Rattle.wy_recheck.specs.Nodes.{expr_read, value_read, values_read, block_read, text_read, call_read, new_read, closing, left, IsRead, IsStatement}
+use Rattle.wy_recheck.specs.Nodes.{expr_read, value_read, values_read, block_read, second_read, text_read, call_read, new_read, closing, left, IsRead, IsStatement}
 use Rattle.wy_recheck.proofs.NodesFailing.{first_weaker}
 use Rattle.wy_recheck.proofs.NodesJoined.{read_as, fails_as, behind_read, part_fails_first, later_fails, then_read, then_fails, behind_parts, parts_fail_first, values_counted, before, before_none, before_more}
 use Rattle.wy_recheck.proofs.NodesInOrder.{value_stands, value_fails, no_value, do_stands, do_fails, val_statement, val_fails, statement_stands, statement_fails, no_statement, closing_fails}
@@ -36,50 +36,46 @@ read_expr-returns-in-This t c = read_as _ _ c.this.result _ _ (ap (λ x. expr_re
 pub read_expr-returns-in-Name : goal.read_expr-returns-in-Name
 read_expr-returns-in-Name t c = read_as _ _ c.name.result _ _ (ap (λ x. expr_read c.args.self.now c.args.at.now (expr_of x)) c.in-Name.is) c.name.ensures
 
-pub read_expr-returns-in_err-operand-in-Unary : goal.read_expr-returns-in_err-operand-in-Unary
-read_expr-returns-in_err-operand-in-Unary t c =
-    let r = c.args.self.now in
-    let at = c.args.at.now in
-    let form = ap (λ x. expr_read r at (expr_of x)) c.in-Unary.is in
-    let e : c.from_residual.result ≡ Err c.in_err-operand-in-Unary.field-0.0 = search rules in
-    rw e (part_fails_first r.nodes.now _ _ _ form _ (fails_as _ _ (ap (λ x. expr_read r at (expr_of x)) (sym c.deref.ensures)) _ c.in_err-operand-in-Unary.ensures))
+pub read_expr-returns-in-Unary : goal.read_expr-returns-in-Unary
+read_expr-returns-in-Unary t c =
+    read_as _ _ c.read_unary.result _ _ (ap (expr_read c.args.self.now c.args.at.now) (ap expr_of c.in-Unary.is ∙ ap (λ x. Unary c.in-Unary.place c.in-Unary.operator (expr_of x)) (sym c.deref.ensures))) c.read_unary.ensures
 
-pub read_expr-returns-in_ok-operand-in-Unary : goal.read_expr-returns-in_ok-operand-in-Unary
-read_expr-returns-in_ok-operand-in-Unary t c =
-    let r = c.args.self.now in
-    let at = c.args.at.now in
-    let form = ap (λ x. expr_read r at (expr_of x)) c.in-Unary.is in
-    let first = ap (λ x. expr_read r at (expr_of x)) (sym c.deref.ensures) ∙ c.in_ok-operand-in-Unary.ensures in
-    behind_read r.nodes.now _ _ _ form c.in_ok-operand-in-Unary.operand _ _ c.unary.result first c.unary.ensures
+pub read_unary-returns-in_err-operand : goal.read_unary-returns-in_err-operand
+read_unary-returns-in_err-operand t c =
+    let e : c.from_residual.result ≡ Err c.in_err-operand.field-0.0 = search rules in
+    rw e (part_fails_first c.args.self.now.nodes.now _ _ _ refl _ c.in_err-operand.ensures)
+
+pub read_unary-returns : goal.read_unary-returns
+read_unary-returns t c =
+    behind_read c.args.self.now.nodes.now _ _ _ refl c.in_ok-operand.operand _ _ c.unary.result c.in_ok-operand.ensures c.unary.ensures
 
 pub read_expr-returns-in_err-first-in-Binary : goal.read_expr-returns-in_err-first-in-Binary
 read_expr-returns-in_err-first-in-Binary t c =
     let r = c.args.self.now in
     let at = c.args.at.now in
     let form = ap (λ x. expr_read r at (expr_of x)) c.in-Binary.is in
-    let e : c.from_residual-in_err-first-in-Binary.result ≡ Err c.in_err-first-in-Binary.field-0.0 = search rules in
+    let e : c.from_residual.result ≡ Err c.in_err-first-in-Binary.field-0.0 = search rules in
     rw e (part_fails_first r.nodes.now _ _ _ form _ (fails_as _ _ (ap (λ x. expr_read r at (expr_of x)) (sym c.deref-in-Binary.ensures)) _ c.in_err-first-in-Binary.ensures))
 
-pub read_expr-returns-in_err-second-in-Binary : goal.read_expr-returns-in_err-second-in-Binary
-read_expr-returns-in_err-second-in-Binary t c =
+pub read_expr-returns-in_ok-first-in-Binary : goal.read_expr-returns-in_ok-first-in-Binary
+read_expr-returns-in_ok-first-in-Binary t c =
     let r = c.args.self.now in
     let at = c.args.at.now in
+    let middle = c.read_expr.new.at in
     let form = ap (λ x. expr_read r at (expr_of x)) c.in-Binary.is in
     let first = ap (λ x. expr_read r at (expr_of x)) (sym c.deref-in-Binary.ensures) ∙ c.in_ok-first-in-Binary.ensures in
-    let middle = c.read_expr-in-Binary.new.at in
-    let e : c.from_residual-in_err-second-in-Binary.result ≡ Err c.in_err-second-in-Binary.field-0.0 = search rules in
-    rw e (later_fails r.nodes.now _ _ _ form c.in_ok-first-in-Binary.first middle first _ (then_fails r.nodes.now _ _ _ (fails_as _ _ (ap (λ x. expr_read r middle (expr_of x)) (sym c.deref-in-Binary-2.ensures)) _ c.in_err-second-in-Binary.ensures)))
+    let x = c.in_ok-first-in-Binary.first in
+    let second = ap (λ z. second_read r middle c.in-Binary.place c.in-Binary.operator x (expr_of z)) (sym c.deref-in-Binary-2.ensures) in
+    behind_read r.nodes.now _ _ _ form x middle _ c.read_second.result first (read_as _ _ c.read_second.result _ _ second c.read_second.ensures)
 
-pub read_expr-returns-in_ok-second-in-Binary : goal.read_expr-returns-in_ok-second-in-Binary
-read_expr-returns-in_ok-second-in-Binary t c =
-    let r = c.args.self.now in
-    let at = c.args.at.now in
-    let form = ap (λ x. expr_read r at (expr_of x)) c.in-Binary.is in
-    let first = ap (λ x. expr_read r at (expr_of x)) (sym c.deref-in-Binary.ensures) ∙ c.in_ok-first-in-Binary.ensures in
-    let middle = c.read_expr-in-Binary.new.at in
-    let second = ap (λ x. expr_read r middle (expr_of x)) (sym c.deref-in-Binary-2.ensures) ∙ c.in_ok-second-in-Binary.ensures in
-    behind_read r.nodes.now _ _ _ form c.in_ok-first-in-Binary.first middle _ c.binary.result first
-    (then_read r.nodes.now _ _ c.in_ok-second-in-Binary.second c.read_expr-in-Binary-2.new.at _ c.binary.result second c.binary.ensures)
+pub read_second-returns-in_err-second : goal.read_second-returns-in_err-second
+read_second-returns-in_err-second t c =
+    let e : c.from_residual.result ≡ Err c.in_err-second.field-0.0 = search rules in
+    rw e (then_fails c.args.self.now.nodes.now _ _ _ c.in_err-second.ensures)
+
+pub read_second-returns : goal.read_second-returns
+read_second-returns t c =
+    then_read c.args.self.now.nodes.now _ _ c.in_ok-second.second c.read_expr.new.at _ c.binary.result c.in_ok-second.ensures c.binary.ensures
 
 pub read_expr-returns-in-TextCall : goal.read_expr-returns-in-TextCall
 read_expr-returns-in-TextCall t c =
@@ -105,38 +101,33 @@ pub read_expr-returns-in_err-receiver-in-Call : goal.read_expr-returns-in_err-re
 read_expr-returns-in_err-receiver-in-Call t c =
     let r = c.args.self.now in
     let at = c.args.at.now in
-    let xs = c.in-Call.values in
-    let form = ap (expr_read r at) (ap expr_of c.in-Call.is ∙ expr_call c.in-Call.place c.in-Call.x c.in-Call.name xs) in
+    let form = ap (expr_read r at) (ap expr_of c.in-Call.is ∙ expr_call c.in-Call.place c.in-Call.x c.in-Call.name c.in-Call.values) in
     let e : c.from_residual-in_err-receiver-in-Call.result ≡ Err c.in_err-receiver-in-Call.field-0.0 = search rules in
     rw e (part_fails_first r.nodes.now _ _ _ form _ (fails_as _ _ (ap (λ x. expr_read r at (expr_of x)) (sym c.deref-in-Call.ensures)) _ c.in_err-receiver-in-Call.ensures))
 
-pub read_expr-returns-in_err-arguments-in-Call : goal.read_expr-returns-in_err-arguments-in-Call
-read_expr-returns-in_err-arguments-in-Call t c =
+pub read_expr-returns-in_ok-receiver-in-Call : goal.read_expr-returns-in_ok-receiver-in-Call
+read_expr-returns-in_ok-receiver-in-Call t c =
     let r = c.args.self.now in
     let at = c.args.at.now in
-    let xs = c.in-Call.values in
-    let form = ap (expr_read r at) (ap expr_of c.in-Call.is ∙ expr_call c.in-Call.place c.in-Call.x c.in-Call.name xs) in
+    let form = ap (expr_read r at) (ap expr_of c.in-Call.is ∙ expr_call c.in-Call.place c.in-Call.x c.in-Call.name c.in-Call.values) in
     let first = ap (λ x. expr_read r at (expr_of x)) (sym c.deref-in-Call.ensures) ∙ c.in_ok-receiver-in-Call.ensures in
-    let middle = c.read_expr-in-Call.new.at in
-    let e : c.from_residual-in_err-arguments-in-Call.result ≡ Err c.in_err-arguments-in-Call.field-0.0 = search rules in
-    rw e (later_fails r.nodes.now _ _ _ form c.in_ok-receiver-in-Call.receiver middle first _ (parts_fail_first r.nodes.now _ _ _ refl _ c.in_err-arguments-in-Call.ensures))
+    behind_read r.nodes.now _ _ _ form c.in_ok-receiver-in-Call.receiver c.read_expr-in-Call.new.at _ c.read_arguments.result first c.read_arguments.ensures
 
-pub read_expr-returns-in_ok-arguments-in-Call : goal.read_expr-returns-in_ok-arguments-in-Call
-read_expr-returns-in_ok-arguments-in-Call t c =
+pub read_arguments-returns-in_err-arguments : goal.read_arguments-returns-in_err-arguments
+read_arguments-returns-in_err-arguments t c =
+    let e : c.from_residual.result ≡ Err c.in_err-arguments.field-0.0 = search rules in
+    rw e (parts_fail_first c.args.self.now.nodes.now _ _ _ refl _ c.in_err-arguments.ensures)
+
+pub read_arguments-returns : goal.read_arguments-returns
+read_arguments-returns t c =
     let r = c.args.self.now in
-    let at = c.args.at.now in
-    let xs = c.in-Call.values in
-    let form = ap (expr_read r at) (ap expr_of c.in-Call.is ∙ expr_call c.in-Call.place c.in-Call.x c.in-Call.name xs) in
-    let first = ap (λ x. expr_read r at (expr_of x)) (sym c.deref-in-Call.ensures) ∙ c.in_ok-receiver-in-Call.ensures in
-    let middle = c.read_expr-in-Call.new.at in
-    let x = c.in_ok-receiver-in-Call.receiver in
-    let z = c.in_ok-arguments-in-Call.arguments in
+    let xs = c.args.values.now in
+    let z = c.in_ok-arguments.arguments in
     let behind = c.read_values.new.at in
     let size : vec_len xs ≡ length xs.items = search rules in
     let count = ap (λ n. n + 1) (c.len.ensures ∙ size ∙ sym (values_counted xs.items)) in
-    behind_read r.nodes.now _ _ _ form x middle _ c.call.result first
-    (behind_parts r.nodes.now _ _ _ refl z behind _ c.call.result c.in_ok-arguments-in-Call.ensures
-    (subst (λ n. IsRead r.nodes.now (call_read r behind c.in-Call.place c.in-Call.name n x z) c.call.new.at c.call.result) count c.call.ensures))
+    behind_parts r.nodes.now _ _ _ refl z behind _ c.call.result c.in_ok-arguments.ensures
+    (subst (λ n. IsRead r.nodes.now (call_read r behind c.args.place c.args.name.now n c.args.receiver z) c.call.new.at c.call.result) count c.call.ensures)
 
 pub read_expr-returns-in-New : goal.read_expr-returns-in-New
 read_expr-returns-in-New t c =
@@ -158,37 +149,33 @@ read_new-returns t c =
     behind_parts r.nodes.now _ _ _ refl z behind _ c.new_object.result c.in_ok-initialisers.ensures
     (subst (λ n. IsRead r.nodes.now (new_read r behind c.args.place c.args.literal n z) c.new_object.new.at c.new_object.result) count c.new_object.ensures)
 
-pub read_expr-returns-in_err-value-in-Ascribe : goal.read_expr-returns-in_err-value-in-Ascribe
-read_expr-returns-in_err-value-in-Ascribe t c =
-    let r = c.args.self.now in
-    let at = c.args.at.now in
-    let form = ap (λ x. expr_read r at (expr_of x)) c.in-Ascribe.is in
-    let e : c.from_residual-in_err-value-in-Ascribe.result ≡ Err c.in_err-value-in-Ascribe.field-0.0 = search rules in
-    rw e (part_fails_first r.nodes.now _ _ _ form _ (fails_as _ _ (ap (λ x. value_read r at (value_of x)) (sym c.deref-in-Ascribe.ensures)) _ c.in_err-value-in-Ascribe.ensures))
+pub read_expr-returns-in-Ascribe : goal.read_expr-returns-in-Ascribe
+read_expr-returns-in-Ascribe t c =
+    let form = ap expr_of c.in-Ascribe.is ∙ ap (λ x. Ascribe c.in-Ascribe.place (value_of x) c.in-Ascribe.typ) (sym c.deref-in-Ascribe.ensures) in
+    read_as _ _ c.read_ascription.result _ _ (ap (expr_read c.args.self.now c.args.at.now) form) c.read_ascription.ensures
 
-pub read_expr-returns-in_ok-value-in-Ascribe : goal.read_expr-returns-in_ok-value-in-Ascribe
-read_expr-returns-in_ok-value-in-Ascribe t c =
-    let r = c.args.self.now in
-    let at = c.args.at.now in
-    let form = ap (λ x. expr_read r at (expr_of x)) c.in-Ascribe.is in
-    let first = ap (λ x. value_read r at (value_of x)) (sym c.deref-in-Ascribe.ensures) ∙ c.in_ok-value-in-Ascribe.ensures in
-    behind_read r.nodes.now _ _ _ form c.in_ok-value-in-Ascribe.value _ _ c.ascription.result first c.ascription.ensures
+pub read_ascription-returns-in_err-value : goal.read_ascription-returns-in_err-value
+read_ascription-returns-in_err-value t c =
+    let e : c.from_residual.result ≡ Err c.in_err-value.field-0.0 = search rules in
+    rw e (part_fails_first c.args.self.now.nodes.now _ _ _ refl _ c.in_err-value.ensures)
 
-pub read_expr-returns-in_err-value-in-Assign : goal.read_expr-returns-in_err-value-in-Assign
-read_expr-returns-in_err-value-in-Assign t c =
-    let r = c.args.self.now in
-    let at = c.args.at.now in
-    let form = ap (λ x. expr_read r at (expr_of x)) c.in-Assign.is in
-    let e : c.from_residual-in_err-value-in-Assign.result ≡ Err c.in_err-value-in-Assign.field-0.0 = search rules in
-    rw e (part_fails_first r.nodes.now _ _ _ form _ (fails_as _ _ (ap (λ x. value_read r at (value_of x)) (sym c.deref-in-Assign.ensures)) _ c.in_err-value-in-Assign.ensures))
+pub read_ascription-returns : goal.read_ascription-returns
+read_ascription-returns t c =
+    behind_read c.args.self.now.nodes.now _ _ _ refl c.in_ok-value.value _ _ c.ascription.result c.in_ok-value.ensures c.ascription.ensures
 
-pub read_expr-returns-in_ok-value-in-Assign : goal.read_expr-returns-in_ok-value-in-Assign
-read_expr-returns-in_ok-value-in-Assign t c =
-    let r = c.args.self.now in
-    let at = c.args.at.now in
-    let form = ap (λ x. expr_read r at (expr_of x)) c.in-Assign.is in
-    let first = ap (λ x. value_read r at (value_of x)) (sym c.deref-in-Assign.ensures) ∙ c.in_ok-value-in-Assign.ensures in
-    behind_read r.nodes.now _ _ _ form c.in_ok-value-in-Assign.value _ _ c.assignment.result first c.assignment.ensures
+pub read_expr-returns-in-Assign : goal.read_expr-returns-in-Assign
+read_expr-returns-in-Assign t c =
+    let form = ap expr_of c.in-Assign.is ∙ ap (λ x. Assign c.in-Assign.place c.in-Assign.binding (value_of x)) (sym c.deref-in-Assign.ensures) in
+    read_as _ _ c.read_assignment.result _ _ (ap (expr_read c.args.self.now c.args.at.now) form) c.read_assignment.ensures
+
+pub read_assignment-returns-in_err-value : goal.read_assignment-returns-in_err-value
+read_assignment-returns-in_err-value t c =
+    let e : c.from_residual.result ≡ Err c.in_err-value.field-0.0 = search rules in
+    rw e (part_fails_first c.args.self.now.nodes.now _ _ _ refl _ c.in_err-value.ensures)
+
+pub read_assignment-returns : goal.read_assignment-returns
+read_assignment-returns t c =
+    behind_read c.args.self.now.nodes.now _ _ _ refl c.in_ok-value.value _ _ c.assignment.result c.in_ok-value.ensures c.assignment.ensures
 
 ------------------------------------------------------------
 -- Values

@@ -1,7 +1,7 @@
 use Rattle.std.proofs.Common.{◌≡◌, Err, refl, subst, rules, Bool}
 use Rattle.wy_recheck.specs.Nodes.{body_node_read, BodiesAreRead}
 use Rattle.wy_recheck.proofs.NodesOfBodies.{behind_block, block_fails_first}
-use Rattle.wy_recheck.proofs.reader.Reader.read_body.Goals as goal
+use Rattle.wy_recheck.proofs.reader.Reader.read_block_body.Goals as goal
 
 pub returns-in_err-read : goal.returns-in_err-read
 returns-in_err-read c =
@@ -12,8 +12,7 @@ returns-in_err-read c =
 pub returns : goal.returns
 returns c =
     let r = c.args.self.now in
-    let b = c.args.body.now in
     let z = c.in_ok-read.read in
     let mid = c.read_block.new.at in
-    let P : Bool → Type 0 = λ v. BodiesAreRead r.nodes.now (body_node_read r mid v z.effect b.signature.effect b.place 1) c.body_node.new.at c.body_node.result in
+    let P : Bool → Type 0 = λ v. BodiesAreRead r.nodes.now (body_node_read r mid v z.effect c.args.declared.now c.args.place 1) c.body_node.new.at c.body_node.result in
     behind_block r.nodes.now _ _ _ refl z mid _ c.body_node.result c.in_ok-read.ensures (subst P c.same-holds.ensures c.body_node.ensures)

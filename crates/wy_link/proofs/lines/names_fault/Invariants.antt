@@ -5,7 +5,7 @@ use Rattle.wy_rules.specs.Nodes.{lines_nodes}
 use Rattle.wy_subtype.specs.declared.verdict.Mode.TheVariants.{Annotated, Plain}
 use Rattle.wy_judge.specs.Targets.{about_in}
 use Rattle.wy_link.specs.Lines.{NodesComeTo}
-use Rattle.wy_link.proofs.lines.scope_fault.Given as goal
+use Rattle.wy_link.proofs.lines.names_fault.Given as goal
 
 abbrev pub invariant-loop-name : goal.invariant-loop-name
 invariant-loop-name l = record {
