@@ -28,10 +28,8 @@ fn shown(alloc: Global, bytes: &[u8], tokens: &[Token]) -> Result<String, Fail> 
 }
 
 fn tokens_shown(alloc: Global, bytes: &[u8]) -> Result<String, Fail> {
-    match lex(alloc, 7, bytes) {
-        Ok(tokens) => shown(alloc, bytes, tokens.as_slice()),
-        Err(refusal) => Ok(format!(in alloc; "{refusal:?}")?),
-    }
+    let tokens = lex_ok(alloc, bytes)?;
+    shown(alloc, bytes, tokens.as_slice())
 }
 
 /// Files, each with its tokens.
