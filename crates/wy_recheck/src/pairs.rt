@@ -98,10 +98,10 @@ impl Closing<'_> {
     }
 
     /// Whether a pair is closed in the listed ones, by what its own test says.
-    fn has_unfolded(&self, unfolding: &Unfolding) -> Result<bool, Memory>
-        ensures { IfOk result (λ b. (q : Pair) → IsUnfolded (program_of self.now.core.now) self.now.scope self.now.mode q unfolding.now → Tells self.now.listed.now (λ pairs. ClosedIn (program_of self.now.core.now) self.now.scope self.now.mode pairs q) b) }
+    fn has_unfolded(&self, said: &Unfolding) -> Result<bool, Memory>
+        ensures { IfOk result (λ b. (q : Pair) → IsUnfolded (program_of self.now.core.now) self.now.scope self.now.mode q said.now → Tells self.now.listed.now (λ pairs. ClosedIn (program_of self.now.core.now) self.now.scope self.now.mode pairs q) b) }
     {
-        match unfolding {
+        match said {
             Unfolding::Fails(_) => Ok(false),
             Unfolding::Closed(asked) => self.has_all(asked.as_slice()),
         }
