@@ -12,10 +12,9 @@ ghost use Rattle.wy_bounds.specs.Worklist.{param_entries, method_entries, all_en
 use crate::entry::Entry;
 use crate::table::Table;
 use std::alloc::Global;
-use wy_text::list::Items;
 use wy_text::text::{Memory, Text, from_bytes};
 use wy_types::methods::methods;
-use wy_types::path::{Part, Path, Step};
+use wy_types::path::{Part, Path, Step, reversed};
 use wy_types::resolved::Core;
 use wy_types::types::{Method, TypeRef};
 
@@ -153,17 +152,6 @@ fn steps_back(alloc: Global, entries: &[Entry], at: usize) -> Result<Vec<Step>, 
     Ok(steps)
 }
 
-/// The steps in the other order.
-fn turned(alloc: Global, mut steps: Vec<Step>) -> Result<Path, Memory>
-    ensures { IfOk result (λ path. path ≡ reverse steps.items) }
-{
-    let mut path = Items::new(alloc);
-    while let Some(step) = steps.pop() {
-        path.push(step)?;
-    }
-    Ok(path)
-}
-
 /// The path from the first entry to the one at a place.
 pub fn path_to(alloc: Global, entries: &[Entry], at: usize) -> Result<Path, Memory>
     requires within { at < length entries.now }
@@ -171,5 +159,5 @@ pub fn path_to(alloc: Global, entries: &[Entry], at: usize) -> Result<Path, Memo
     ensures { IfOk result (λ path. (steps : List Step) × Traces entries.now at steps × (path ≡ reverse steps)) }
 {
     let steps = steps_back(alloc, entries, at)?;
-    turned(alloc, steps)
+    reversed(alloc, steps)
 }

@@ -9,9 +9,8 @@ ghost use Rattle.wy_subtype.specs.Worklist.{IsSeen, Traces, IsPathTo};
 use crate::entry::{Entry, entry_at};
 use crate::graph::Graph;
 use std::alloc::Global;
-use wy_text::list::Items;
 use wy_text::text::Memory;
-use wy_types::path::{Path, Step};
+use wy_types::path::{Path, Step, reversed};
 
 /// The steps from a place back to the first.
 fn steps_back(graph: &Graph<'_>, work: &[Entry], at: usize) -> Result<Vec<Step>, Memory>
@@ -33,17 +32,6 @@ fn steps_back(graph: &Graph<'_>, work: &[Entry], at: usize) -> Result<Vec<Step>,
     Ok(steps)
 }
 
-/// The steps in the other order.
-fn turned(alloc: Global, mut steps: Vec<Step>) -> Result<Path, Memory>
-    ensures { IfOk result (λ path. path ≡ reverse steps.items) }
-{
-    let mut path = Items::new(alloc);
-    while let Some(step) = steps.pop() {
-        path.push(step)?;
-    }
-    Ok(path)
-}
-
 /// The path from the first pair of a list to the one at a place.
 pub fn path_to(graph: &Graph<'_>, work: &[Entry], at: usize) -> Result<Path, Memory>
     requires core { IsInRange (program_of graph.now.core.now) }
@@ -53,5 +41,5 @@ pub fn path_to(graph: &Graph<'_>, work: &[Entry], at: usize) -> Result<Path, Mem
     ensures { IfOk result (IsPathTo (program_of graph.now.core.now) graph.now.scope graph.now.mode (mets_in graph.now work.now) at) }
 {
     let steps = steps_back(graph, work, at)?;
-    turned(graph.alloc, steps)
+    reversed(graph.alloc, steps)
 }

@@ -1,5 +1,5 @@
 use Rattle.std.proofs.Common.{◌≡◌, ◌++◌, reverse, vec_len}
-use Rattle.wy_bounds.proofs.reaching.turned.Given as goal
+use Rattle.wy_types.proofs.path.reversed.Given as goal
 
 abbrev pub invariant-loop-step : goal.invariant-loop-step
 invariant-loop-step l = l.path ++ reverse l.steps.items ≡ reverse l.fn.steps.items
