@@ -1,9 +1,9 @@
 -- What is gathered on the sides of a matrix: exactly the effects of the methods that are reached.
 use Rattle.std.proofs.Common.{◌≡◌, ℕ, List, [], ◌∷◌, ◌⊎◌, inl, inr, refl, sym, ap, ◌∙◌, subst, Bool as Truth, true, false}
 use Rattle.std.specs.Prelude.{◌↔◌, if◌then◌else◌}
-use Rattle.wy_effects.specs.Members.{In, Within}
+use Rattle.wy_text.specs.Members.{In, Within}
 use Rattle.wy_effects.specs.Rows.{IsInAll}
-use Rattle.wy_effects.proofs.Lists.{In-cases, In-left, In-push}
+use Rattle.wy_text.proofs.Lists.{In-cases, In-left, In-push}
 use Rattle.wy_effects.specs.Bounds.{GoDown, IsUnder}
 use Rattle.wy_effects.proofs.Widening.{widened_is}
 use Rattle.wy_types.specs.declared.types.TypeRef.{TypeRef}

@@ -1,9 +1,9 @@
 -- What is gathered along the table: the methods of an entry, and the effects of all of them.
 use Rattle.std.proofs.Common.{◌≡◌, ℕ, List, [], ◌∷◌, ◌⊎◌, inl, inr, refl, sym, ap, subst, Bool as Truth, true, false}
 use Rattle.std.specs.Prelude.{◌↔◌, if◌then◌else◌}
-use Rattle.wy_effects.specs.Members.{In}
+use Rattle.wy_text.specs.Members.{In}
 use Rattle.wy_effects.specs.EffSet.{union}
-use Rattle.wy_effects.proofs.Lists.{In-map, In-unmap}
+use Rattle.wy_text.proofs.Lists.{In-map, In-unmap}
 use Rattle.wy_effects.proofs.SetLaws.{union-cases, In-union-left, In-union-right}
 use Rattle.wy_types.specs.declared.types.TypeRef.{TypeRef}
 use Rattle.wy_types.specs.Program.{Program}

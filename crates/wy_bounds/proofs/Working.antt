@@ -1,11 +1,11 @@
 -- The table of what a type reaches: what an addition keeps, and what stands at the end.
 use Rattle.std.proofs.Common.{◌≡◌, ℕ, zero, suc, ◌+◌, ◌<◌, ◌≤◌, List, [], ◌∷◌, ◌++◌, map, reverse, ◌⊎◌, inl, inr, length, refl, sym, ap, ◌∙◌, subst, arith, Some, append_assoc, append-nil, Bool as Truth, true, false, add-zero, zero-add}
 use Rattle.std.specs.Prelude.{slice_get, not}
-use Rattle.std.proofs.lemmas.List.{reverse-append, length-map}
+use Rattle.std.proofs.lemmas.List.{reverse-append, length-map, map-append}
 use Rattle.std.proofs.lemmas.Bool.{cases_lt}
 use Rattle.std.proofs.lemmas.Option.{slice_get_within}
-use Rattle.wy_effects.specs.Members.{In, Within, Apart}
-use Rattle.wy_effects.proofs.Lists.{In-left, In-right, In-cases, In-map, In-unmap, In-at, In-slice_get, Apart-push}
+use Rattle.wy_text.specs.Members.{In, Within, Apart}
+use Rattle.wy_text.proofs.Lists.{In-left, In-right, In-cases, In-map, In-unmap, In-at, In-slice_get, Apart-push}
 use Rattle.wy_types.specs.declared.types.TypeRef.{TypeRef}
 use Rattle.wy_types.specs.declared.path.Part.{Part}
 use Rattle.wy_types.specs.declared.path.Part.TheVariants.{Parameter, Result}
@@ -41,9 +41,6 @@ slice_get-within [] k h = absurd (omega arith)
 slice_get-within (x ∷ xs) zero h = (x, refl)
 slice_get-within (x ∷ xs) (suc k) h = slice_get-within xs k (omega arith)
 
-map-append' : {X Y : Type 0} (f : X → Y) (xs ys : List X) → map f (xs ++ ys) ≡ map f xs ++ map f ys
-map-append' f [] ys = refl
-map-append' f (x ∷ xs) ys = ap (λ l. f x ∷ l) (map-append' f xs ys)
 
 ------------------------------------------------------------
 -- What an entry goes to
@@ -97,19 +94,19 @@ In-method : (at : ℕ) (b : Truth) (m : Signature TypeRef) (part : Part) (u : Ty
 In-method at b m Result u e =
     let last : List Entry = record { typ = m.result; positive = b; parent = at; step = record { method = m.name; part = Result } } ∷ [] in
     let P : List Mark → Type 0 = λ l. In {X = Mark} (u, b) l in
-    subst P (sym (map-append' mark_of (param_entries at b m.name 0 m.params) last))
+    subst P (sym (map-append mark_of (param_entries at b m.name 0 m.params) last))
     (In-right {X = Mark} (u, b) (marks (param_entries at b m.name 0 m.params)) (marks last) (inl (ap (λ (v : TypeRef). let x : Mark = (v, b) in x) e)))
 In-method at b m (Parameter i) u e =
     let last : List Entry = record { typ = m.result; positive = b; parent = at; step = record { method = m.name; part = Result } } ∷ [] in
     let P : List Mark → Type 0 = λ l. In {X = Mark} (u, not b) l in
-    subst P (sym (map-append' mark_of (param_entries at b m.name 0 m.params) last))
+    subst P (sym (map-append mark_of (param_entries at b m.name 0 m.params) last))
     (In-left {X = Mark} (u, not b) (marks (param_entries at b m.name 0 m.params)) (marks last) (In-params at b m.name 0 i m.params u e))
 
 In-all : (at : ℕ) (b : Truth) (ms : List (Signature TypeRef)) (m : Signature TypeRef) (part : Part) (u : TypeRef) → In m ms → IsPartOf TypeRef (λ t. []) m part u → In {X = Mark} (u, turned part b) (marks (all_entries at b ms))
 In-all at b [] m part u i e = absurd i
 In-all at b (n ∷ ms) m part u i e =
     let P : List Mark → Type 0 = λ l. In {X = Mark} (u, turned part b) l in
-    let split : marks (all_entries at b (n ∷ ms)) ≡ marks (method_entries at b n) ++ marks (all_entries at b ms) = map-append' mark_of (method_entries at b n) (all_entries at b ms) in
+    let split : marks (all_entries at b (n ∷ ms)) ≡ marks (method_entries at b n) ++ marks (all_entries at b ms) = map-append mark_of (method_entries at b n) (all_entries at b ms) in
     subst P (sym split) (elim i [
       | inl same ↦
           let Q : Signature TypeRef → Type 0 = λ v. In {X = Mark} (u, turned part b) (marks (method_entries at b v)) in
@@ -140,7 +137,7 @@ module _ (p : Program) (core : IsInRange p) (scope : ℕ) (t : TypeRef) where
   -- a mark that is new, by a step from an entry
   push_seen : (es : List Entry) (at : ℕ) (e c : Entry) → slice_get es at ≡ Some e → ComesBy at e.positive (methods_of p scope e.typ) c → (In (mark_of c) (marks es) → ⊥) → IsSeen p scope t es → IsSeen p scope t (es ++ c ∷ [])
   push_seen es at e c is by new seen =
-      let eq : marks (es ++ c ∷ []) ≡ marks es ++ mark_of c ∷ [] = map-append' mark_of es (c ∷ []) in
+      let eq : marks (es ++ c ∷ []) ≡ marks es ++ mark_of c ∷ [] = map-append mark_of es (c ∷ []) in
       let old : In (mark_of e) (marks es) = In-map mark_of e es (In-slice_get es at e is) in
       let goes : Goes TypeRef (methods_of p scope) e.typ c.step c.typ = record { method = by.2.0; has = by.2.1; named = by.2.2; part = by.2.3 } in
       let R : Truth → Type 0 = λ b. Reaches TypeRef (methods_of p scope) t b c.typ in

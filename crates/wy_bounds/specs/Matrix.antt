@@ -1,6 +1,6 @@
 -- Tables of a type's paths: what is reached, and the effects of its methods by the polarity of the paths.
 use Rattle.std.specs.Prelude.{◌≡◌, ◌↔◌, ℕ, List, [], ◌∷◌, ◌++◌, Bool as Truth, true, false}
-use Rattle.wy_effects.specs.Members.{In}
+use Rattle.wy_text.specs.Members.{In}
 use Rattle.wy_effects.specs.EffSet.{union}
 use Rattle.wy_effects.specs.Bounds.{GoDown}
 use Rattle.wy_types.specs.declared.types.TypeRef.{TypeRef}

@@ -1,6 +1,6 @@
 -- Tables of types that were reached, each at a polarity, and what additions do to them.
 use Rattle.std.specs.Prelude.{◌≡◌, ℕ, List, [], ◌∷◌, ◌++◌, ◌⊎◌, Bool as Truth, map}
-use Rattle.wy_effects.specs.Members.{In}
+use Rattle.wy_text.specs.Members.{In}
 use Rattle.wy_types.specs.declared.types.TypeRef.{TypeRef}
 use Rattle.wy_types.specs.Keys.{mark_key}
 use Rattle.wy_bounds.specs.declared.entry.Entry.{Entry}

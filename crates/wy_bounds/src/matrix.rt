@@ -1,7 +1,7 @@
 //! The effects of all methods that a type reaches, by the polarity of the paths to them.
 
 ghost use Rattle.std.specs.Prelude.{◌≡◌, ◌↔◌, ◌∷◌, [], ℕ, Bool, IfOk, OnOk, IsTrue, map, true, false, if◌then◌else◌};
-ghost use Rattle.wy_effects.specs.Members.{In as IsIn};
+ghost use Rattle.wy_text.specs.Members.{In as IsIn};
 ghost use Rattle.wy_effects.specs.Bounds.{IsUnder};
 ghost use Rattle.wy_effects.specs.Rows.{IsInAll};
 ghost use Rattle.wy_types.specs.declared.types.TypeRef.{TypeRef};

@@ -1,7 +1,7 @@
 //! The effects and the higher-order effects of a type.
 
 ghost use Rattle.std.specs.Prelude.{◌↔◌, ℕ, IfOk, true, false};
-ghost use Rattle.wy_effects.specs.Members.{In as IsIn};
+ghost use Rattle.wy_text.specs.Members.{In as IsIn};
 ghost use Rattle.wy_types.specs.Program.{program_of};
 ghost use Rattle.wy_types.specs.Types.{methods_of};
 ghost use Rattle.wy_types.specs.Fitting.{IsTypeOf};

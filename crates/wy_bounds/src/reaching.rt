@@ -1,7 +1,7 @@
 //! All that a type reaches, each type at each polarity once.
 
 ghost use Rattle.std.specs.Prelude.{◌≡◌, ◌++◌, ◌≤◌, ◌<◌, [], true, IfOk, OnOk, map, length, reverse, List};
-ghost use Rattle.wy_effects.specs.Members.{In as IsIn};
+ghost use Rattle.wy_text.specs.Members.{In as IsIn};
 ghost use Rattle.wy_types.specs.Program.{program_of};
 ghost use Rattle.wy_types.specs.Types.{signature};
 ghost use Rattle.wy_types.specs.Fitting.{IsTypeOf};

@@ -1,5 +1,5 @@
 -- Words, blanks, lines and the end of a file, each by what is read behind it.
-use Rattle.std.proofs.Common.{◌≡◌, ℕ, zero, suc, ◌+◌, ◌*◌, ◌-◌, ◌<◌, ◌≤◌, ◌==◌, nat_lt, Bool, true, false, not, cond, ◌&&◌, ◌||◌, List, [], ◌∷◌, ◌++◌, length, replicate, refl, sym, ap, subst, ◌∙◌, arith, append_assoc, IsUtf8}
+use Rattle.std.proofs.Common.{◌≡◌, ℕ, zero, suc, ◌+◌, ◌*◌, ◌-◌, ◌<◌, ◌≤◌, ◌==◌, nat_lt, Bool, true, false, not, cond, ◌&&◌, ◌||◌, List, [], ◌∷◌, ◌++◌, length, replicate, refl, sym, ap, subst, ◌∙◌, arith, append_assoc, IsUtf8, le-ltb}
 use Rattle.std.proofs.lemmas.Str.{IsUtf8-append, IsUtf8-nil}
 use Rattle.wy_text.specs.declared.token.Token.{Token}
 use Rattle.wy_text.specs.declared.token.TokenKind.{TokenKind}
@@ -125,8 +125,6 @@ rest_end n r P h = record {
 less : (a b : ℕ) → a < b → nat_lt a b ≡ true
 less a b h = grind arith
 
-not_less : (a b : ℕ) → b ≤ a → nat_lt a b ≡ false
-not_less a b h = grind arith
 
 same : (a b : ℕ) → a ≡ b → (a == b) ≡ true
 same a b h = grind arith
@@ -145,7 +143,7 @@ is_back zero (suc n) zero e = absurd (omega arith)
 is_back zero (suc n) (suc m) e = let f : m ≡ n = omega arith in subst (λ (x : ℕ). IsBack zero (suc n) (suc x)) (sym f) here
   where
     here : IsBack zero (suc n) (suc n)
-    here = let l = not_less (2 * suc n) (2 * suc n) (omega arith) in record { left = rw l refl; count = rw l refl }
+    here = let l = le-ltb (2 * suc n) (2 * suc n) (omega arith) in record { left = rw l refl; count = rw l refl }
 is_back (suc j) n zero e = absurd (omega arith)
 is_back (suc j) n (suc m) e =
     let k = is_back j n m (omega arith) in
@@ -178,7 +176,7 @@ pub record IsDeeper (n : ℕ) : Type 0 where
 is_deeper : (n : ℕ) → IsDeeper n
 is_deeper zero = record { left = refl; count = refl; new = refl }
 is_deeper (suc n) =
-    let l = not_less (2 * suc (suc n)) (2 * suc n) (omega arith) in
+    let l = le-ltb (2 * suc (suc n)) (2 * suc n) (omega arith) in
     record { left = rw l refl; count = rw l refl; new = not_same (2 * suc (suc n)) (2 * suc n) (omega arith) }
 
 deeper_step : (n : ℕ) → step_of (2 * suc n) (stack n) ≡ deeper

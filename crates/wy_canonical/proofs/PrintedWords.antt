@@ -1,5 +1,5 @@
 -- Words as they are printed, and what stands behind them.
-use Rattle.std.proofs.Common.{◌≡◌, ℕ, ◌+◌, ◌*◌, ◌-◌, ◌/◌, ◌%◌, ◌<◌, ◌≤◌, ◌^◌, ◌==◌, nat_lt, Bool, true, false, not, cond, ◌&&◌, ◌||◌, List, [], ◌∷◌, ◌++◌, codes, decimal, refl, sym, ap, ◌∙◌, arith, IsUtf8, inl, inr}
+use Rattle.std.proofs.Common.{◌≡◌, ℕ, ◌+◌, ◌*◌, ◌-◌, ◌/◌, ◌%◌, ◌<◌, ◌≤◌, ◌^◌, ◌==◌, nat_lt, Bool, true, false, not, cond, ◌&&◌, ◌||◌, List, [], ◌∷◌, ◌++◌, codes, decimal, refl, sym, ap, ◌∙◌, arith, IsUtf8, inl, inr, le-ltb}
 use Rattle.std.specs.List.{AllByRecursion}
 use Rattle.std.specs.Char.{is_ascii_digit, is_ascii_alphanumeric}
 use Rattle.std.proofs.lemmas.Str.{IsUtf8-append, IsUtf8-nil}
@@ -291,11 +291,8 @@ decimal_is n h = decimal_by_steps IsDigits one step n h
 pub printed_number : (n : ℕ) → n ≤ edge → IsPrinted (number n) (decimal n)
 printed_number n h =
     let d = decimal_is n (omega arith) in
-    let l : nat_lt edge n ≡ false = not_less edge n h in
+    let l : nat_lt edge n ≡ false = le-ltb edge n h in
     record { is_word = (d.digits, sym d.value); limits = ap (λ (b : Bool). cond b (passes fault.NumberTooLarge) fits) l; is_flat = plain_flat (decimal n) d.are_plain; utf8 = plain_utf8 (decimal n) d.are_plain; begins = d.begins }
-  where
-    not_less : (a b : ℕ) → b ≤ a → nat_lt a b ≡ false
-    not_less a b h = grind arith
 
 -- ---- texts
 

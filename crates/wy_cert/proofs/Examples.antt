@@ -1,6 +1,6 @@
 -- The smallest certificate, and bytes that are none.
 use Rattle.std.proofs.Common.{codes, ◌≡◌, ℕ, List, [], ◌∷◌, ◌++◌, refl, inl, inr, subst, lit<}
-use Rattle.wy_effects.specs.Members.{In}
+use Rattle.wy_text.specs.Members.{In}
 use Rattle.wy_spelling.specs.ListLaws.{lists_apart}
 use Rattle.wy_spelling.specs.Spelling.{AreSpelled, IsBadAt, IsNumber, IsStuck, list_bytes}
 use Rattle.wy_spelling.specs.declared.spelled.ReadError.TheVariants.{Bad}

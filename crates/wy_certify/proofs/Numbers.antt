@@ -5,8 +5,8 @@ use Rattle.std.proofs.lemmas.Bool.{ltb-false}
 use Rattle.std.proofs.lemmas.List.{length-map, map-append, take_more, drop_more, drop_all}
 use Rattle.std.proofs.lemmas.List.Sums.{prefix_len-le-length}
 use Rattle.std.specs.List.{list_any, position, position_or_len}
-use Rattle.wy_effects.specs.Members.{In, Apart}
-use Rattle.wy_effects.proofs.Lists.{In-left, In-push, In-cases, In-map, In-unmap, Apart-push}
+use Rattle.wy_text.specs.Members.{In, Apart}
+use Rattle.wy_text.proofs.Lists.{In-left, In-push, In-cases, In-map, In-unmap, Apart-push}
 use Rattle.wy_types.specs.declared.types.TypeRef.{TypeRef}
 use Rattle.wy_types.specs.declared.types.TypeRef.TheVariants as to
 use Rattle.wy_types.specs.Keys.{type_key}

@@ -2,9 +2,9 @@
 use Rattle.std.proofs.Common.{◌≡◌, ℕ, zero, suc, ◌+◌, ◌<◌, ◌≤◌, List, [], ◌∷◌, ◌++◌, map, length, inl, inr, refl, sym, ap, ◌∙◌, subst, Some, arith, append_assoc, append-nil, length-append}
 use Rattle.std.proofs.lemmas.Bool.{cases_lt}
 use Rattle.std.specs.Prelude.{slice_get}
-use Rattle.wy_effects.specs.Members.{In, Within}
+use Rattle.wy_text.specs.Members.{In, Within}
 use Rattle.wy_effects.specs.Bounds.{IsWithin}
-use Rattle.wy_effects.proofs.Lists.{In-left, In-right, In-cases, In-map, In-unmap, In-slice_get, Apart-push}
+use Rattle.wy_text.proofs.Lists.{In-left, In-right, In-cases, In-map, In-unmap, In-slice_get, Apart-push}
 use Rattle.wy_types.specs.Program.{Program, Scope}
 use Rattle.wy_types.specs.declared.types.TypeRef.{TypeRef}
 use Rattle.wy_types.specs.Types.{IsObject, erased, methods_of}

@@ -1,10 +1,10 @@
 -- Pairs that hold in a scope: their own tests pass, and the pairs that these ask for hold again.
 use Rattle.std.proofs.Common.{◌≡◌, ℕ, ◌+◌, ◌<◌, ◌≤◌, List, [], ◌∷◌, length, inl, inr, refl, sym, ap, subst, Some, arith}
 use Rattle.std.specs.Prelude.{◌⊎◌, slice_get}
-use Rattle.wy_effects.specs.Members.{In}
+use Rattle.wy_text.specs.Members.{In}
 use Rattle.wy_effects.specs.EffSet.{IsSetFrom}
 use Rattle.wy_effects.specs.Bounds.{IsWithin}
-use Rattle.wy_effects.proofs.Lists.{In-map, In-slice_get}
+use Rattle.wy_text.proofs.Lists.{In-map, In-slice_get}
 use Rattle.wy_types.specs.declared.types.TypeRef.{TypeRef}
 use Rattle.wy_types.specs.declared.types.TypeRef.TheVariants.{Int, Bool, Text, Unit as Nothing, Named, At, Own}
 use Rattle.wy_types.specs.declared.path.Part.{Part}

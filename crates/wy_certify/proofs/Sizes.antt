@@ -1,7 +1,7 @@
 -- How many bytes values have one after the other.
 use Rattle.std.proofs.Common.{◌≡◌, ℕ, suc, ◌+◌, ◌≤◌, List, [], ◌∷◌, length, inl, inr, refl, sym, ap, ◌∙◌, subst, Some, arith, length-append}
 use Rattle.std.specs.Prelude.{slice_get}
-use Rattle.wy_effects.specs.Members.{In, Within, Apart}
+use Rattle.wy_text.specs.Members.{In, Within, Apart}
 use Rattle.wy_spelling.specs.Spelling.{number_bytes, joined, list_bytes}
 
 ------------------------------------------------------------

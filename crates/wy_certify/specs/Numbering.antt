@@ -1,7 +1,7 @@
 -- Types, each once, in the order in which they are met: the table by whose numbers a scope's part speaks of them (docs/LANGUAGE.md,
 -- "Certificates").
 use Rattle.std.specs.Prelude.{Bool as Truth, false, ◌||◌, List, [], ◌∷◌, ◌++◌, length, if◌then◌else◌}
-use Rattle.wy_effects.specs.Members.{In, Apart}
+use Rattle.wy_text.specs.Members.{In, Apart}
 use Rattle.wy_types.specs.declared.types.TypeRef.{TypeRef}
 use Rattle.wy_rules.specs.Canonical.{same_type}
 use Rattle.wy_spelling.specs.Spelling.{IsNumber}

@@ -1,7 +1,7 @@
 //! Certificates of accepted programs, as bytes within the limit; and laws of them.
 
 ghost use Rattle.std.specs.Prelude.{◌≡◌, ◌≤◌, IfErr, IfOk, length, map};
-ghost use Rattle.wy_effects.specs.Members.{In};
+ghost use Rattle.wy_text.specs.Members.{In};
 ghost use Rattle.wy_types.specs.Program.{program_of};
 ghost use Rattle.wy_types.specs.Core.{IsCore};
 ghost use Rattle.wy_rules.specs.Acceptance.{Accepted};

@@ -4,10 +4,10 @@ use Rattle.std.specs.Prelude.{slice_get}
 use Rattle.std.specs.Option.{option_map}
 use Rattle.std.proofs.lemmas.Option.{slice_get-map}
 use Rattle.wy_effects.specs.declared.atom.Atom.{Atom}
-use Rattle.wy_effects.specs.Members.{In}
+use Rattle.wy_text.specs.Members.{In}
 use Rattle.wy_effects.specs.EffSet.{IsSetFrom, IsSet}
 use Rattle.wy_effects.specs.Bounds.{GoDown}
-use Rattle.wy_effects.proofs.Lists.{In-unmap, In-slice_get}
+use Rattle.wy_text.proofs.Lists.{In-unmap, In-slice_get}
 use Rattle.wy_types.specs.declared.types.TypeRef.{TypeRef}
 use Rattle.wy_types.specs.declared.types.Method.{Method}
 use Rattle.wy_types.specs.declared.resolved.TypeDecl.{TypeDecl}

@@ -1,7 +1,7 @@
 //! Whether a core's signatures and bounds are in range, for the cores that tests build.
 
 ghost use Rattle.std.specs.Prelude.{◌≡◌, ◌≤◌, ℕ, List, Some, IfOk, IsTrue, length};
-ghost use Rattle.wy_effects.specs.Members.{In as IsIn};
+ghost use Rattle.wy_text.specs.Members.{In as IsIn};
 ghost use Rattle.wy_effects.specs.EffSet.{IsSet, AreSets};
 ghost use Rattle.wy_effects.specs.Bounds.{GoDown};
 ghost use Rattle.wy_types.specs.Program.{program_of};

@@ -4,7 +4,7 @@ use Rattle.std.specs.Prelude.{codes, slice_get, slice_index_or, if◌then◌else
 use Rattle.wy_text.specs.declared.fault.AtomName.{AtomName}
 use Rattle.wy_effects.specs.AtomTable.{atom_name}
 use Rattle.wy_effects.specs.EffSet.{replace}
-use Rattle.wy_effects.specs.Members.{In}
+use Rattle.wy_text.specs.Members.{In}
 use Rattle.wy_types.specs.declared.linked.Actual.TheVariants as actual
 use Rattle.wy_types.specs.declared.linked.Instance.{Instance as Started}
 use Rattle.wy_types.specs.declared.resolved.Origin.{Origin}

@@ -12,7 +12,7 @@ use Rattle.wy_syntax.specs.declared.items.Init.{Init}
 use Rattle.wy_syntax.specs.declared.items.Line.{Line}
 use Rattle.wy_syntax.specs.declared.items.Line.TheVariants.{Instance, Import}
 use Rattle.wy_effects.specs.Bounds.{Bounds}
-use Rattle.wy_effects.proofs.Lists.{In-cases}
+use Rattle.wy_text.proofs.Lists.{In-cases}
 use Rattle.wy_types.specs.declared.types.TypeRef.TheVariants as ref
 use Rattle.wy_types.specs.Types.{is_plain}
 use Rattle.wy_symbols.specs.declared.scoping.Head.{Head}

@@ -1,6 +1,6 @@
 -- Worked examples of bounds. Atom 0 has none, 1 has {0}, 2 has {1}, 3 has the empty one, 4 has none.
 use Rattle.std.proofs.Common.{◌≡◌, ℕ, zero, suc, List, [], ◌∷◌, inl, inr, refl, subst, Some, None, arith}
-use Rattle.wy_effects.specs.Members.{In}
+use Rattle.wy_text.specs.Members.{In}
 use Rattle.wy_effects.specs.EffSet.{replace}
 use Rattle.wy_effects.specs.Bounds.{Bounds, IsUnder, by_member, by_bound, IsWithin, Respects, IsLeastMissing}
 use Rattle.wy_effects.proofs.Ordering.{one_within}

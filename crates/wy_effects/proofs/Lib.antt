@@ -1,7 +1,6 @@
 pub mod Closure
 mod ExamplesBounds
 pub mod Listing
-pub mod Lists
 pub mod Numbers
 pub mod Ordering
 pub mod Places

@@ -3,9 +3,9 @@ use Rattle.std.proofs.Common.{◌≡◌, ℕ, zero, suc, ◌+◌, ◌*◌, ◌^�
 use Rattle.std.proofs.Math.Nat.{pow-zero, pow-succ', zero-mul, suc-mul, add_comm}
 use Rattle.std.proofs.lemmas.Bool.{cases_lt}
 use Rattle.std.proofs.Math.ListN.{length-map}
-use Rattle.wy_effects.specs.Members.{In, Within}
+use Rattle.wy_text.specs.Members.{In, Within}
 use Rattle.wy_effects.specs.EffSet.{IsSetFrom}
-use Rattle.wy_effects.proofs.Lists.{In-left, In-right, In-map}
+use Rattle.wy_text.proofs.Lists.{In-left, In-right, In-map}
 
 -- all sets of atoms from k on and below k + n
 pub sets_from : ℕ → ℕ → List (List ℕ)

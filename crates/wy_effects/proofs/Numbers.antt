@@ -4,7 +4,7 @@ use Rattle.std.specs.Prelude.{if◌then◌else◌, ◌||◌, ◌↔◌}
 use Rattle.std.proofs.lemmas.Bool.{cases_lt}
 use Rattle.std.proofs.lemmas.Bool.Decides.{nat_tests}
 use Rattle.wy_lanes.specs.Numbers.{IsAscendingFrom, AllIn, is_in, with_number, union_numbers, without_numbers, first_from}
-use Rattle.wy_effects.specs.Members.{Within}
+use Rattle.wy_text.specs.Members.{Within}
 use Rattle.wy_effects.specs.EffSet.{IsSetFrom, has, insert_atom, union, without}
 use Rattle.wy_effects.proofs.SetLaws.{has-In, In-has, insert_atom-skip, insert_atom-here, insert_atom-before}
 

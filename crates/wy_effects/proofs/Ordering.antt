@@ -1,7 +1,7 @@
 -- The laws of the order on effect sets over bounds.
 use Rattle.std.proofs.Common.{◌≡◌, ℕ, zero, suc, ◌<◌, ◌≤◌, List, [], ◌∷◌, ◌⊎◌, inl, inr, get_or, map, replicate, refl, sym, subst, Option, Some, None, arith}
 use Rattle.std.specs.Prelude.{slice_get, slice_index_or}
-use Rattle.wy_effects.specs.Members.{In, Within}
+use Rattle.wy_text.specs.Members.{In, Within}
 use Rattle.wy_effects.specs.EffSet.{replace, union}
 use Rattle.wy_effects.specs.Bounds.{Bounds, IsUnder, by_member, by_bound, IsWithin, Respects, BoundsFit, GoDown, AreNone}
 use Rattle.wy_effects.specs.Order.{SameWithin, OnwardWithin, UnionsWithin, OneWithin, UnboundedWithin, ReplacedWithin, RespectsOnward, WidenedExactly, MissingExactly, OneMissing}

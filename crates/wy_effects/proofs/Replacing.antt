@@ -1,8 +1,8 @@
 -- Replacement of atoms by sets: what is in it, and that a replacement after a replacement is one replacement.
 use Rattle.std.proofs.Common.{◌≡◌, ℕ, zero, suc, List, [], ◌∷◌, map, inl, inr, get_or, refl, sym, subst}
-use Rattle.wy_effects.specs.Members.{In, Within}
+use Rattle.wy_text.specs.Members.{In, Within}
 use Rattle.wy_effects.specs.EffSet.{IsSet, AreSets, replace}
-use Rattle.wy_effects.proofs.Lists.{In-unmap}
+use Rattle.wy_text.proofs.Lists.{In-unmap}
 use Rattle.wy_effects.proofs.SetLaws.{IsSetFrom-union, In-union-left, In-union-right, union-cases, sets_equal}
 
 pub IsSet-get : (n : ℕ) (by : List (List ℕ)) (k : ℕ) → AreSets n by → IsSet n (get_or by k [])

@@ -7,9 +7,9 @@ use Rattle.wy_lanes.specs.Numbers.{AllIn, IsAscending, IsAscendingFrom, is_in}
 use Rattle.wy_lanes.specs.Rows.{AllRowsIn, others}
 use Rattle.wy_lanes.proofs.NumberLaws.{IsAscendingFrom-without_numbers, below_end, is_in-without_numbers, same_numbers}
 use Rattle.wy_effects.specs.EffSet.{IsSet, IsSetFrom}
-use Rattle.wy_effects.specs.Members.{In, Within}
+use Rattle.wy_text.specs.Members.{In, Within}
 use Rattle.wy_effects.specs.Rows.{AreLacking, IsInAll}
-use Rattle.wy_effects.proofs.Lists.{In-cases, In-map, In-unmap}
+use Rattle.wy_text.proofs.Lists.{In-cases, In-map, In-unmap}
 use Rattle.wy_effects.proofs.Numbers.{all_are}
 
 numbers : List ℕ

@@ -2,7 +2,7 @@
 use Rattle.std.proofs.Common.{◌≡◌, ℕ, suc, ◌+◌, Bool, true, false, [], ◌∷◌, ◌∙◌, ap, ◌<◌, ◌≤◌, ◌↔◌, List, ◌⊎◌, inl, inr, length, refl, sym, subst, Option, Some, None, arith}
 use Rattle.std.specs.Prelude.{slice_get, IsTrue, ◌&&◌, if◌then◌else◌}
 use Rattle.std.proofs.lemmas.Option.{slice_get_within}
-use Rattle.wy_effects.specs.Members.{In, Within}
+use Rattle.wy_text.specs.Members.{In, Within}
 use Rattle.wy_effects.specs.EffSet.{has, insert_atom}
 use Rattle.wy_effects.specs.Bounds.{Bounds, IsUnder, by_member, by_bound, GoDown, IsWidened}
 use Rattle.wy_effects.specs.Widened.{includes, with_bounded, widened_from, widened_set}

@@ -1,6 +1,6 @@
 -- Upper bounds of a scope's atoms, and when an effect set is within another over them.
 use Rattle.std.specs.Prelude.{◌≡◌, ℕ, ◌<◌, ◌≤◌, ◌↔◌, List, [], Option, Some, length, slice_get, slice_index_or}
-use Rattle.wy_effects.specs.Members.{In}
+use Rattle.wy_text.specs.Members.{In}
 use Rattle.wy_effects.specs.EffSet.{IsSet, replace}
 
 -- for each atom, by its number: none, or the set that bounds it

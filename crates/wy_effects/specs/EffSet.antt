@@ -1,6 +1,6 @@
 -- Effect sets: finite sets of atoms, each as the one ascending list of its atoms.
 use Rattle.std.specs.Prelude.{ℕ, ◌+◌, ◌<◌, ◌≤◌, Bool, false, List, [], ◌∷◌, nat_lt, nat_eq, ◌||◌, if◌then◌else◌, slice_index_or}
-use Rattle.wy_effects.specs.Members.{In}
+use Rattle.wy_text.specs.Members.{In}
 
 -- atoms from k on and below n, in ascending order
 abbrev pub IsSetFrom : ℕ → ℕ → List ℕ → Type 0

@@ -1,7 +1,6 @@
 pub mod AtomTable
 pub mod Bounds
 pub mod EffSet
-pub mod Members
 pub mod Order
 pub mod Rows
 pub mod Widened

@@ -1,6 +1,6 @@
 -- The laws of the order on effect sets over bounds.
 use Rattle.std.specs.Prelude.{◌≡◌, ℕ, ◌↔◌, List, [], ◌∷◌, map}
-use Rattle.wy_effects.specs.Members.{Within}
+use Rattle.wy_text.specs.Members.{Within}
 use Rattle.wy_effects.specs.EffSet.{AreSets, replace, union}
 use Rattle.wy_effects.specs.Bounds.{Bounds, IsUnder, IsWithin, Respects, GoDown, AreNone, IsWidened, IsOneOf, IsLeastMissing}
 

@@ -1,7 +1,7 @@
 -- Rows of effect sets: what each lacks stands in place of it.
 use Rattle.std.specs.Prelude.{◌≡◌, ℕ, List}
 use Rattle.wy_lanes.specs.Rows.{others}
-use Rattle.wy_effects.specs.Members.{In, Within}
+use Rattle.wy_text.specs.Members.{In, Within}
 
 -- each row is what a set lacks
 abbrev pub AreLacking : List (List ℕ) → Type 0

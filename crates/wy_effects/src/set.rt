@@ -1,7 +1,7 @@
 ghost use Rattle.std.specs.Prelude.{◌≡◌, ◌<◌, ◌≤◌, ◌↔◌, [], length, map, slice_index_or, IfOk, IsOkAnd, OnErr, IsTrue, false};
 ghost use Rattle.wy_lanes.specs.Rows.{others};
 ghost use Rattle.wy_effects.specs.EffSet.{IsSet, insert_atom, union, without, replace};
-ghost use Rattle.wy_effects.specs.Members.{Within};
+ghost use Rattle.wy_text.specs.Members.{Within};
 ghost use Rattle.wy_effects.specs.Bounds.{GoDown, IsWidened};
 ghost use Rattle.wy_effects.specs.Widened.{with_bounded, widened_set};
 

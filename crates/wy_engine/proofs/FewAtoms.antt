@@ -3,7 +3,7 @@ use Rattle.std.proofs.Common.{◌≡◌, ◌≤◌, ◌<◌, ◌+◌, ◌*◌, �
 use Rattle.std.specs.Prelude.{slice_get}
 use Rattle.std.proofs.Math.ListN.{length-map}
 use Rattle.wy_effects.specs.AtomTable.{atom_name}
-use Rattle.wy_effects.proofs.Lists.{In-slice_get}
+use Rattle.wy_text.proofs.Lists.{In-slice_get}
 use Rattle.wy_types.specs.Core.{IsCore, IsPrimitive, OriginFits, ScopeFits, one_grant, origins_count}
 use Rattle.wy_types.specs.Ground.{abstract_names, members_of, names_of, program_number}
 use Rattle.wy_types.specs.Primitive.{primitive_types, first_declared}

@@ -11,7 +11,7 @@ use Rattle.wy_syntax.specs.Tokens.{toks}
 use Rattle.wy_syntax.specs.Trees.{ItemTree}
 use Rattle.wy_canonical.specs.Printed.{HasTree}
 use Rattle.wy_parser.specs.Laws.{MarksOfTokens}
-use Rattle.wy_effects.specs.Members.{In}
+use Rattle.wy_text.specs.Members.{In}
 use Rattle.wy_types.specs.Program.{Program}
 use Rattle.wy_symbols.specs.Declarations.{all_items}
 use Rattle.wy_names.specs.Laws.{MarksOfItems}

@@ -5,7 +5,7 @@ use Rattle.wy_text.specs.declared.fault.Fault.{Fault}
 use Rattle.wy_text.specs.declared.limit.LimitName.{LimitName}
 use Rattle.wy_text.specs.declared.limit.LimitName.TheVariants as limit
 use Rattle.wy_syntax.specs.Trees.{ItemTree}
-use Rattle.wy_effects.specs.Members.{In}
+use Rattle.wy_text.specs.Members.{In}
 use Rattle.wy_heads.specs.Counts.{first_passed, limits, passes}
 use Rattle.wy_symbols.specs.Declarations.{Declared, all_items, declared}
 use Rattle.wy_names.specs.Names.{Refused}

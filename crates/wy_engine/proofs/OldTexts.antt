@@ -11,7 +11,7 @@ use Rattle.wy_syntax.specs.Trees.{ItemTree}
 use Rattle.wy_canonical.proofs.OwnWords.{are_words}
 use Rattle.wy_canonical.proofs.Source.{lexed_fair}
 use Rattle.wy_canonical.specs.Printed.{HasTree}
-use Rattle.wy_effects.specs.Members.{In}
+use Rattle.wy_text.specs.Members.{In}
 use Rattle.wy_types.specs.Primitive.{primitive_types}
 use Rattle.wy_symbols.specs.Declarations.{all_items}
 use Rattle.wy_names.specs.Names.{ResolvesOver}

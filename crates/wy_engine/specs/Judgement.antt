@@ -12,7 +12,7 @@ use Rattle.wy_authority.specs.Report.{named_atoms, report_text}
 use Rattle.wy_authority.specs.declared.rows.Authority.{Authority}
 use Rattle.wy_authority.specs.declared.rows.BodyRow.{BodyRow}
 use Rattle.wy_authority.specs.declared.rows.InstanceRow.{InstanceRow}
-use Rattle.wy_effects.specs.Members.{In}
+use Rattle.wy_text.specs.Members.{In}
 use Rattle.wy_lower.specs.Counts.{lowering_limit}
 use Rattle.wy_sound.specs.Programs.{allowed, program_starts}
 use Rattle.wy_sound.specs.Telling.{call_of}

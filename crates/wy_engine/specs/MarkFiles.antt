@@ -1,6 +1,6 @@
 -- The marks of the code of accepted texts are places in these texts.
 use Rattle.std.specs.Prelude.{◌≤◌, ℕ, List, length}
-use Rattle.wy_effects.specs.Members.{In}
+use Rattle.wy_text.specs.Members.{In}
 use Rattle.wy_types.specs.Program.{Program}
 use Rattle.wy_code.specs.declared.code.Body.{Body}
 use Rattle.wy_code.specs.declared.instruction.Placed.{Placed}

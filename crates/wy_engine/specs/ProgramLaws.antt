@@ -5,7 +5,7 @@ use Rattle.wy_authority.specs.declared.rows.InstanceRow.{InstanceRow}
 use Rattle.wy_code.specs.Running.{NeverStuck, machine}
 use Rattle.wy_device.specs.Tapes.{Tapes}
 use Rattle.wy_device.specs.declared.deed.Event.{Event}
-use Rattle.wy_effects.specs.Members.{Apart, In}
+use Rattle.wy_text.specs.Members.{Apart, In}
 use Rattle.wy_lower.specs.Correct.{Follows}
 use Rattle.wy_lower.specs.Lowering.{lowered}
 use Rattle.wy_meaning.specs.Bounds.{Bounded}

@@ -1,6 +1,6 @@
 -- The `val`s of the program of some texts are numbered in the order in which they stand there.
 use Rattle.std.specs.Prelude.{ℕ, List}
-use Rattle.wy_effects.specs.Members.{In}
+use Rattle.wy_text.specs.Members.{In}
 use Rattle.wy_types.specs.Program.{Program, Scope}
 use Rattle.wy_well_formed.specs.ValPlaces.{AreInOrder, scope_vals_at}
 use Rattle.wy_engine.specs.NameFaults.{ResolveTo}

@@ -9,7 +9,7 @@ ghost use Rattle.wy_link.specs.Checking.{IsCheckedProgram};
 ghost use Rattle.wy_lower.specs.Counts.{lowering_limit};
 ghost use Rattle.wy_lower.specs.Lowering.{lowered};
 ghost use Rattle.wy_sound.specs.Programs.{program_starts};
-ghost use Rattle.wy_effects.specs.Members.{Apart};
+ghost use Rattle.wy_text.specs.Members.{Apart};
 ghost use Rattle.wy_policy.specs.Used.{used_sets, used_text};
 ghost use Rattle.wy_syntax.specs.Views.{file_tree};
 ghost use Rattle.wy_authority.specs.Authority.{authority_of};

@@ -5,8 +5,8 @@ use Rattle.std.proofs.Math.Seq.{get_or-append_seam}
 use Rattle.std.proofs.lemmas.Bool.{cases_lt}
 use Rattle.std.proofs.lemmas.List.{length-map, get_or_append_left}
 use Rattle.wy_syntax.specs.declared.types.Name.{Name}
-use Rattle.wy_effects.specs.Members.{In}
-use Rattle.wy_effects.proofs.Lists.{In-left, In-right, In-cases}
+use Rattle.wy_text.specs.Members.{In}
+use Rattle.wy_text.proofs.Lists.{In-left, In-right, In-cases}
 use Rattle.wy_symbols.specs.declared.refusal.Cause.TheVariants.{Cycle}
 use Rattle.wy_symbols.specs.declared.refusal.Refusal.{Refusal}
 use Rattle.wy_symbols.specs.Least.{refusal_at}

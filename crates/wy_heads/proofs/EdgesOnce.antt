@@ -1,7 +1,7 @@
 -- Where each list of modules is kept once each, the same modules are reached.
 use Rattle.std.proofs.Common.{◌≡◌, ◌<◌, ℕ, zero, suc, List, [], ◌∷◌, ◌++◌, length, Bool, refl, ap, subst, arith}
 use Rattle.std.specs.Prelude.{◌↔◌}
-use Rattle.wy_effects.specs.Members.{In}
+use Rattle.wy_text.specs.Members.{In}
 use Rattle.wy_heads.specs.Leading.{Goes, Adds, EachOnce, LeadsInside, next_from}
 use Rattle.wy_heads.specs.CycleRefusals.{AreReached}
 

@@ -4,8 +4,8 @@ use Rattle.std.specs.Prelude.{◌↔◌, ◌||◌, nat_eq}
 use Rattle.std.proofs.lemmas.Bool.{cases_lt}
 use Rattle.std.proofs.lemmas.List.{get_or-replicate, get_or_past, get_or-set_same, get_or-set_other, length-replicate}
 use Rattle.wy_effects.specs.EffSet.{has}
-use Rattle.wy_effects.specs.Members.{In}
-use Rattle.wy_effects.proofs.Lists.{In-push}
+use Rattle.wy_text.specs.Members.{In}
+use Rattle.wy_text.proofs.Lists.{In-push}
 use Rattle.wy_effects.proofs.SetLaws.{cases_equal, has-In, In-has, has-absent}
 
 abbrev pub AreMarks : List ℕ → List Bool → Type 0

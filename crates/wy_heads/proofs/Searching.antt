@@ -3,8 +3,8 @@ use Rattle.std.proofs.Common.{◌≡◌, ℕ, zero, suc, ◌+◌, ◌<◌, ◌�
 use Rattle.std.specs.Prelude.{◌↔◌}
 use Rattle.std.proofs.lemmas.List.{take-append-le, take_all, append-nil}
 use Rattle.std.proofs.lemmas.Bool.{cases_lt}
-use Rattle.wy_effects.specs.Members.{In, Apart}
-use Rattle.wy_effects.proofs.Lists.{In-left, In-right, In-cases, In-take-more, In-read, length-apart, Apart-push}
+use Rattle.wy_text.specs.Members.{In, Apart}
+use Rattle.wy_text.proofs.Lists.{In-left, In-right, In-cases, In-take-more, In-read, length-apart, Apart-push}
 use Rattle.wy_heads.specs.Leading.{Adds, next_from, Goes, Reached, LeadsInside}
 
 -- nothing is added

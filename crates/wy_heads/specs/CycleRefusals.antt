@@ -1,7 +1,7 @@
 -- The refusals of modules that lead back to themselves, by marks of what is reached from each module.
 use Rattle.std.specs.Prelude.{◌≡◌, ℕ, ◌+◌, ◌<◌, List, [], ◌∷◌, ◌++◌, ◌↔◌, Option, Some, None, Bool, false, IsTrue, length, slice_index_or, if◌then◌else◌}
 use Rattle.wy_syntax.specs.declared.types.Name.{Name}
-use Rattle.wy_effects.specs.Members.{In}
+use Rattle.wy_text.specs.Members.{In}
 use Rattle.wy_symbols.specs.declared.refusal.Cause.TheVariants.{Cycle}
 use Rattle.wy_symbols.specs.declared.refusal.Refusal.{Refusal}
 use Rattle.wy_symbols.specs.Least.{refusal_at, noted}

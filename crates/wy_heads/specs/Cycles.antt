@@ -1,7 +1,7 @@
 -- Modules whose lines and uses lead back to them.
 use Rattle.std.specs.Prelude.{◌≡◌, ℕ, List, [], ◌∷◌, ◌++◌, map, Some, slice_get}
 use Rattle.wy_syntax.specs.declared.types.Name.{Name}
-use Rattle.wy_effects.specs.Members.{In}
+use Rattle.wy_text.specs.Members.{In}
 use Rattle.wy_symbols.specs.declared.refusal.Cause.TheVariants.{Cycle}
 use Rattle.wy_symbols.specs.declared.refusal.Refusal.{Refusal}
 use Rattle.wy_symbols.specs.Least.{refusal_at}

@@ -1,7 +1,7 @@
 -- Which modules lead to which, by their numbers alone.
 use Rattle.std.specs.Prelude.{◌≡◌, ℕ, ◌<◌, List, [], ◌∷◌, ◌++◌, map, length, slice_index_or, option_to_list}
 use Rattle.wy_syntax.specs.declared.types.Name.{Name}
-use Rattle.wy_effects.specs.Members.{In, Apart}
+use Rattle.wy_text.specs.Members.{In, Apart}
 use Rattle.wy_symbols.specs.Declarations.{ModuleTree, module_number}
 use Rattle.wy_heads.specs.Cycles.{named_modules}
 

@@ -1,7 +1,7 @@
 //! Numbers below a bound with a mark for each, so that whether one is there costs one look.
 
 ghost use Rattle.std.specs.Prelude.{◌≡◌, ◌<◌, ◌↔◌, ◌∷◌, [], ℕ, true, false, length, replicate, slice_index_or, slice_set, IsTrue, IfOk, OnOk};
-ghost use Rattle.wy_effects.specs.Members.{In};
+ghost use Rattle.wy_text.specs.Members.{In};
 ghost use Rattle.wy_heads.specs.Leading.{Adds, Numbers};
 
 use std::alloc::Global;

@@ -1,7 +1,7 @@
 -- Lists one after the other whose elements all differ.
 use Rattle.std.proofs.Common.{List, [], ◌∷◌, ◌++◌, inl, inr, sym, subst}
-use Rattle.wy_effects.specs.Members.{In, Apart}
-use Rattle.wy_effects.proofs.Lists.{In-left, In-right}
+use Rattle.wy_text.specs.Members.{In, Apart}
+use Rattle.wy_text.proofs.Lists.{In-left, In-right}
 
 pub Apart-left : {X : Type 0} (xs ys : List X) → Apart (xs ++ ys) → Apart xs
 Apart-left [] ys a = tt

@@ -5,7 +5,7 @@ use Rattle.std.specs.Prelude.{slice_get}
 use Rattle.std.proofs.lemmas.List.{take_all}
 use Rattle.wy_text.specs.declared.fault.Fault.{Fault}
 use Rattle.wy_effects.specs.EffSet.{union}
-use Rattle.wy_effects.proofs.Lists.{In-left}
+use Rattle.wy_text.proofs.Lists.{In-left}
 use Rattle.wy_types.specs.declared.types.TypeRef.{TypeRef}
 use Rattle.wy_types.specs.declared.code.Stmt as st
 use Rattle.wy_types.specs.Code.{Value, Last}

@@ -2,8 +2,8 @@
 use Rattle.std.proofs.Common.{◌≡◌, ℕ, zero, suc, ◌+◌, ◌<◌, List, [], ◌∷◌, ◌++◌, ◌⊎◌, inl, inr, subst, arith, Some, take, length}
 use Rattle.std.specs.Prelude.{slice_get}
 use Rattle.std.specs.List.{range_with_len}
-use Rattle.wy_effects.specs.Members.{In, Apart}
-use Rattle.wy_effects.proofs.Lists.{In-left, In-right, In-cases, In-unmap}
+use Rattle.wy_text.specs.Members.{In, Apart}
+use Rattle.wy_text.proofs.Lists.{In-left, In-right, In-cases, In-unmap}
 use Rattle.wy_types.specs.declared.code.Variable.TheVariants.{Parameter, Local}
 use Rattle.wy_types.specs.Program.{Scope, Body}
 use Rattle.wy_types.specs.Core.{bodies_vals, block_vals, literal_captures, body_parameters, CapturesBefore}

@@ -5,7 +5,7 @@ use Rattle.std.specs.Option.{option_map}
 use Rattle.std.proofs.lemmas.List.{length-map, take_all}
 use Rattle.std.proofs.lemmas.Option.{slice_get-map}
 use Rattle.wy_text.specs.declared.fault.Fault.{Fault}
-use Rattle.wy_effects.specs.Members.{In}
+use Rattle.wy_text.specs.Members.{In}
 use Rattle.wy_types.specs.declared.resolved.Body as b
 use Rattle.wy_types.specs.Program.{Program, Scope, Body, body_of}
 use Rattle.wy_types.specs.Core.{start_vals, bodies_vals, block_vals}

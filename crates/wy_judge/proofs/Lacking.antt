@@ -1,6 +1,6 @@
 -- The atoms that a declared effect lacks: none in a plain module, else the first of what is left of the body's effect.
 use Rattle.std.proofs.Common.{◌≡◌, ℕ, ◌+◌, ◌≤◌, List, [], ◌∷◌, ◌⊎◌, inl, inr, refl, sym, subst, Some, None, Bool as Truth, true, false, arith}
-use Rattle.wy_effects.specs.Members.{In, Within}
+use Rattle.wy_text.specs.Members.{In, Within}
 use Rattle.wy_effects.specs.EffSet.{IsSet, IsSetFrom, without}
 use Rattle.wy_effects.specs.Bounds.{IsOneOf, IsLeastMissing, IsWidened}
 use Rattle.wy_effects.proofs.SetLaws.{cases_equal, IsSetFrom-without, at_least, without-from, In-without}

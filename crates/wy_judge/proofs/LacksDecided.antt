@@ -1,7 +1,7 @@
 -- The least atom of an effect that another lacks is found, with no memory that may be wanting.
 use Rattle.std.proofs.Common.{◌≡◌, ℕ, ◌≤◌, List, [], ◌∷◌, ◌⊎◌, inl, inr, refl, sym, subst, Option, Some, None, arith}
 use Rattle.std.proofs.lemmas.Bool.{cases_lt}
-use Rattle.wy_effects.specs.Members.{In}
+use Rattle.wy_text.specs.Members.{In}
 use Rattle.wy_effects.specs.EffSet.{without}
 use Rattle.wy_effects.specs.Bounds.{Bounds, IsUnder, IsWithin, GoDown, IsLeastMissing}
 use Rattle.wy_effects.specs.Widened.{widened_set}

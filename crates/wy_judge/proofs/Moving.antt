@@ -1,7 +1,7 @@
 -- What judging parts one after the other does to the types that are known, and that a later part can be judged after an earlier one.
 use Rattle.std.proofs.Common.{ℕ, List, [], ◌++◌, inl, inr}
-use Rattle.wy_effects.specs.Members.{In}
-use Rattle.wy_effects.proofs.Lists.{In-left, In-right, In-cases}
+use Rattle.wy_text.specs.Members.{In}
+use Rattle.wy_text.proofs.Lists.{In-left, In-right, In-cases}
 use Rattle.wy_types.specs.declared.code.Variable.{Variable}
 use Rattle.wy_types.specs.Program.{Program, Scope}
 use Rattle.wy_rules.specs.Readings.{Reading}

@@ -3,7 +3,7 @@ use Rattle.std.proofs.Common.{◌≡◌, ℕ, zero, suc, ◌+◌, ◌<◌, ◌�
 use Rattle.std.specs.Prelude.{slice_get}
 use Rattle.std.proofs.lemmas.Bool.{cases_lt}
 use Rattle.wy_text.specs.declared.limit.LimitName.TheVariants.{ReachedTypes}
-use Rattle.wy_effects.specs.Members.{Apart}
+use Rattle.wy_text.specs.Members.{Apart}
 use Rattle.wy_effects.proofs.Closure.{in_decided}
 use Rattle.wy_types.specs.declared.types.TypeRef.{TypeRef}
 use Rattle.wy_types.specs.declared.types.TypeRef.TheVariants.{Int, Bool, Text, Unit as Nothing, Named, At, Own}

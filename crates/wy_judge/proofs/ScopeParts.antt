@@ -5,10 +5,10 @@ use Rattle.std.specs.Option.{option_map}
 use Rattle.std.proofs.lemmas.Option.{slice_get-map}
 use Rattle.wy_text.specs.declared.fault.Place.{Place}
 use Rattle.wy_text.specs.declared.fault.Fault.{Fault}
-use Rattle.wy_effects.specs.Members.{In}
+use Rattle.wy_text.specs.Members.{In}
 use Rattle.wy_effects.specs.Bounds.{IsWidened}
 use Rattle.wy_effects.specs.Widened.{widened_set}
-use Rattle.wy_effects.proofs.Lists.{In-slice_get, In-at}
+use Rattle.wy_text.proofs.Lists.{In-slice_get, In-at}
 use Rattle.wy_effects.proofs.Widening.{widened_is}
 use Rattle.wy_types.specs.declared.types.TypeRef.TheVariants.{Unit as Nothing}
 use Rattle.wy_types.specs.declared.code.Value as v

@@ -4,7 +4,7 @@ use Rattle.std.specs.Prelude.{slice_get}
 use Rattle.std.proofs.lemmas.List.{length-map}
 use Rattle.wy_text.specs.declared.fault.AtomName.{AtomName}
 use Rattle.wy_text.specs.declared.fault.Place.{Place}
-use Rattle.wy_effects.specs.Members.{Apart}
+use Rattle.wy_text.specs.Members.{Apart}
 use Rattle.wy_types.specs.declared.types.TypeRef.{TypeRef}
 use Rattle.wy_types.specs.declared.types.TypeRef.TheVariants.{Unit as Nothing}
 use Rattle.wy_types.specs.declared.resolved.Field.{Field}

@@ -1,9 +1,9 @@
 -- Subtyping is decided: the pairs that are asked for from a pair on are few, so they are listed, and either each of them passes its own
 -- test, or a path leads to one that does not.
 use Rattle.std.proofs.Common.{◌≡◌, ℕ, suc, List, [], ◌∷◌, ◌++◌, map, ◌⊎◌, inl, inr, length, refl, sym, ap, subst, Option, Some, None}
-use Rattle.wy_effects.specs.Members.{In, Within}
+use Rattle.wy_text.specs.Members.{In, Within}
 use Rattle.wy_effects.proofs.Closure.{Decided, in_decided, closure}
-use Rattle.wy_effects.proofs.Lists.{In-slice_get, In-unmap}
+use Rattle.wy_text.proofs.Lists.{In-slice_get, In-unmap}
 use Rattle.wy_effects.proofs.SetLaws.{cases_equal}
 use Rattle.wy_effects.specs.Bounds.{Bounds, IsWithin, IsWidened}
 use Rattle.wy_effects.specs.Widened.{widened_set}

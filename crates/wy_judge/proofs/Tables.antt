@@ -1,7 +1,7 @@
 -- The rows of the operators' tables, by the type of the first operand: there is at most one row for a type, and an operator's
 -- result is that row's.
 use Rattle.std.proofs.Common.{◌≡◌, List, [], ◌∷◌, inl, inr, refl, sym, ◌∙◌, ap, subst, Option, Some}
-use Rattle.wy_effects.specs.Members.{In}
+use Rattle.wy_text.specs.Members.{In}
 use Rattle.wy_types.specs.declared.types.TypeRef.{TypeRef}
 use Rattle.wy_types.specs.declared.types.TypeRef.TheVariants.{Int, Bool, Text, Unit as Nothing, Named, At, Own}
 use Rattle.wy_types.specs.declared.code.UnaryOperator.{UnaryOperator}

@@ -3,7 +3,7 @@ use Rattle.std.specs.Prelude.{◌≡◌, ℕ, List, Option, Some, None}
 use Rattle.wy_text.specs.declared.fault.AtomName.{AtomName}
 use Rattle.wy_text.specs.declared.fault.Place.{Place}
 use Rattle.wy_text.specs.declared.fault.Fault.{Fault}
-use Rattle.wy_effects.specs.Members.{Within}
+use Rattle.wy_text.specs.Members.{Within}
 use Rattle.wy_effects.specs.Bounds.{IsOneOf, IsLeastMissing}
 use Rattle.wy_effects.specs.Widened.{widened_set}
 use Rattle.wy_types.specs.Program.{Program, Scope}

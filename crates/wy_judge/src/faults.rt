@@ -2,7 +2,7 @@
 
 ghost use Rattle.std.specs.Prelude.{◌≡◌, IfOk, IfSome, IfNone, slice_get};
 ghost use Rattle.std.specs.Option.{option_map};
-ghost use Rattle.wy_effects.specs.Members.{Within};
+ghost use Rattle.wy_text.specs.Members.{Within};
 ghost use Rattle.wy_effects.specs.Bounds.{IsOneOf, IsLeastMissing};
 ghost use Rattle.wy_types.specs.Program.{scope_of};
 ghost use Rattle.wy_rules.specs.Typing.{fields_of};

@@ -1,7 +1,7 @@
 //! Judging a scope: what a pure module may not have, its start, its bodies in their order, and its seal.
 
 ghost use Rattle.std.specs.Prelude.{◌≡◌, ◌<◌, [], IfOk, None, Some, length};
-ghost use Rattle.wy_effects.specs.Members.{In};
+ghost use Rattle.wy_text.specs.Members.{In};
 ghost use Rattle.wy_types.specs.Program.{program_of, scope_of, body_of};
 ghost use Rattle.wy_rules.specs.Resolved.{CoreKeeps};
 ghost use Rattle.wy_judge.specs.Lacks.{IsBodyFaultOf};

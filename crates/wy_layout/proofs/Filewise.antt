@@ -1,5 +1,5 @@
 -- Reading all lines of a file gives the layout's tokens exactly where there are any, and else the first fault.
-use Rattle.std.proofs.Common.{◌≡◌, ℕ, ◌+◌, ◌<◌, ◌≤◌, ◌==◌, nat_lt, Bool, true, false, cond, ◌&&◌, ◌||◌, List, [], ◌∷◌, length, take, take_all, refl, sym, ap, subst, ◌∙◌, arith, inl, inr, ltb-true, ltb-false, IsUtf8}
+use Rattle.std.proofs.Common.{◌≡◌, ℕ, ◌+◌, ◌<◌, ◌≤◌, ◌==◌, nat_lt, Bool, true, false, cond, ◌&&◌, ◌||◌, List, [], ◌∷◌, length, take, take_all, refl, sym, ap, subst, ◌∙◌, arith, inl, inr, ltb-true, ltb-false, IsUtf8, le-ltb}
 use Rattle.std.proofs.lemmas.Str.{utf8_valid_len-IsUtf8}
 use Rattle.std.specs.Str.Lossy.{utf8_valid_len}
 use Rattle.wy_text.specs.declared.token.Token.{Token}
@@ -61,10 +61,7 @@ lexed_is row e n ws (l ∷ ls) = go (line_out n (opens ws) l) (line_is n ws l) (
 -- ---- and back: what the layout lays is read
 
 pub laid_read : (row : Row) (e n : ℕ) (ws : List ℕ) (ls : List Line) (ts : List Token) → Lays row e n ws ls ts → lex_lines row e n (opens ws) ls ≡ tokens ts
-laid_read row e n ws [] ts h = let k : nat_lt most_tokens (n + length (opens ws)) ≡ false = not_less _ _ h.0 in ap (λ (b : Bool). cond b (refused fault.Tokens e) (tokens (closing row e (opens ws)))) k ∙ ap tokens (sym h.1)
-  where
-    not_less : (a b : ℕ) → b ≤ a → nat_lt a b ≡ false
-    not_less a b h = grind arith
+laid_read row e n ws [] ts h = let k : nat_lt most_tokens (n + length (opens ws)) ≡ false = le-ltb _ _ h.0 in ap (λ (b : Bool). cond b (refused fault.Tokens e) (tokens (closing row e (opens ws)))) k ∙ ap tokens (sym h.1)
 laid_read row e n ws (l ∷ ls) ts (us, more, t, p, h) =
     ap (λ (x : LineOut). by_out x (λ us s. lex_lines l.row e (n + length us) s ls)) (tokens_read n ws l us t)
     ∙ ap (join us) (laid_read l.row e (n + length us) (widths ws l) ls more h)
@@ -151,13 +148,11 @@ lex_is file bs = go (nat_lt (utf8_valid_len bs) (length bs)) refl
     go true e = against file bs (ltb-true _ _ e) (lex_text file (judged_text bs)) (lexed_is (first_row file) (length (judged_text bs)) 0 [] (lines (first_row file) (judged_text bs)))
     go false e = whole file bs (ltb-false _ _ e) (lex_text file bs) (lexed_is (first_row file) (length bs) 0 [] (lines (first_row file) bs))
 
-not_less : (a b : ℕ) → b ≤ a → nat_lt a b ≡ false
-not_less a b h = grind arith
 
 -- what the layout relates to the file is what is given
 pub lexes_read : (file : ℕ) (bs : List ℕ) (ts : List Token) → Lexes file bs ts → lex_bytes file bs ≡ tokens ts
 lexes_read file bs ts h =
-    ap (λ (b : Bool). cond b (or_utf8 (utf8_valid_len bs) (lex_text file (judged_text bs))) (lex_text file bs)) (not_less (utf8_valid_len bs) (length bs) h.is_text)
+    ap (λ (b : Bool). cond b (or_utf8 (utf8_valid_len bs) (lex_text file (judged_text bs))) (lex_text file bs)) (le-ltb (utf8_valid_len bs) (length bs) h.is_text)
     ∙ laid_read (first_row file) (length bs) 0 [] (lines (first_row file) bs) ts h.laid
 
 -- a file has one list of tokens at most
@@ -208,7 +203,7 @@ one_fault file bs f g o p h k = both (h.least g p k.stands) (k.least f o h.stand
 pub text_read : (file : ℕ) (bs : List ℕ) → IsUtf8 bs → lex_bytes file bs ≡ lex_text file bs
 text_read file bs u =
     let e = utf8_valid_len-IsUtf8 bs u in
-    ap (λ (b : Bool). cond b (or_utf8 (utf8_valid_len bs) (lex_text file (judged_text bs))) (lex_text file bs)) (not_less (utf8_valid_len bs) (length bs) (omega arith))
+    ap (λ (b : Bool). cond b (or_utf8 (utf8_valid_len bs) (lex_text file (judged_text bs))) (lex_text file bs)) (le-ltb (utf8_valid_len bs) (length bs) (omega arith))
 
 -- a file that is text up to an offset
 pub cut_read : (file : ℕ) (bs z : List ℕ) (v : ℕ) → v ≡ utf8_valid_len bs → v < length bs → z ≡ take (v + 1) bs → lex_bytes file bs ≡ or_utf8 v (lex_text file z)

@@ -1,5 +1,5 @@
 -- Tokens of a line behind those before.
-use Rattle.std.proofs.Common.{◌≡◌, ℕ, zero, suc, ◌+◌, ◌-◌, ◌<◌, ◌≤◌, nat_lt, Bool, true, false, cond, List, [], ◌∷◌, ◌++◌, length, replicate, length-append, refl, sym, ap, subst, ◌∙◌, append_assoc, arith}
+use Rattle.std.proofs.Common.{◌≡◌, ℕ, zero, suc, ◌+◌, ◌-◌, ◌<◌, ◌≤◌, nat_lt, Bool, true, false, cond, List, [], ◌∷◌, ◌++◌, length, replicate, length-append, refl, sym, ap, subst, ◌∙◌, append_assoc, arith, le-ltb}
 use Rattle.wy_text.specs.declared.token.Token.{Token}
 use Rattle.wy_text.specs.declared.token.TokenKind.TheVariants as kind
 use Rattle.wy_layout.specs.Counts.{most_tokens}
@@ -67,10 +67,7 @@ end_stopped row s at end st old mid full (good us) e h r = ap (λ (b : Bool). co
     no_room : nat_lt (length old + mark_count s + length us) most_tokens ≡ false
     no_room =
         let a = ap length (good_inv (mid ++ us) full h) in let b = length-append mid us in let c = ap length e in let d = length-append old (marks row s at) in let m = length_marks row s at in
-        not_less (length old + mark_count s + length us) most_tokens (omega arith)
-      where
-        not_less : (a b : ℕ) → b ≤ a → nat_lt a b ≡ false
-        not_less a b h = grind arith
+        le-ltb (length old + mark_count s + length us) most_tokens (omega arith)
 
 -- its words are wrong
 pub words_stopped : (row : Row) (s : Step) (at end : ℕ) (st : List ℕ) (old mid : List Token) (f : Fault) (o n : ℕ) (x : ℕ → Found) → mid ≡ old ++ marks row s at →

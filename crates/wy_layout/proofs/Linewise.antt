@@ -1,5 +1,5 @@
 -- A turn of the loop over lines.
-use Rattle.std.proofs.Common.{◌≡◌, ℕ, suc, ◌+◌, ◌<◌, ◌≤◌, nat_lt, Bool, true, false, cond, List, ◌++◌, length, length-append, drop, refl, sym, ap, subst, ◌∙◌, arith, append_assoc, Err}
+use Rattle.std.proofs.Common.{◌≡◌, ℕ, suc, ◌+◌, ◌<◌, ◌≤◌, nat_lt, Bool, true, false, cond, List, ◌++◌, length, length-append, drop, refl, sym, ap, subst, ◌∙◌, arith, append_assoc, Err, le-ltb}
 use Rattle.wy_text.specs.declared.token.Token.{Token}
 use Rattle.wy_layout.specs.Counts.{most_tokens}
 use Rattle.wy_layout.specs.Cut.{line_len}
@@ -66,12 +66,10 @@ err_turn halt.Memory old new st st' row e line z old0 new0 st0 x p g i = tt
 less : (a b : ℕ) → a < b → nat_lt a b ≡ true
 less a b h = grind arith
 
-not_less : (a b : ℕ) → b ≤ a → nat_lt a b ≡ false
-not_less a b h = grind arith
 
 pub closed_is : (row : Row) (e : ℕ) (old new : List Token) (st : List ℕ) → length old + length st ≤ most_tokens → new ≡ old ++ closing row e st → join old (end_of row e (length old) st) ≡ tokens new
 closed_is row e old new st r p =
-    ap (λ (b : Bool). join old (cond b (refused fault.Tokens e) (tokens (closing row e st)))) (not_less most_tokens (length old + length st) r) ∙ ap tokens (sym p)
+    ap (λ (b : Bool). join old (cond b (refused fault.Tokens e) (tokens (closing row e st)))) (le-ltb most_tokens (length old + length st) r) ∙ ap tokens (sym p)
 
 pub closed_not : (row : Row) (e : ℕ) (old : List Token) (st : List ℕ) → most_tokens < length old + length st → end_of row e (length old) st ≡ refused fault.Tokens e
 closed_not row e old st r = ap (λ (b : Bool). cond b (refused fault.Tokens e) (tokens (closing row e st))) (less most_tokens (length old + length st) r)

@@ -1,5 +1,5 @@
 -- What the tokens of a file keep, and what its faults are.
-use Rattle.std.proofs.Common.{◌≡◌, ℕ, pos, zero, suc, ◌+◌, ◌-◌, ◌<◌, ◌≤◌, ◌==◌, nat_lt, nat_le, Bool, true, false, cond, ◌&&◌, Option, Some, None, List, [], ◌∷◌, ◌++◌, length, length-append, take, replicate, refl, sym, ap, subst, ◌∙◌, arith, append_assoc, ◌⊎◌, inl, inr}
+use Rattle.std.proofs.Common.{◌≡◌, ℕ, pos, zero, suc, ◌+◌, ◌-◌, ◌<◌, ◌≤◌, ◌==◌, nat_lt, nat_le, Bool, true, false, cond, ◌&&◌, Option, Some, None, List, [], ◌∷◌, ◌++◌, length, length-append, take, replicate, refl, sym, ap, subst, ◌∙◌, arith, append_assoc, ◌⊎◌, inl, inr, ltb-false}
 use Rattle.std.specs.Str.Lossy.{utf8_valid_len}
 use Rattle.wy_text.specs.declared.token.Token.{Token}
 use Rattle.wy_text.specs.declared.token.TokenKind.{TokenKind}
@@ -170,12 +170,9 @@ before_indents : (row : Row) (s : Step) (n at : ℕ) (more : List Token) (d : �
     IndentsWithin d (marks row s at ++ more)
 before_indents row deeper n at more d o m k = let s = room d (nat_lt most_tokens (n + 1)) o in (s, k s)
   where
-    not_less : (a b : ℕ) → nat_lt a b ≡ false → b ≤ a
-    not_less a b h = grind arith
-
     by_limit : (d : ℕ) (b : Bool) → nat_lt most_indents (suc d) ≡ b → cond b (passes fault.Indents) fits ≡ fits → suc d ≤ most_indents
     by_limit d true e o = absurd cc
-    by_limit d false e o = not_less most_indents (suc d) e
+    by_limit d false e o = ltb-false most_indents (suc d) e
 
     room : (d : ℕ) (a : Bool) → cond a (passes fault.Tokens) (cond (nat_lt most_indents (suc d)) (passes fault.Indents) fits) ≡ fits → suc d ≤ most_indents
     room d true o = absurd cc

@@ -3,7 +3,7 @@
 use Rattle.std.proofs.Common.{◌≡◌, ◌↔◌, ℕ, List, ap, subst, ◌∙◌, Option, Some, None, Result, Ok, Err, true, false}
 use Rattle.std.specs.Prelude.{slice_get, IfOk, IfSome, IfNone}
 use Rattle.wy_text.specs.declared.text.Memory.{Memory}
-use Rattle.wy_effects.specs.Members.{In, Within}
+use Rattle.wy_text.specs.Members.{In, Within}
 use Rattle.wy_effects.specs.declared.atom.Atom.{Atom}
 use Rattle.wy_effects.specs.Bounds.{IsOneOf, IsLeastMissing, IsWidened}
 use Rattle.wy_types.specs.declared.types.TypeRef.{TypeRef}

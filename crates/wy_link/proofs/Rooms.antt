@@ -2,9 +2,9 @@
 use Rattle.std.proofs.Common.{◌≡◌, ℕ, zero, suc, ◌+◌, ◌-◌, ◌<◌, ◌≤◌, List, [], ◌∷◌, ◌⊎◌, inl, inr, length, get_or, drop, refl, sym, ap, ◌∙◌, subst, arith, Option, Some, None, true, false, length-append}
 use Rattle.std.specs.Prelude.{slice_get, if◌then◌else◌}
 use Rattle.std.proofs.lemmas.List.{at_drop_more}
-use Rattle.wy_effects.specs.Members.{In}
+use Rattle.wy_text.specs.Members.{In}
 use Rattle.wy_effects.specs.EffSet.{AreSets}
-use Rattle.wy_effects.proofs.Lists.{In-slice_get, In-at}
+use Rattle.wy_text.proofs.Lists.{In-slice_get, In-at}
 use Rattle.wy_types.specs.declared.types.TypeRef.{TypeRef}
 use Rattle.wy_types.specs.declared.types.TypeRef.TheVariants.{Named}
 use Rattle.wy_types.specs.declared.resolved.Origin.{Origin}

@@ -1,8 +1,8 @@
 -- What resolving makes and is accepted is lowerable, and its code does what it means.
 use Rattle.std.proofs.Common.{◌≡◌, ℕ, zero, suc, List, [], ◌∷◌, map, refl, sym, ap, ◌∙◌, subst, Some, false}
 use Rattle.std.specs.Prelude.{slice_get}
-use Rattle.wy_effects.specs.Members.{Apart}
-use Rattle.wy_effects.proofs.Lists.{In-slice_get}
+use Rattle.wy_text.specs.Members.{Apart}
+use Rattle.wy_text.proofs.Lists.{In-slice_get}
 use Rattle.wy_types.specs.declared.linked.Instance.{Instance}
 use Rattle.wy_types.specs.declared.resolved.ScopeKind.{ScopeKind}
 use Rattle.wy_types.specs.declared.resolved.ScopeKind.TheVariants.{Pure, Resource, Plain, Program as Main}

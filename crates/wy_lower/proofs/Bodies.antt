@@ -3,8 +3,8 @@
 use Rattle.std.proofs.Common.{◌≡◌, ◌⊎◌, inl, inr, ℕ, zero, suc, ◌+◌, Bool, true, false, ◌||◌, List, [], ◌∷◌, ◌++◌, Some, refl, sym, ap, ◌∙◌, subst, arith, nat_eq, append_assoc}
 use Rattle.std.proofs.lemmas.Bool.{eqb-true, eq-eqb, or_cases}
 use Rattle.std.specs.Prelude.{slice_get}
-use Rattle.wy_effects.specs.Members.{In, Apart}
-use Rattle.wy_effects.proofs.Lists.{In-left, In-right}
+use Rattle.wy_text.specs.Members.{In, Apart}
+use Rattle.wy_text.proofs.Lists.{In-left, In-right}
 use Rattle.wy_types.specs.declared.code.Variable.TheVariants.{Local}
 use Rattle.wy_types.specs.Code.{Expr, Number, Quoted, Truth, Nothing, This, Name, Unary, Binary, TextCall, Call, New, Ascribe, Assign, Values}
 use Rattle.wy_types.specs.Core.{CapturesBefore, literal_captures, block_vals, bodies_vals}

@@ -2,7 +2,7 @@
 use Rattle.std.proofs.Common.{◌≡◌, inl, ℕ, suc, ◌+◌, ◌<◌, ◌≤◌, true, false, List, [], ◌∷◌, ◌++◌, length, drop, Option, Some, None, refl, sym, ap, ◌∙◌, subst, arith, if◌then◌else◌}
 use Rattle.std.proofs.lemmas.Bool.{lt-ltb}
 use Rattle.std.specs.Prelude.{slice_get, slice_set}
-use Rattle.wy_effects.proofs.Lists.{In-right}
+use Rattle.wy_text.proofs.Lists.{In-right}
 use Rattle.wy_text.specs.declared.fault.Place.{Place}
 use Rattle.wy_types.specs.declared.code.Variable.{Variable}
 use Rattle.wy_types.specs.declared.code.Variable.TheVariants.{Local}

@@ -2,7 +2,7 @@
 -- they call are those of its calls.
 use Rattle.std.proofs.Common.{◌≡◌, ℕ, ◌+◌, Bool, true, false, List, [], ◌∷◌, ◌++◌, length, map, Option, Some, None, inl, inr, refl, sym, ap, ap₂, ◌∙◌, append_assoc, append-nil, nat_eq, if◌then◌else◌}
 use Rattle.std.specs.Prelude.{slice_get}
-use Rattle.wy_effects.specs.Members.{In}
+use Rattle.wy_text.specs.Members.{In}
 use Rattle.wy_text.specs.declared.fault.Place.{Place}
 use Rattle.wy_types.specs.declared.code.BinaryOperator.{BinaryOperator}
 use Rattle.wy_types.specs.declared.code.BinaryOperator.TheVariants as binary

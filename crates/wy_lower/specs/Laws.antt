@@ -1,7 +1,7 @@
 -- Laws of lowering. (docs/LANGUAGE.md, "Code of programs")
 use Rattle.std.specs.Prelude.{◌≡◌, ℕ, ◌+◌, Bool, List, ◌++◌, Some, length, slice_get}
 use Rattle.wy_text.specs.declared.fault.Place.{Place}
-use Rattle.wy_effects.specs.Members.{In}
+use Rattle.wy_text.specs.Members.{In}
 use Rattle.wy_types.specs.Code.{Block}
 use Rattle.wy_types.specs.Marks.{ProgramPasses}
 use Rattle.wy_types.specs.Program.{Program, Scope, Body}

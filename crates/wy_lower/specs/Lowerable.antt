@@ -1,7 +1,7 @@
 -- Which programs, with their instances in start order, are lowered to code that does what they mean.
 -- (docs/LANGUAGE.md, "Code of programs")
 use Rattle.std.specs.Prelude.{◌≡◌, ℕ, List, [], ◌∷◌, ◌++◌, Some, false, length, slice_get}
-use Rattle.wy_effects.specs.Members.{Apart}
+use Rattle.wy_text.specs.Members.{Apart}
 use Rattle.wy_types.specs.Code.{Expr, New}
 use Rattle.wy_types.specs.Core.{IsCore, literal_captures}
 use Rattle.wy_types.specs.Program.{Program, Scope}

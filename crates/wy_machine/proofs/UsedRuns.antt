@@ -5,7 +5,7 @@ use Rattle.std.proofs.lemmas.Option.{same_Some}
 use Rattle.wy_device.specs.declared.deed.Event.{Event}
 use Rattle.wy_device.specs.declared.deed.Event.TheVariants.{Enter, Leave, Deed}
 use Rattle.wy_device.specs.Devices.{DevicesState}
-use Rattle.wy_effects.specs.Members.{Apart}
+use Rattle.wy_text.specs.Members.{Apart}
 use Rattle.wy_meaning.specs.Bounds.{Call}
 use Rattle.wy_meaning.specs.OpenCalls.{open_after}
 use Rattle.wy_meaning.specs.Used.{UsedState, Follows, account_of, calls_of, unused}

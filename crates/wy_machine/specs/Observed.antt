@@ -2,7 +2,7 @@
 use Rattle.std.specs.Prelude.{◌≡◌, ◌<◌, ◌^◌, ◌-◌, ℕ, Some, Result, Ok, slice_get}
 use Rattle.wy_device.specs.Devices.{DevicesState}
 use Rattle.wy_meaning.specs.Bounds.{atom_of}
-use Rattle.wy_effects.specs.Members.{Apart}
+use Rattle.wy_text.specs.Members.{Apart}
 use Rattle.wy_meaning.specs.Used.{UsedState, Follows, entered, left, performed}
 use Rattle.wy_meaning.specs.declared.used.Account.{Account}
 use Rattle.wy_code.specs.declared.code.Code.{Code}

@@ -9,8 +9,8 @@ use Rattle.wy_text.specs.declared.fault.AtomName.{AtomName}
 use Rattle.wy_device.specs.declared.deed.Deed.{Deed as DeedRecord}
 use Rattle.wy_device.specs.declared.deed.Event.{Event}
 use Rattle.wy_device.specs.declared.deed.Event.TheVariants.{Enter, Deed, Leave}
-use Rattle.wy_effects.specs.Members.{In, Apart}
-use Rattle.wy_effects.proofs.Lists.{In-slice_get}
+use Rattle.wy_text.specs.Members.{In, Apart}
+use Rattle.wy_text.proofs.Lists.{In-slice_get}
 use Rattle.wy_meaning.specs.declared.used.Account.{Account}
 use Rattle.wy_meaning.specs.Bounds.{Call, atom_of}
 use Rattle.wy_meaning.specs.OpenCalls.{open_after}

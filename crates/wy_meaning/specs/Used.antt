@@ -6,7 +6,7 @@ use Rattle.wy_device.specs.declared.deed.Deed.{Deed as DeedRecord}
 use Rattle.wy_device.specs.declared.deed.Event.{Event}
 use Rattle.wy_device.specs.declared.deed.Event.TheVariants.{Enter, Deed, Leave}
 use Rattle.wy_effects.specs.EffSet.{insert_atom}
-use Rattle.wy_effects.specs.Members.{In}
+use Rattle.wy_text.specs.Members.{In}
 use Rattle.wy_meaning.specs.Bounds.{Call, atom_of}
 use Rattle.wy_meaning.specs.OpenCalls.{open_after}
 use Rattle.wy_meaning.specs.declared.used.Account.{Account}

@@ -2,8 +2,8 @@
 use Rattle.std.proofs.Common.{◌≡◌, List, [], ◌∷◌, ◌++◌, Option, Some, None, refl, sym, ap, ◌∙◌, subst, inl, inr, append_assoc, map, length, arith, Result, Ok, Err}
 use Rattle.std.specs.Prelude.{IfOk, IfErr}
 use Rattle.wy_text.specs.declared.fault.Place.{Place}
-use Rattle.wy_effects.specs.Members.{In}
-use Rattle.wy_effects.proofs.Lists.{In-left, In-right, In-cases}
+use Rattle.wy_text.specs.Members.{In}
+use Rattle.wy_text.proofs.Lists.{In-left, In-right, In-cases}
 use Rattle.std.proofs.lemmas.List.{map-append}
 use Rattle.wy_types.specs.declared.resolved.Scope as code
 use Rattle.wy_types.specs.Program.{Program, Scope, scope_of}

@@ -1,7 +1,7 @@
 -- What is judged of a program's declarations: their refusals, and the program whose names are resolved.
 use Rattle.std.specs.Prelude.{◌≡◌, List, [], ◌∷◌, ◌++◌, ◌⊎◌, ◌↔◌, map, Option}
 use Rattle.wy_text.specs.declared.fault.Place.{Place}
-use Rattle.wy_effects.specs.Members.{In}
+use Rattle.wy_text.specs.Members.{In}
 use Rattle.wy_types.specs.Program.{Program}
 use Rattle.wy_symbols.specs.declared.refusal.Cause.{Cause}
 use Rattle.wy_symbols.specs.declared.refusal.Cause.TheVariants as cause

@@ -5,7 +5,7 @@ use Rattle.std.specs.Option.{IfSome, IfNone}
 use Rattle.std.proofs.lemmas.Option.{slice_get_within}
 use Rattle.wy_effects.specs.declared.atom.Atom.{Atom}
 use Rattle.wy_effects.specs.EffSet.{replace}
-use Rattle.wy_effects.specs.Members.{Within}
+use Rattle.wy_text.specs.Members.{Within}
 use Rattle.wy_effects.specs.Bounds.{Bounds, IsUnder, IsWithin, Respects, IsOneOf, IsLeastMissing, IsWidened}
 use Rattle.wy_effects.proofs.Ordering.{missing_exactly, widened_exactly}
 use Rattle.wy_rules.specs.Failing.{FirstOutside}

@@ -1,7 +1,7 @@
 -- What trying a premise for one argument after the other comes to, and the first premises of a line.
 use Rattle.std.specs.Prelude.{◌≡◌, ℕ, List, Option, Some, None, length, slice_get}
 use Rattle.std.specs.Option.{option_map}
-use Rattle.wy_effects.specs.Members.{In}
+use Rattle.wy_text.specs.Members.{In}
 use Rattle.wy_effects.specs.declared.atom.Atom.{Atom}
 use Rattle.wy_types.specs.declared.types.TypeRef.{TypeRef}
 use Rattle.wy_types.specs.declared.resolved.OwnName.{OwnName}

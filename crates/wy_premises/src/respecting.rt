@@ -2,7 +2,7 @@
 
 ghost use Rattle.std.specs.Prelude.{IfOk, IfSome, IfNone, [], slice_index_or};
 ghost use Rattle.wy_effects.specs.EffSet.{replace};
-ghost use Rattle.wy_effects.specs.Members.{Within};
+ghost use Rattle.wy_text.specs.Members.{Within};
 ghost use Rattle.wy_effects.specs.Bounds.{IsOneOf, IsUnder, IsWithin, Respects, IsLeastMissing};
 ghost use Rattle.wy_types.specs.Program.{program_of};
 ghost use Rattle.wy_types.specs.Bounds.{bounds_of};

@@ -1,8 +1,8 @@
 -- Lists of types that have all that the methods of their types name: of a type in range, and of any type in a plain module.
 use Rattle.std.proofs.Common.{◌≡◌, ℕ, zero, suc, ◌<◌, List, [], ◌∷◌, ◌++◌, map, length, inl, inr, refl, sym, ap, subst, Option, Some, None, Bool as Truth, true, false, arith}
 use Rattle.std.specs.Prelude.{slice_get}
-use Rattle.wy_effects.specs.Members.{In, Within}
-use Rattle.wy_effects.proofs.Lists.{In-left, In-right, In-cases, In-unmap}
+use Rattle.wy_text.specs.Members.{In, Within}
+use Rattle.wy_text.proofs.Lists.{In-left, In-right, In-cases, In-unmap}
 use Rattle.wy_effects.proofs.Closure.{closure}
 use Rattle.wy_effects.proofs.SetLaws.{cases_equal}
 use Rattle.wy_types.specs.declared.types.TypeRef.{TypeRef}

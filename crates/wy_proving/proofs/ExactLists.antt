@@ -2,11 +2,11 @@
 use Rattle.std.proofs.Common.{◌≡◌, ◌↔◌, ℕ, ◌+◌, List, [], ◌∷◌, length, inl, inr, refl, sym, ap, ap₂, subst, Some, Bool as Truth, true, false}
 use Rattle.std.specs.Prelude.{slice_get, nat_lt, not, ◌&&◌, ◌||◌}
 use Rattle.std.proofs.lemmas.Bool.{lt-ltb, ltb-true, le-ltb, ltb-false}
-use Rattle.wy_effects.specs.Members.{In, Within}
+use Rattle.wy_text.specs.Members.{In, Within}
 use Rattle.wy_effects.specs.EffSet.{IsSetFrom, has}
 use Rattle.wy_effects.specs.Bounds.{IsWithin, GoDown}
 use Rattle.wy_effects.specs.Widened.{includes, widened_set}
-use Rattle.wy_effects.proofs.Lists.{In-slice_get}
+use Rattle.wy_text.proofs.Lists.{In-slice_get}
 use Rattle.wy_effects.proofs.SetLaws.{In-has}
 use Rattle.wy_effects.proofs.Ordering.{widened_exactly, fit_down}
 use Rattle.wy_effects.proofs.Widening.{told, widened_is}

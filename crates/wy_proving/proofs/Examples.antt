@@ -15,7 +15,7 @@
 -- 7      ()
 use Rattle.std.proofs.Common.{◌≡◌, ℕ, pos, zero, suc, ◌<◌, List, [], ◌∷◌, ◌++◌, refl, subst, inl, inr, Option, Some, None, true, arith}
 use Rattle.std.specs.Prelude.{codes, slice_get}
-use Rattle.wy_effects.specs.Members.{In}
+use Rattle.wy_text.specs.Members.{In}
 use Rattle.wy_effects.specs.Bounds.{IsWithin}
 use Rattle.wy_effects.proofs.Ordering.{none_within, same_within}
 use Rattle.wy_types.specs.declared.types.TypeRef.{TypeRef}

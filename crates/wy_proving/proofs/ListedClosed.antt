@@ -1,8 +1,8 @@
 -- What is said of a scope, written out from closed pairs, types of `val`s and steps: its types stand and its pairs are closed.
 use Rattle.std.proofs.Common.{◌≡◌, ℕ, List, [], ◌∷◌, ◌++◌, map, inl, inr, refl, sym, ◌∙◌, ap, ap₂, subst}
-use Rattle.wy_effects.specs.Members.{In}
+use Rattle.wy_text.specs.Members.{In}
 use Rattle.wy_effects.specs.Bounds.{IsWithin}
-use Rattle.wy_effects.proofs.Lists.{In-left, In-right, In-cases, In-unmap}
+use Rattle.wy_text.proofs.Lists.{In-left, In-right, In-cases, In-unmap}
 use Rattle.wy_types.specs.declared.types.TypeRef.{TypeRef}
 use Rattle.wy_types.specs.Program.{Program, Scope}
 use Rattle.wy_types.specs.Types.{IsObject, annotated, erased, methods_of}

@@ -1,9 +1,9 @@
 -- The effects of methods of types that stand are sets of the scope's atoms, and empty in a plain module.
 use Rattle.std.proofs.Common.{◌≡◌, ℕ, List, [], map, length, refl, sym, ◌∙◌, ap, subst, Some, Bool as Truth, true, false}
 use Rattle.std.specs.Prelude.{slice_get}
-use Rattle.wy_effects.specs.Members.{In}
+use Rattle.wy_text.specs.Members.{In}
 use Rattle.wy_effects.specs.EffSet.{IsSet, AreSets, replace}
-use Rattle.wy_effects.proofs.Lists.{In-unmap}
+use Rattle.wy_text.proofs.Lists.{In-unmap}
 use Rattle.wy_effects.proofs.Replacing.{IsSet-replace}
 use Rattle.wy_types.specs.declared.types.TypeRef.{TypeRef}
 use Rattle.wy_types.specs.declared.types.TypeRef.TheVariants.{Int, Bool, Text, Unit as Nothing, Named, At, Own}

@@ -1,6 +1,6 @@
 -- The row of an operator that is taken, where the operands have the types of a row exactly.
 use Rattle.std.proofs.Common.{◌≡◌, List, [], ◌∷◌, map, inl, inr, refl, sym, ◌∙◌, ap, subst, Bool as Truth, true, false}
-use Rattle.wy_effects.specs.Members.{In}
+use Rattle.wy_text.specs.Members.{In}
 use Rattle.wy_types.specs.declared.types.TypeRef.{TypeRef}
 use Rattle.wy_types.specs.declared.types.TypeRef.TheVariants.{Int, Bool, Text}
 use Rattle.wy_types.specs.declared.code.UnaryOperator.{UnaryOperator}

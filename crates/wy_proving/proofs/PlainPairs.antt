@@ -1,8 +1,8 @@
 -- Pairs that are closed with no regard to effects, compared by erasure, make a plain subtyping of the types themselves.
 use Rattle.std.proofs.Common.{◌≡◌, ℕ, List, [], ◌∷◌, ◌++◌, map, inl, inr, refl, sym, ◌∙◌, ap, subst, Option, Some, None}
 use Rattle.std.specs.Option.{option_map}
-use Rattle.wy_effects.specs.Members.{In, Within}
-use Rattle.wy_effects.proofs.Lists.{In-left, In-right, In-cases, In-map}
+use Rattle.wy_text.specs.Members.{In, Within}
+use Rattle.wy_text.proofs.Lists.{In-left, In-right, In-cases, In-map}
 use Rattle.wy_effects.proofs.Closure.{in_decided}
 use Rattle.wy_types.specs.declared.types.TypeRef.{TypeRef}
 use Rattle.wy_types.specs.declared.types.TypeRef.TheVariants.{Int, Bool, Text, Unit as Nothing, Named, At, Own}

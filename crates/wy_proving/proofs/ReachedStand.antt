@@ -3,9 +3,9 @@ use Rattle.std.proofs.Common.{◌≡◌, ℕ, zero, suc, ◌+◌, ◌<◌, ◌�
 use Rattle.std.specs.Prelude.{slice_get, ◌-◌}
 use Rattle.std.specs.List.{range_with_len}
 use Rattle.std.proofs.Math.ListN.{length-map}
-use Rattle.wy_effects.specs.Members.{In}
+use Rattle.wy_text.specs.Members.{In}
 use Rattle.wy_effects.specs.EffSet.{IsSet, AreSets, replace}
-use Rattle.wy_effects.proofs.Lists.{In-left, In-right, In-unmap, In-at, In-slice_get}
+use Rattle.wy_text.proofs.Lists.{In-left, In-right, In-unmap, In-at, In-slice_get}
 use Rattle.wy_effects.proofs.Replacing.{IsSet-replace, AreSets-map}
 use Rattle.wy_types.specs.declared.types.TypeRef.{TypeRef}
 use Rattle.wy_types.specs.declared.types.TypeRef.TheVariants.{Int, Bool, Text, Unit as Nothing, Named, At, Own}

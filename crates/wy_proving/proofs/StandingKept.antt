@@ -1,7 +1,7 @@
 -- That a type can stand is kept by methods and holds of all that a scope writes: so what is written over types that stand names such types.
 use Rattle.std.proofs.Common.{◌≡◌, ℕ, List, [], ◌∷◌, map, length, inl, inr, refl, Some}
 use Rattle.std.specs.Prelude.{slice_get}
-use Rattle.wy_effects.specs.Members.{In}
+use Rattle.wy_text.specs.Members.{In}
 use Rattle.wy_types.specs.declared.types.TypeRef.{TypeRef}
 use Rattle.wy_types.specs.declared.types.TypeRef.TheVariants.{Own}
 use Rattle.wy_types.specs.declared.code.Variable.{Variable}

@@ -2,7 +2,7 @@
 -- give such types, and each T-Sub gives a supertype and an effect that can stand.
 use Rattle.std.proofs.Common.{◌≡◌, ℕ, List, [], ◌∷◌, ◌++◌, map, inl, inr, refl, sym, subst, Option, Some, None, true, false}
 use Rattle.std.specs.Prelude.{if◌then◌else◌}
-use Rattle.wy_effects.specs.Members.{In}
+use Rattle.wy_text.specs.Members.{In}
 use Rattle.wy_effects.specs.EffSet.{union}
 use Rattle.wy_types.specs.declared.types.TypeRef.TheVariants.{Bool, Text, Unit as Nothing}
 use Rattle.wy_types.specs.declared.code.UnaryOperator.{UnaryOperator}

@@ -1,6 +1,6 @@
 -- Typing of a scope of either kind as one reading: plain typing differs in its tests of effects alone.
 use Rattle.std.specs.Prelude.{ℕ, List, Bool as Truth, true, false}
-use Rattle.wy_effects.specs.Members.{Within}
+use Rattle.wy_text.specs.Members.{Within}
 use Rattle.wy_effects.specs.Bounds.{IsUnder, IsWithin}
 use Rattle.wy_types.specs.declared.types.TypeRef.{TypeRef}
 use Rattle.wy_types.specs.Program.{Program}

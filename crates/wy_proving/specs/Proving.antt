@@ -1,6 +1,6 @@
 -- What a certificate has to keep to prove a program, test by test (docs/LANGUAGE.md, "Certificates").
 use Rattle.std.specs.Prelude.{◌≡◌, ◌↔◌, ℕ, ◌+◌, ◌<◌, List, [], ◌∷◌, ◌++◌, Option, Some, None, Bool as Truth, true, false, length, map, slice_get, nat_eq, nat_lt, not, if◌then◌else◌}
-use Rattle.wy_effects.specs.Members.{In, Within}
+use Rattle.wy_text.specs.Members.{In, Within}
 use Rattle.wy_effects.specs.EffSet.{IsSet, AreSets}
 use Rattle.wy_effects.specs.Bounds.{IsWithin}
 use Rattle.wy_effects.specs.Widened.{includes, widened_set}

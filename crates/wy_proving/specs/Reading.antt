@@ -3,7 +3,7 @@
 use Rattle.std.specs.Prelude.{◌≡◌, ℕ, ◌+◌, List, [], ◌∷◌, ◌↔◌, Option, Some, None, Bool as Truth, true, false, map, slice_get, nat_eq, if◌then◌else◌}
 use Rattle.wy_text.specs.declared.fault.Place.{Place}
 use Rattle.wy_effects.specs.EffSet.{union}
-use Rattle.wy_effects.specs.Members.{Within}
+use Rattle.wy_text.specs.Members.{Within}
 use Rattle.wy_effects.specs.Bounds.{IsWithin}
 use Rattle.wy_types.specs.declared.types.TypeRef.{TypeRef}
 use Rattle.wy_types.specs.declared.types.TypeRef.TheVariants.{Int, Bool, Text, Unit as Nothing, Own}

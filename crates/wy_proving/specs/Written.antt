@@ -1,7 +1,7 @@
 -- What is written for a scope of an accepted program: which pairs its rules and steps ask, and types, pairs, types of `val`s and steps by
 -- the numbers of their types (docs/LANGUAGE.md, "Certificates").
 use Rattle.std.specs.Prelude.{◌≡◌, ℕ, suc, List, [], ◌∷◌, ◌++◌, map, Option, Some, None, Bool as Truth, true, false, slice_get, if◌then◌else◌}
-use Rattle.wy_effects.specs.Members.{In}
+use Rattle.wy_text.specs.Members.{In}
 use Rattle.wy_effects.specs.Bounds.{IsWithin}
 use Rattle.wy_types.specs.declared.types.TypeRef.{TypeRef}
 use Rattle.wy_types.specs.declared.types.TypeRef.TheVariants as to

@@ -2,9 +2,9 @@
 use Rattle.std.proofs.Common.{◌≡◌, ℕ, suc, List, [], ◌∷◌, map, length, inl, inr, refl, sym, ap, ◌∙◌, subst, Option, Some, None}
 use Rattle.std.specs.Prelude.{◌↔◌}
 use Rattle.std.specs.Option.{option_map}
-use Rattle.wy_effects.specs.Members.{In, Within}
+use Rattle.wy_text.specs.Members.{In, Within}
 use Rattle.wy_effects.specs.Bounds.{IsWithin}
-use Rattle.wy_effects.proofs.Lists.{In-map, In-unmap}
+use Rattle.wy_text.proofs.Lists.{In-map, In-unmap}
 use Rattle.wy_types.specs.declared.types.TypeRef.{TypeRef}
 use Rattle.wy_types.specs.declared.types.TypeRef.TheVariants.{Int, Bool, Text, Unit as Nothing, Named, At, Own}
 use Rattle.wy_types.specs.declared.path.Part.{Part}

@@ -2,8 +2,8 @@
 use Rattle.std.proofs.Common.{◌≡◌, ℕ, zero, suc, ◌+◌, ◌<◌, ◌≤◌, List, [], ◌∷◌, ◌++◌, map, take, length, get_or, inl, inr, Some, refl, sym, ap, ◌∙◌, subst, arith}
 use Rattle.std.specs.Prelude.{slice_get}
 use Rattle.std.proofs.lemmas.List.{take_more, take_all, map-append, map-id}
-use Rattle.wy_effects.specs.Members.{In}
-use Rattle.wy_effects.proofs.Lists.{In-map, In-unmap, In-read, each_more, each_all}
+use Rattle.wy_text.specs.Members.{In}
+use Rattle.wy_text.proofs.Lists.{In-map, In-unmap, In-read, each_more, each_all}
 use Rattle.wy_subtype.proofs.Places.{slice_get-mapped, slice_get-unmapped}
 use Rattle.wy_proving.specs.Proving.{AllStand}
 use Rattle.wy_proving.specs.Unproved.{IsFirstWithout}

@@ -1,6 +1,6 @@
 -- What a pure module may not have, by what its fields and its own names were found to be.
 use Rattle.std.proofs.Common.{◌≡◌, ◌↔◌, List, sym, subst, Bool as Truth, true, false}
-use Rattle.wy_effects.specs.Members.{In}
+use Rattle.wy_text.specs.Members.{In}
 use Rattle.wy_types.specs.declared.resolved.Field.{Field}
 use Rattle.wy_types.specs.declared.resolved.OwnName.{OwnName}
 use Rattle.wy_types.specs.declared.resolved.ScopeKind.{ScopeKind}

@@ -1,7 +1,7 @@
 -- What is told of the types of the scope that was found is told of the scope of the number.
 use Rattle.std.proofs.Common.{◌≡◌, ℕ, ◌≤◌, List, length, Some, map, sym, ◌∙◌, subst}
 use Rattle.std.specs.Prelude.{slice_get}
-use Rattle.wy_effects.proofs.Lists.{In-map, In-slice_get}
+use Rattle.wy_text.proofs.Lists.{In-map, In-slice_get}
 use Rattle.wy_types.specs.declared.resolved.Scope as sc
 use Rattle.wy_types.specs.declared.resolved.Core.{Core}
 use Rattle.wy_types.specs.Program.{Scope, program_of, scope_of}

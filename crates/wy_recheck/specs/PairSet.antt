@@ -1,6 +1,6 @@
 -- Pairs by their keys.
 use Rattle.std.specs.Prelude.{◌↔◌, ℕ, List, Bool as Truth, IsTrue}
-use Rattle.wy_effects.specs.Members.{In}
+use Rattle.wy_text.specs.Members.{In}
 use Rattle.wy_types.specs.Keys.{pair_key}
 use Rattle.wy_proving.specs.Certified.{Pair}
 

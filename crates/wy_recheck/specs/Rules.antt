@@ -1,6 +1,6 @@
 -- The rules of a scope as code has them, and what is decided of them by listed pairs (docs/LANGUAGE.md, "Certificates").
 use Rattle.std.specs.Prelude.{◌≡◌, ◌↔◌, ℕ, List, Bool as Truth, true, slice_get}
-use Rattle.wy_effects.specs.Members.{In}
+use Rattle.wy_text.specs.Members.{In}
 use Rattle.wy_types.specs.declared.types.TypeRef.{TypeRef}
 use Rattle.wy_types.specs.Program.{Program, Scope}
 use Rattle.wy_types.specs.Types.{substituted, annotated, erased}

@@ -1,7 +1,7 @@
 //! The rules for a scope but for those of its bodies: of its kind, its seal, its uses and its lines.
 
 ghost use Rattle.std.specs.Prelude.{◌≡◌, ◌<◌, ◌↔◌, ◌++◌, IfOk, IfErr, OnOk, length, map, slice_get, Some, true, false};
-ghost use Rattle.wy_effects.specs.Members.{In};
+ghost use Rattle.wy_text.specs.Members.{In};
 ghost use Rattle.wy_types.specs.declared.resolved.Field.{Field as AnyField};
 ghost use Rattle.wy_types.specs.declared.resolved.OwnName.{OwnName as AnyName};
 ghost use Rattle.wy_types.specs.Program.{Scope as ProgramScope, program_of, scope_of};

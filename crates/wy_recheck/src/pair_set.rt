@@ -1,7 +1,7 @@
 //! The pairs that are listed, by their keys.
 
 ghost use Rattle.std.specs.Prelude.{◌≡◌, ◌++◌, [], ◌∷◌, List, IfOk, OnOk};
-ghost use Rattle.wy_effects.specs.Members.{In as IsIn};
+ghost use Rattle.wy_text.specs.Members.{In as IsIn};
 ghost use Rattle.wy_types.specs.Types.{erased};
 ghost use Rattle.wy_proving.specs.Certified.{Pair};
 ghost use Rattle.wy_recheck.specs.PairSet.{StandsFor, Tells};

@@ -1,7 +1,7 @@
 //! The pairs that are listed for a scope.
 
 ghost use Rattle.std.specs.Prelude.{◌≡◌, ◌≤◌, ◌+◌, ◌++◌, List, length, map, slice_get, IfOk, IfErr, OnOk};
-ghost use Rattle.wy_effects.specs.Members.{In as IsIn};
+ghost use Rattle.wy_text.specs.Members.{In as IsIn};
 ghost use Rattle.wy_types.specs.Program.{Scope as ProgramScope, program_of};
 ghost use Rattle.wy_types.specs.InRange.{IsInRange};
 ghost use Rattle.wy_subtype.specs.declared.unfolding.UnfoldedPair.{UnfoldedPair as Asked};

@@ -2,8 +2,8 @@
 use Rattle.std.proofs.Common.{◌≡◌, ℕ, List, [], ◌∷◌, ◌++◌, map, inl, inr, refl, sym, ◌∙◌, ap, ap₂, subst, Option, Some, None, Bool as Truth, true, false}
 use Rattle.std.specs.Prelude.{slice_get}
 use Rattle.wy_effects.specs.Bounds.{Respects, IsUnder}
-use Rattle.wy_effects.specs.Members.{In}
-use Rattle.wy_effects.proofs.Lists.{In-slice_get}
+use Rattle.wy_text.specs.Members.{In}
+use Rattle.wy_text.proofs.Lists.{In-slice_get}
 use Rattle.wy_types.specs.declared.path.Part.{Part}
 use Rattle.wy_types.specs.declared.path.Part.TheVariants as part
 use Rattle.wy_types.specs.declared.path.Step.{Step}

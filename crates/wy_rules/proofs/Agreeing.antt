@@ -1,10 +1,10 @@
 -- Subtyping over tables of methods, and the tables of a scope before and after a replacement.
 use Rattle.std.proofs.Common.{◌≡◌, ℕ, List, [], ◌∷◌, map, ◌⊎◌, inl, inr, refl, sym, ap, ◌∙◌, subst, Option, Bool as Truth, true, false}
 use Rattle.std.specs.Prelude.{slice_get}
-use Rattle.wy_effects.specs.Members.{In}
+use Rattle.wy_text.specs.Members.{In}
 use Rattle.wy_effects.specs.EffSet.{AreSets, replace}
 use Rattle.wy_effects.specs.Bounds.{IsWithin, IsUnder, by_member}
-use Rattle.wy_effects.proofs.Lists.{In-map, In-unmap}
+use Rattle.wy_text.proofs.Lists.{In-map, In-unmap}
 use Rattle.wy_effects.proofs.Replacing.{replace-replace}
 use Rattle.wy_effects.proofs.Ordering.{onward_within, replaced_within}
 use Rattle.wy_types.specs.declared.types.TypeRef.{TypeRef}

@@ -1,7 +1,7 @@
 -- The nodes of lines: what fails of a line, and the atom that is missing there, is one.
 use Rattle.std.proofs.Common.{◌≡◌, ℕ, List, [], ◌∷◌, inl, inr, refl, sym, ◌∙◌, ap, Option, Some, None, le_antisymm}
 use Rattle.wy_text.specs.declared.fault.RuleName.TheVariants.{MUse, MInst, MImport, IImport}
-use Rattle.wy_effects.specs.Members.{In}
+use Rattle.wy_text.specs.Members.{In}
 use Rattle.wy_types.specs.declared.resolved.OwnName.{OwnName}
 use Rattle.wy_types.specs.declared.resolved.Origin.{Origin}
 use Rattle.wy_types.specs.declared.resolved.Origin.TheVariants.{Parameter, Grant, Use, Instance, Import}

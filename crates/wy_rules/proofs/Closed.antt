@@ -2,7 +2,7 @@
 use Rattle.std.proofs.Common.{◌≡◌, ℕ, List, [], ◌∷◌, ◌++◌, inl, inr, refl, sym, ◌∙◌, ap, ap₂, subst, Option, Some, None, Bool as Truth, true, false, ◌&&◌, ◌||◌, ◌⊎◌}
 use Rattle.std.specs.Prelude.{bytes_eq}
 use Rattle.std.proofs.lemmas.Slice.Eq.{bytes_eq-Decides}
-use Rattle.wy_effects.specs.Members.{In, Within}
+use Rattle.wy_text.specs.Members.{In, Within}
 use Rattle.wy_effects.specs.EffSet.{has}
 use Rattle.wy_effects.specs.Bounds.{Bounds, IsWithin}
 use Rattle.wy_effects.proofs.SetLaws.{In-has}

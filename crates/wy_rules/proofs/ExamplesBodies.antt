@@ -17,7 +17,7 @@ use Rattle.std.specs.Prelude.{codes, ◌++◌}
 use Rattle.wy_text.specs.declared.fault.Fault.{Fault}
 use Rattle.wy_text.specs.declared.fault.RuleName.TheVariants.{TBody}
 use Rattle.wy_effects.specs.AtomTable.{atom_name}
-use Rattle.wy_effects.specs.Members.{In}
+use Rattle.wy_text.specs.Members.{In}
 use Rattle.wy_effects.specs.Bounds.{by_member}
 use Rattle.wy_effects.proofs.Ordering.{none_bounded}
 use Rattle.wy_types.specs.declared.types.TypeRef.{TypeRef}

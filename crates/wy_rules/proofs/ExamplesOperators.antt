@@ -1,7 +1,7 @@
 -- Operations that are refused, by the operand whose type is wrong.
 use Rattle.std.proofs.Common.{ℕ, List, [], ◌∷◌, refl, sym, subst, inl, inr, Some, None, map, take}
 use Rattle.wy_text.specs.declared.fault.RuleName.TheVariants.{TOp}
-use Rattle.wy_effects.specs.Members.{In}
+use Rattle.wy_text.specs.Members.{In}
 use Rattle.wy_types.specs.declared.types.TypeRef.{TypeRef}
 use Rattle.wy_types.specs.declared.types.TypeRef.TheVariants.{Int, Bool, Text}
 use Rattle.wy_types.specs.declared.code.BinaryOperator.TheVariants.{Add, Equal}

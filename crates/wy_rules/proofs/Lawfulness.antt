@@ -1,7 +1,7 @@
 -- The laws of annotated and of plain typing's subtyping and inclusion, and what follows for a body whose effect lacks an atom.
 use Rattle.std.proofs.Common.{ℕ, ◌≤◌, List, [], ◌∷◌, Option, refl, subst, inl, inr, arith}
 use Rattle.wy_effects.specs.Bounds.{IsLeastMissing, IsWithin, IsUnder, AreNone}
-use Rattle.wy_effects.specs.Members.{In}
+use Rattle.wy_text.specs.Members.{In}
 use Rattle.wy_effects.proofs.SetLaws.{Within-unions}
 use Rattle.wy_effects.proofs.Ordering.{same_within, onward_within, unions_within, under_onward, unbounded_under}
 use Rattle.wy_types.specs.declared.types.TypeRef.{TypeRef}

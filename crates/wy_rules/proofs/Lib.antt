@@ -44,6 +44,7 @@ pub mod Outside
 pub mod Passing
 pub mod Reaching
 pub mod Rereadings
+pub mod RunReadings
 pub mod SameTypes
 pub mod Settling
 mod Sources

@@ -1,8 +1,8 @@
 -- A test of lists of types at a polarity, by which worked examples show effects and safety: a list that has each part of each
 -- method's signature at its polarity has all that is reached.
 use Rattle.std.proofs.Common.{◌≡◌, ℕ, List, [], ◌∷◌, inl, inr, refl, ◌∙◌, ap, ap₂, subst, Bool as Truth, true, false, not, ◌&&◌, ◌||◌}
-use Rattle.wy_effects.specs.Members.{In, Within}
-use Rattle.wy_effects.proofs.Lists.{In-slice_get}
+use Rattle.wy_text.specs.Members.{In, Within}
+use Rattle.wy_text.proofs.Lists.{In-slice_get}
 use Rattle.wy_effects.specs.Bounds.{Bounds, IsUnder, by_member}
 use Rattle.wy_types.specs.declared.types.TypeRef.{TypeRef}
 use Rattle.wy_types.specs.declared.path.Part.{Part}

@@ -1,9 +1,9 @@
 -- What has a derivation over some types of the `val`s has one over their least types, of no larger effect.
 use Rattle.std.proofs.Common.{◌≡◌, ℕ, List, [], ◌∷◌, ◌++◌, map, inl, inr, refl, sym, ◌∙◌, ap, subst, Option, Some, None}
 use Rattle.std.specs.Prelude.{slice_get}
-use Rattle.wy_effects.specs.Members.{In}
+use Rattle.wy_text.specs.Members.{In}
 use Rattle.wy_effects.specs.EffSet.{union}
-use Rattle.wy_effects.proofs.Lists.{In-left, In-right, In-cases}
+use Rattle.wy_text.proofs.Lists.{In-left, In-right, In-cases}
 use Rattle.wy_types.specs.declared.types.TypeRef.{TypeRef}
 use Rattle.wy_types.specs.declared.types.TypeRef.TheVariants.{Int, Bool, Text, Unit as Nothing}
 use Rattle.wy_types.specs.declared.code.Variable.{Variable}

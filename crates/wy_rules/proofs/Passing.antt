@@ -3,7 +3,7 @@ use Rattle.std.proofs.Common.{◌≡◌, ℕ, suc, ◌+◌, List, [], ◌∷◌,
 use Rattle.std.specs.Prelude.{slice_get, if◌then◌else◌}
 use Rattle.wy_text.specs.declared.fault.Fault.{Fault}
 use Rattle.wy_text.specs.declared.fault.RuleName.TheVariants.{MPure}
-use Rattle.wy_effects.specs.Members.{In}
+use Rattle.wy_text.specs.Members.{In}
 use Rattle.wy_types.specs.declared.types.TypeRef.TheVariants.{Unit as Nothing}
 use Rattle.wy_types.specs.declared.resolved.Field.{Field}
 use Rattle.wy_types.specs.declared.resolved.OwnName.{OwnName}

@@ -3,8 +3,8 @@ use Rattle.std.proofs.Common.{◌≡◌, ℕ, length, zero, suc, List, [], ◌�
 use Rattle.std.specs.Prelude.{slice_get, if◌then◌else◌}
 use Rattle.std.specs.Option.{option_map}
 use Rattle.wy_text.specs.declared.fault.Place.{Place}
-use Rattle.wy_effects.specs.Members.{In}
-use Rattle.wy_effects.proofs.Lists.{In-map, In-at, In-slice_get}
+use Rattle.wy_text.specs.Members.{In}
+use Rattle.wy_text.proofs.Lists.{In-map, In-at, In-slice_get}
 use Rattle.wy_types.specs.declared.types.TypeRef.{TypeRef}
 use Rattle.wy_types.specs.declared.types.TypeRef.TheVariants.{Int, Bool, Text, Unit as Nothing, Own}
 use Rattle.wy_types.specs.declared.code.Variable.{Variable}

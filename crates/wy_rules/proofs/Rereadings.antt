@@ -1,7 +1,7 @@
 -- The laws of erasure, substitution and retyping: each is one way of reading on.
 use Rattle.std.proofs.Common.{◌≡◌, ℕ, List, [], map, refl, sym, Bool as Truth, true, false}
 use Rattle.std.specs.Prelude.{slice_get}
-use Rattle.wy_effects.specs.Members.{Within}
+use Rattle.wy_text.specs.Members.{Within}
 use Rattle.wy_effects.specs.EffSet.{AreSets, union, replace}
 use Rattle.wy_effects.specs.Bounds.{Bounds, Respects}
 use Rattle.wy_effects.proofs.Replacing.{Within-replace}

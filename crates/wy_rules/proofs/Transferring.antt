@@ -1,7 +1,7 @@
 -- A scope that holds over one table of methods holds over another that has the same methods for all types that are reached.
 use Rattle.std.proofs.Common.{◌≡◌, ℕ, ◌≤◌, List, [], ◌∷◌, ◌++◌, map, length, inl, inr, refl, sym, subst, Option, Some, None, Bool as Truth, true, false}
-use Rattle.wy_effects.specs.Members.{In, Within, Apart}
-use Rattle.wy_effects.proofs.Lists.{In-left, In-right, In-cases, length-apart}
+use Rattle.wy_text.specs.Members.{In, Within, Apart}
+use Rattle.wy_text.proofs.Lists.{In-left, In-right, In-cases, length-apart}
 use Rattle.wy_effects.proofs.Closure.{Closes, closure}
 use Rattle.wy_effects.specs.Bounds.{Bounds, IsUnder, IsWithin}
 use Rattle.wy_types.specs.declared.types.TypeRef.{TypeRef}

@@ -2,8 +2,8 @@
 use Rattle.std.proofs.Common.{◌≡◌, ℕ, suc, ◌+◌, List, [], ◌∷◌, refl, inl, inr, subst, Some, true, false, arith}
 use Rattle.std.specs.Prelude.{slice_get, if◌then◌else◌}
 use Rattle.wy_text.specs.declared.fault.Fault.{Fault}
-use Rattle.wy_effects.specs.Members.{In}
-use Rattle.wy_effects.proofs.Lists.{In-slice_get}
+use Rattle.wy_text.specs.Members.{In}
+use Rattle.wy_text.proofs.Lists.{In-slice_get}
 use Rattle.wy_types.specs.Program.{Program, Scope}
 use Rattle.wy_types.specs.Core.{IsCore, ScopeFits}
 use Rattle.wy_rules.specs.Acceptance.{Accepted, ScopeAccepted}

@@ -1,9 +1,9 @@
 -- A scope that does not write a declared type holds in each of two programs that differ in that type alone.
 use Rattle.std.proofs.Common.{◌≡◌, ℕ, List, [], ◌∷◌, map, length, inl, inr, refl, ◌∙◌, ap, subst, Option, Some, None, Bool as Truth, true, false}
 use Rattle.std.specs.Prelude.{slice_get, nat_eq, if◌then◌else◌}
-use Rattle.wy_effects.specs.Members.{In}
+use Rattle.wy_text.specs.Members.{In}
 use Rattle.wy_effects.specs.EffSet.{replace}
-use Rattle.wy_effects.proofs.Lists.{In-left, In-right, In-unmap}
+use Rattle.wy_text.proofs.Lists.{In-left, In-right, In-unmap}
 use Rattle.wy_types.specs.declared.types.TypeRef.{TypeRef}
 use Rattle.wy_types.specs.declared.types.TypeRef.TheVariants.{Int, Bool, Text, Unit as Nothing, Named, At, Own}
 use Rattle.wy_types.specs.declared.resolved.TypeDecl.{TypeDecl}

@@ -1,8 +1,8 @@
 -- Each type that a scope of a core reaches can be written or is one of the scope's own, so it is in range, and a subtype of itself.
 use Rattle.std.proofs.Common.{◌≡◌, ℕ, List, [], ◌∷◌, ◌++◌, map, length, inl, inr, refl, sym, subst, Some, None, Option, Bool as Truth, true, false, arith}
 use Rattle.std.specs.Prelude.{slice_get}
-use Rattle.wy_effects.specs.Members.{In}
-use Rattle.wy_effects.proofs.Lists.{In-left, In-right, In-cases, In-at, In-slice_get, In-unmap}
+use Rattle.wy_text.specs.Members.{In}
+use Rattle.wy_text.proofs.Lists.{In-left, In-right, In-cases, In-at, In-slice_get, In-unmap}
 use Rattle.wy_types.specs.declared.types.TypeRef.{TypeRef}
 use Rattle.wy_types.specs.declared.types.TypeRef.TheVariants.{Own}
 use Rattle.wy_types.specs.declared.code.Variable.{Variable}

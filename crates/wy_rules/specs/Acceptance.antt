@@ -1,7 +1,7 @@
 -- When a program is accepted: what the rules for modules and for lines ask, premise by premise, and that every module, every line
 -- and the program's body meet them (docs/LANGUAGE.md, "Modules and lines").
 use Rattle.std.specs.Prelude.{◌≡◌, ℕ, List, [], ◌∷◌, Option, Some, None, Bool as Truth, true, false, length, slice_get}
-use Rattle.wy_effects.specs.Members.{In}
+use Rattle.wy_text.specs.Members.{In}
 use Rattle.wy_effects.specs.Bounds.{Bounds, IsUnder, Respects}
 use Rattle.wy_types.specs.declared.types.TypeRef.{TypeRef}
 use Rattle.wy_types.specs.declared.types.TypeRef.TheVariants.{Named, Own}

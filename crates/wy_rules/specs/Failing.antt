@@ -3,7 +3,7 @@
 use Rattle.std.specs.Prelude.{◌≡◌, ℕ, zero, suc, ◌+◌, ◌<◌, ◌≤◌, List, [], ◌∷◌, ◌⊎◌, Option, Some, None, map, take, slice_get, slice_index_or, length, true, false}
 use Rattle.wy_text.specs.declared.fault.AtomName.{AtomName}
 use Rattle.wy_text.specs.declared.fault.Fault.{Fault}
-use Rattle.wy_effects.specs.Members.{In}
+use Rattle.wy_text.specs.Members.{In}
 use Rattle.wy_effects.specs.EffSet.{replace}
 use Rattle.wy_effects.specs.Bounds.{Bounds, IsUnder, IsWithin, IsLeastOutside, IsLeastMissing}
 use Rattle.wy_types.specs.declared.types.TypeRef.{TypeRef}

@@ -2,7 +2,7 @@
 -- is read with the instance's ground sets put in; of a plain module's instance each declared type stands at the ground of the bound
 -- (docs/LANGUAGE.md, "Types of a run").
 use Rattle.std.specs.Prelude.{codes, ℕ, List, [], ◌∷◌, ◌++◌, Option, Some, None, false, map, slice_get}
-use Rattle.wy_effects.specs.Members.{Within}
+use Rattle.wy_text.specs.Members.{Within}
 use Rattle.wy_effects.specs.EffSet.{replace}
 use Rattle.wy_effects.specs.Bounds.{IsOneOf}
 use Rattle.wy_types.specs.declared.types.TypeRef.{TypeRef}

@@ -2,7 +2,7 @@
 -- the one that it is declared with or its module is sealed at, of those atoms (docs/LANGUAGE.md, "Modules and lines").
 use Rattle.std.specs.Prelude.{codes, ◌≡◌, ◌≤◌, ◌^◌, ℕ, ◌+◌, List, [], ◌∷◌, ◌++◌, map, Option, Some, None, true, false, length, slice_get, if◌then◌else◌}
 use Rattle.std.specs.Option.{option_map}
-use Rattle.wy_effects.specs.Members.{In}
+use Rattle.wy_text.specs.Members.{In}
 use Rattle.wy_effects.specs.EffSet.{IsSet}
 use Rattle.wy_effects.specs.Bounds.{Bounds}
 use Rattle.wy_types.specs.declared.types.TypeRef.{TypeRef}

@@ -1,6 +1,6 @@
 -- The types that a derivation names, and those that are reached from what a scope writes (docs/LANGUAGE.md, "Typing of bodies" and "Limits").
 use Rattle.std.specs.Prelude.{◌≡◌, ℕ, List, [], ◌∷◌, ◌⊎◌, Some, Bool as Truth, true, false, length, slice_get}
-use Rattle.wy_effects.specs.Members.{In}
+use Rattle.wy_text.specs.Members.{In}
 use Rattle.wy_types.specs.declared.types.TypeRef.{TypeRef}
 use Rattle.wy_types.specs.declared.types.TypeRef.TheVariants.{Int, Bool, Text, Unit as Nothing}
 use Rattle.wy_types.specs.declared.resolved.OwnName.{OwnName}

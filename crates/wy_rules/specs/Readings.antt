@@ -1,7 +1,7 @@
 -- How a scope's types are read where its bodies are typed: as they are written, with sets put in for the atoms, or with no
 -- regard to effects. One definition of typing serves them all (docs/LANGUAGE.md, "Typing of bodies").
 use Rattle.std.specs.Prelude.{ℕ, List, []}
-use Rattle.wy_effects.specs.Members.{Within}
+use Rattle.wy_text.specs.Members.{Within}
 use Rattle.wy_effects.specs.EffSet.{replace}
 use Rattle.wy_effects.specs.Bounds.{Bounds, IsUnder, IsWithin, IsOneOf}
 use Rattle.wy_types.specs.declared.types.TypeRef.{TypeRef}

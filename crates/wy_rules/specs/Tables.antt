@@ -1,6 +1,6 @@
 -- Laws of subtyping over tables of methods: the methods of each type, whatever they are.
 use Rattle.std.specs.Prelude.{◌≡◌, ℕ, List, [], map, slice_get, false}
-use Rattle.wy_effects.specs.Members.{In, Within, Apart}
+use Rattle.wy_text.specs.Members.{In, Within, Apart}
 use Rattle.wy_effects.specs.EffSet.{AreSets, replace}
 use Rattle.wy_effects.specs.Bounds.{Bounds, IsWithin, Respects}
 use Rattle.wy_types.specs.declared.types.TypeRef.{TypeRef}

@@ -1,7 +1,7 @@
 -- When a scope that holds in one program holds in another: where the types that it reaches have the same methods there
 -- (docs/LANGUAGE.md, "Typing of bodies").
 use Rattle.std.specs.Prelude.{◌≡◌, ℕ, [], ◌∷◌, ◌++◌, Some, Bool as Truth, map, slice_get}
-use Rattle.wy_effects.specs.Members.{In}
+use Rattle.wy_text.specs.Members.{In}
 use Rattle.wy_types.specs.declared.types.TypeRef.{TypeRef}
 use Rattle.wy_types.specs.declared.types.TypeRef.TheVariants.{Int, Bool, Text, Unit as Nothing, Named, At, Own}
 use Rattle.wy_types.specs.declared.resolved.TypeDecl.{TypeDecl}

@@ -1,7 +1,6 @@
 //! Laws of subtyping, paths and annotation (docs/LANGUAGE.md, "Subtyping" to "Annotation and erasure"), and of typing
 //! ("Typing of bodies").
 
-ghost use Rattle.wy_types.specs.Order.{IsReflexive, IsTransitive};
 ghost use Rattle.wy_rules.specs.Tables.{ReflexiveOverTables, TransitiveOverTables, KeptUnderReplacement, ReplacedTablesAgree};
 ghost use Rattle.wy_rules.specs.Polarity.{Annotation, DualAnnotation};
 ghost use Rattle.wy_rules.specs.Rereading.{Erasure, Substitution, Retyping};
@@ -13,16 +12,6 @@ ghost use Rattle.wy_rules.specs.Judging.{PassingIsAccepted, AcceptedLinesHold};
 ghost use Rattle.wy_rules.specs.GroundTyping.{GroundTyping};
 ghost use Rattle.wy_rules.specs.Refusals.{AcceptedScopesHold, AcceptedHasNoFault};
 ghost use Rattle.wy_rules.specs.Ends.{OneScopeFault, OneEnd, AcceptedHasNoEnd};
-
-/// Each type in range is a subtype of itself, with effects and without.
-pub fn subtyping_is_reflexive()
-    ensures { IsReflexive }
-{}
-
-/// A subtype of a subtype is a subtype, with effects and without.
-pub fn subtyping_is_transitive()
-    ensures { IsTransitive }
-{}
 
 /// Over any bounds and table of methods: each type of a list is a subtype of itself, where the list has what its
 /// types' methods name, and a type's methods have names that differ.

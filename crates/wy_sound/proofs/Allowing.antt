@@ -3,9 +3,9 @@ use Rattle.std.proofs.Common.{◌≡◌, codes, ℕ, suc, Bool, true, false, Lis
 use Rattle.std.specs.Prelude.{slice_get, slice_index_or, bytes_eq, if◌then◌else◌}
 use Rattle.std.proofs.lemmas.Slice.Eq.{bytes_eq-Decides}
 use Rattle.wy_text.specs.declared.fault.AtomName.{AtomName}
-use Rattle.wy_effects.specs.Members.{In}
+use Rattle.wy_text.specs.Members.{In}
 use Rattle.wy_effects.specs.AtomTable.{atom_name}
-use Rattle.wy_effects.proofs.Lists.{In-left, In-right, In-map, In-slice_get}
+use Rattle.wy_text.proofs.Lists.{In-left, In-right, In-map, In-slice_get}
 use Rattle.wy_types.specs.declared.linked.Instance.{Instance}
 use Rattle.wy_types.specs.Program.{Program, Scope, Body}
 use Rattle.wy_types.specs.Ground.{start_list}

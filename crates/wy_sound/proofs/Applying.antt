@@ -2,7 +2,7 @@
 use Rattle.std.proofs.Common.{◌≡◌, ℕ, ◌+◌, ◌<◌, Bool, true, false, List, [], ◌∷◌, ◌++◌, length, inr, refl, sym, ap, ◌∙◌, subst, Option, Some, nat_eq, nat_lt}
 use Rattle.std.specs.Prelude.{slice_get, if◌then◌else◌}
 use Rattle.std.proofs.lemmas.Bool.{eq-eqb}
-use Rattle.wy_effects.specs.Members.{In, Within}
+use Rattle.wy_text.specs.Members.{In, Within}
 use Rattle.wy_text.specs.declared.fault.Place.{Place}
 use Rattle.wy_types.specs.declared.code.Variable.{Variable}
 use Rattle.wy_types.specs.declared.types.TypeRef.TheVariants as of

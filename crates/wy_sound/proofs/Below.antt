@@ -1,39 +1,14 @@
 -- Equal or a subtype, over the types of a run: reflexive, transitive, base types below themselves alone, and what is known of methods.
 use Rattle.std.proofs.Common.{◌≡◌, ℕ, List, [], ◌∷◌, inl, inr, refl, sym, ap, ◌∙◌, subst, Option, Some, None}
-use Rattle.wy_effects.specs.Members.{In, Within}
-use Rattle.wy_effects.proofs.Closure.{Decided}
-use Rattle.wy_effects.proofs.SetLaws.{cases_equal}
+use Rattle.wy_text.specs.Members.{In, Within}
 use Rattle.wy_types.specs.Program.{Program}
 use Rattle.wy_types.specs.Signature.{Signature, find_method}
 use Rattle.wy_types.specs.Subtyping.{ParamsIn, HasCover, IsClosed, IsSubtype}
 use Rattle.wy_types.proofs.Closing.{find_in, find_named}
 use Rattle.wy_types.proofs.Composing.{transitive}
-use Rattle.wy_types.proofs.Deciding.{decide_list}
-use Rattle.wy_rules.specs.GroundTypes.{GroundType, Int, Bool, Text, Nothing, Named, At, Own, IsGroundObject, ground_methods}
+use Rattle.wy_rules.specs.GroundTypes.{GroundType, IsGroundObject, ground_methods}
+use Rattle.wy_rules.proofs.RunReadings.{decide_ground}
 use Rattle.wy_sound.specs.Arguments.{ground_below}
-
--- types of a run are equal or not
-decide_ground : (s t : GroundType) → Decided (s ≡ t)
-decide_ground Int Int = inl refl
-decide_ground Bool Bool = inl refl
-decide_ground Text Text = inl refl
-decide_ground Nothing Nothing = inl refl
-decide_ground (Named d ms) (Named e ns) =
-    elim (cases_equal d e) [
-      | inl f ↦ elim (decide_list (decide_list cases_equal) ms ns) [ inl g ↦ inl (cc) | inr n ↦ inr (λ h. n (cc)) ]
-      | inr n ↦ inr (λ h. n (cc))
-    ]
-decide_ground (At d b) (At e c) =
-    elim (cases_equal d e) [
-      | inl f ↦ elim (decide_list cases_equal b c) [ inl g ↦ inl (cc) | inr n ↦ inr (λ h. n (cc)) ]
-      | inr n ↦ inr (λ h. n (cc))
-    ]
-decide_ground (Own x l) (Own y k) =
-    elim (cases_equal x y) [
-      | inl f ↦ elim (cases_equal l k) [ inl g ↦ inl (cc) | inr n ↦ inr (λ h. n (cc)) ]
-      | inr n ↦ inr (λ h. n (cc))
-    ]
-decide_ground s t = inr (λ e. cc)
 
 module _ (p : Program) where
   abbrev pub Below : GroundType → GroundType → Type 0

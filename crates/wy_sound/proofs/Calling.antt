@@ -2,7 +2,7 @@
 use Rattle.std.proofs.Common.{◌≡◌, ℕ, zero, suc, ◌≤◌, List, ◌++◌, length, map, refl, sym, ap, ◌∙◌, subst, Some, arith, nat_eq, append_assoc, lt_irrefl}
 use Rattle.std.specs.Prelude.{codes, decimal, slice_get, if◌then◌else◌}
 use Rattle.std.proofs.lemmas.Bool.{eq-eqb, ne_eqb}
-use Rattle.wy_effects.proofs.Lists.{In-slice_get}
+use Rattle.wy_text.proofs.Lists.{In-slice_get}
 use Rattle.wy_types.specs.Program.{Program, Body}
 use Rattle.wy_types.specs.Signature.{Signature, find_method}
 use Rattle.wy_types.specs.Core.{literal_captures, body_parameters}

@@ -2,7 +2,7 @@
 use Rattle.std.proofs.Common.{◌≡◌, ℕ, zero, suc, List, [], ◌∷◌, ◌++◌, All, Contains, refl, sym, ap, ◌∙◌, subst, arith}
 use Rattle.std.specs.Prelude.{slice_index_or}
 use Rattle.wy_text.specs.declared.fault.AtomName.{AtomName}
-use Rattle.wy_effects.specs.Members.{In, Within}
+use Rattle.wy_text.specs.Members.{In, Within}
 use Rattle.wy_effects.specs.AtomTable.{atom_name}
 use Rattle.wy_types.specs.Program.{Program}
 use Rattle.wy_authority.specs.Authority.{authority_of}

@@ -1,6 +1,6 @@
 -- Preservation: what evaluates a value, values in their order or a block that has a derivation over the types of a run is sound.
 use Rattle.std.proofs.Common.{◌≡◌, ℕ, ◌≤◌, true, false, List, [], ◌∷◌, map, inl, inr, refl, sym, ap, ◌∙◌, subst, Option, Some}
-use Rattle.wy_effects.specs.Members.{In, Within}
+use Rattle.wy_text.specs.Members.{In, Within}
 use Rattle.wy_effects.specs.EffSet.{union}
 use Rattle.wy_effects.proofs.SetLaws.{In-union-left, In-union-right}
 use Rattle.wy_text.specs.declared.fault.Place.{Place}

@@ -5,9 +5,9 @@ use Rattle.std.specs.List.{range_with_len}
 use Rattle.std.proofs.Math.ListN.{length-map}
 use Rattle.std.proofs.Math.Nat.{zero-add}
 use Rattle.std.proofs.lemmas.List.FromFn.{length-range_with_len, get_or-range_with_len}
-use Rattle.wy_effects.specs.Members.{In, Within, Apart}
+use Rattle.wy_text.specs.Members.{In, Within, Apart}
 use Rattle.wy_effects.specs.EffSet.{IsSet, AreSets, replace}
-use Rattle.wy_effects.proofs.Lists.{In-left, In-right, In-map, In-unmap, In-read, In-slice_get, length-apart}
+use Rattle.wy_text.proofs.Lists.{In-left, In-right, In-map, In-unmap, In-read, In-slice_get, length-apart}
 use Rattle.wy_types.specs.declared.types.TypeRef.{TypeRef}
 use Rattle.wy_types.specs.declared.types.TypeRef.TheVariants as of
 use Rattle.wy_types.specs.declared.linked.Instance.{Instance}
@@ -27,9 +27,9 @@ use Rattle.wy_types.proofs.Itself.{names_of, names_of-mapped, subtype_itself}
 use Rattle.wy_types.proofs.Kept.{core_signatures_fit}
 use Rattle.wy_types.proofs.Reaching.{part_of_signature}
 use Rattle.wy_rules.specs.GroundTypes.{GroundType, Int, Bool, Text, Nothing, Named, At, Own, IsGroundObject, type_at, read_by, effect_by, run_instances, own_methods, ground_methods}
+use Rattle.wy_rules.proofs.RunReadings.{decide_ground}
 use Rattle.wy_sound.specs.GroundRange.{owns_of, owns_among, IsOfRun, ground_bound, GroundTypesAreFew, GroundTypesStay, GroundBelowIsSubtype}
 use Rattle.wy_sound.proofs.LinkingLaws.{RunSets, run_sets}
-use Rattle.wy_sound.proofs.LinkingTables.{decide_ground}
 
 ------------------------------------------------------------
 -- A list of all of them

@@ -4,7 +4,7 @@
 use Rattle.std.proofs.Common.{◌≡◌, ℕ, zero, suc, List, [], ◌∷◌, ◌++◌, map, inl, inr, refl, sym, ◌∙◌, subst, arith, Option, Some, None, true, false}
 use Rattle.std.specs.Prelude.{codes, slice_index_or}
 use Rattle.wy_text.specs.declared.fault.Place.{Place}
-use Rattle.wy_effects.specs.Members.{In}
+use Rattle.wy_text.specs.Members.{In}
 use Rattle.wy_effects.specs.EffSet.{IsSet, AreSets, has, replace}
 use Rattle.wy_effects.specs.Bounds.{Bounds, by_member, IsWithin, Respects}
 use Rattle.wy_effects.proofs.Ordering.{none_within}

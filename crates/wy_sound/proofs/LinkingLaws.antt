@@ -2,7 +2,7 @@
 use Rattle.std.proofs.Common.{◌≡◌, ℕ, zero, suc, List, [], ◌∷◌, ◌++◌, inl, inr, length, refl, sym, ap, ◌∙◌, subst, arith, Some, None, append_assoc, append-nil}
 use Rattle.std.specs.Prelude.{codes, slice_get}
 use Rattle.wy_effects.specs.EffSet.{IsSet, AreSets}
-use Rattle.wy_effects.proofs.Lists.{In-slice_get}
+use Rattle.wy_text.proofs.Lists.{In-slice_get}
 use Rattle.wy_types.specs.declared.linked.Instance.{Instance as Started}
 use Rattle.wy_types.specs.declared.resolved.Origin.{Origin}
 use Rattle.wy_types.specs.declared.resolved.Origin.TheVariants.{Parameter, Grant, Use, Instance, Import}
@@ -18,13 +18,13 @@ use Rattle.wy_rules.specs.GroundTypes.{read_by, run_instances}
 use Rattle.wy_rules.specs.GroundTyping.{BoundFits}
 use Rattle.wy_sound.specs.Arguments.{ground_below, actual_type, ArgumentFits, InstanceFits}
 use Rattle.wy_rules.specs.OwnNames.{opened_count, HasItsType, HaveTheirTypes, LinesAreTyped, HavePlainNames}
+use Rattle.wy_rules.proofs.RunReadings.{no_own, no_own_read, same_at}
 use Rattle.wy_sound.specs.Programs.{IsResolved}
 use Rattle.wy_sound.specs.Linking.{AcceptedInstancesFit, AcceptedArgumentsFit}
 use Rattle.wy_sound.specs.Grounds.{GroundSetsAre}
 use Rattle.wy_sound.proofs.LinkingLists.{GoesOn, goes_on_same, goes_on_further, read_next, read_last, read_within}
 use Rattle.wy_sound.proofs.LinkingBounds.{none_respect}
 use Rattle.wy_sound.proofs.LinkingStates.{count_more, AreActuals, actual_at, actuals_length, AreGround, ground_at, Stands}
-use Rattle.wy_sound.proofs.LinkingTables.{no_own, no_own_read, same_at}
 use Rattle.wy_sound.proofs.LinkingVisits.{later_names_grow}
 use Rattle.wy_sound.proofs.LinkingPrograms.{last_scope, main_is_last, one_scope}
 use Rattle.wy_sound.proofs.LinkingWays.{Way, way_ends, way_begins}

@@ -1,9 +1,9 @@
 -- The visit of a line or use: what its module is handed has the types of the parameters, and its instance is one of its module.
 use Rattle.std.proofs.Common.{◌≡◌, ℕ, suc, ◌<◌, List, [], ◌∷◌, ◌++◌, map, inl, inr, length, refl, sym, ap, ◌∙◌, subst, arith, Option, Some, None, Bool as Truth, true, false, append-nil}
 use Rattle.std.specs.Prelude.{codes, slice_get, slice_index_or}
-use Rattle.wy_effects.specs.Members.{In}
+use Rattle.wy_text.specs.Members.{In}
 use Rattle.wy_effects.specs.EffSet.{IsSet, replace}
-use Rattle.wy_effects.proofs.Lists.{In-slice_get}
+use Rattle.wy_text.proofs.Lists.{In-slice_get}
 use Rattle.wy_effects.proofs.Ordering.{respects_onward}
 use Rattle.wy_effects.proofs.Replacing.{IsSet-replace}
 use Rattle.wy_types.specs.declared.linked.Actual.TheVariants as actual
@@ -23,12 +23,13 @@ use Rattle.wy_rules.specs.Acceptance.{Accepted, LineHolds, InstanceHolds, Import
 use Rattle.wy_rules.specs.GroundTypes.{type_at}
 use Rattle.wy_rules.specs.GroundTyping.{BoundFits}
 use Rattle.wy_rules.specs.OwnNames.{opens, opened_bounds, opened_count, after_parameters, sealed_of, name_of, IsOpened, IsBounded, HaveTheirTypes, LinesAreTyped, HavePlainNames}
+use Rattle.wy_rules.proofs.RunReadings.{no_own}
 use Rattle.wy_sound.specs.Grounds.{StandsFor, GroundIsDefined, IsGround}
 use Rattle.wy_sound.proofs.LinkingLists.{GoesOn, goes_on_same, goes_on_more, goes_on_further, read_on, read_next, read_there}
 use Rattle.wy_sound.proofs.LinkingSets.{Fits-wider, replace_first, sets_first, substituted_first, arguments_count}
 use Rattle.wy_sound.proofs.LinkingBounds.{NameBounds, none_respect}
 use Rattle.wy_sound.proofs.LinkingStates.{read_type, IsActual, AreActuals, AreGround, Fits, all_more, Stands, Given, given}
-use Rattle.wy_sound.proofs.LinkingTables.{IsBelow, same_or_below, no_own}
+use Rattle.wy_sound.proofs.LinkingTables.{IsBelow, same_or_below}
 use Rattle.wy_sound.proofs.LinkingRules.{instance_argument, import_argument}
 use Rattle.wy_sound.proofs.LinkingVisits.{visit_grows, visit_passes, first_and_after}
 use Rattle.wy_sound.proofs.LinkingPrograms.{NoSpace, no_space_both, no_space_dot, not_pure, pure_word, number_found, one_module}

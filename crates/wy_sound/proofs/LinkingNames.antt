@@ -21,12 +21,13 @@ use Rattle.wy_rules.specs.GroundTypes.{Named, Own, type_at, run_instances}
 use Rattle.wy_rules.specs.GroundTyping.{BoundFits}
 use Rattle.wy_sound.specs.Arguments.{actual_type, program_names}
 use Rattle.wy_rules.specs.OwnNames.{opens, opened_bounds, opened_count, IsOpened, IsBounded}
+use Rattle.wy_rules.proofs.RunReadings.{no_own, no_own_read, same_at}
 use Rattle.wy_sound.specs.Grounds.{member_sets, GroundIsDefined, IsGround}
 use Rattle.wy_sound.proofs.LinkingLists.{GoesOn, read_on, read_next, read_first, read_within, length_goes_on}
 use Rattle.wy_sound.proofs.LinkingSets.{AreSets-wider, replace_first, singles, length_singles, opened_fits, count_members}
 use Rattle.wy_sound.proofs.LinkingBounds.{NameBounds, none_respect, primitive_unbounded}
 use Rattle.wy_sound.proofs.LinkingStates.{read_type, AllFit, Stands, actuals_length, stands_more}
-use Rattle.wy_sound.proofs.LinkingTables.{IsBelow, no_own, no_own_read, same_at}
+use Rattle.wy_sound.proofs.LinkingTables.{IsBelow}
 use Rattle.wy_sound.proofs.LinkingRules.{annotated_seal, definitions_respect, plain_seal}
 use Rattle.wy_sound.proofs.LinkingPrograms.{one_scope}
 use Rattle.wy_sound.proofs.LinkingScopes.{names_at, Facts, definitions_count}

@@ -1,8 +1,8 @@
 -- Subtyping is kept by a reading of types under which methods stay for the types that count, where the methods of these name such types alone.
 use Rattle.std.proofs.Common.{◌≡◌, ℕ, List, [], ◌∷◌, ◌++◌, map, inl, inr, refl, sym, ap, subst, Option}
-use Rattle.wy_effects.specs.Members.{In}
+use Rattle.wy_text.specs.Members.{In}
 use Rattle.wy_effects.proofs.Closure.{Decided}
-use Rattle.wy_effects.proofs.Lists.{In-map, In-unmap, In-left, In-right, In-cases}
+use Rattle.wy_text.proofs.Lists.{In-map, In-unmap, In-left, In-right, In-cases}
 use Rattle.wy_types.specs.Signature.{Signature, mapped_signature, find_method}
 use Rattle.wy_types.specs.Subtyping.{ParamsIn, HasCover, IsClosed, IsSubtype}
 use Rattle.wy_types.proofs.Closing.{cover_from, find_in, find-mapped}

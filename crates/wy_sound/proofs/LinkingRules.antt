@@ -23,10 +23,11 @@ use Rattle.wy_rules.specs.Acceptance.{reading_of, SealHolds, DefinitionsRespect,
 use Rattle.wy_rules.specs.GroundTypes.{Named, At, Own, type_at, read_by, effect_by, own_methods, ground_methods, run_instances}
 use Rattle.wy_rules.specs.GroundTyping.{BoundFits}
 use Rattle.wy_rules.proofs.Rereadings.{annotated-bare}
+use Rattle.wy_rules.proofs.RunReadings.{NoOwn, no_own, no_own_read, no_own_erased, substituted-at, bounded-at}
 use Rattle.wy_sound.proofs.LinkingLists.{GoesOn}
 use Rattle.wy_sound.proofs.LinkingSets.{substituted_first}
 use Rattle.wy_sound.proofs.LinkingStates.{read_type}
-use Rattle.wy_sound.proofs.LinkingTables.{IsBelow, below_below, NoOwn, no_own, no_own_read, no_own_erased, substituted-at, bounded-at, carried, bounded}
+use Rattle.wy_sound.proofs.LinkingTables.{IsBelow, below_below, carried, bounded}
 
 pub no_bound : (plain : Truth) (o : Option (List ℕ)) → plain ≡ false → BoundFits plain o → o ≡ None
 no_bound false None e b = refl

@@ -2,10 +2,10 @@
 use Rattle.std.proofs.Common.{◌≡◌, ℕ, zero, suc, ◌+◌, ◌<◌, List, [], ◌∷◌, ◌++◌, map, inl, inr, length, refl, sym, ap, ◌∙◌, subst, arith, Option, Some, Bool as Truth, true, false, append_assoc, append-nil, length-append}
 use Rattle.std.specs.Prelude.{slice_get, slice_index_or}
 use Rattle.std.proofs.Math.ListN.{length-map}
-use Rattle.wy_effects.specs.Members.{In}
+use Rattle.wy_text.specs.Members.{In}
 use Rattle.wy_effects.specs.EffSet.{AreSets, replace}
 use Rattle.wy_effects.specs.Bounds.{Respects}
-use Rattle.wy_effects.proofs.Lists.{In-slice_get, In-at, In-right}
+use Rattle.wy_text.proofs.Lists.{In-slice_get, In-at, In-right}
 use Rattle.wy_effects.proofs.Replacing.{AreSets-map}
 use Rattle.wy_types.specs.declared.linked.Actual.TheVariants as actual
 use Rattle.wy_types.specs.declared.resolved.Origin.{Origin}

@@ -3,7 +3,7 @@ use Rattle.std.proofs.Common.{◌≡◌, ℕ, suc, ◌+◌, ◌≤◌, List, [],
 use Rattle.std.specs.Prelude.{slice_get, slice_index_or}
 use Rattle.std.proofs.Math.ListN.{length-map}
 use Rattle.wy_effects.specs.EffSet.{IsSetFrom, IsSet, AreSets, union, replace}
-use Rattle.wy_effects.proofs.Lists.{In-cases}
+use Rattle.wy_text.proofs.Lists.{In-cases}
 use Rattle.wy_effects.proofs.SetLaws.{IsSetFrom-union, sets_equal, union-cases, In-union-left}
 use Rattle.wy_types.specs.declared.types.TypeRef.{TypeRef}
 use Rattle.wy_types.specs.declared.types.TypeRef.TheVariants.{Int, Bool, Text, Unit as Nothing, Named, At, Own}

@@ -2,10 +2,10 @@
 -- the scope is annotated, and each instance so far is one of its scope.
 use Rattle.std.proofs.Common.{◌≡◌, ℕ, zero, suc, ◌+◌, ◌≤◌, List, [], ◌∷◌, ◌++◌, inl, inr, length, refl, sym, ap, ◌∙◌, subst, arith, Option, Some, true, false, length-append}
 use Rattle.std.specs.Prelude.{codes, slice_get, slice_index_or}
-use Rattle.wy_effects.specs.Members.{In}
+use Rattle.wy_text.specs.Members.{In}
 use Rattle.wy_effects.specs.EffSet.{IsSet, AreSets}
 use Rattle.wy_effects.specs.Bounds.{Respects}
-use Rattle.wy_effects.proofs.Lists.{In-cases, In-slice_get}
+use Rattle.wy_text.proofs.Lists.{In-cases, In-slice_get}
 use Rattle.wy_types.specs.declared.types.TypeRef.{TypeRef}
 use Rattle.wy_types.specs.declared.linked.Actual.{Actual}
 use Rattle.wy_types.specs.declared.linked.Actual.TheVariants as actual

@@ -1,7 +1,7 @@
 -- Visits add instances behind those that are there, and sets behind those of the scope; a scope's parameters are passed over.
 use Rattle.std.proofs.Common.{◌≡◌, ℕ, zero, suc, List, [], ◌∷◌, ◌++◌, inl, inr, Option, Some, None, true, false, refl, sym, ap, ◌∙◌, subst}
 use Rattle.std.specs.Prelude.{codes, slice_get, if◌then◌else◌}
-use Rattle.wy_effects.specs.Members.{In}
+use Rattle.wy_text.specs.Members.{In}
 use Rattle.wy_types.specs.declared.resolved.Origin.{Origin}
 use Rattle.wy_types.specs.declared.resolved.Origin.TheVariants.{Parameter, Grant, Use, Instance, Import}
 use Rattle.wy_types.specs.declared.resolved.OwnName.{OwnName}

@@ -2,7 +2,7 @@
 -- atom of the grant with the operation's member as its effect.
 use Rattle.std.proofs.Common.{◌≡◌, codes, ℕ, zero, suc, ◌<◌, Bool, true, false, List, [], ◌∷◌, length, map, replicate, inl, inr, refl, sym, ap, ◌∙◌, subst, Option, Some, arith}
 use Rattle.std.specs.Prelude.{slice_get, slice_index_or, bytes_eq, if◌then◌else◌}
-use Rattle.wy_effects.specs.Members.{In}
+use Rattle.wy_text.specs.Members.{In}
 use Rattle.wy_effects.specs.EffSet.{replace}
 use Rattle.wy_effects.proofs.SetLaws.{In-union-left}
 use Rattle.wy_effects.specs.AtomTable.{atom_name}

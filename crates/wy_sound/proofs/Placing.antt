@@ -1,7 +1,7 @@
 -- The instances of a run with their scopes: found among the start list, as `main` after it, and with derivations over the types of the run.
 use Rattle.std.proofs.Common.{◌≡◌, codes, ℕ, ◌-◌, ◌≤◌, [], ◌∷◌, ◌++◌, length, map, sym, ap, ◌∙◌, subst, Some, None, arith}
 use Rattle.std.specs.Prelude.{slice_get}
-use Rattle.wy_effects.proofs.Lists.{In-slice_get}
+use Rattle.wy_text.proofs.Lists.{In-slice_get}
 use Rattle.wy_types.specs.declared.linked.Instance.{Instance}
 use Rattle.wy_types.specs.declared.resolved.ScopeKind.TheVariants as kind
 use Rattle.wy_types.specs.Program.{Program, Scope}

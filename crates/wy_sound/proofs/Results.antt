@@ -1,7 +1,7 @@
 -- Results that are sound: no wrong end, a heap and a value that have their types, and events within an effect. One lemma for each way of
 -- putting results together.
 use Rattle.std.proofs.Common.{◌≡◌, ◌≢◌, ℕ, List, [], ◌++◌, refl, sym, subst, Option, Some}
-use Rattle.wy_effects.specs.Members.{Within}
+use Rattle.wy_text.specs.Members.{Within}
 use Rattle.wy_text.specs.declared.fault.Place.{Place}
 use Rattle.wy_types.specs.Program.{Program}
 use Rattle.wy_device.specs.declared.deed.Event.{Event}

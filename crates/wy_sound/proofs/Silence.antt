@@ -3,10 +3,10 @@ use Rattle.std.proofs.Common.{◌≡◌, codes, ℕ, zero, suc, Bool, true, fals
 use Rattle.std.specs.Prelude.{slice_get, slice_index_or, bytes_eq, if◌then◌else◌}
 use Rattle.std.proofs.lemmas.Slice.Eq.{bytes_eq-Decides}
 use Rattle.wy_text.specs.declared.fault.AtomName.{AtomName}
-use Rattle.wy_effects.specs.Members.{In}
+use Rattle.wy_text.specs.Members.{In}
 use Rattle.wy_effects.specs.EffSet.{union, replace}
 use Rattle.wy_effects.proofs.SetLaws.{has-In}
-use Rattle.wy_effects.proofs.Lists.{In-at, In-cases, In-unmap, In-slice_get}
+use Rattle.wy_text.proofs.Lists.{In-at, In-cases, In-unmap, In-slice_get}
 use Rattle.wy_types.specs.declared.linked.Actual.{Actual}
 use Rattle.wy_types.specs.declared.linked.Instance.{Instance as Started}
 use Rattle.wy_types.specs.declared.resolved.Origin.{Origin}

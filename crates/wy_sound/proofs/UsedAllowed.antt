@@ -7,8 +7,8 @@ use Rattle.std.specs.Prelude.{bytes_eq, if◌then◌else◌, Contains, slice_ind
 use Rattle.wy_text.specs.declared.fault.AtomName.{AtomName}
 use Rattle.wy_effects.specs.AtomTable.{atom_name}
 use Rattle.wy_effects.specs.EffSet.{union}
-use Rattle.wy_effects.specs.Members.{In, Within}
-use Rattle.wy_effects.proofs.Lists.{In-map, In-unmap, In-cases}
+use Rattle.wy_text.specs.Members.{In, Within}
+use Rattle.wy_text.proofs.Lists.{In-map, In-unmap, In-cases}
 use Rattle.wy_effects.proofs.SetLaws.{In-union-left, In-union-right, insert_atom-cases}
 use Rattle.wy_types.specs.Program.{Program}
 use Rattle.wy_authority.specs.declared.rows.BodyRow.{BodyRow}

@@ -1,7 +1,7 @@
 -- What instances are handed has the types that are asked for, over the types of a run, and each instance is one of its scope.
 -- (docs/LANGUAGE.md, "Types of a run")
 use Rattle.std.specs.Prelude.{◌≡◌, ℕ, ◌<◌, ◌≤◌, List, length, ◌⊎◌, ◌↔◌, Some, None, slice_get}
-use Rattle.wy_effects.specs.Members.{Within}
+use Rattle.wy_text.specs.Members.{Within}
 use Rattle.wy_types.specs.declared.linked.Actual.{Actual}
 use Rattle.wy_types.specs.declared.linked.Actual.TheVariants as actual
 use Rattle.wy_types.specs.declared.linked.Instance.{Instance}

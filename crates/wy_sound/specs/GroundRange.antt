@@ -1,7 +1,7 @@
 -- The types that occur in a run: base types, declared types with sets of atoms or at a bound, and the own types of the modules and literals of
 -- its instances. They are finitely many, so each subtyping over them rests on a finite list of pairs (docs/LANGUAGE.md, "Types of a run").
 use Rattle.std.specs.Prelude.{ℕ, ◌+◌, ◌<◌, ◌≤◌, List, [], ◌∷◌, Option, Some, None, length, slice_get}
-use Rattle.wy_effects.specs.Members.{In, Within, Apart}
+use Rattle.wy_text.specs.Members.{In, Within, Apart}
 use Rattle.wy_types.specs.declared.types.TypeRef.TheVariants as of
 use Rattle.wy_types.specs.declared.linked.Instance.{Instance}
 use Rattle.wy_types.specs.Program.{Program}

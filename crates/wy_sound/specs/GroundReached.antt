@@ -1,7 +1,7 @@
 -- The types that a run reaches, as a list that the program and its instances give, each once: from what each instance's scope writes, and its own
 -- types, as the instance reads them, through methods of types of the run (docs/LANGUAGE.md, "Types of a run").
 use Rattle.std.specs.Prelude.{ℕ, zero, suc, ◌+◌, List, [], ◌∷◌, ◌++◌, ◌↔◌, map, Bool as Truth, true, false, if◌then◌else◌, nat_eq, slice_get}
-use Rattle.wy_effects.specs.Members.{In, Apart}
+use Rattle.wy_text.specs.Members.{In, Apart}
 use Rattle.wy_types.specs.declared.types.TypeRef.{TypeRef}
 use Rattle.wy_types.specs.declared.linked.Instance.{Instance}
 use Rattle.wy_types.specs.declared.path.Step.{Step}

@@ -1,7 +1,7 @@
 -- The ground sets of the atoms of an instance, as sentences on its own names: what an atom of a grant, of a used module or an instance, and
 -- of a bare parameter stands for; and that no visit ends early. (docs/LANGUAGE.md, "Start order and ground sets")
 use Rattle.std.specs.Prelude.{◌≡◌, ℕ, ◌+◌, List, [], ◌++◌, Some, length, map, slice_get}
-use Rattle.wy_effects.specs.Members.{Within}
+use Rattle.wy_text.specs.Members.{Within}
 use Rattle.wy_types.specs.declared.types.TypeRef.{TypeRef}
 use Rattle.wy_types.specs.declared.types.TypeRef.TheVariants.{Int, Bool, Text, Unit as Nothing, Named, At, Own}
 use Rattle.wy_types.specs.declared.linked.Actual.{Actual}

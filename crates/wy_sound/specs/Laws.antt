@@ -1,7 +1,7 @@
 -- Soundness: no run of an accepted program meets a wrong value, and each operation in one is in the authority of every call that is open.
 -- (docs/LANGUAGE.md, "Authority and report")
 use Rattle.std.specs.Prelude.{◌≡◌, ◌≢◌, ℕ, suc, ◌<◌, ◌≤◌, List, [], ◌∷◌, ◌++◌, Option, Some, map, slice_get}
-use Rattle.wy_effects.specs.Members.{In}
+use Rattle.wy_text.specs.Members.{In}
 use Rattle.wy_types.specs.declared.linked.Instance.{Instance}
 use Rattle.wy_types.specs.declared.resolved.ScopeKind.TheVariants.{Pure}
 use Rattle.wy_types.specs.Program.{Program}

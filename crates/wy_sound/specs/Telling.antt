@@ -1,7 +1,7 @@
 -- The report of a program tells its instances apart by their names, and the bodies of each: what a call may do is what one line of the report says.
 -- (docs/LANGUAGE.md, "Authority and report")
 use Rattle.std.specs.Prelude.{◌≡◌, map}
-use Rattle.wy_effects.specs.Members.{In, Apart}
+use Rattle.wy_text.specs.Members.{In, Apart}
 use Rattle.wy_types.specs.Program.{Program}
 use Rattle.wy_authority.specs.declared.rows.BodyRow.{BodyRow}
 use Rattle.wy_authority.specs.declared.rows.InstanceRow.{InstanceRow}

@@ -1,7 +1,7 @@
 -- Typed heaps: values, objects and sights that have their types, over the types of a run. They are said for the time in which an instance
 -- starts, by its number `now`, or, where that is the number of all instances, in which `main` runs (docs/LANGUAGE.md, "Types of a run").
 use Rattle.std.specs.Prelude.{◌≡◌, ℕ, suc, ◌<◌, ◌≤◌, List, [], ◌∷◌, ◌++◌, length, map, ◌⊎◌, Option, Some, None, slice_get}
-use Rattle.wy_effects.specs.Members.{In}
+use Rattle.wy_text.specs.Members.{In}
 use Rattle.wy_types.specs.declared.code.Variable.{Variable}
 use Rattle.wy_types.specs.declared.types.TypeRef.{TypeRef}
 use Rattle.wy_types.specs.declared.linked.Actual.TheVariants as actual

@@ -1,6 +1,6 @@
 -- What was used of an instance is within what its line of the report says. (docs/LANGUAGE.md, "Observation")
 use Rattle.std.specs.Prelude.{List}
-use Rattle.wy_effects.specs.Members.{In, Within}
+use Rattle.wy_text.specs.Members.{In, Within}
 use Rattle.wy_types.specs.Program.{Program}
 use Rattle.wy_device.specs.declared.deed.Event.{Event}
 use Rattle.wy_authority.specs.declared.rows.InstanceRow.{InstanceRow}

@@ -2,8 +2,8 @@
 use Rattle.std.proofs.Common.{◌≡◌, ℕ, zero, suc, ◌+◌, ◌-◌, ◌<◌, List, [], ◌∷◌, ◌++◌, length, get_or, take, refl, sym, ap, ◌∙◌, subst, inl, inr, ⊎_elim, append_assoc, arith}
 use Rattle.std.proofs.Math.ListN.{replicate}
 use Rattle.std.proofs.lemmas.List.{append-nil, length-append, length-replicate, take_more}
-use Rattle.wy_effects.specs.Members.{In}
-use Rattle.wy_effects.proofs.Lists.{In-cases}
+use Rattle.wy_text.specs.Members.{In}
+use Rattle.wy_text.proofs.Lists.{In-cases}
 use Rattle.wy_spelling.specs.Spelling.{AreApart, AreSpelled, IsNumber, joined, list_bytes, number_bytes}
 use Rattle.wy_spelling.specs.NumberLaws.{numbers_apart}
 use Rattle.wy_spelling.proofs.Fronts.{GoesOn}

@@ -7,10 +7,10 @@ use Rattle.wy_effects.specs.EffSet.{IsSet, without}
 use Rattle.wy_effects.proofs.Closure.{in_decided}
 use Rattle.wy_effects.proofs.SetLaws.{cases_equal, IsSetFrom-without, at_least, without-from, In-without}
 use Rattle.wy_effects.proofs.Walks.{drop_none}
-use Rattle.wy_effects.specs.Members.{In, Within}
+use Rattle.wy_text.specs.Members.{In, Within}
 use Rattle.wy_effects.specs.Bounds.{IsOneOf, IsLeastMissing, IsWidened}
 use Rattle.wy_effects.proofs.Ordering.{missing_exactly, widened_exactly}
-use Rattle.wy_effects.proofs.Lists.{In-left, In-right, In-cases, In-map, In-unmap}
+use Rattle.wy_text.proofs.Lists.{In-left, In-right, In-cases, In-map, In-unmap}
 use Rattle.wy_types.specs.declared.types.TypeRef.{TypeRef}
 use Rattle.wy_types.specs.declared.types.Method.{Method}
 use Rattle.wy_types.specs.declared.path.Part.TheVariants.{Parameter}

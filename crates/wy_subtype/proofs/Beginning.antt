@@ -1,7 +1,7 @@
 -- The list that begins the work, of the asked pair alone, and the table that has no pair.
 use Rattle.std.proofs.Common.{◌≡◌, ◌∙◌, ℕ, zero, suc, ◌<◌, List, [], ◌∷◌, inl, inr, length, refl, ap, sym, subst, arith, Some}
 use Rattle.std.specs.Prelude.{slice_get}
-use Rattle.wy_effects.specs.Members.{In}
+use Rattle.wy_text.specs.Members.{In}
 use Rattle.wy_types.specs.Program.{Program}
 use Rattle.wy_types.specs.InRange.{IsInRange}
 use Rattle.wy_types.specs.Fitting.{IsTypeOf}

@@ -3,15 +3,16 @@ use Rattle.std.proofs.Common.{◌≡◌, ℕ, zero, suc, ◌<◌, ◌≤◌, Lis
 use Rattle.std.specs.Prelude.{slice_get}
 use Rattle.std.proofs.Math.ListN.{length-append, set}
 use Rattle.std.proofs.Math.Seq.{map-set_same}
-use Rattle.wy_effects.specs.Members.{In, Apart}
-use Rattle.wy_effects.proofs.Lists.{In-left, In-right, In-cases, In-unmap, In-slice_get, Apart-push}
+use Rattle.std.proofs.lemmas.List.{map-append}
+use Rattle.wy_text.specs.Members.{In, Apart}
+use Rattle.wy_text.proofs.Lists.{In-left, In-right, In-cases, In-unmap, In-slice_get, Apart-push}
 use Rattle.wy_subtype.specs.declared.node.Outcome.{Outcome}
 use Rattle.wy_subtype.specs.declared.node.Outcome.TheVariants.{Open, Fails, Asks, Holds}
 use Rattle.wy_subtype.specs.declared.node.Node.{Node}
 use Rattle.wy_subtype.specs.Verdict.{Pair, IsSubtypeIn}
 use Rattle.wy_subtype.specs.Decided.{About}
 use Rattle.wy_subtype.specs.Nodes.{is_open, IsOpen, node_pair, node_key, open_node, with_outcome, pair_or_none, pair_at, pairs_at, Continues, Meets, AreMore, IsAsking, IsOutcome, IsNoted, AreKnown}
-use Rattle.wy_subtype.proofs.Places.{slice_get-left, slice_get-cases, slice_get-within, slice_get-mapped, map-append'}
+use Rattle.wy_subtype.proofs.Places.{slice_get-left, slice_get-cases, slice_get-within, slice_get-mapped}
 
 ------------------------------------------------------------
 -- Numbers
@@ -78,11 +79,11 @@ meets_more q old new (inr h) = record {
   are_open = λ k i. elim i [ inl e ↦ (let P : Node → Type 0 = λ v. IsOpen v.outcome in subst P e refl) | inr none ↦ absurd none ];
   apart = λ a.
       let P : List Pair → Type 0 = λ l. Apart l in
-      subst P (sym (ap (map node_pair) h.1 ∙ map-append' node_pair old (open_node q ∷ []))) (Apart-push q (map node_pair old) a h.0);
+      subst P (sym (ap (map node_pair) h.1 ∙ map-append node_pair old (open_node q ∷ []))) (Apart-push q (map node_pair old) a h.0);
 }
 
 pub more_continues : (old new : List Node) → AreMore old new → Continues (map node_pair old) (map node_pair new)
-more_continues old new h = (map node_pair h.tail, ap (map node_pair) h.more ∙ map-append' node_pair old h.tail)
+more_continues old new h = (map node_pair h.tail, ap (map node_pair) h.more ∙ map-append node_pair old h.tail)
 
 pub continues_get : (old new : List Pair) (n : ℕ) (q : Pair) → Continues old new → slice_get old n ≡ Some q → slice_get new n ≡ Some q
 continues_get old new n q c e = let P : List Pair → Type 0 = λ l. slice_get l n ≡ Some q in subst P (sym c.1) (slice_get-left old c.0 n q e)

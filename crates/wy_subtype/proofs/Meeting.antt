@@ -3,8 +3,9 @@ use Rattle.std.proofs.Common.{◌≡◌, ℕ, zero, suc, List, [], ◌∷◌, �
 use Rattle.std.specs.Prelude.{slice_get, position, if◌then◌else◌}
 use Rattle.std.specs.List.{list_any}
 use Rattle.std.specs.Option.{IfSome, IfNone}
-use Rattle.wy_effects.specs.Members.{In}
-use Rattle.wy_effects.proofs.Lists.{In-left, In-right, In-cases}
+use Rattle.std.proofs.lemmas.List.{map-append}
+use Rattle.wy_text.specs.Members.{In}
+use Rattle.wy_text.proofs.Lists.{In-left, In-right, In-cases}
 use Rattle.wy_effects.proofs.Places.{found_at}
 use Rattle.wy_types.specs.Keys.{pair_key}
 use Rattle.wy_types.specs.contracts.key.KeyPartialEq.TheImpl as E
@@ -12,7 +13,6 @@ use Rattle.wy_types.proofs.Keyed.{pair_once, met, not_met}
 use Rattle.wy_subtype.specs.declared.node.Node.{Node}
 use Rattle.wy_subtype.specs.Verdict.{Pair, AreSameBase}
 use Rattle.wy_subtype.specs.Nodes.{node_pair, node_key, open_node, Continues, Meets, IsNumbered, AreNumbersOf}
-use Rattle.wy_subtype.proofs.Places.{map-append'}
 use Rattle.wy_subtype.proofs.Knowing.{continues_get}
 
 abbrev key_of : Pair → List ℕ
@@ -65,7 +65,7 @@ module _ (ks : List Node) (keys : List (List ℕ)) (key : List ℕ) (keyed : key
     pub last_keyed : (keys' : List (List ℕ)) → keys' ≡ (if list_any ((E.eq-value).it key) keys then keys else (keys ++ key ∷ [])) → keys' ≡ map node_key new
     last_keyed keys' e =
         e ∙ ap (λ b. if b then keys else (keys ++ key ∷ [])) (absent_key absent) ∙ ap (λ v. keys ++ v ∷ []) its ∙ ap (λ (l : List (List ℕ)). l ++ key_of q ∷ []) keyed ∙
-        sym (map-append' node_key ks (open_node q ∷ [])) ∙ ap (map node_key) (sym last_open)
+        sym (map-append node_key ks (open_node q ∷ [])) ∙ ap (map node_key) (sym last_open)
 
     pub last_meets : Meets q ks new
     last_meets = inr (absent, last_open)
@@ -73,7 +73,7 @@ module _ (ks : List Node) (keys : List (List ℕ)) (key : List ℕ) (keyed : key
     pub last_number : slice_get (map node_pair new) (length ks) ≡ Some q
     last_number =
         let P : List Node → Type 0 = λ l. slice_get (map node_pair l) (length ks) ≡ Some q in
-        subst P (sym last_open) (let Q : List Pair → Type 0 = λ l. slice_get l (length ks) ≡ Some q in subst Q (sym (map-append' node_pair ks (open_node q ∷ []))) (last_pair ks))
+        subst P (sym last_open) (let Q : List Pair → Type 0 = λ l. slice_get l (length ks) ≡ Some q in subst Q (sym (map-append node_pair ks (open_node q ∷ []))) (last_pair ks))
       where
         last_pair : (xs : List Node) → slice_get (map node_pair xs ++ q ∷ []) (length xs) ≡ Some q
         last_pair [] = refl

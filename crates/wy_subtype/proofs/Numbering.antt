@@ -1,8 +1,8 @@
 -- What a pair asks for, by numbers: as its own test says it, and as the pairs that were unfolded grow.
 use Rattle.std.proofs.Common.{◌≡◌, ℕ, ◌<◌, List, [], ◌∷◌, ◌++◌, map, inl, inr, length, refl, ap, ◌∙◌, subst, arith}
-use Rattle.std.proofs.lemmas.List.{length-map}
-use Rattle.wy_effects.specs.Members.{In}
-use Rattle.wy_effects.proofs.Lists.{In-map, In-unmap}
+use Rattle.std.proofs.lemmas.List.{length-map, map-append}
+use Rattle.wy_text.specs.Members.{In}
+use Rattle.wy_text.proofs.Lists.{In-map, In-unmap}
 use Rattle.wy_types.specs.declared.types.TypeRef.{TypeRef}
 use Rattle.wy_types.specs.declared.types.TypeRef.TheVariants.{Int, Bool, Text, Unit as Nothing, Named, At, Own}
 use Rattle.wy_types.specs.Types.{IsObject}
@@ -13,7 +13,6 @@ use Rattle.wy_subtype.specs.Verdict.{Pair, AreSameBase, StepsTo}
 use Rattle.wy_subtype.specs.Unfolding.{sides, Asks}
 use Rattle.wy_subtype.specs.Decided.{About}
 use Rattle.wy_subtype.specs.Nodes.{node_pair, with_outcome, pair_at, pairs_at, Continues, AreMore, AreNumbersOf, base_pairs, IsAsking}
-use Rattle.wy_subtype.proofs.Places.{map-append'}
 use Rattle.wy_subtype.proofs.Knowing.{continues_at, pairs_at-left, pairs-with, more_continues}
 
 base_in : (t : TypeRef) → (IsObject t → ⊥) → In {X = Pair} (t, t) base_pairs
@@ -49,7 +48,7 @@ unfolded_pairs old mid unfolded unfolded' n o m within lt e =
     let qs : List Pair = map node_pair mid in
     let c : Continues ps qs = more_continues old mid m in
     let lt' : n < length ps = omega (arith, length-map old node_pair) in
-    ap (λ (l : List Pair). pairs_at l unfolded') (pairs-with mid n o) ∙ ap (pairs_at qs) e ∙ map-append' (pair_at qs) unfolded (n ∷ []) ∙
+    ap (λ (l : List Pair). pairs_at l unfolded') (pairs-with mid n o) ∙ ap (pairs_at qs) e ∙ map-append (pair_at qs) unfolded (n ∷ []) ∙
     ap (λ (l : List Pair). l ++ pair_at qs n ∷ []) (still_pairs ps qs unfolded c (λ k i. omega (arith, within k i, length-map old node_pair))) ∙
     ap (λ (v : Pair). pairs_at ps unfolded ++ v ∷ []) (continues_at ps qs n c lt')
   where

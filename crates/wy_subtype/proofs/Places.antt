@@ -1,7 +1,7 @@
 -- Reads by place under `++` and `map`.
 use Rattle.std.proofs.Common.{◌≡◌, ℕ, zero, suc, ◌<◌, ◌≤◌, List, [], ◌∷◌, ◌++◌, map, ◌⊎◌, inl, inr, length, refl, ap, arith, Some}
 use Rattle.std.specs.Prelude.{slice_get}
-use Rattle.wy_effects.specs.Members.{In}
+use Rattle.wy_text.specs.Members.{In}
 
 pub slice_get-left : {X : Type 0} (xs ys : List X) (k : ℕ) (x : X) → slice_get xs k ≡ Some x → slice_get (xs ++ ys) k ≡ Some x
 slice_get-left [] ys k x e = absurd (cc)
@@ -41,9 +41,6 @@ slice_get-unmapped f [] k y e = absurd (cc)
 slice_get-unmapped f (x ∷ xs) zero y e = (x, refl, cc)
 slice_get-unmapped f (x ∷ xs) (suc k) y e = slice_get-unmapped f xs k y e
 
-pub map-append' : {X Y : Type 0} (f : X → Y) (xs ys : List X) → map f (xs ++ ys) ≡ map f xs ++ map f ys
-map-append' f [] ys = refl
-map-append' f (x ∷ xs) ys = ap (λ l. f x ∷ l) (map-append' f xs ys)
 
 pub last_at : {X : Type 0} (xs : List X) (x : X) → slice_get (xs ++ x ∷ []) (length xs) ≡ Some x
 last_at [] x = refl

@@ -1,11 +1,11 @@
 -- The list of pairs: what a step back, an addition and a test keep, and what stands at the end.
 use Rattle.std.proofs.Common.{◌≡◌, ℕ, suc, ◌+◌, ◌<◌, ◌≤◌, List, [], ◌∷◌, ◌++◌, map, reverse, ◌⊎◌, inl, inr, length, refl, sym, ap, ◌∙◌, subst, arith, Option, Some, true, append_assoc, append-nil}
 use Rattle.std.specs.Prelude.{slice_get, ◌↔◌}
-use Rattle.std.proofs.lemmas.List.{reverse-append, length-map}
+use Rattle.std.proofs.lemmas.List.{reverse-append, length-map, map-append}
 use Rattle.std.proofs.lemmas.Bool.{cases_lt}
 use Rattle.std.proofs.lemmas.Option.{slice_get_within}
-use Rattle.wy_effects.specs.Members.{In, Within, Apart}
-use Rattle.wy_effects.proofs.Lists.{In-left, In-right, In-cases, In-map, In-unmap, In-at, In-slice_get, Apart-push}
+use Rattle.wy_text.specs.Members.{In, Within, Apart}
+use Rattle.wy_text.proofs.Lists.{In-left, In-right, In-cases, In-map, In-unmap, In-at, In-slice_get, Apart-push}
 use Rattle.wy_effects.specs.Bounds.{IsWithin}
 use Rattle.wy_types.specs.declared.types.TypeRef.{TypeRef}
 use Rattle.wy_types.specs.declared.types.TypeRef.TheVariants.{Int, Bool, Text, Unit as Nothing}
@@ -34,7 +34,7 @@ use Rattle.wy_subtype.specs.Nodes.{base_pairs, pair_at, HasStep, IsAsking}
 use Rattle.wy_subtype.specs.Work.{entry_node, entry_of, IsAdded, AreAdded}
 use Rattle.wy_subtype.specs.Decided.{About}
 use Rattle.wy_subtype.specs.Worklist.{Met, met_pair, pairs, met_by, mets, IsLinked, IsSeen, Extends, IsSettled, Advances, MetFails, BeginsWith, IsWork, Traces, IsPathTo}
-use Rattle.wy_subtype.proofs.Places.{slice_get-left, slice_get-push, slice_get-within, map-append'}
+use Rattle.wy_subtype.proofs.Places.{slice_get-left, slice_get-push, slice_get-within}
 use Rattle.wy_subtype.proofs.Knowing.{same_number, pair_at-is}
 
 -- a step back
@@ -98,7 +98,7 @@ module _ (program : Program) (core : IsInRange program) (scope : ℕ) (mode : Mo
       IsSeen program scope mode (ms ++ record { pair = q; parent = at } ∷ [])
   push_seen ms at p q s is step new seen =
       let x : Met = record { pair = q; parent = at } in
-      let e : pairs (ms ++ x ∷ []) ≡ pairs ms ++ q ∷ [] = map-append' met_pair ms (x ∷ []) in
+      let e : pairs (ms ++ x ∷ []) ≡ pairs ms ++ q ∷ [] = map-append met_pair ms (x ∷ []) in
       let A : List Pair → Type 0 = λ l. Apart l in
       let F : List Pair → Type 0 = λ l. (r : Pair) → In r l → FitsPair program scope r in
       let P : Pair → Type 0 = λ r. FitsPair program scope r in
@@ -181,7 +181,7 @@ module _ (about : About) (core : IsInRange about.program) (ps : List Pair) (apar
       let A : List Entry → Type 0 = λ l. Added es l n in
       let x : Entry = entry_of n at in
       let m : Met = met_by ps x in
-      let e : mets ps (es ++ x ∷ []) ≡ mets ps es ++ m ∷ [] = map-append' (met_by ps) es (x ∷ []) in
+      let e : mets ps (es ++ x ∷ []) ≡ mets ps es ++ m ∷ [] = map-append (met_by ps) es (x ∷ []) in
       let S : List Met → Type 0 = λ l. IsSeen about.program about.scope about.mode l in
       let P : List Met → Type 0 = λ l. In (pair_at ps n) (pairs l) in
       subst A (sym h.1) (record {

@@ -1,6 +1,6 @@
 -- What contracts see of a table of pairs: what it was made for, and the pairs that were unfolded in it.
 use Rattle.std.specs.Prelude.{◌≡◌, ℕ, ◌+◌, ◌≤◌, List, ◌++◌, length}
-use Rattle.wy_effects.specs.Members.{In}
+use Rattle.wy_text.specs.Members.{In}
 use Rattle.wy_types.specs.declared.path.Step.{Step}
 use Rattle.wy_types.specs.Program.{Program}
 use Rattle.wy_subtype.specs.declared.verdict.Mode.{Mode}

@@ -1,6 +1,6 @@
 -- The pairs that were met in a program, a scope and a mode, and what contracts see of them.
 use Rattle.std.specs.Prelude.{◌≡◌, ◌<◌, List, length, map}
-use Rattle.wy_effects.specs.Members.{In}
+use Rattle.wy_text.specs.Members.{In}
 use Rattle.wy_types.specs.Program.{program_of}
 use Rattle.wy_subtype.specs.declared.entry.Entry.{Entry}
 use Rattle.wy_subtype.specs.declared.graph.Graph.{Graph}

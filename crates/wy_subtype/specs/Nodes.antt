@@ -1,7 +1,7 @@
 -- The pairs that a table met, by their numbers, and what is known of each.
 use Rattle.std.specs.Prelude.{◌≡◌, ℕ, ◌<◌, List, [], ◌∷◌, ◌++◌, ◌⊎◌, Option, Some, None, Bool as Truth, true, false, length, map, slice_get}
 use Rattle.std.proofs.Common.{zero, suc}
-use Rattle.wy_effects.specs.Members.{In, Within, Apart}
+use Rattle.wy_text.specs.Members.{In, Within, Apart}
 use Rattle.wy_types.specs.declared.types.TypeRef.TheVariants.{Int, Bool, Text, Unit as Nothing}
 use Rattle.wy_types.specs.declared.path.Step.{Step}
 use Rattle.wy_types.specs.InRange.{IsInRange}

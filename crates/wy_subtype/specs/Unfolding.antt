@@ -1,6 +1,6 @@
 -- One pair's own test: the cause by which it fails, or the pairs that it asks for.
 use Rattle.std.specs.Prelude.{◌≡◌, ℕ, ◌+◌, List, [], ◌∷◌, ◌++◌, Option, Some, None, map, length}
-use Rattle.wy_effects.specs.Members.{In, Within}
+use Rattle.wy_text.specs.Members.{In, Within}
 use Rattle.wy_effects.specs.Bounds.{IsUnder, IsLeastMissing}
 use Rattle.wy_types.specs.declared.types.TypeRef.{TypeRef}
 use Rattle.wy_types.specs.declared.path.Part.TheVariants.{Parameter, Result}

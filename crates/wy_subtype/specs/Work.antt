@@ -1,6 +1,6 @@
 -- Lists of the numbers of pairs that one question met, and what additions do to them.
 use Rattle.std.specs.Prelude.{◌≡◌, ℕ, List, [], ◌∷◌, ◌++◌, ◌⊎◌, Option, Some, None, map}
-use Rattle.wy_effects.specs.Members.{In}
+use Rattle.wy_text.specs.Members.{In}
 use Rattle.wy_subtype.specs.declared.verdict.Cause.{Cause}
 use Rattle.wy_subtype.specs.declared.node.Outcome.{Outcome}
 use Rattle.wy_subtype.specs.declared.node.Outcome.TheVariants.{Fails, Asks, Holds}

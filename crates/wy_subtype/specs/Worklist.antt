@@ -1,6 +1,6 @@
 -- What the list of pairs of one question keeps while they are tested one by one.
 use Rattle.std.specs.Prelude.{◌≡◌, ℕ, ◌<◌, ◌≤◌, List, [], ◌∷◌, ◌++◌, ◌⊎◌, Some, length, map, reverse, slice_get}
-use Rattle.wy_effects.specs.Members.{In, Apart}
+use Rattle.wy_text.specs.Members.{In, Apart}
 use Rattle.wy_types.specs.declared.path.Step.{Step}
 use Rattle.wy_types.specs.Program.{Program}
 use Rattle.wy_types.specs.Fitting.{IsTypeOf}

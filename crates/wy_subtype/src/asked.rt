@@ -1,7 +1,7 @@
 //! The step from a pair to one that it asks for.
 
 ghost use Rattle.std.specs.Prelude.{◌≡◌, ℕ, ◌≤◌, ◌↔◌, IfOk, IfSome, IfNone, IsTrue, length, map};
-ghost use Rattle.wy_effects.specs.Members.{In};
+ghost use Rattle.wy_text.specs.Members.{In};
 ghost use Rattle.wy_types.specs.Signature.{Signature, find_method};
 ghost use Rattle.wy_types.specs.Types.{signature};
 ghost use Rattle.wy_subtype.specs.Asked.{AreExchanged, AsksBy, IsAskedOf, IsAskedBy};

@@ -1,7 +1,7 @@
 //! Pairs of types, what each of them asks for, and how a question is answered by them.
 
 ghost use Rattle.std.specs.Prelude.{◌≡◌, ◌<◌, [], IfOk, OnOk, IfSome, IfNone, Some, length, map, slice_get};
-ghost use Rattle.wy_effects.specs.Members.{In as IsIn};
+ghost use Rattle.wy_text.specs.Members.{In as IsIn};
 ghost use Rattle.wy_types.specs.Program.{program_of};
 ghost use Rattle.wy_types.specs.InRange.{IsInRange};
 ghost use Rattle.wy_types.specs.Fitting.{IsTypeOf};

@@ -1,7 +1,7 @@
 //! The pairs that a table met, each once.
 
 ghost use Rattle.std.specs.Prelude.{◌≡◌, ◌↔◌, ◌<◌, [], IfOk, OnOk, IsTrue, Some, length, map, slice_get};
-ghost use Rattle.wy_effects.specs.Members.{In as IsIn};
+ghost use Rattle.wy_text.specs.Members.{In as IsIn};
 ghost use Rattle.wy_types.specs.Keys.{pair_key};
 ghost use Rattle.wy_subtype.specs.Verdict.{Pair, AreSameBase};
 ghost use Rattle.wy_subtype.specs.Unfolding.{sides};

@@ -1,7 +1,7 @@
 //! Pairs of types that were decided in a scope and a mode, each unfolded once.
 
 ghost use Rattle.std.specs.Prelude.{◌≡◌, ◌+◌, ◌<◌, ◌≤◌, ◌++◌, ◌↔◌, ◌⊎◌, [], List, IfOk, true, length};
-ghost use Rattle.wy_effects.specs.Members.{In as IsIn, Apart};
+ghost use Rattle.wy_text.specs.Members.{In as IsIn, Apart};
 ghost use Rattle.wy_types.specs.Program.{program_of};
 ghost use Rattle.wy_types.specs.Fitting.{IsTypeOf};
 ghost use Rattle.wy_types.specs.InRange.{IsInRange};

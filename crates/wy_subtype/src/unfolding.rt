@@ -2,7 +2,7 @@
 
 ghost use Rattle.std.specs.Prelude.{◌≡◌, ◌≤◌, ◌+◌, ◌++◌, ◌∷◌, [], Some, IfOk, OnOk, OnErr, IfSome, IfNone, map, length};
 ghost use Rattle.std.specs.Option.{option_copied, option_map};
-ghost use Rattle.wy_effects.specs.Members.{In, Within};
+ghost use Rattle.wy_text.specs.Members.{In, Within};
 ghost use Rattle.wy_effects.specs.Bounds.{IsOneOf, IsLeastMissing};
 ghost use Rattle.wy_types.specs.Program.{program_of};
 ghost use Rattle.wy_types.specs.Types.{signature};

@@ -3,11 +3,11 @@ use Rattle.std.proofs.Common.{◌≡◌, ℕ, zero, suc, ◌+◌, List, [], ◌�
 use Rattle.std.specs.Prelude.{◌&&◌, slice_get, OnOk}
 use Rattle.std.proofs.lemmas.List.{append-nil}
 use Rattle.wy_text.specs.declared.fault.AtomName.{AtomName}
-use Rattle.wy_effects.specs.Members.{In, Apart}
+use Rattle.wy_text.specs.Members.{In, Apart}
 use Rattle.wy_effects.specs.AtomTable.{Inserts}
 use Rattle.wy_effects.specs.declared.atom.Atom.{Atom}
 use Rattle.wy_effects.specs.declared.atom.TableRefusal.{TableRefusal}
-use Rattle.wy_effects.proofs.Lists.{In-slice_get}
+use Rattle.wy_text.proofs.Lists.{In-slice_get}
 use Rattle.wy_symbols.specs.Declarations.{same_name}
 use Rattle.wy_symbols.specs.Atoms.{same_atom, has_atom, with_atom, with_members, atom_of, atom_number}
 use Rattle.wy_symbols.proofs.Firsts.{same_exact, same_itself}

@@ -1,8 +1,8 @@
 -- The owner of a name among the first ones of a list, by its number in the whole list.
 use Rattle.std.proofs.Common.{◌≡◌, ◌≤◌, ◌<◌, ℕ, zero, suc, ◌+◌, List, [], ◌∷◌, map, take, refl, sym, ap, ◌∙◌, Bool, true, false, Option, Some, None, arith, if◌then◌else◌}
 use Rattle.std.specs.Prelude.{slice_get}
-use Rattle.wy_effects.specs.Members.{In}
-use Rattle.wy_effects.proofs.Lists.{In-slice_get}
+use Rattle.wy_text.specs.Members.{In}
+use Rattle.wy_text.proofs.Lists.{In-slice_get}
 use Rattle.wy_symbols.specs.declared.scoping.Owner.{Owner}
 use Rattle.wy_symbols.specs.declared.atom_scope.Opened.{Opened}
 use Rattle.wy_symbols.specs.Declarations.{same_name, first_from}

@@ -2,7 +2,7 @@
 use Rattle.std.proofs.Common.{◌≡◌, ℕ, List, [], ◌∷◌, ◌++◌, true, false, sym, ap, ◌∙◌, subst, Some, if◌then◌else◌, append_assoc}
 use Rattle.std.specs.Prelude.{slice_get}
 use Rattle.wy_text.specs.declared.fault.AtomName.{AtomName}
-use Rattle.wy_effects.specs.Members.{Apart}
+use Rattle.wy_text.specs.Members.{Apart}
 use Rattle.wy_symbols.specs.declared.scoping.Meaning.{Meaning}
 use Rattle.wy_symbols.specs.Meanings.{abstract_names}
 use Rattle.wy_symbols.specs.Atoms.{atom_of, atom_number, with_atom, with_members, owner_sets}

@@ -41,7 +41,7 @@ pub struct Owners<'a> {
 
 impl<'a> Model for Owners<'a> {
     ghost use Rattle.std.specs.Prelude.{◌≡◌, [], map};
-    ghost use Rattle.wy_effects.specs.Members.{In};
+    ghost use Rattle.wy_text.specs.Members.{In};
     ghost use Rattle.wy_symbols.specs.declared.atom_scope.Opened.{Opened};
     ghost use Rattle.wy_symbols.specs.Atoms.{AtomScope, owner_sets, opened_names, owner_names};
 

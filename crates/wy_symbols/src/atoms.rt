@@ -3,7 +3,7 @@
 ghost use Rattle.std.specs.Prelude.{◌≡◌, ◌<◌, [], ◌∷◌, ◌++◌, List, Some, slice_get, IfOk, OnOk};
 ghost use Rattle.std.specs.Option.{option_map};
 ghost use Rattle.wy_text.specs.declared.fault.AtomName.{AtomName};
-ghost use Rattle.wy_effects.specs.Members.{Apart};
+ghost use Rattle.wy_text.specs.Members.{Apart};
 ghost use Rattle.wy_symbols.specs.Meanings.{abstract_names, abstract_bounds};
 ghost use Rattle.wy_symbols.specs.Atoms.{atom_of, with_atom, with_members, owner_sets, opened_names, opened_bounds, bounds_at};
 ghost use Rattle.wy_effects.specs.EffSet.{replace};

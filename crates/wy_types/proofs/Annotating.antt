@@ -1,11 +1,11 @@
 -- The law of annotation: a type is a subtype of itself at a bound exactly where its effects are in the bound and the bound is safe for what it takes.
 use Rattle.std.proofs.Common.{◌≡◌, ℕ, zero, suc, List, [], ◌∷◌, ◌++◌, map, ◌⊎◌, inl, inr, refl, sym, ap, ◌∙◌, subst, arith, Option, Some, Bool as Truth, true, false}
 use Rattle.std.specs.Prelude.{slice_get, not, ◌↔◌}
-use Rattle.wy_effects.specs.Members.{In}
+use Rattle.wy_text.specs.Members.{In}
 use Rattle.wy_effects.specs.Bounds.{Inside}
 use Rattle.wy_effects.specs.EffSet.{replace}
 use Rattle.wy_effects.proofs.Closure.{Closes, closure}
-use Rattle.wy_effects.proofs.Lists.{In-left, In-right, In-cases, In-map, In-unmap, In-at, In-slice_get}
+use Rattle.wy_text.proofs.Lists.{In-left, In-right, In-cases, In-map, In-unmap, In-at, In-slice_get}
 use Rattle.wy_types.specs.declared.types.TypeRef.{TypeRef}
 use Rattle.wy_types.specs.declared.types.TypeRef.TheVariants.{Int, Bool, Text, Unit as Nothing, Named, At, Own}
 use Rattle.wy_types.specs.declared.path.Part.{Part}

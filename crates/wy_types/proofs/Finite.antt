@@ -5,9 +5,9 @@ use Rattle.std.specs.List.{range_with_len}
 use Rattle.std.proofs.Math.ListN.{length-map}
 use Rattle.std.proofs.Math.Nat.{add_assoc, zero-add}
 use Rattle.std.proofs.lemmas.List.FromFn.{length-range_with_len, get_or-range_with_len}
-use Rattle.wy_effects.specs.Members.{In, Apart}
+use Rattle.wy_text.specs.Members.{In, Apart}
 use Rattle.wy_effects.specs.EffSet.{IsSet, AreSets, replace}
-use Rattle.wy_effects.proofs.Lists.{In-left, In-right, In-map, In-unmap, In-read, length-apart}
+use Rattle.wy_text.proofs.Lists.{In-left, In-right, In-map, In-unmap, In-read, length-apart}
 use Rattle.wy_effects.proofs.Listing.{sets_from, In-sets_from, length-sets_from, tuples, In-tuples, length-tuples, pairs_of, In-pairs_of}
 use Rattle.wy_effects.proofs.Replacing.{IsSet-replace, AreSets-map}
 use Rattle.wy_types.specs.declared.types.TypeRef.{TypeRef}

@@ -1,8 +1,8 @@
 -- Types added to a list, one after another.
 use Rattle.std.proofs.Common.{◌≡◌, ℕ, zero, suc, ◌+◌, ◌<◌, ◌≤◌, List, [], ◌∷◌, ◌++◌, map, take, ◌⊎◌, inl, inr, length, get_or, Err, refl, sym, ap, ◌∙◌, subst, arith, append_assoc, append-nil, length-append}
-use Rattle.std.proofs.lemmas.List.{take_more}
-use Rattle.wy_effects.specs.Members.{In, Within, Apart}
-use Rattle.wy_effects.proofs.Lists.{In-left, In-right, In-cases, Apart-push}
+use Rattle.std.proofs.lemmas.List.{take_more, map-append}
+use Rattle.wy_text.specs.Members.{In, Within, Apart}
+use Rattle.wy_text.proofs.Lists.{In-left, In-right, In-cases, Apart-push}
 use Rattle.wy_types.specs.declared.types.TypeRef.{TypeRef}
 use Rattle.wy_types.specs.declared.types.Method.{Method}
 use Rattle.wy_types.specs.declared.reach.ReachRefusal.{ReachRefusal}
@@ -134,15 +134,12 @@ signature_types-append [] ys = refl
 signature_types-append (m ∷ xs) ys =
     ap (λ l. (m.params ++ m.result ∷ []) ++ l) (signature_types-append xs ys) ∙ sym (append_assoc (m.params ++ m.result ∷ []) (signature_types xs) (signature_types ys))
 
-map-append' : {X Y : Type 0} (f : X → Y) (xs ys : List X) → map f (xs ++ ys) ≡ map f xs ++ map f ys
-map-append' f [] ys = refl
-map-append' f (x ∷ xs) ys = ap (λ l. f x ∷ l) (map-append' f xs ys)
 
 pub signature_types-take : (ms : List Method) (m : Method) (i : ℕ) → i < length ms → m ≡ get_or ms i m →
     signature_types (map signature (take (i + 1) ms)) ≡ signature_types (map signature (take i ms)) ++ (m.params ++ m.result ∷ [])
 signature_types-take ms m i h e =
     ap (λ l. signature_types (map signature l)) (take_more ms i m h ∙ ap (λ x. take i ms ++ x ∷ []) (sym e)) ∙
-    ap signature_types (map-append' signature (take i ms) (m ∷ [])) ∙
+    ap signature_types (map-append signature (take i ms) (m ∷ [])) ∙
     signature_types-append (map signature (take i ms)) (signature m ∷ []) ∙
     ap (λ l. signature_types (map signature (take i ms)) ++ l) (append-nil (m.params ++ m.result ∷ []))
 

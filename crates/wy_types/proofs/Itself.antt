@@ -3,9 +3,9 @@
 use Rattle.std.proofs.Common.{◌≡◌, ℕ, ◌≤◌, List, [], ◌∷◌, map, ◌⊎◌, inl, inr, length, refl, sym, ap, ◌∙◌, subst, Option, Some, true, false}
 use Rattle.std.specs.Prelude.{bytes_eq, if◌then◌else◌}
 use Rattle.std.proofs.lemmas.Slice.Eq.{bytes_eq-Decides}
-use Rattle.wy_effects.specs.Members.{In, Apart}
+use Rattle.wy_text.specs.Members.{In, Apart}
 use Rattle.wy_effects.proofs.Closure.{Decided, Closes, closure}
-use Rattle.wy_effects.proofs.Lists.{In-at, In-map, In-unmap}
+use Rattle.wy_text.proofs.Lists.{In-at, In-map, In-unmap}
 use Rattle.wy_types.specs.declared.path.Part.TheVariants.{Parameter, Result as ResultPart}
 use Rattle.wy_types.specs.Signature.{Signature, mapped_signature, find_method, signature_types}
 use Rattle.wy_types.specs.Subtyping.{ParamsIn, HasCover, IsClosed, IsSubtype}

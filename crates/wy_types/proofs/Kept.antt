@@ -1,7 +1,7 @@
 -- What follows from what a core keeps: its signatures are in range, and so is all that types reach.
 use Rattle.std.proofs.Common.{ℕ, ◌+◌, ◌≤◌, List, [], ◌∷◌, map, inl, length, refl, subst, arith}
 use Rattle.wy_effects.specs.EffSet.{IsSetFrom}
-use Rattle.wy_effects.proofs.Lists.{In-left, In-right, In-unmap, In-slice_get}
+use Rattle.wy_text.proofs.Lists.{In-left, In-right, In-unmap, In-slice_get}
 use Rattle.wy_types.specs.declared.types.TypeRef.{TypeRef}
 use Rattle.wy_types.specs.declared.types.TypeRef.TheVariants.{Int, Bool, Text, Unit as Nothing, Named, At, Own}
 use Rattle.wy_types.specs.declared.path.Part.{Part}

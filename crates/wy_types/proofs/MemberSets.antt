@@ -1,9 +1,9 @@
 -- The sets of the members of types in range are sets, and so are those that a line hands on.
 use Rattle.std.proofs.Common.{◌≡◌, ℕ, List, [], ◌∷◌, map, inl, inr, refl, subst, ◌∙◌, Option, Some, None, true, false}
 use Rattle.std.specs.Prelude.{slice_get, bytes_eq, if◌then◌else◌}
-use Rattle.wy_effects.specs.Members.{In}
+use Rattle.wy_text.specs.Members.{In}
 use Rattle.wy_effects.specs.EffSet.{IsSet, AreSets, replace}
-use Rattle.wy_effects.proofs.Lists.{In-unmap, In-cases}
+use Rattle.wy_text.proofs.Lists.{In-unmap, In-cases}
 use Rattle.wy_effects.proofs.Replacing.{IsSet-replace}
 use Rattle.wy_types.specs.declared.types.TypeRef.{TypeRef}
 use Rattle.wy_types.specs.declared.types.TypeRef.TheVariants.{Int, Bool as Truth, Text, Unit as Nothing, Named, At, Own}

@@ -1,9 +1,9 @@
 -- Each type in range is a subtype of itself.
 use Rattle.std.proofs.Common.{ℕ, List, map, ◌⊎◌, inl, inr, sym, subst, Option, Bool as Truth, true, false}
 use Rattle.std.specs.Prelude.{slice_get}
-use Rattle.wy_effects.specs.Members.{In, Apart}
+use Rattle.wy_text.specs.Members.{In, Apart}
 use Rattle.wy_effects.specs.Bounds.{IsWithin, by_member}
-use Rattle.wy_effects.proofs.Lists.{In-slice_get}
+use Rattle.wy_text.proofs.Lists.{In-slice_get}
 use Rattle.wy_effects.proofs.Ordering.{onward_within}
 use Rattle.wy_types.specs.declared.types.TypeRef.{TypeRef}
 use Rattle.wy_types.specs.declared.types.TypeRef.TheVariants.{Int, Bool, Text, Unit as Nothing, Named, At, Own}

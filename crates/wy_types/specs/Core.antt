@@ -1,7 +1,7 @@
 -- What every core keeps: numbers in range, names that differ, and the forms of each kind of scope.
 use Rattle.std.specs.Prelude.{◌≡◌, ℕ, ◌+◌, ◌<◌, ◌≤◌, ◌↔◌, List, [], ◌∷◌, ◌++◌, Option, Some, None, Bool as Truth, true, false, length, map, take, slice_get}
 use Rattle.std.specs.List.{range_with_len}
-use Rattle.wy_effects.specs.Members.{In, Within, Apart}
+use Rattle.wy_text.specs.Members.{In, Within, Apart}
 use Rattle.wy_effects.specs.EffSet.{IsSet, AreSets}
 use Rattle.wy_effects.specs.Bounds.{BoundsFit}
 use Rattle.wy_types.specs.declared.types.TypeRef.{TypeRef}

@@ -1,6 +1,6 @@
 -- Few types are reached.
 use Rattle.std.specs.Prelude.{ℕ, ◌+◌, ◌^◌, ◌≤◌, List, [], ◌∷◌, length}
-use Rattle.wy_effects.specs.Members.{In, Apart}
+use Rattle.wy_text.specs.Members.{In, Apart}
 use Rattle.wy_types.specs.declared.types.TypeRef.{TypeRef}
 use Rattle.wy_types.specs.declared.resolved.TypeDecl.{TypeDecl}
 use Rattle.wy_types.specs.declared.path.Step.{Step}

@@ -1,7 +1,7 @@
 -- A list of object types without repeats, to which types are added.
 use Rattle.std.specs.Prelude.{◌≡◌, ◌<◌, ◌≤◌, List, [], ◌++◌, ◌⊎◌, Result, Ok, Err, length}
 use Rattle.wy_text.specs.declared.limit.LimitName.TheVariants.{ReachedTypes}
-use Rattle.wy_effects.specs.Members.{In, Apart}
+use Rattle.wy_text.specs.Members.{In, Apart}
 use Rattle.wy_types.specs.declared.types.TypeRef.{TypeRef}
 use Rattle.wy_types.specs.declared.reach.ReachRefusal.{ReachRefusal}
 use Rattle.wy_types.specs.declared.reach.ReachRefusal.TheVariants.{Limit, Memory}

@@ -1,6 +1,6 @@
 -- Programs whose signatures are in range.
 use Rattle.std.specs.Prelude.{◌≤◌, length, map}
-use Rattle.wy_effects.specs.Members.{In}
+use Rattle.wy_text.specs.Members.{In}
 use Rattle.wy_effects.specs.Bounds.{GoDown}
 use Rattle.wy_types.specs.declared.types.TypeRef.{TypeRef}
 use Rattle.wy_types.specs.declared.resolved.TypeDecl.{TypeDecl}

@@ -2,7 +2,7 @@
 use Rattle.std.specs.Prelude.{◌≡◌, ℕ, ◌-◌, ◌<◌, ◌≤◌, List, [], ◌∷◌, ◌++◌, ◌↔◌, Option, Some, None, Result, Ok, Err, map, length, slice_get}
 use Rattle.std.specs.List.{range_with_len}
 use Rattle.wy_text.specs.declared.limit.LimitName.TheVariants.{ReachedTypes}
-use Rattle.wy_effects.specs.Members.{In, Apart}
+use Rattle.wy_text.specs.Members.{In, Apart}
 use Rattle.wy_types.specs.declared.types.TypeRef.{TypeRef}
 use Rattle.wy_types.specs.declared.types.TypeRef.TheVariants.{Named, Own}
 use Rattle.wy_types.specs.declared.path.Step.{Step}

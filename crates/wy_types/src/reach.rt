@@ -1,5 +1,5 @@
 ghost use Rattle.std.specs.Prelude.{◌≡◌, ◌++◌, ◌≤◌, ◌-◌, OnOk, IfOk, map, length, slice_get};
-ghost use Rattle.wy_effects.specs.Members.{Apart};
+ghost use Rattle.wy_text.specs.Members.{Apart};
 ghost use Rattle.wy_types.specs.Program.{program_of, scope_of, body_of, start_of};
 ghost use Rattle.wy_types.specs.Types.{signature};
 ghost use Rattle.wy_types.specs.Signature.{signature_types};

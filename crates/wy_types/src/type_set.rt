@@ -1,7 +1,7 @@
 //! Object types that were found, each once.
 
 ghost use Rattle.std.specs.Prelude.{◌≡◌, ◌≤◌, ◌∷◌, [], IfOk, length};
-ghost use Rattle.wy_effects.specs.Members.{Apart};
+ghost use Rattle.wy_text.specs.Members.{Apart};
 ghost use Rattle.wy_types.specs.Gathering.{Gathers};
 
 use crate::key::{Key, key_of_type};

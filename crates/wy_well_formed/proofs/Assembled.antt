@@ -1,7 +1,7 @@
 -- The scopes of a program put together: modules first, each under its own name, and then the program.
 use Rattle.std.proofs.Common.{◌≡◌, List, [], ◌∷◌, ◌++◌, map, inl, inr, refl, ap}
-use Rattle.wy_effects.specs.Members.{In, Apart}
-use Rattle.wy_effects.proofs.Lists.{In-cases}
+use Rattle.wy_text.specs.Members.{In, Apart}
+use Rattle.wy_text.proofs.Lists.{In-cases}
 use Rattle.wy_types.specs.declared.resolved.ScopeKind.TheVariants.{Program as Main}
 use Rattle.wy_types.specs.Program.{Scope}
 use Rattle.wy_types.specs.Core.{ProgramIsLast, module_names}

@@ -7,9 +7,9 @@ use Rattle.wy_syntax.specs.declared.types.Signature as tree
 use Rattle.wy_syntax.specs.declared.items.Member.{Member}
 use Rattle.wy_syntax.specs.declared.items.Member.TheVariants.{Abstract, Bounded, Defined, Method}
 use Rattle.wy_syntax.specs.declared.items.TypeDecl.{TypeDecl}
-use Rattle.wy_effects.specs.Members.{In, Apart}
+use Rattle.wy_text.specs.Members.{In, Apart}
 use Rattle.wy_effects.specs.EffSet.{IsSet}
-use Rattle.wy_effects.proofs.Lists.{In-cases, In-unmap}
+use Rattle.wy_text.proofs.Lists.{In-cases, In-unmap}
 use Rattle.wy_types.specs.declared.types.TypeRef.{TypeRef}
 use Rattle.wy_types.specs.declared.resolved.DefinedMember.{DefinedMember}
 use Rattle.wy_types.specs.Program.{Program}

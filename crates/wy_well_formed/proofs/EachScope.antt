@@ -3,8 +3,8 @@ use Rattle.std.proofs.Common.{◌≡◌, ℕ, zero, suc, ◌-◌, List, [], ◌�
 use Rattle.std.specs.Prelude.{slice_get}
 use Rattle.std.proofs.lemmas.List.{length-append}
 use Rattle.wy_syntax.specs.Trees.{ItemTree}
-use Rattle.wy_effects.specs.Members.{In}
-use Rattle.wy_effects.proofs.Lists.{In-cases, In-unmap}
+use Rattle.wy_text.specs.Members.{In}
+use Rattle.wy_text.proofs.Lists.{In-cases, In-unmap}
 use Rattle.wy_types.specs.Program.{Program, Scope}
 use Rattle.wy_types.specs.Ground.{program_number}
 use Rattle.wy_symbols.specs.Declarations.{ModuleTree, types_of, modules_of}

@@ -7,8 +7,8 @@ use Rattle.wy_text.specs.declared.limit.LimitName.TheVariants as limit
 use Rattle.wy_text.specs.LimitName.{limit_number}
 use Rattle.wy_syntax.specs.declared.items.TypeDecl.{TypeDecl}
 use Rattle.wy_syntax.specs.Trees.{ItemTree, PartTrees}
-use Rattle.wy_effects.specs.Members.{In}
-use Rattle.wy_effects.proofs.Lists.{In-left, In-right, In-map}
+use Rattle.wy_text.specs.Members.{In}
+use Rattle.wy_text.proofs.Lists.{In-left, In-right, In-map}
 use Rattle.wy_symbols.specs.Declarations.{ModuleTree, ProgramTree, Declared, declared, types_of, modules_of, programs_of}
 use Rattle.wy_symbols.specs.Atoms.{all_names}
 use Rattle.wy_heads.specs.Counts.{parts_literals, tail_literals, module_parts, program_parts, all_parts, field_count, method_count, part_params, parts_params, signature_count, abstract_count, member_params, types_params, abstract_counts, type_counts, module_count, program_count, counts_of, some_above, passes, first_passed, limits, limit_of}

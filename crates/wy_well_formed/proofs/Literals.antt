@@ -1,8 +1,8 @@
 -- Literals that are not refused have fields of written types, under names that differ.
 use Rattle.std.proofs.Common.{◌≡◌, ℕ, ◌≤◌, List, [], ◌∷◌, ◌++◌, map, length, inl, inr, refl, sym, ap, subst, arith}
 use Rattle.wy_syntax.specs.Trees as t
-use Rattle.wy_effects.specs.Members.{In, Apart}
-use Rattle.wy_effects.proofs.Lists.{In-cases}
+use Rattle.wy_text.specs.Members.{In, Apart}
+use Rattle.wy_text.proofs.Lists.{In-cases}
 use Rattle.wy_types.specs.declared.resolved.Field.{Field}
 use Rattle.wy_types.specs.declared.resolved.Literal.{Literal}
 use Rattle.wy_types.specs.Program.{Program, Scope}

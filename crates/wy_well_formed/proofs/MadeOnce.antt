@@ -2,7 +2,7 @@
 use Rattle.std.proofs.Common.{◌≡◌, ℕ, List, [], ◌∷◌, ◌++◌, refl, sym, ap, ap₂, ◌∙◌, append-nil, append_assoc}
 use Rattle.wy_text.specs.declared.fault.Place.{Place}
 use Rattle.wy_syntax.specs.Trees as t
-use Rattle.wy_effects.specs.Members.{Apart}
+use Rattle.wy_text.specs.Members.{Apart}
 use Rattle.wy_types.specs.Code as code
 use Rattle.wy_types.specs.Program.{Scope, Body}
 use Rattle.wy_symbols.specs.declared.scoping.Head.{Head}

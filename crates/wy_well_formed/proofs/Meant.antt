@@ -8,7 +8,7 @@ use Rattle.wy_syntax.specs.declared.items.Member.{Member}
 use Rattle.wy_syntax.specs.declared.items.Member.TheVariants.{Abstract, Bounded, Defined, Method}
 use Rattle.wy_effects.specs.EffSet.{IsSet}
 use Rattle.wy_effects.specs.Bounds.{Bounds}
-use Rattle.wy_effects.proofs.Lists.{In-cases}
+use Rattle.wy_text.proofs.Lists.{In-cases}
 use Rattle.wy_symbols.specs.declared.scoping.Head.{Head}
 use Rattle.wy_symbols.specs.declared.scoping.Meaning.{Meaning}
 use Rattle.wy_symbols.specs.declared.scoping.Owner.{Owner}

@@ -4,8 +4,8 @@ use Rattle.std.specs.Prelude.{if◌then◌else◌}
 use Rattle.std.proofs.lemmas.List.{map-append, append-nil}
 use Rattle.wy_syntax.specs.declared.items.Member.{Member}
 use Rattle.wy_syntax.specs.declared.items.Member.TheVariants.{Abstract, Bounded, Defined, Method}
-use Rattle.wy_effects.specs.Members.{In, Apart}
-use Rattle.wy_effects.proofs.Lists.{In-cases, In-left, In-right}
+use Rattle.wy_text.specs.Members.{In, Apart}
+use Rattle.wy_text.proofs.Lists.{In-cases, In-left, In-right}
 use Rattle.wy_types.specs.declared.types.TypeRef.{TypeRef}
 use Rattle.wy_types.specs.declared.resolved.DefinedMember.{DefinedMember}
 use Rattle.wy_types.specs.Signature.{Signature}

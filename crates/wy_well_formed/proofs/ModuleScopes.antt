@@ -4,10 +4,10 @@ use Rattle.std.proofs.lemmas.List.{length-map, length-append}
 use Rattle.wy_syntax.specs.declared.types.Name.{Name}
 use Rattle.wy_syntax.specs.declared.items.Line.{Line}
 use Rattle.wy_syntax.specs.declared.items.Init as tree
-use Rattle.wy_effects.specs.Members.{In, Within, Apart}
+use Rattle.wy_text.specs.Members.{In, Within, Apart}
 use Rattle.wy_effects.specs.EffSet.{IsSet, AreSets}
 use Rattle.wy_effects.specs.Bounds.{BoundsFit}
-use Rattle.wy_effects.proofs.Lists.{In-left, In-right, In-unmap}
+use Rattle.wy_text.proofs.Lists.{In-left, In-right, In-unmap}
 use Rattle.wy_types.specs.declared.resolved.ScopeKind.{ScopeKind}
 use Rattle.wy_types.specs.declared.resolved.ScopeKind.TheVariants.{Pure, Resource, Plain, Program as Main}
 use Rattle.wy_types.specs.declared.resolved.OwnName.{OwnName}

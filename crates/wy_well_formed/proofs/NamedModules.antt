@@ -8,8 +8,8 @@ use Rattle.wy_syntax.specs.declared.items.Line.{Line}
 use Rattle.wy_syntax.specs.declared.items.Line.TheVariants as line
 use Rattle.wy_syntax.specs.declared.items.Grant.{Grant}
 use Rattle.wy_text.specs.declared.fault.AtomName.{AtomName}
-use Rattle.wy_effects.specs.Members.{In}
-use Rattle.wy_effects.proofs.Lists.{In-left, In-right, In-cases}
+use Rattle.wy_text.specs.Members.{In}
+use Rattle.wy_text.proofs.Lists.{In-left, In-right, In-cases}
 use Rattle.wy_types.specs.declared.resolved.OwnName.{OwnName}
 use Rattle.wy_types.specs.Core.{origin_modules, names_modules}
 use Rattle.wy_symbols.specs.declared.scoping.Head.{Head}

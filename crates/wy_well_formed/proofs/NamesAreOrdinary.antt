@@ -5,8 +5,8 @@ use Rattle.wy_text.specs.LimitName.{limit_number}
 use Rattle.wy_syntax.specs.Tokens.{Tok}
 use Rattle.wy_syntax.specs.Trees.{InsideTree, ItemTree, PartTrees, TailTree, type_item, pure_item, resource_item, plain_item, program_item}
 use Rattle.wy_syntax.specs.Grammar.{SpellsInside, SpellsItem}
-use Rattle.wy_effects.specs.Members.{In}
-use Rattle.wy_effects.proofs.Lists.{In-cases}
+use Rattle.wy_text.specs.Members.{In}
+use Rattle.wy_text.proofs.Lists.{In-cases}
 use Rattle.wy_types.specs.Program.{Scope}
 use Rattle.wy_symbols.specs.declared.scoping.Head.{Head}
 use Rattle.wy_symbols.specs.Declarations.{ModuleTree, ProgramTree, item_modules, item_programs, types_of, modules_of, programs_of}

@@ -3,8 +3,8 @@ use Rattle.std.proofs.Common.{◌≡◌, List, [], ◌∷◌, ◌++◌, Option, 
 use Rattle.wy_text.specs.declared.fault.Place.{Place}
 use Rattle.wy_text.specs.declared.limit.LimitName.{LimitName}
 use Rattle.wy_syntax.specs.Trees.{ItemTree}
-use Rattle.wy_effects.specs.Members.{In}
-use Rattle.wy_effects.proofs.Lists.{In-left, In-right, In-cases}
+use Rattle.wy_text.specs.Members.{In}
+use Rattle.wy_text.proofs.Lists.{In-left, In-right, In-cases}
 use Rattle.wy_symbols.specs.declared.refusal.Cause.{Cause}
 use Rattle.wy_symbols.specs.declared.refusal.Cause.TheVariants as cause
 use Rattle.wy_symbols.specs.declared.refusal.Refusal.{Refusal}

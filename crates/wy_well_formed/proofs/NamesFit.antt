@@ -6,8 +6,8 @@ use Rattle.wy_syntax.specs.declared.types.Name.{Name}
 use Rattle.wy_syntax.specs.declared.types.Param.{Param}
 use Rattle.wy_syntax.specs.declared.items.Line.{Line}
 use Rattle.wy_syntax.specs.Trees.{ItemTree}
-use Rattle.wy_effects.specs.Members.{In, Within, Apart}
-use Rattle.wy_effects.proofs.Lists.{In-cases, In-unmap}
+use Rattle.wy_text.specs.Members.{In, Within, Apart}
+use Rattle.wy_text.proofs.Lists.{In-cases, In-unmap}
 use Rattle.wy_types.specs.declared.resolved.ScopeKind.{ScopeKind}
 use Rattle.wy_types.specs.declared.resolved.ScopeKind.TheVariants.{Pure, Resource, Plain, Program as Main}
 use Rattle.wy_types.specs.declared.resolved.OwnName.{OwnName}

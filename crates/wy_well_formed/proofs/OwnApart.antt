@@ -7,7 +7,7 @@ use Rattle.wy_syntax.specs.declared.types.Param.{Param}
 use Rattle.wy_syntax.specs.declared.items.Line.{Line}
 use Rattle.wy_syntax.specs.declared.items.Line.TheVariants as line
 use Rattle.wy_syntax.specs.declared.items.Grant.{Grant}
-use Rattle.wy_effects.specs.Members.{Apart}
+use Rattle.wy_text.specs.Members.{Apart}
 use Rattle.wy_types.specs.declared.resolved.OwnName.{OwnName}
 use Rattle.wy_symbols.specs.declared.scoping.Head.{Head}
 use Rattle.wy_symbols.specs.declared.scoping.Owner.{Owner}

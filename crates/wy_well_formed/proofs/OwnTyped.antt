@@ -10,7 +10,7 @@ use Rattle.wy_syntax.specs.declared.types.Param.{Param}
 use Rattle.wy_syntax.specs.declared.items.Line.{Line}
 use Rattle.wy_syntax.specs.declared.items.Line.TheVariants as line
 use Rattle.wy_syntax.specs.declared.items.Grant.{Grant}
-use Rattle.wy_effects.proofs.Lists.{In-cases}
+use Rattle.wy_text.proofs.Lists.{In-cases}
 use Rattle.wy_types.specs.declared.types.TypeRef.TheVariants.{Named, At}
 use Rattle.wy_types.specs.declared.resolved.OwnName.{OwnName}
 use Rattle.wy_types.specs.declared.resolved.Origin.TheVariants as origin

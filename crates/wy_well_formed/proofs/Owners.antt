@@ -3,7 +3,7 @@ use Rattle.std.proofs.Common.{◌≡◌, ℕ, suc, ◌+◌, ◌<◌, ◌≤◌, 
 use Rattle.std.specs.Prelude.{nat_eq}
 use Rattle.std.proofs.lemmas.Bool.{cases_lt}
 use Rattle.wy_syntax.specs.Trees as t
-use Rattle.wy_effects.specs.Members.{Apart}
+use Rattle.wy_text.specs.Members.{Apart}
 use Rattle.wy_types.specs.declared.types.TypeRef.{TypeRef}
 use Rattle.wy_types.specs.Signature.{Signature}
 use Rattle.wy_types.specs.Types.{signature, methods_of_owner}

@@ -1,9 +1,9 @@
 -- The scope of a program block whose names are not refused fits, where its bodies do.
 use Rattle.std.proofs.Common.{◌≡◌, ℕ, ◌+◌, ◌≤◌, List, [], ◌++◌, map, length, false, refl, arith}
 use Rattle.std.proofs.lemmas.List.{length-map, length-append}
-use Rattle.wy_effects.specs.Members.{Within, Apart}
+use Rattle.wy_text.specs.Members.{Within, Apart}
 use Rattle.wy_effects.specs.Bounds.{BoundsFit}
-use Rattle.wy_effects.proofs.Lists.{In-left, In-right}
+use Rattle.wy_text.proofs.Lists.{In-left, In-right}
 use Rattle.wy_types.specs.declared.resolved.OwnName.{OwnName}
 use Rattle.wy_types.specs.Program.{Program, Scope}
 use Rattle.wy_types.specs.Types.{methods_of_owner}

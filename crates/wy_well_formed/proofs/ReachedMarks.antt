@@ -2,10 +2,10 @@
 use Rattle.std.proofs.Common.{◌≡◌, ◌<◌, ◌≤◌, ℕ, zero, suc, ◌+◌, List, [], ◌∷◌, length, Bool, true, false, refl, sym, ap, ◌∙◌, subst, inl, inr, arith}
 use Rattle.std.specs.Prelude.{◌↔◌, slice_get, slice_index_or}
 use Rattle.std.proofs.lemmas.Bool.{cases_lt}
-use Rattle.wy_effects.specs.Members.{In, Within, Apart}
+use Rattle.wy_text.specs.Members.{In, Within, Apart}
 use Rattle.wy_effects.specs.EffSet.{has}
 use Rattle.wy_effects.proofs.Closure.{Closes, closure}
-use Rattle.wy_effects.proofs.Lists.{length-apart}
+use Rattle.wy_text.proofs.Lists.{length-apart}
 use Rattle.wy_effects.proofs.SetLaws.{cases_equal, has-In, In-has}
 use Rattle.wy_symbols.specs.declared.refusal.Refusal.{Refusal}
 use Rattle.wy_symbols.specs.Declarations.{ModuleTree}

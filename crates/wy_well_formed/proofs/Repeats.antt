@@ -2,8 +2,8 @@
 use Rattle.std.proofs.Common.{◌≡◌, ℕ, List, [], ◌∷◌, ◌++◌, inl, inr, Bool, true, false, refl, sym, ap, subst, if◌then◌else◌}
 use Rattle.std.specs.Prelude.{◌||◌}
 use Rattle.wy_syntax.specs.declared.types.Name.{Name}
-use Rattle.wy_effects.specs.Members.{In, Apart}
-use Rattle.wy_effects.proofs.Lists.{In-left, In-push}
+use Rattle.wy_text.specs.Members.{In, Apart}
+use Rattle.wy_text.proofs.Lists.{In-left, In-push}
 use Rattle.wy_symbols.specs.declared.refusal.Refusal.{Refusal}
 use Rattle.wy_symbols.specs.Declarations.{same_name, has_name, texts, repeated}
 use Rattle.wy_symbols.proofs.Firsts.{same_itself}

@@ -3,8 +3,8 @@ use Rattle.std.proofs.Common.{◌≡◌, ℕ, ◌+◌, ◌≤◌, List, [], ◌�
 use Rattle.std.proofs.lemmas.List.{length-map, length-append}
 use Rattle.wy_syntax.specs.declared.items.TypeDecl as tree
 use Rattle.wy_syntax.specs.Trees.{ItemTree, PartTrees}
-use Rattle.wy_effects.specs.Members.{In, Apart}
-use Rattle.wy_effects.proofs.Lists.{In-cases, In-unmap}
+use Rattle.wy_text.specs.Members.{In, Apart}
+use Rattle.wy_text.proofs.Lists.{In-cases, In-unmap}
 use Rattle.wy_types.specs.declared.resolved.TypeDecl.{TypeDecl}
 use Rattle.wy_types.specs.Primitive.{primitive_types}
 use Rattle.wy_types.specs.Program.{Program, Scope}

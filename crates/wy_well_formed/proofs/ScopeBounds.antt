@@ -6,10 +6,10 @@ use Rattle.std.proofs.lemmas.List.{length-map, length-append}
 use Rattle.wy_text.specs.declared.fault.AtomName.{AtomName}
 use Rattle.wy_syntax.specs.declared.types.Name.{Name}
 use Rattle.wy_syntax.specs.declared.items.Line.{Line}
-use Rattle.wy_effects.specs.Members.{In, Apart}
+use Rattle.wy_text.specs.Members.{In, Apart}
 use Rattle.wy_effects.specs.EffSet.{IsSet}
 use Rattle.wy_effects.specs.Bounds.{Bounds, BoundsFit}
-use Rattle.wy_effects.proofs.Lists.{In-left, In-slice_get}
+use Rattle.wy_text.proofs.Lists.{In-left, In-slice_get}
 use Rattle.wy_types.specs.declared.resolved.TypeDecl.{TypeDecl}
 use Rattle.wy_types.specs.declared.resolved.OwnName.{OwnName}
 use Rattle.wy_types.specs.Program.{Program}

@@ -1,8 +1,8 @@
 -- The module that a word names: its scope stands at its number, and the type that it is sealed at is declared.
 use Rattle.std.proofs.Common.{◌≡◌, ℕ, zero, suc, ◌+◌, List, [], ◌∷◌, ◌++◌, map, Bool, true, false, Option, Some, None, refl, sym, ap, ◌∙◌, subst, arith}
 use Rattle.std.specs.Prelude.{slice_get, if◌then◌else◌}
-use Rattle.wy_effects.specs.Members.{In}
-use Rattle.wy_effects.proofs.Lists.{In-slice_get}
+use Rattle.wy_text.specs.Members.{In}
+use Rattle.wy_text.proofs.Lists.{In-slice_get}
 use Rattle.wy_types.specs.Program.{Program, Scope}
 use Rattle.wy_rules.specs.OwnNames.{sealed_of, name_of}
 use Rattle.wy_symbols.specs.declared.scoping.Head.{Head}

@@ -5,8 +5,8 @@ use Rattle.std.specs.List.{range_with_len}
 use Rattle.wy_syntax.specs.declared.types.Name.{Name}
 use Rattle.wy_syntax.specs.declared.types.Param.{Param}
 use Rattle.wy_syntax.specs.Trees as t
-use Rattle.wy_effects.specs.Members.{In, Within}
-use Rattle.wy_effects.proofs.Lists.{In-left, In-right, In-cases, In-map}
+use Rattle.wy_text.specs.Members.{In, Within}
+use Rattle.wy_text.proofs.Lists.{In-left, In-right, In-cases, In-map}
 use Rattle.wy_types.specs.declared.code.Variable.{Variable}
 use Rattle.wy_types.specs.declared.code.Variable.TheVariants.{Parameter, Local}
 use Rattle.wy_types.specs.declared.code.Binding.{Binding}

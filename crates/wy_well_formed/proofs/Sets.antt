@@ -4,7 +4,7 @@ use Rattle.std.specs.Prelude.{if◌then◌else◌}
 use Rattle.wy_text.specs.declared.fault.AtomName.{AtomName}
 use Rattle.wy_syntax.specs.declared.types.Name.{Name}
 use Rattle.wy_syntax.specs.declared.types.AtomUse.{AtomUse}
-use Rattle.wy_effects.specs.Members.{In}
+use Rattle.wy_text.specs.Members.{In}
 use Rattle.wy_effects.specs.EffSet.{IsSet, AreSets}
 use Rattle.wy_effects.proofs.Replacing.{IsSet-replace}
 use Rattle.wy_effects.proofs.SetLaws.{IsSetFrom-union}

@@ -3,8 +3,8 @@ use Rattle.std.proofs.Common.{◌≡◌, ℕ, ◌+◌, List, [], ◌∷◌, ◌+
 use Rattle.std.specs.Prelude.{◌||◌, ◌&&◌, not}
 use Rattle.wy_syntax.specs.Trees as t
 use Rattle.wy_syntax.specs.declared.types.Param.{Param}
-use Rattle.wy_effects.specs.Members.{In}
-use Rattle.wy_effects.proofs.Lists.{In-right, In-cases}
+use Rattle.wy_text.specs.Members.{In}
+use Rattle.wy_text.proofs.Lists.{In-right, In-cases}
 use Rattle.wy_types.specs.declared.code.Variable.{Variable}
 use Rattle.wy_types.specs.declared.code.Variable.TheVariants.{Parameter}
 use Rattle.wy_types.specs.declared.code.Binding.{Binding}

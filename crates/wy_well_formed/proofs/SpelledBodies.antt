@@ -9,8 +9,8 @@ use Rattle.wy_syntax.specs.Trees as t
 use Rattle.wy_syntax.specs.Languages.{Lang, Mark, Then, Indented, Lines}
 use Rattle.wy_syntax.specs.TypeGrammar.{SpellsSignature}
 use Rattle.wy_syntax.specs.StmtGrammar.{SpellsRhs, SpellsStmt, SpellsBlock, SpellsPart, SpellsParts, SpellsTail}
-use Rattle.wy_effects.specs.Members.{In}
-use Rattle.wy_effects.proofs.Lists.{In-cases}
+use Rattle.wy_text.specs.Members.{In}
+use Rattle.wy_text.proofs.Lists.{In-cases}
 use Rattle.wy_types.specs.declared.resolved.Literal.{Literal}
 use Rattle.wy_types.specs.Program.{Body}
 use Rattle.wy_bodies.specs.Sight.{Sight, inside, with_params}

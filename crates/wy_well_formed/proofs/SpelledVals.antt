@@ -10,8 +10,8 @@ use Rattle.wy_syntax.specs.Languages.{Lang, Word, Then, Indented, Lines}
 use Rattle.wy_syntax.specs.StmtGrammar.{SpellsRhs, SpellsStmt, SpellsBlock, SpellsPart, SpellsParts, SpellsTail}
 use Rattle.wy_syntax.specs.Grammar.{SpellsInside, SpellsItem}
 use Rattle.wy_syntax.specs.Nodes.{is_before}
-use Rattle.wy_effects.specs.Members.{In, Within}
-use Rattle.wy_effects.proofs.Lists.{In-cases, In-left, In-right}
+use Rattle.wy_text.specs.Members.{In, Within}
+use Rattle.wy_text.proofs.Lists.{In-cases, In-left, In-right}
 use Rattle.wy_symbols.specs.Declarations.{ModuleTree, ProgramTree, item_modules, item_programs}
 use Rattle.wy_well_formed.specs.ValPlaces.{if_name, name_places, Ascend, rhs_val_places, stmt_val_places, stmts_val_places, part_val_places, parts_val_places, tail_val_places}
 

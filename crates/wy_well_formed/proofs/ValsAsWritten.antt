@@ -4,7 +4,7 @@ use Rattle.std.specs.Prelude.{slice_get}
 use Rattle.std.proofs.lemmas.List.{length-append}
 use Rattle.wy_text.specs.declared.fault.Place.{Place}
 use Rattle.wy_syntax.specs.Trees as t
-use Rattle.wy_effects.proofs.Lists.{In-cases, In-left, In-right}
+use Rattle.wy_text.proofs.Lists.{In-cases, In-left, In-right}
 use Rattle.wy_types.specs.Code as code
 use Rattle.wy_types.specs.Program.{Body}
 use Rattle.wy_types.specs.Core.{start_vals, bodies_vals}

@@ -8,7 +8,7 @@ use Rattle.wy_syntax.specs.declared.types.MemberSet.{MemberSet}
 use Rattle.wy_syntax.specs.declared.types.TypeUse.{TypeUse}
 use Rattle.wy_syntax.specs.declared.types.TypeUse.TheVariants as use_of
 use Rattle.wy_effects.specs.EffSet.{IsSet, AreSets}
-use Rattle.wy_effects.proofs.Lists.{In-unmap}
+use Rattle.wy_text.proofs.Lists.{In-unmap}
 use Rattle.wy_types.specs.declared.types.TypeRef.{TypeRef}
 use Rattle.wy_types.specs.Program.{Program}
 use Rattle.wy_types.specs.Fitting.{FitsType, member_count}

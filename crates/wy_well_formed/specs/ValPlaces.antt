@@ -6,7 +6,7 @@ use Rattle.wy_syntax.specs.Tokens.{Tok, code}
 use Rattle.wy_syntax.specs.Trees as t
 use Rattle.wy_syntax.specs.Grammar.{SpellsItem}
 use Rattle.wy_syntax.specs.Nodes.{is_before}
-use Rattle.wy_effects.specs.Members.{In}
+use Rattle.wy_text.specs.Members.{In}
 use Rattle.wy_types.specs.Code.{Expr, Number, Quoted, Truth, Nothing, This, Name, Unary, Binary, TextCall, Call, New, Ascribe, Assign, Value, Plain, If, Values, none, more, Block, Last, Then, Val}
 use Rattle.wy_types.specs.Program.{Program, Scope, Body, Start, Init, Run}
 use Rattle.wy_types.specs.Core.{scope_vals}

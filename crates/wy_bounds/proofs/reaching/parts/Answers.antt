@@ -1,6 +1,6 @@
 use Rattle.std.proofs.Common.{List, ◌∷◌, ◌++◌, ◌+◌, ◌∙◌, drop, map, sym, ap, append_assoc}
 use Rattle.std.proofs.lemmas.List.{at_drop_more}
-use Rattle.wy_effects.proofs.Lists.{In-read}
+use Rattle.wy_text.proofs.Lists.{In-read}
 use Rattle.wy_types.specs.declared.types.Method.{Method}
 use Rattle.wy_types.specs.Types.{signature}
 use Rattle.wy_bounds.specs.declared.entry.Entry.{Entry}

@@ -1,5 +1,5 @@
 use Rattle.std.proofs.Common.{◌≡◌, List, Err, rules}
-use Rattle.wy_effects.proofs.Lists.{In-read}
+use Rattle.wy_text.proofs.Lists.{In-read}
 use Rattle.wy_certify.specs.declared.finding.ScopePart.{ScopePart}
 use Rattle.wy_certify.proofs.certifying.numbered.Goals as goal
 

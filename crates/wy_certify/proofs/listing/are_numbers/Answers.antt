@@ -1,8 +1,8 @@
 use Rattle.std.proofs.Common.{◌<◌, List, length, sym, subst, arith}
 use Rattle.std.proofs.lemmas.Bool.{leb-true, le-leb}
 use Rattle.std.proofs.lemmas.List.{take_all}
-use Rattle.wy_effects.specs.Members.{In}
-use Rattle.wy_effects.proofs.Lists.{In-read}
+use Rattle.wy_text.specs.Members.{In}
+use Rattle.wy_text.proofs.Lists.{In-read}
 use Rattle.wy_spelling.specs.Spelling.{IsNumber}
 use Rattle.wy_certify.specs.declared.step.Step as own
 use Rattle.wy_certify.proofs.Numbers.{parts_said, parts_all, parts_turn}

@@ -1,5 +1,5 @@
 use Rattle.std.proofs.Common.{take}
-use Rattle.wy_effects.specs.Members.{In}
+use Rattle.wy_text.specs.Members.{In}
 use Rattle.wy_spelling.specs.Spelling.{IsNumber}
 use Rattle.wy_certify.specs.declared.step.Step as own
 use Rattle.wy_certify.proofs.listing.are_numbers.Given as goal

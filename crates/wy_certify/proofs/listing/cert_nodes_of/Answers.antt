@@ -1,4 +1,4 @@
-use Rattle.wy_effects.proofs.Lists.{In-read}
+use Rattle.wy_text.proofs.Lists.{In-read}
 use Rattle.wy_certify.specs.Step.{steps_of}
 use Rattle.wy_certify.proofs.Numbers.{parts_said, node_turn}
 use Rattle.wy_certify.proofs.listing.cert_nodes_of.Goals as goal

@@ -1,7 +1,7 @@
 use Rattle.std.proofs.Common.{rules, subst, List, Option, ℕ, ◌≤◌, length}
-use Rattle.wy_effects.specs.Members.{In}
+use Rattle.wy_text.specs.Members.{In}
 use Rattle.wy_effects.specs.Bounds.{GoDown}
-use Rattle.wy_effects.proofs.Lists.{each_more, each_all}
+use Rattle.wy_text.proofs.Lists.{each_more, each_all}
 use Rattle.wy_types.specs.declared.resolved.Scope.{Scope}
 use Rattle.wy_core_tests.proofs.RangeLemmas.{AtomsFit}
 use Rattle.wy_core_tests.proofs.ranges.atoms_fit.Goals as goal

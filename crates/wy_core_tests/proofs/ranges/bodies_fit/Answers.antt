@@ -1,5 +1,5 @@
 use Rattle.std.proofs.Common.{rules, subst}
-use Rattle.wy_effects.proofs.Lists.{each_more, each_all}
+use Rattle.wy_text.proofs.Lists.{each_more, each_all}
 use Rattle.wy_types.specs.declared.resolved.Body.{Body}
 use Rattle.wy_types.specs.Program.{program_of}
 use Rattle.wy_core_tests.proofs.RangeLemmas.{BodyFits}

@@ -1,6 +1,6 @@
 use Rattle.std.proofs.Common.{rules, subst, List, ℕ}
-use Rattle.wy_effects.specs.Members.{In}
-use Rattle.wy_effects.proofs.Lists.{each_more, each_all}
+use Rattle.wy_text.specs.Members.{In}
+use Rattle.wy_text.proofs.Lists.{each_more, each_all}
 use Rattle.wy_types.specs.declared.types.Method.{Method}
 use Rattle.wy_types.specs.declared.resolved.TypeDecl.{TypeDecl}
 use Rattle.wy_types.specs.Program.{program_of}

@@ -1,6 +1,6 @@
 use Rattle.std.proofs.Common.{◌<◌, ◌∙◌, ap, map}
 use Rattle.wy_effects.specs.declared.atom.Atom.{Atom}
-use Rattle.wy_effects.proofs.Lists.{each_more, each_all}
+use Rattle.wy_text.proofs.Lists.{each_more, each_all}
 use Rattle.wy_core_tests.proofs.RangeLemmas.{set_below}
 use Rattle.wy_core_tests.proofs.ranges.set_fits.Goals as goal
 

@@ -1,6 +1,6 @@
 use Rattle.std.proofs.Common.{◌<◌, take}
 use Rattle.wy_effects.specs.declared.atom.Atom.{Atom}
-use Rattle.wy_effects.specs.Members.{In}
+use Rattle.wy_text.specs.Members.{In}
 use Rattle.wy_core_tests.proofs.ranges.set_fits.Given as goal
 
 abbrev pub invariant-loop-atom : goal.invariant-loop-atom

@@ -1,5 +1,5 @@
 use Rattle.std.proofs.Common.{rules, subst, List, ℕ}
-use Rattle.wy_effects.proofs.Lists.{each_more, each_all}
+use Rattle.wy_text.proofs.Lists.{each_more, each_all}
 use Rattle.wy_effects.specs.EffSet.{IsSet}
 use Rattle.wy_core_tests.proofs.ranges.sets_fit.Goals as goal
 

@@ -1,5 +1,5 @@
 use Rattle.std.proofs.Common.{◌≡◌, ◌∙◌, ap, map}
-use Rattle.wy_effects.specs.Members.{Apart}
+use Rattle.wy_text.specs.Members.{Apart}
 use Rattle.wy_machine.specs.Observing.{instance_names}
 use Rattle.wy_meaning.specs.Used.{UsedState}
 use Rattle.wy_meaning.specs.declared.used.Account.{Account}

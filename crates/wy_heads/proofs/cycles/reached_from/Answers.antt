@@ -1,5 +1,5 @@
 use Rattle.std.proofs.Common.{ℕ, [], ◌∷◌, ◌<◌, ◌≤◌, List, length, get_or, refl, ap, ◌∙◌, arith, rules, subst}
-use Rattle.wy_effects.specs.Members.{In}
+use Rattle.wy_text.specs.Members.{In}
 use Rattle.wy_heads.specs.Leading.{Adds, Numbers, next_from}
 use Rattle.wy_heads.proofs.Searching.{few_seen, search_start, search_more, search_end}
 use Rattle.wy_heads.proofs.cycles.reached_from.Goals as goal

@@ -1,5 +1,5 @@
 use Rattle.std.proofs.Common.{◌≡◌, ◌↔◌, get_or, sym, ap, subst, ◌∙◌, true}
-use Rattle.wy_effects.proofs.Lists.{In-read}
+use Rattle.wy_text.proofs.Lists.{In-read}
 use Rattle.wy_types.specs.Program.{scope_of}
 use Rattle.wy_types.specs.Fitting.{FitsType}
 use Rattle.wy_rules.specs.Acceptance.{handed_to, IsPlainArgument}

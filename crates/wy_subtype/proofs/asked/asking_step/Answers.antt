@@ -1,5 +1,5 @@
 use Rattle.std.proofs.Common.{List, map, sym, subst}
-use Rattle.wy_effects.proofs.Lists.{In-read, In-map, In-unmap, each_more, each_all}
+use Rattle.wy_text.proofs.Lists.{In-read, In-map, In-unmap, each_more, each_all}
 use Rattle.wy_types.specs.declared.types.Method.{Method}
 use Rattle.wy_types.specs.declared.types.TypeRef.{TypeRef}
 use Rattle.wy_types.specs.declared.path.Part.{Part}

@@ -1,5 +1,5 @@
 use Rattle.std.proofs.Common.{take, map}
-use Rattle.wy_effects.specs.Members.{In}
+use Rattle.wy_text.specs.Members.{In}
 use Rattle.wy_types.specs.declared.types.Method.{Method}
 use Rattle.wy_types.specs.declared.path.Part.{Part}
 use Rattle.wy_types.specs.Types.{signature}

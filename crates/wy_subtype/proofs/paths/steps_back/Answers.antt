@@ -1,6 +1,6 @@
 use Rattle.std.proofs.Common.{[], ◌++◌, ◌≡◌, ◌<◌, List, length, arith, append-nil, subst, sym}
 use Rattle.std.proofs.lemmas.List.{length-map}
-use Rattle.wy_effects.proofs.Lists.{In-slice_get}
+use Rattle.wy_text.proofs.Lists.{In-slice_get}
 use Rattle.wy_types.specs.declared.path.Step.{Step}
 use Rattle.wy_types.specs.Program.{program_of}
 use Rattle.wy_subtype.specs.declared.entry.Entry.{Entry}

@@ -1,5 +1,5 @@
 use Rattle.std.proofs.Common.{◌<◌, ◌+◌, ◌++◌, List, map, drop, length, ap, rules}
-use Rattle.wy_effects.proofs.Lists.{In-read}
+use Rattle.wy_text.proofs.Lists.{In-read}
 use Rattle.wy_symbols.specs.declared.atom_scope.Opened.{Opened}
 use Rattle.wy_symbols.specs.Atoms.{bounds_at, bounds_of_owners, opened_bounds}
 use Rattle.wy_symbols.proofs.Nexts.{added_next}

@@ -2,7 +2,7 @@ use Rattle.std.proofs.Common.{◌≡◌, ◌≤◌, ◌<◌, ◌++◌, ◌∷◌
 use Rattle.std.specs.Prelude.{slice_get, if◌then◌else◌, Result}
 use Rattle.wy_text.specs.declared.fault.AtomName.{AtomName}
 use Rattle.wy_effects.specs.AtomTable.{Inserts, atom_name}
-use Rattle.wy_effects.specs.Members.{In}
+use Rattle.wy_text.specs.Members.{In}
 use Rattle.wy_effects.specs.declared.atom.Atom.{Atom}
 use Rattle.wy_effects.specs.declared.atom.TableRefusal.{TableRefusal}
 use Rattle.wy_effects.proofs.Places.{found_at, absent, name_exact, name_same}

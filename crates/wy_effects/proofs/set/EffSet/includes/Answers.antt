@@ -1,6 +1,6 @@
 use Rattle.std.proofs.Common.{List, ℕ, subst}
 use Rattle.std.specs.Prelude.{◌↔◌, IsTrue}
-use Rattle.wy_effects.specs.Members.{Within}
+use Rattle.wy_text.specs.Members.{Within}
 use Rattle.wy_effects.proofs.Numbers.{all_are}
 use Rattle.wy_effects.proofs.set.EffSet.includes.Goals as goal
 

@@ -1,5 +1,5 @@
 use Rattle.std.proofs.Common.{ℕ, ◌∷◌, [], ◌<◌, List, length, take, get_or, rules, subst, refl, arith}
-use Rattle.wy_effects.proofs.Lists.{In-read}
+use Rattle.wy_text.proofs.Lists.{In-read}
 use Rattle.wy_heads.specs.Leading.{Adds}
 use Rattle.wy_symbols.proofs.Turns.{taken}
 use Rattle.wy_heads.proofs.Searching.{adds_then}

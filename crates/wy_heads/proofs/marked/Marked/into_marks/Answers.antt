@@ -1,6 +1,6 @@
 use Rattle.std.proofs.Common.{false, get_or, subst}
 use Rattle.std.specs.Prelude.{◌↔◌, IsTrue}
-use Rattle.wy_effects.specs.Members.{In}
+use Rattle.wy_text.specs.Members.{In}
 use Rattle.wy_heads.specs.Leading.{Numbers}
 use Rattle.wy_heads.proofs.MarksPut.{marked_in}
 use Rattle.wy_heads.proofs.marked.Marked.into_marks.Goals as goal

@@ -1,7 +1,7 @@
 use Rattle.std.proofs.Common.{◌≡◌, ◌↔◌, List, ℕ, true, subst}
 use Rattle.std.specs.Prelude.{slice_get}
 use Rattle.std.proofs.lemmas.Result.{IfOk-weaker}
-use Rattle.wy_effects.specs.Members.{In}
+use Rattle.wy_text.specs.Members.{In}
 use Rattle.wy_types.specs.Program.{program_of, scope_of}
 use Rattle.wy_types.specs.Types.{substituted}
 use Rattle.wy_types.specs.Ground.{type_of}

@@ -1,5 +1,5 @@
 use Rattle.std.proofs.Common.{map, take, subst, refl}
-use Rattle.wy_effects.proofs.Lists.{each_more}
+use Rattle.wy_text.proofs.Lists.{each_more}
 use Rattle.wy_types.specs.Program.{program_of, scope_of}
 use Rattle.wy_premises.proofs.Trying.{false_tells, true_tells}
 use Rattle.wy_proving.specs.Proving.{LineRule as Rule, RuleStands}

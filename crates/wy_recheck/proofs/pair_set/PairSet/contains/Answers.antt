@@ -1,5 +1,5 @@
 use Rattle.std.proofs.Common.{ℕ, List, subst}
-use Rattle.wy_effects.specs.Members.{In}
+use Rattle.wy_text.specs.Members.{In}
 use Rattle.wy_proving.specs.Certified.{Pair}
 use Rattle.wy_recheck.specs.PairSet.{Tells}
 use Rattle.wy_recheck.proofs.PairKeys.{tells_there}

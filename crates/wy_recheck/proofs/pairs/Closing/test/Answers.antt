@@ -1,5 +1,5 @@
 use Rattle.std.proofs.Common.{◌≡◌, List, true, false, get_or, refl, arith, rules}
-use Rattle.wy_effects.proofs.Lists.{each_more, each_all}
+use Rattle.wy_text.proofs.Lists.{each_more, each_all}
 use Rattle.wy_types.specs.Program.{program_of}
 use Rattle.wy_cert.specs.declared.certificate.CertPair.{CertPair}
 use Rattle.wy_recheck.specs.Closing.{PairStandsIn}

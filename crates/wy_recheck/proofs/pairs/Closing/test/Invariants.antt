@@ -1,5 +1,5 @@
 use Rattle.std.proofs.Common.{◌+◌, ◌≤◌, List, take}
-use Rattle.wy_effects.specs.Members.{In}
+use Rattle.wy_text.specs.Members.{In}
 use Rattle.wy_types.specs.Program.{program_of}
 use Rattle.wy_cert.specs.declared.certificate.CertPair.{CertPair}
 use Rattle.wy_proving.specs.Certified.{Pair}

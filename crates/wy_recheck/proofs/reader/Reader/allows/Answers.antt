@@ -1,5 +1,5 @@
 use Rattle.std.proofs.Common.{◌≡◌, ◌↔◌, List, ℕ, true, false, rules, subst}
-use Rattle.wy_effects.specs.Members.{Within}
+use Rattle.wy_text.specs.Members.{Within}
 use Rattle.wy_effects.specs.Widened.{includes, widened_set}
 use Rattle.wy_types.specs.Program.{program_of, scope_of}
 use Rattle.wy_types.specs.Bounds.{bounds_of}

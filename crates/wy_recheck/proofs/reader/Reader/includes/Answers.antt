@@ -1,5 +1,5 @@
 use Rattle.std.proofs.Common.{◌≡◌, false, rules}
-use Rattle.wy_effects.specs.Members.{Within}
+use Rattle.wy_text.specs.Members.{Within}
 use Rattle.wy_effects.specs.Widened.{includes}
 use Rattle.wy_types.specs.Program.{program_of, scope_of}
 use Rattle.wy_recheck.proofs.NodesTested.{same_answer}

@@ -1,6 +1,6 @@
 use Rattle.std.proofs.Common.{List, length, ap, arith}
 use Rattle.std.proofs.lemmas.Result.{err_from_is_err_and}
-use Rattle.wy_effects.proofs.Lists.{In-read}
+use Rattle.wy_text.proofs.Lists.{In-read}
 use Rattle.wy_spelling.specs.Spelling.{number_bytes}
 use Rattle.wy_spelling.proofs.Lists.{each_more, written_more}
 use Rattle.wy_spelling.proofs.Unwritten.{item_unwritten, list_unwritten}

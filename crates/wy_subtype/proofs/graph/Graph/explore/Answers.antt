@@ -2,7 +2,7 @@ use Rattle.std.proofs.Common.{◌≡◌, ◌<◌, ◌≤◌, List, length, arith
 use Rattle.std.proofs.lemmas.List.{length-map}
 use Rattle.wy_types.specs.Program.{program_of}
 use Rattle.wy_types.proofs.Finite.{pair_bound}
-use Rattle.wy_effects.specs.Members.{In}
+use Rattle.wy_text.specs.Members.{In}
 use Rattle.wy_subtype.specs.declared.entry.Entry.{Entry}
 use Rattle.wy_subtype.specs.declared.graph.Graph.{Graph}
 use Rattle.wy_subtype.specs.Decided.{About, Decided, Grows}

@@ -1,5 +1,5 @@
 use Rattle.std.proofs.Common.{◌≡◌, ◌∙◌, ap, subst, sym, List, map}
-use Rattle.wy_effects.specs.Members.{In}
+use Rattle.wy_text.specs.Members.{In}
 use Rattle.wy_subtype.specs.declared.node.Node.{Node}
 use Rattle.wy_subtype.specs.declared.node.Outcome.TheVariants.{Holds}
 use Rattle.wy_subtype.specs.Verdict.{Pair}

@@ -1,5 +1,5 @@
 use Rattle.std.proofs.Common.{◌≡◌, ◌∙◌, ◌≤◌, length, map, ap, sym, subst}
-use Rattle.wy_effects.proofs.Lists.{In-unmap}
+use Rattle.wy_text.proofs.Lists.{In-unmap}
 use Rattle.wy_types.specs.declared.types.TypeRef.{TypeRef}
 use Rattle.wy_types.specs.Program.{Program, program_of}
 use Rattle.wy_types.specs.Signature.{Signature}

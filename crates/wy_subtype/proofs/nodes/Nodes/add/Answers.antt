@@ -1,6 +1,6 @@
 use Rattle.std.proofs.Common.{◌≡◌, ◌∙◌, ◌++◌, ◌∷◌, [], Some, List, ℕ, length, ap, subst, sym, arith}
 use Rattle.std.specs.Prelude.{slice_get, map}
-use Rattle.wy_effects.specs.Members.{In}
+use Rattle.wy_text.specs.Members.{In}
 use Rattle.wy_subtype.specs.declared.node.Node.{Node}
 use Rattle.wy_subtype.specs.Verdict.{Pair}
 use Rattle.wy_subtype.specs.Nodes.{node_pair, Meets}

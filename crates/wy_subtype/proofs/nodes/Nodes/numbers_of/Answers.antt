@@ -1,10 +1,9 @@
 use Rattle.std.proofs.Common.{◌≡◌, ◌+◌, ℕ, get_or, List, ◌++◌, ◌∷◌, [], ◌∙◌, ap, map, take, subst, sym}
-use Rattle.std.proofs.lemmas.List.{take_more}
+use Rattle.std.proofs.lemmas.List.{take_more, map-append}
 use Rattle.wy_subtype.specs.declared.unfolding.UnfoldedPair.{UnfoldedPair}
 use Rattle.wy_subtype.specs.Verdict.{Pair}
 use Rattle.wy_subtype.specs.Unfolding.{sides}
 use Rattle.wy_subtype.specs.Nodes.{node_pair, AreNumbersOf}
-use Rattle.wy_subtype.proofs.Places.{map-append'}
 use Rattle.wy_subtype.proofs.Knowing.{more_none, more_trans, more_continues}
 use Rattle.wy_subtype.proofs.Meeting.{numbers_none, numbers_more}
 use Rattle.wy_subtype.proofs.nodes.Nodes.numbers_of.Goals as goal
@@ -23,7 +22,7 @@ loop-pair-preserved c =
     let old : List Pair = map node_pair c.loop-pair.self in
     let new : List Pair = map node_pair c.add_number.new.self in
     let taken : map sides (take (i + 1) xs) ≡ map sides (take i xs) ++ sides x ∷ [] =
-    ap (map sides) (take_more xs i x c.loop-pair-test.true) ∙ map-append' sides (take i xs) (get_or xs i x ∷ []) ∙ ap (λ (v : UnfoldedPair). map sides (take i xs) ++ sides v ∷ []) (sym c.pair-item.is) in
+    ap (map sides) (take_more xs i x c.loop-pair-test.true) ∙ map-append sides (take i xs) (get_or xs i x ∷ []) ∙ ap (λ (v : UnfoldedPair). map sides (take i xs) ++ sides v ∷ []) (sym c.pair-item.is) in
     let P : List Pair → Type 0 = λ l. AreNumbersOf new l c.add_number.new.numbers in
     record {
       more = more_trans c.args.self.now c.loop-pair.self c.add_number.new.self c.loop-pair.invariant.more c.add_number.ensures.more;

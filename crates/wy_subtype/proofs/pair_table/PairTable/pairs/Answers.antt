@@ -1,6 +1,6 @@
 use Rattle.std.proofs.Common.{◌≡◌, ◌<◌, ℕ, length, arith, subst}
 use Rattle.std.proofs.lemmas.List.{length-map}
-use Rattle.wy_effects.specs.Members.{In, Apart}
+use Rattle.wy_text.specs.Members.{In, Apart}
 use Rattle.wy_subtype.specs.declared.graph.Graph.{Graph}
 use Rattle.wy_subtype.specs.Decided.{Decided}
 use Rattle.wy_subtype.specs.Nodes.{node_pair, pair_at, pairs_at}
