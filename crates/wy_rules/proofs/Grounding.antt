@@ -20,7 +20,7 @@ use Rattle.wy_rules.specs.GroundTypes.{GroundType, Own, IsGroundObject, type_at,
 use Rattle.wy_rules.specs.GroundTyping.{BoundFits, GroundTyping}
 use Rattle.wy_rules.proofs.Forms.{Lawful}
 use Rattle.wy_rules.proofs.Carrying.{ReadsOn, scope_carried}
-use Rattle.wy_rules.proofs.RunReadings.{decide_ground, object-at, at-object, Agrees, annotated_agrees, bounded_agrees}
+use Rattle.wy_rules.proofs.RunReadings.{decide_ground, object-at, at-object, annotated_agrees, bounded_agrees}
 
 -- The table of the run agrees with an instance's reading of its scope
 
@@ -39,7 +39,7 @@ reading_by p x o sets = record {
 
 module _ (p : Program) (w : IsCore p) (x k : ℕ) (sets : List (List ℕ)) (are_sets : AreSets 512 sets) where
   abbrev OwnAgrees : Option (List ℕ) → Type 0
-  OwnAgrees o = (l : ℕ) → Agrees p x k sets o (of.Own l)
+  OwnAgrees o = (l : ℕ) → ground_methods p (Own x l) ≡ map (mapped_signature (λ t. type_at x (read_by o sets t)) (effect_by o sets)) (methods_of p k (of.Own l))
 
   by_lawful : (o : Option (List ℕ)) → Lawful (reading_by p x o sets)
   by_lawful o = record {
