@@ -1,5 +1,5 @@
 -- Subtyping over tables of methods, and the tables of a scope before and after a replacement.
-use Rattle.std.proofs.Common.{◌≡◌, ℕ, List, [], ◌∷◌, map, ◌⊎◌, inl, inr, refl, sym, ap, ◌∙◌, subst, Option, Bool as Truth, true, false}
+use Rattle.std.proofs.Common.{◌≡◌, ℕ, List, [], ◌∷◌, map, inl, inr, refl, sym, ap, ◌∙◌, subst, Option, Bool as Truth, true, false}
 use Rattle.std.specs.Prelude.{slice_get}
 use Rattle.wy_text.specs.Members.{In}
 use Rattle.wy_effects.specs.EffSet.{AreSets, replace}
@@ -16,19 +16,10 @@ use Rattle.wy_types.specs.Subtyping.{ParamsIn, HasCover, IsClosed, IsSubtype, An
 use Rattle.wy_types.proofs.Annotating.{annotation, dual_annotation, annotated-erased}
 use Rattle.wy_types.proofs.Closing.{subtype_read}
 use Rattle.wy_types.proofs.Composing.{transitive}
-use Rattle.wy_types.proofs.Deciding.{decide_type}
+use Rattle.wy_types.proofs.Deciding.{decide_type, object_cases}
 use Rattle.wy_types.proofs.Reflecting.{find_once}
 use Rattle.wy_rules.specs.Polarity.{Annotation, DualAnnotation}
 use Rattle.wy_rules.specs.Tables.{Methods, IsClosedUnder, ReflexiveOverTables, TransitiveOverTables, KeptUnderReplacement, ReplacedTablesAgree}
-
-object_cases : (t : TypeRef) → IsObject t ⊎ (IsObject t → ⊥)
-object_cases Int = inr (λ h. h)
-object_cases Bool = inr (λ h. h)
-object_cases Text = inr (λ h. h)
-object_cases Nothing = inr (λ h. h)
-object_cases (Named d ms) = inl tt
-object_cases (At d e) = inl tt
-object_cases (Own l) = inl tt
 
 params_same : (ps : List (TypeRef × TypeRef)) (ts : List TypeRef) → ((t : TypeRef) → In t ts → In {X = TypeRef × TypeRef} (t, t) ps) → ParamsIn ps ts ts
 params_same ps [] h = tt

@@ -24,7 +24,7 @@ use Rattle.wy_rules.specs.Reached.{IsReached, of_number, of_truth, of_text, of_n
 use Rattle.wy_rules.proofs.OwnTypes.{owner_in}
 
 -- of a body's own object, its method is one
-owned : (l : ℕ) (bs : List Body) (b : Body) → In b bs → b.owner ≡ l → In (signature b.signature) (methods_of_owner l bs)
+pub owned : (l : ℕ) (bs : List Body) (b : Body) → In b bs → b.owner ≡ l → In (signature b.signature) (methods_of_owner l bs)
 owned l [] b i e = absurd i
 owned l (a ∷ bs) b i e =
     elim (nat_eq a.owner l) as (λ v. nat_eq a.owner l ≡ v → In (signature b.signature) (if v then signature a.signature ∷ methods_of_owner l bs else methods_of_owner l bs)) [
@@ -38,12 +38,12 @@ owned l (a ∷ bs) b i e =
       ]
     ] refl
 
-fields_in : (ls : List Literal) (l : ℕ) (t : TypeRef) → In t (map (λ (f : Field). f.typ) (literal_fields (slice_get ls l))) → In t (all_field_types ls)
+pub fields_in : (ls : List Literal) (l : ℕ) (t : TypeRef) → In t (map (λ (f : Field). f.typ) (literal_fields (slice_get ls l))) → In t (all_field_types ls)
 fields_in [] l t i = absurd i
 fields_in (a ∷ ls) zero t i = In-left t (map (λ (f : Field). f.typ) a.fields) (all_field_types ls) i
 fields_in (a ∷ ls) (suc l) t i = In-right t (map (λ (f : Field). f.typ) a.fields) (all_field_types ls) (fields_in ls l t i)
 
-bodies_in : (bs : List Body) (b : Body) (t : TypeRef) → In b bs → In t (block_types b.block) → In t (body_types bs)
+pub bodies_in : (bs : List Body) (b : Body) (t : TypeRef) → In b bs → In t (block_types b.block) → In t (body_types bs)
 bodies_in [] b t i j = absurd i
 bodies_in (a ∷ bs) b t (inl e) j = In-left t (block_types a.block) (body_types bs) (subst (λ (v : Body). In t (block_types v.block)) (sym e) j)
 bodies_in (a ∷ bs) b t (inr i) j = In-right t (block_types a.block) (body_types bs) (bodies_in bs b t i j)

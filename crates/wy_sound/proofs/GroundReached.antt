@@ -1,7 +1,6 @@
 -- The types that a run reaches are those of the list, and no other type occurs in an instance.
-use Rattle.std.proofs.Common.{◌≡◌, ℕ, zero, suc, ◌+◌, ◌<◌, List, [], ◌∷◌, ◌++◌, map, ◌⊎◌, inl, inr, length, refl, sym, ap, ◌∙◌, subst, arith, Option, Some, None, Bool as Truth, true, false}
-use Rattle.std.specs.Prelude.{slice_get, nat_eq, if◌then◌else◌}
-use Rattle.std.proofs.lemmas.Bool.{eq-eqb}
+use Rattle.std.proofs.Common.{◌≡◌, ℕ, zero, suc, ◌+◌, ◌<◌, List, [], ◌∷◌, ◌++◌, map, ◌⊎◌, inl, inr, length, refl, sym, ap, subst, arith, Option, Some, None, Bool as Truth, true, false}
+use Rattle.std.specs.Prelude.{slice_get}
 use Rattle.wy_text.specs.Members.{In}
 use Rattle.wy_text.proofs.Lists.{In-left, In-right, In-cases, In-map, In-unmap, In-at, In-slice_get}
 use Rattle.wy_types.specs.declared.types.TypeRef.{TypeRef}
@@ -25,6 +24,7 @@ use Rattle.wy_rules.specs.Reached.{IsReached, of_number, of_truth, of_text, of_n
 use Rattle.wy_rules.specs.Typing.{field_types}
 use Rattle.wy_rules.specs.GroundTypes.{GroundType, Int, Bool, Text, Nothing, Own, type_at, read_by, effect_by, run_instances, own_methods, ground_methods, ground_reading}
 use Rattle.wy_rules.specs.GroundTyping.{IsInstanceOf}
+use Rattle.wy_rules.proofs.Counted.{owned, fields_in, bodies_in}
 use Rattle.wy_rules.proofs.OwnTypes.{own_is, owner_in}
 use Rattle.wy_rules.proofs.Reaching.{IsKept, reached_closed, reached_in_start, bodies_reached, locals_hold, scope_names}
 use Rattle.wy_rules.proofs.WrittenOrOwn.{reached_types_are_written_or_own}
@@ -44,22 +44,12 @@ fields_out (a ∷ ls) t i = elim (In-cases t (map (λ (f : Field). f.typ) a.fiel
   | inr j ↦ (let r = fields_out ls t j in (suc r.0, r.1))
 ]
 
-fields_in : (ls : List Literal) (l : ℕ) (t : TypeRef) → In t (map (λ (f : Field). f.typ) (literal_fields (slice_get ls l))) → In t (all_field_types ls)
-fields_in [] l t i = absurd i
-fields_in (a ∷ ls) zero t i = In-left t (map (λ (f : Field). f.typ) a.fields) (all_field_types ls) i
-fields_in (a ∷ ls) (suc l) t i = In-right t (map (λ (f : Field). f.typ) a.fields) (all_field_types ls) (fields_in ls l t i)
-
 bodies_out : (bs : List Body) (t : TypeRef) → In t (body_types bs) → (b : Body) × In b bs × In t (block_types b.block)
 bodies_out [] t i = absurd i
 bodies_out (a ∷ bs) t i = elim (In-cases t (block_types a.block) (body_types bs) i) [
   | inl j ↦ (a, inl refl, j)
   | inr j ↦ (let r = bodies_out bs t j in (r.0, inr r.1, r.2))
 ]
-
-bodies_in : (bs : List Body) (b : Body) (t : TypeRef) → In b bs → In t (block_types b.block) → In t (body_types bs)
-bodies_in [] b t i j = absurd i
-bodies_in (a ∷ bs) b t (inl e) j = In-left t (block_types a.block) (body_types bs) (subst (λ (v : Body). In t (block_types v.block)) (sym e) j)
-bodies_in (a ∷ bs) b t (inr i) j = In-right t (block_types a.block) (body_types bs) (bodies_in bs b t i j)
 
 module _ (s : Scope) where
   abbrev of_names : List TypeRef
@@ -249,21 +239,6 @@ in_signature : (ms : List (Signature GroundType)) (m : Signature GroundType) (u 
 in_signature [] m u i j = absurd i
 in_signature (n ∷ ms) m u (inl e) j = In-left u (n.params ++ n.result ∷ []) (signature_types ms) (subst (λ (v : Signature GroundType). In u (v.params ++ v.result ∷ [])) (sym e) j)
 in_signature (n ∷ ms) m u (inr i) j = In-right u (n.params ++ n.result ∷ []) (signature_types ms) (in_signature ms m u i j)
-
--- a body is a method of its owner
-owned : (l : ℕ) (bs : List Body) (b : Body) → In b bs → b.owner ≡ l → In (signature b.signature) (methods_of_owner l bs)
-owned l [] b i e = absurd i
-owned l (a ∷ bs) b i e =
-    elim (nat_eq a.owner l) as (λ v. nat_eq a.owner l ≡ v → In (signature b.signature) (if v then signature a.signature ∷ methods_of_owner l bs else methods_of_owner l bs)) [
-      | true ↦ λ t. elim i [
-        | inl q ↦ inl (ap (λ (v : Body). signature v.signature) q)
-        | inr r ↦ inr (owned l bs b r e)
-      ]
-      | false ↦ λ t. elim i [
-        | inl q ↦ absurd (let same = eq-eqb a.owner l (ap (λ (v : Body). v.owner) q ∙ e) in cc)
-        | inr r ↦ owned l bs b r e
-      ]
-    ] refl
 
 module _ (p : Program) (c : IsCore p) (run : RunSets p) (x : ℕ) (i : Instance) (s : Scope) (is : IsInstanceOf p x i s) where
   abbrev y : Reading

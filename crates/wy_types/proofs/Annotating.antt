@@ -1,5 +1,5 @@
 -- The law of annotation: a type is a subtype of itself at a bound exactly where its effects are in the bound and the bound is safe for what it takes.
-use Rattle.std.proofs.Common.{◌≡◌, ℕ, zero, suc, List, [], ◌∷◌, ◌++◌, map, ◌⊎◌, inl, inr, refl, sym, ap, ◌∙◌, subst, arith, Option, Some, Bool as Truth, true, false}
+use Rattle.std.proofs.Common.{◌≡◌, ℕ, zero, suc, List, [], ◌∷◌, ◌++◌, map, inl, inr, refl, sym, ap, ◌∙◌, subst, arith, Option, Some, Bool as Truth, true, false}
 use Rattle.std.specs.Prelude.{slice_get, not, ◌↔◌}
 use Rattle.wy_text.specs.Members.{In}
 use Rattle.wy_effects.specs.Bounds.{Inside}
@@ -21,7 +21,7 @@ use Rattle.wy_types.specs.Core.{IsCore}
 use Rattle.wy_types.proofs.Finite.{Fits-written, marked_bound, length-le-marked_bound}
 use Rattle.wy_types.proofs.Kept.{core_signatures_fit, Fits-wider}
 use Rattle.wy_types.proofs.Closing.{closed_step, find-mapped}
-use Rattle.wy_types.proofs.Deciding.{decide_type, decide_truth, decide_pair}
+use Rattle.wy_types.proofs.Deciding.{decide_type, decide_truth, decide_pair, object_cases}
 use Rattle.wy_types.proofs.Reaching.{no_methods, object_of, walks_more}
 use Rattle.wy_types.proofs.Reflecting.{find_once, methods_differ}
 
@@ -116,15 +116,6 @@ object-bound e Nothing o = absurd o
 object-bound e (Named d ms) o = tt
 object-bound e (At d b) o = tt
 object-bound e (Own l) o = tt
-
-object_cases : (t : TypeRef) → IsObject t ⊎ (IsObject t → ⊥)
-object_cases Int = inr (λ h. h)
-object_cases Bool = inr (λ h. h)
-object_cases Text = inr (λ h. h)
-object_cases Nothing = inr (λ h. h)
-object_cases (Named d ms) = inl tt
-object_cases (At d e) = inl tt
-object_cases (Own l) = inl tt
 
 -- a part of a method leads from a sided pair to a sided pair
 leads_true : (Under : List ℕ → ℕ → Type 0) (p : Program) (scope : ℕ) (e : List ℕ) (m : Signature TypeRef) (part : Part) (u : TypeRef) → IsPartOf TypeRef (methods_of p scope) m part u → LeadsBy TypeRef (methods_of p scope) IsObject (Inside Under) m (at_bound e m) part (sided e (turned part true) u)

@@ -1,9 +1,10 @@
--- Types are equal or not.
-use Rattle.std.proofs.Common.{◌≡◌, List, [], ◌∷◌, inl, inr, refl, ap, ◌∙◌, Bool as Truth, true, false}
+-- Types are equal or not, and object types or not.
+use Rattle.std.proofs.Common.{◌≡◌, List, [], ◌∷◌, ◌⊎◌, inl, inr, refl, ap, ◌∙◌, Bool as Truth, true, false}
 use Rattle.wy_effects.proofs.Closure.{Decided}
 use Rattle.wy_effects.proofs.SetLaws.{cases_equal}
 use Rattle.wy_types.specs.declared.types.TypeRef.{TypeRef}
 use Rattle.wy_types.specs.declared.types.TypeRef.TheVariants.{Int, Bool, Text, Unit as Nothing, Named, At, Own}
+use Rattle.wy_types.specs.Types.{IsObject}
 
 pub decide_list : {X : Type 0} → ((x y : X) → Decided (x ≡ y)) → (xs ys : List X) → Decided (xs ≡ ys)
 decide_list d [] [] = inl refl
@@ -32,6 +33,16 @@ decide_type (At d b) (At e c) =
     ]
 decide_type (Own l) (Own k) = elim (cases_equal l k) [ inl e ↦ inl (cc) | inr n ↦ inr (λ h. n (cc)) ]
 decide_type s t = inr (λ e. cc)
+
+-- a type is an object type or not
+pub object_cases : (t : TypeRef) → IsObject t ⊎ (IsObject t → ⊥)
+object_cases Int = inr (λ h. h)
+object_cases Bool = inr (λ h. h)
+object_cases Text = inr (λ h. h)
+object_cases Nothing = inr (λ h. h)
+object_cases (Named d ms) = inl tt
+object_cases (At d e) = inl tt
+object_cases (Own l) = inl tt
 
 pub decide_truth : (a b : Truth) → Decided (a ≡ b)
 decide_truth true true = inl refl

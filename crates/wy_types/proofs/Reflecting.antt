@@ -1,5 +1,5 @@
 -- Each type in range is a subtype of itself.
-use Rattle.std.proofs.Common.{ℕ, List, map, ◌⊎◌, inl, inr, sym, subst, Option, Bool as Truth, true, false}
+use Rattle.std.proofs.Common.{ℕ, List, map, inl, inr, sym, subst, Option, Bool as Truth, true, false}
 use Rattle.std.specs.Prelude.{slice_get}
 use Rattle.wy_text.specs.Members.{In, Apart}
 use Rattle.wy_effects.specs.Bounds.{IsWithin, by_member}
@@ -18,7 +18,7 @@ use Rattle.wy_types.specs.Core.{IsCore}
 use Rattle.wy_types.specs.Order.{IsReflexive, IsTransitive}
 use Rattle.wy_types.specs.Few.{type_bound}
 use Rattle.wy_types.proofs.Finite.{read, Fits-methods, length-le-type_bound}
-use Rattle.wy_types.proofs.Deciding.{decide_type}
+use Rattle.wy_types.proofs.Deciding.{decide_type, object_cases}
 use Rattle.wy_types.proofs.Kept.{core_signatures_fit, Fits-part}
 pub use Rattle.wy_types.proofs.Itself.{find_once}
 use Rattle.wy_types.proofs.Itself.{names_of, names_of-mapped, subtype_itself}
@@ -65,15 +65,6 @@ module _ (p : Program) (c : IsCore p) (scope : ℕ) where
   Fits-next t u f i =
       let r = part_of_signature TypeRef (methods_of p scope) (methods_of p scope t) u i in
       Fits-part p scope r.0 r.2.0 u (Fits-methods p (core_signatures_fit p c) scope t f r.0 r.1) r.2.1
-
-  object_cases : (t : TypeRef) → IsObject t ⊎ (IsObject t → ⊥)
-  object_cases Int = inr (λ h. h)
-  object_cases Bool = inr (λ h. h)
-  object_cases Text = inr (λ h. h)
-  object_cases Nothing = inr (λ h. h)
-  object_cases (Named d ms) = inl tt
-  object_cases (At d e) = inl tt
-  object_cases (Own l) = inl tt
 
   reflexive : (Includes : List ℕ → List ℕ → Type 0) → ((e : List ℕ) → Includes e e) → (t : TypeRef) → IsTypeOf p scope t → IsSubtype TypeRef (methods_of p scope) IsObject Includes t t
   reflexive =
