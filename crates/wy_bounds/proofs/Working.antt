@@ -41,7 +41,6 @@ slice_get-within [] k h = absurd (omega arith)
 slice_get-within (x ∷ xs) zero h = (x, refl)
 slice_get-within (x ∷ xs) (suc k) h = slice_get-within xs k (omega arith)
 
-
 ------------------------------------------------------------
 -- What an entry goes to
 

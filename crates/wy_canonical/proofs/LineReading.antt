@@ -125,7 +125,6 @@ rest_end n r P h = record {
 less : (a b : ℕ) → a < b → nat_lt a b ≡ true
 less a b h = grind arith
 
-
 same : (a b : ℕ) → a ≡ b → (a == b) ≡ true
 same a b h = grind arith
 

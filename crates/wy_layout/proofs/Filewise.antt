@@ -148,7 +148,6 @@ lex_is file bs = go (nat_lt (utf8_valid_len bs) (length bs)) refl
     go true e = against file bs (ltb-true _ _ e) (lex_text file (judged_text bs)) (lexed_is (first_row file) (length (judged_text bs)) 0 [] (lines (first_row file) (judged_text bs)))
     go false e = whole file bs (ltb-false _ _ e) (lex_text file bs) (lexed_is (first_row file) (length bs) 0 [] (lines (first_row file) bs))
 
-
 -- what the layout relates to the file is what is given
 pub lexes_read : (file : ℕ) (bs : List ℕ) (ts : List Token) → Lexes file bs ts → lex_bytes file bs ≡ tokens ts
 lexes_read file bs ts h =

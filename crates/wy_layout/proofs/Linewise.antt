@@ -66,7 +66,6 @@ err_turn halt.Memory old new st st' row e line z old0 new0 st0 x p g i = tt
 less : (a b : ℕ) → a < b → nat_lt a b ≡ true
 less a b h = grind arith
 
-
 pub closed_is : (row : Row) (e : ℕ) (old new : List Token) (st : List ℕ) → length old + length st ≤ most_tokens → new ≡ old ++ closing row e st → join old (end_of row e (length old) st) ≡ tokens new
 closed_is row e old new st r p =
     ap (λ (b : Bool). join old (cond b (refused fault.Tokens e) (tokens (closing row e st)))) (le-ltb most_tokens (length old + length st) r) ∙ ap tokens (sym p)

@@ -41,7 +41,6 @@ slice_get-unmapped f [] k y e = absurd (cc)
 slice_get-unmapped f (x ∷ xs) zero y e = (x, refl, cc)
 slice_get-unmapped f (x ∷ xs) (suc k) y e = slice_get-unmapped f xs k y e
 
-
 pub last_at : {X : Type 0} (xs : List X) (x : X) → slice_get (xs ++ x ∷ []) (length xs) ≡ Some x
 last_at [] x = refl
 last_at (y ∷ xs) x = last_at xs x

@@ -134,7 +134,6 @@ signature_types-append [] ys = refl
 signature_types-append (m ∷ xs) ys =
     ap (λ l. (m.params ++ m.result ∷ []) ++ l) (signature_types-append xs ys) ∙ sym (append_assoc (m.params ++ m.result ∷ []) (signature_types xs) (signature_types ys))
 
-
 pub signature_types-take : (ms : List Method) (m : Method) (i : ℕ) → i < length ms → m ≡ get_or ms i m →
     signature_types (map signature (take (i + 1) ms)) ≡ signature_types (map signature (take i ms)) ++ (m.params ++ m.result ∷ [])
 signature_types-take ms m i h e =
