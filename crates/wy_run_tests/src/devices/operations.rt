@@ -1,12 +1,13 @@
 use std::alloc::Global;
 use std::test::Fail;
 use wy_device::deed::Deed;
-use wy_device::operation::{Answer, Op, OpName};
+use wy_device::operation::{Answer, Kind, Op};
 use wy_text::text::{Memory, from_bytes};
 
-/// Whether an operation and its copy have the name of `has`.
+/// Whether an operation and its copy have the name of `has`, which a folder has.
 fn is_named(op: &Op) -> Result<bool, Memory> {
-    Ok(op.name().method() == "has" && op.copy()?.name() == OpName::FolderHas)
+    let name = op.name();
+    Ok(name.method() == "has" && name.kind() == Kind::Folder && op.copy()?.name() == name)
 }
 
 /// An operation.
