@@ -1,5 +1,5 @@
 -- What a device means.
-use Rattle.std.specs.Prelude.{◌≡◌, ℕ, ◌≤◌, List, [], ◌∷◌, Option, Some, None, Result, Ok, Err, length, ⊤}
+use Rattle.std.specs.Prelude.{◌≡◌, ℕ, ◌≤◌, List, [], ◌∷◌, Option, Some, None, Result, Ok, Err, IfOk, OnOk, Contains, length, ⊤}
 use Rattle.wy_device.specs.declared.operation.Kind.{Kind}
 use Rattle.wy_device.specs.declared.operation.Op.{Op}
 use Rattle.wy_device.specs.declared.operation.OpName.{OpName}
@@ -11,7 +11,7 @@ use Rattle.wy_device.specs.declared.device.DeviceError.{DeviceError}
 use Rattle.wy_device.specs.declared.device.DeviceError.TheVariants.{Failed, Memory}
 use Rattle.wy_device.specs.Operation.{name_of}
 use Rattle.wy_device.specs.Traps.{text_limit}
-use Rattle.wy_text.specs.Outside.{next_count}
+use Rattle.wy_text.specs.Outside.{gained, next_count, Rose}
 
 -- a device's kind, its deeds, where it tells them, and its count of faults
 pub record DeviceState : Type 0 where
@@ -71,3 +71,22 @@ abbrev pub faults_after : Result Answer DeviceError → ℕ → ℕ
 faults_after (Ok answer) faults = faults
 faults_after (Err Failed) faults = next_count faults
 faults_after (Err Memory) faults = faults
+
+-- a device did an operation for a grant: an answer is of the operation's kind, it and a failure each add their deed, want of
+-- memory adds none, and the count of faults never falls, and rises at a failure
+pub record Performs (old new : DeviceState) (grant : List ℕ) (op : Op) (result : Result Answer DeviceError) : Type 0 where
+  pub same_kind : new.kind ≡ old.kind
+  pub answer : IfOk result (IsAnswerOf op)
+  pub done : IfOk result (λ answer. new.deeds ≡ gained old.deeds (deed_done grant op answer))
+  pub bad : result ≡ Err Failed → new.deeds ≡ gained old.deeds (deed_failed grant op)
+  pub none : result ≡ Err Memory → new.deeds ≡ old.deeds
+  pub counted : old.faults ≤ new.faults
+  pub failed : result ≡ Err Failed → Rose old.faults new.faults
+
+-- a device in memory was asked: it answers no call that it was told to fail, counts the call, keeps the list of those that are
+-- to fail, and counts a fault exactly where it failed
+pub record FailsAsTold (old_fails : List ℕ) (old_calls old_faults : ℕ) (new_fails : List ℕ) (new_calls new_faults : ℕ) (result : Result Answer DeviceError) : Type 0 where
+  pub call : new_calls ≡ next_count old_calls
+  pub served : OnOk result (¬ Contains old_fails (next_count old_calls))
+  pub same_list : new_fails ≡ old_fails
+  pub faults : new_faults ≡ faults_after result old_faults

@@ -1,9 +1,8 @@
 //! What operations are asked of.
 
-ghost use Rattle.std.specs.Prelude.{◌≡◌, ◌≤◌, IfOk, Err};
+ghost use Rattle.std.specs.Prelude.{◌≡◌};
 ghost use Rattle.std.specs.Option.{option_copied};
-ghost use Rattle.wy_text.specs.Outside.{gained, Rose};
-ghost use Rattle.wy_device.specs.Device.{DeviceState, IsAnswerOf, deed_done, deed_failed};
+ghost use Rattle.wy_device.specs.Device.{DeviceState, Performs};
 ghost use Rattle.wy_device.specs.Operation.{kind_of};
 
 use crate::deed::DeedList;
@@ -50,11 +49,5 @@ pub trait Device: Drop {
     /// console's `read` at most 65,536), a truth value for `has`, a number for `now` and `word`.
     fn perform(&mut self, grant: &Text, op: &Op) -> Result<Answer, DeviceError>
         requires { kind_of op.now ≡ (state self.old).kind }
-        ensures same_kind { (state self.new).kind ≡ (state self.old).kind }
-        ensures answer { IfOk result (IsAnswerOf op.now) }
-        ensures done { IfOk result (λ a. (state self.new).deeds ≡ gained (state self.old).deeds (deed_done grant.now op.now a)) }
-        ensures bad { result ≡ Err DeviceError.Failed → (state self.new).deeds ≡ gained (state self.old).deeds (deed_failed grant.now op.now) }
-        ensures none { result ≡ Err DeviceError.Memory → (state self.new).deeds ≡ (state self.old).deeds }
-        ensures counted { (state self.old).faults ≤ (state self.new).faults }
-        ensures failed { result ≡ Err DeviceError.Failed → Rose (state self.old).faults (state self.new).faults };
+        ensures performed { Performs (state self.old) (state self.new) grant.now op.now result };
 }

@@ -1,7 +1,6 @@
 //! A device in a box.
 
 ghost use Rattle.std.specs.Prelude.{◌≡◌};
-ghost use Rattle.wy_device.specs.Device.{DeviceState};
 
 use crate::deed::DeedList;
 use crate::device::{Device, DeviceError};

@@ -1,8 +1,8 @@
 //! A console in memory.
 
 ghost use Rattle.std.specs.Prelude.{List, ℕ, ◌≡◌, ◌≤◌, ◌<◌, ◌+◌, ◌++◌, [], drop, length, Some, IfOk, IfSome, OnOk, OnErr, Err, Contains, position, ◌==◌};
-ghost use Rattle.wy_text.specs.Outside.{gained, next_count, Rose};
-ghost use Rattle.wy_device.specs.Device.{DeviceState, IsAnswerOf, deed_done, deed_failed, faults_after};
+ghost use Rattle.wy_text.specs.Outside.{next_count};
+ghost use Rattle.wy_device.specs.Device.{FailsAsTold, Performs, IsAnswerOf, deed_done};
 ghost use Rattle.wy_device.specs.MemConsole.{line_size, next_line};
 ghost use Rattle.wy_device.specs.Operation.{kind_of};
 
@@ -115,20 +115,11 @@ impl Device for MemConsole {
 
     fn perform(&mut self, grant: &Text, op: &Op) -> Result<Answer, DeviceError>
         requires { kind_of op.now ≡ Kind.Console }
-        ensures same_kind { Kind.Console ≡ Kind.Console }
-        ensures answer { IfOk result (IsAnswerOf op.now) }
-        ensures done { IfOk result (λ a. Some self.new.deeds ≡ gained (Some self.old.deeds) (deed_done grant.now op.now a)) }
-        ensures bad { result ≡ Err DeviceError.Failed → Some self.new.deeds ≡ gained (Some self.old.deeds) (deed_failed grant.now op.now) }
-        ensures none { result ≡ Err DeviceError.Memory → Some self.new.deeds ≡ Some self.old.deeds }
-        ensures counted { self.old.faults ≤ self.new.faults }
-        ensures failed { result ≡ Err DeviceError.Failed → Rose self.old.faults self.new.faults }
+        ensures performed { Performs (⟦<MemConsole as Device>⟧.state self.old) (⟦<MemConsole as Device>⟧.state self.new) grant.now op.now result }
 
         // It fails exactly at the calls that it was told, and counts a fault exactly where it fails.
-        ensures call { self.new.calls ≡ next_count self.old.calls }
+        ensures told { FailsAsTold self.old.fails self.old.calls self.old.faults self.new.fails self.new.calls self.new.faults result }
         ensures listed { result ≡ Err DeviceError.Failed → Contains self.old.fails (next_count self.old.calls) }
-        ensures served { OnOk result (¬ Contains self.old.fails (next_count self.old.calls)) }
-        ensures same_list { self.new.fails ≡ self.old.fails }
-        ensures faults { self.new.faults ≡ faults_after result self.old.faults }
 
         // A read takes the next line of the input, and a write adds its text to what was written.
         ensures read { op.now ≡ Op.ConsoleRead → IfOk result (λ a. (a ≡ Answer.Bytes (next_line self.old.input)) × (self.new.input ≡ drop (line_size self.old.input) self.old.input) × (self.new.written ≡ self.old.written)) }

@@ -1,8 +1,8 @@
 //! A folder in memory.
 
 ghost use Rattle.std.specs.Prelude.{◌≡◌, ◌≤◌, ◌<◌, ◌++◌, ◌⊎◌, [], length, is_some, Some, IfOk, OnOk, OnErr, Err, Contains};
-ghost use Rattle.wy_text.specs.Outside.{gained, next_count, Rose};
-ghost use Rattle.wy_device.specs.Device.{DeviceState, IsAnswerOf, IsBytesUpTo, deed_done, deed_failed, faults_after};
+ghost use Rattle.wy_text.specs.Outside.{next_count};
+ghost use Rattle.wy_device.specs.Device.{FailsAsTold, Performs, IsAnswerOf, IsBytesUpTo, deed_done, deed_failed};
 ghost use Rattle.wy_device.specs.FolderFiles.{text_in, text_or_empty, Puts, Removes};
 ghost use Rattle.wy_device.specs.MemFolder.{Answers, Leaves, AnswersTooMuch};
 ghost use Rattle.wy_device.specs.Operation.{kind_of};
@@ -248,22 +248,13 @@ impl Device for MemFolder {
 
     fn perform(&mut self, grant: &Text, op: &Op) -> Result<Answer, DeviceError>
         requires { kind_of op.now ≡ Kind.Folder }
-        ensures same_kind { Kind.Folder ≡ Kind.Folder }
-        ensures answer { IfOk result (IsAnswerOf op.now) }
-        ensures done { IfOk result (λ a. Some self.new.deeds ≡ gained (Some self.old.deeds) (deed_done grant.now op.now a)) }
-        ensures bad { result ≡ Err DeviceError.Failed → Some self.new.deeds ≡ gained (Some self.old.deeds) (deed_failed grant.now op.now) }
-        ensures none { result ≡ Err DeviceError.Memory → Some self.new.deeds ≡ Some self.old.deeds }
-        ensures counted { self.old.faults ≤ self.new.faults }
-        ensures failed { result ≡ Err DeviceError.Failed → Rose self.old.faults self.new.faults }
+        ensures performed { Performs (⟦<MemFolder as Device>⟧.state self.old) (⟦<MemFolder as Device>⟧.state self.new) grant.now op.now result }
 
         // It fails exactly at the calls that it was told, and where the text is longer than an answer may be; and
         // it counts a fault exactly where it fails.
-        ensures call { self.new.calls ≡ next_count self.old.calls }
+        ensures told { FailsAsTold self.old.fails self.old.calls self.old.faults self.new.fails self.new.calls self.new.faults result }
         ensures listed { result ≡ Err DeviceError.Failed
             → Contains self.old.fails (next_count self.old.calls) ⊎ AnswersTooMuch self.old.files grant.now op.now }
-        ensures served { OnOk result (¬ Contains self.old.fails (next_count self.old.calls)) }
-        ensures same_list { self.new.fails ≡ self.old.fails }
-        ensures faults { self.new.faults ≡ faults_after result self.old.faults }
 
         // It answers what it holds, and changes what the operation says and nothing else.
         ensures answers { IfOk result (Answers self.old.files grant.now op.now) }

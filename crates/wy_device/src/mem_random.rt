@@ -1,9 +1,9 @@
 //! A random source in memory.
 
-ghost use Rattle.std.specs.Prelude.{◌≡◌, ◌≤◌, ◌<◌, ◌+◌, ◌%◌, ◌++◌, max, [], pos, slice_index_or, Some, IfOk, OnOk, OnErr, Err, Contains};
-ghost use Rattle.wy_text.specs.Outside.{gained, next_count, Rose};
+ghost use Rattle.std.specs.Prelude.{◌≡◌, ◌<◌, ◌+◌, ◌%◌, ◌++◌, max, [], pos, slice_index_or, Some, IfOk, OnErr, Err, Contains};
+ghost use Rattle.wy_text.specs.Outside.{next_count};
 ghost use Rattle.wy_device.specs.Deeds.{answered};
-ghost use Rattle.wy_device.specs.Device.{DeviceState, IsAnswerOf, deed_done, deed_failed, faults_after};
+ghost use Rattle.wy_device.specs.Device.{FailsAsTold, Performs, deed_done};
 ghost use Rattle.wy_device.specs.MemRandom.{word_after};
 ghost use Rattle.wy_device.specs.Operation.{kind_of};
 
@@ -99,20 +99,11 @@ impl Device for MemRandom {
 
     fn perform(&mut self, grant: &Text, op: &Op) -> Result<Answer, DeviceError>
         requires { kind_of op.now ≡ Kind.Random }
-        ensures same_kind { Kind.Random ≡ Kind.Random }
-        ensures answer { IfOk result (IsAnswerOf op.now) }
-        ensures done { IfOk result (λ a. Some self.new.deeds ≡ gained (Some self.old.deeds) (deed_done grant.now op.now a)) }
-        ensures bad { result ≡ Err DeviceError.Failed → Some self.new.deeds ≡ gained (Some self.old.deeds) (deed_failed grant.now op.now) }
-        ensures none { result ≡ Err DeviceError.Memory → Some self.new.deeds ≡ Some self.old.deeds }
-        ensures counted { self.old.faults ≤ self.new.faults }
-        ensures failed { result ≡ Err DeviceError.Failed → Rose self.old.faults self.new.faults }
+        ensures performed { Performs (⟦<MemRandom as Device>⟧.state self.old) (⟦<MemRandom as Device>⟧.state self.new) grant.now op.now result }
 
         // It fails exactly at the calls that it was told, and counts a fault exactly where it fails.
-        ensures call { self.new.calls ≡ next_count self.old.calls }
+        ensures told { FailsAsTold self.old.fails self.old.calls self.old.faults self.new.fails self.new.calls self.new.faults result }
         ensures listed { result ≡ Err DeviceError.Failed → Contains self.old.fails (next_count self.old.calls) }
-        ensures served { OnOk result (¬ Contains self.old.fails (next_count self.old.calls)) }
-        ensures same_list { self.new.fails ≡ self.old.fails }
-        ensures faults { self.new.faults ≡ faults_after result self.old.faults }
 
         // It gives its numbers round and round, one for each call that succeeds.
         ensures word { IfOk result (λ a. a ≡ Answer.Number (word_after (answered self.old.deeds) self.old.numbers)) }

@@ -1,7 +1,7 @@
 //! The kinds of devices, their operations, and the answers.
 
 ghost use Rattle.std.specs.Prelude.{◌≡◌, IfOk};
-ghost use Rattle.wy_device.specs.Operation.{member_named, method_text, name_of};
+ghost use Rattle.wy_device.specs.Operation.{kind_named, member_named, method_text, name_of};
 
 use wy_text::text::{Memory, Text};
 
@@ -92,6 +92,24 @@ impl Op {
 }
 
 impl OpName {
+    /// The kind of device that has the operation. It takes no memory.
+    pub fn kind(self) -> Kind
+        ensures { result ≡ kind_named self }
+    {
+        match self {
+            OpName::ConsoleRead => Kind::Console,
+            OpName::ConsoleWrite => Kind::Console,
+            OpName::FolderRead => Kind::Folder,
+            OpName::FolderHas => Kind::Folder,
+            OpName::FolderWrite => Kind::Folder,
+            OpName::FolderAppend => Kind::Folder,
+            OpName::FolderNames => Kind::Folder,
+            OpName::ClockNow => Kind::Clock,
+            OpName::RandomWord => Kind::Random,
+            OpName::FolderRemove => Kind::Folder,
+        }
+    }
+
     /// The name of the method that asks for the operation, as `write`. It takes no memory.
     pub fn method(self) -> &'static str
         ensures { result.now ≡ method_text self }

@@ -1,8 +1,8 @@
 //! A device that is shut.
 
-ghost use Rattle.std.specs.Prelude.{◌≡◌, ◌≤◌, IfOk, Err};
-ghost use Rattle.wy_text.specs.Outside.{gained, next_count, Rose};
-ghost use Rattle.wy_device.specs.Device.{DeviceState, IsAnswerOf, deed_done, deed_failed, untold};
+ghost use Rattle.std.specs.Prelude.{◌≡◌, Err};
+ghost use Rattle.wy_text.specs.Outside.{next_count};
+ghost use Rattle.wy_device.specs.Device.{Performs, untold};
 ghost use Rattle.wy_device.specs.Operation.{kind_of};
 
 use crate::deed::DeedList;
@@ -39,13 +39,7 @@ impl Device for Shut {
 
     fn perform(&mut self, grant: &Text, op: &Op) -> Result<Answer, DeviceError>
         requires { kind_of op.now ≡ self.old.kind }
-        ensures same_kind { self.new.kind ≡ self.old.kind }
-        ensures answer { IfOk result (IsAnswerOf op.now) }
-        ensures done { IfOk result (λ a. untold ≡ gained untold (deed_done grant.now op.now a)) }
-        ensures bad { result ≡ Err DeviceError.Failed → untold ≡ gained untold (deed_failed grant.now op.now) }
-        ensures none { result ≡ Err DeviceError.Memory → untold ≡ untold }
-        ensures counted { self.old.faults ≤ self.new.faults }
-        ensures failed { result ≡ Err DeviceError.Failed → Rose self.old.faults self.new.faults }
+        ensures performed { Performs (⟦<Shut as Device>⟧.state self.old) (⟦<Shut as Device>⟧.state self.new) grant.now op.now result }
 
         // It fails at each call.
         ensures shut { result ≡ Err DeviceError.Failed }

@@ -18,7 +18,7 @@ use Rattle.wy_machine.specs.declared.run_end.RunEnd.TheVariants.{Ended, Trap, Me
 use Rattle.wy_machine.specs.declared.run_end.TrapKind.{TrapKind}
 use Rattle.wy_machine.specs.Runs.{AreSameDevices}
 use Rattle.wy_machine.specs.TrapKinds.{trap_meant}
-use Rattle.wy_machine.specs.Observing.{Told, Left, Did, event_told, events_told, entering, ArePlaced, HeardAll, HeardSome, IsHeardStep, IsObserved}
+use Rattle.wy_machine.specs.Observing.{ended_by, Told, Left, Did, event_told, events_told, entering, ArePlaced, HeardAll, HeardSome, IsHeardStep, IsObserved}
 use Rattle.wy_machine.specs.Stacks.{StackState, at_address}
 use Rattle.wy_machine.specs.States.{body_at}
 use Rattle.wy_machine.specs.Steps.{acting, stepping, AreQuiet, IsStep}
@@ -80,6 +80,12 @@ module _ {X : Type 0} (hears : Told → X → X → Result (Unit {0}) RunEnd →
   -- .. or the observer did
   pub told_failure_cut : (d : DeedRecord) (own : RunEnd) (h : IsStep code s w next old new (Err own)) → h.events ≡ event.Deed d ∷ [] → (a b : X) (end : RunEnd) → hears (Did d) a b (Err end) → IsObserved hears code x s w next taken old new a b (Err end)
   told_failure_cut d own h is a b end heard = told_some [] (Did d) [] a a b (Err own) h is no_events refl end heard
+
+  -- .. whichever it was
+  pub told_ending : (d : DeedRecord) (failure : RunEnd) (h : IsStep code s w next old new (Err failure)) → h.events ≡ event.Deed d ∷ [] → WantsOnly taken (Err failure) → (a b : X) (own : Result (Unit {0}) RunEnd) → hears (Did d) a b own → (r : Result (Unit {0}) RunEnd) → r ≡ ended_by failure own →
+      IsObserved hears code x s w next taken old new a b r
+  told_ending d failure h is wants a b (Ok u) heard r e = subst (λ r. IsObserved hears code x s w next taken old new a b r) (sym e) (told_failure d failure h is wants a b heard)
+  told_ending d failure h is wants a b (Err end) heard r e = subst (λ r. IsObserved hears code x s w next taken old new a b r) (sym e) (told_failure_cut d failure h is a b end heard)
 
   -- a body is entered, and nothing else happens
   pub told_entry : Shows code Enter next → (h : IsStep code s w next old new (Ok tt)) (instance body : ℕ) → instance ≡ s.running.instance → body ≡ s.running.body → (a b : X) (r : Result (Unit {0}) RunEnd) → hears (entering code instance body) a b r →

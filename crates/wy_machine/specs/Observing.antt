@@ -7,10 +7,12 @@ use Rattle.wy_device.specs.declared.deed.Event.{Event}
 use Rattle.wy_device.specs.declared.deed.Event.TheVariants.{Enter, Leave, Deed}
 use Rattle.wy_device.specs.Devices.{DevicesState}
 use Rattle.wy_device.specs.Events.{DidExactly}
+use Rattle.wy_device.specs.Operation.{name_of}
 use Rattle.wy_device.specs.Tapes.{Tapes}
 use Rattle.wy_code.specs.declared.code.Code.{Code}
 use Rattle.wy_code.specs.Machine.{Next, all_instances, name_in}
 use Rattle.wy_machine.specs.declared.run_end.RunEnd.{RunEnd}
+use Rattle.wy_machine.specs.declared.run_end.RunEnd.TheVariants.{DeviceFailed}
 use Rattle.wy_machine.specs.Runs.{EndsIn, AreSameDevices, FailsByFault}
 use Rattle.wy_machine.specs.Stacks.{StackState}
 use Rattle.wy_machine.specs.States.{body_at}
@@ -80,6 +82,17 @@ pub record HeardSome {X : Type 0} (hears : Told → X → X → Result (Unit {0}
   pub before : X
   pub heard : HeardAll hears whole a before
   pub cut : hears last before b (Err end)
+
+-- how a run ends where an operation failed: so, unless the observer ended it when it was told
+abbrev pub ended_by : RunEnd → Result (Unit {0}) RunEnd → Result (Unit {0}) RunEnd
+ended_by failure (Ok u) = Err failure
+ended_by failure (Err end) = Err end
+
+-- an observer was told of an operation that failed, and the run ends by it
+pub record EndsByFailure {X : Type 0} (hears : Told → X → X → Result (Unit {0}) RunEnd → Type 0) (deed : DeedRecord) (a b : X) (result : Result (Unit {0}) RunEnd) : Type 0 where
+  pub own : Result (Unit {0}) RunEnd
+  pub heard : hears (Did deed) a b own
+  pub ends : result ≡ ended_by (DeviceFailed deed.grant (name_of deed.op)) own
 
 ------------------------------------------------------------
 -- Steps

@@ -1,5 +1,5 @@
 -- The texts that a request is made with.
-use Rattle.std.specs.Prelude.{◌≡◌, ◌-◌, ℕ, length, Bool, true, false, not, ◌&&◌, nat_lt, List, [], ◌∷◌, ◌++◌, reverse, take, Option, Some, None, slice_get, if◌then◌else◌}
+use Rattle.std.specs.Prelude.{◌≡◌, ◌+◌, ◌-◌, ℕ, drop, length, Bool, true, false, not, ◌&&◌, nat_lt, List, [], ◌∷◌, ◌++◌, reverse, take, Option, Some, None, slice_get, if◌then◌else◌}
 use Rattle.wy_device.specs.Tapes.{Tapes}
 use Rattle.wy_code.specs.declared.code.Code.{Code}
 use Rattle.wy_code.specs.declared.code.Grant.{Grant as CodeGrant}
@@ -7,7 +7,7 @@ use Rattle.wy_code.specs.Operations.{operand_text, texts_named}
 use Rattle.wy_device.specs.Traps.{most_texts}
 use Rattle.wy_machine.specs.declared.run_end.TrapKind.{TrapKind}
 use Rattle.wy_machine.specs.declared.run_end.TrapKind.TheVariants.{BadName, Crowded}
-use Rattle.wy_machine.specs.Stacks.{StackState}
+use Rattle.wy_machine.specs.Stacks.{StackState, pushed, with_operands}
 use Rattle.wy_machine.specs.States.{store_of}
 use Rattle.wy_machine.specs.StoreStates.{StoreState}
 use Rattle.wy_device.specs.declared.operation.Answer.{Answer}
@@ -110,6 +110,14 @@ word_received (Some n) answer.Unit = None
 abbrev pub store_received : Option ℕ → Answer → StoreState → StoreState
 store_received (Some n) (answer.Bytes text) w = record w { texts = take (length w.texts - 1) w.texts ++ text ∷ [] }
 store_received _ a w = w
+
+-- an answer was received where a call with so many arguments asked for it: its word takes the place of them and of the
+-- word below them
+pub record IsReceived (place : Option ℕ) (answer : Answer) (count : ℕ) (s s' : StackState) (w w' : StoreState) : Type 0 where
+  pub word : Word
+  pub given : Some word ≡ word_received place answer
+  pub stack : s' ≡ pushed word (with_operands (drop (count + 1) s.running.operands) s)
+  pub store : w' ≡ store_received place answer w
 
 -- a call of an operation's method through a grant, which is the word below the arguments
 pub record IsAsking (code : Code) (s : StackState) (m k : ℕ) (grant : CodeGrant) (o : OpName) : Type 0 where

@@ -1,15 +1,20 @@
 -- What a run of the machine does. (docs/LANGUAGE.md, "Code", "How a run ends")
-use Rattle.std.specs.Prelude.{◌≡◌, ℕ, ◌≤◌, List, ⊤}
+use Rattle.std.specs.Prelude.{◌≡◌, ℕ, ◌≤◌, List, [], Some, None, Result, Err, IfOk, ⊤}
 use Rattle.wy_text.specs.Outside.{Rose}
 use Rattle.wy_device.specs.declared.deed.Event.{Event}
 use Rattle.wy_device.specs.declared.operation.Kind.TheVariants.{Console, Folder, Clock, Random}
-use Rattle.wy_device.specs.Device.{DeviceState}
+use Rattle.wy_device.specs.declared.operation.Answer.{Answer}
+use Rattle.wy_device.specs.declared.operation.Op.{Op}
+use Rattle.wy_device.specs.declared.device.DeviceError.{DeviceError}
+use Rattle.wy_device.specs.declared.device.DeviceError.TheVariants as device_error
+use Rattle.wy_device.specs.Device.{DeviceState, IsAnswerOf}
 use Rattle.wy_device.specs.Devices.{DevicesState, device_of}
 use Rattle.wy_device.specs.Events.{deeds_of, DidExactly}
-use Rattle.wy_device.specs.Operation.{kind_named}
+use Rattle.wy_device.specs.Operation.{kind_named, kind_of}
 use Rattle.wy_device.specs.RunEnds as ends
 use Rattle.wy_device.specs.Tapes.{Tapes, spliced, answers}
 use Rattle.wy_code.specs.declared.code.Code.{Code}
+use Rattle.wy_code.specs.Operations.{deed_event}
 use Rattle.wy_code.specs.Running.{machine}
 use Rattle.wy_machine.specs.declared.run_end.RunEnd.{RunEnd}
 use Rattle.wy_machine.specs.declared.run_end.RunEnd.TheVariants.{Ended, Trap, TooDeep, Spent, DeviceFailed, SinkFailed, Memory}
@@ -56,6 +61,16 @@ pub record AreSameDevices (old new : DevicesState) : Type 0 where
   pub folder : IsSameDevice old.folder new.folder
   pub clock : IsSameDevice old.clock new.clock
   pub random : IsSameDevice old.random new.random
+
+-- an operation was asked of the device of its kind for a grant, and no other device was asked: its deed is done where it was
+-- answered or failed, and none where memory was wanting
+pub record IsAsked (old new : DevicesState) (grant : List ℕ) (op : Op) (result : Result Answer DeviceError) : Type 0 where
+  pub same : AreSameDevices old new
+  pub answer : IfOk result (IsAnswerOf op)
+  pub done : IfOk result (λ answer. DidExactly old new (deed_event grant op (Some answer)))
+  pub bad : result ≡ Err device_error.Failed → DidExactly old new (deed_event grant op None)
+  pub none : result ≡ Err device_error.Memory → DidExactly old new []
+  pub failed : result ≡ Err device_error.Failed → Rose (device_of old (kind_of op)).faults (device_of new (kind_of op)).faults
 
 -- where an operation failed, its device counted a fault
 abbrev pub FailsByFault : DevicesState → DevicesState → RunEnd → Type 0

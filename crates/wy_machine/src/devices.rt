@@ -1,15 +1,10 @@
 //! The four devices that a run asks.
 
-ghost use Rattle.std.specs.Prelude.{◌≡◌, [], IfOk, Err, Some, None};
+ghost use Rattle.std.specs.Prelude.{◌≡◌};
 ghost use Rattle.std.specs.Option.{option_copied};
-ghost use Rattle.wy_code.specs.Operations.{deed_event};
-ghost use Rattle.wy_device.specs.Device.{IsAnswerOf};
 ghost use Rattle.wy_device.specs.Devices.{IsInOrder, device_of};
-ghost use Rattle.wy_device.specs.Events.{DidExactly};
-ghost use Rattle.wy_device.specs.Operation.{kind_of};
 ghost use Rattle.wy_machine.specs.Devices.{states};
-ghost use Rattle.wy_machine.specs.Runs.{AreSameDevices};
-ghost use Rattle.wy_text.specs.Outside.{Rose};
+ghost use Rattle.wy_machine.specs.Runs.{IsAsked};
 
 pub mod handing_in;
 
@@ -44,26 +39,13 @@ impl<D: Device> Devices<D> {
     /// Asks an operation of the device of its kind.
     pub(crate) fn ask(&mut self, grant: &Text, op: &Op) -> Result<Answer, DeviceError>
         requires { IsInOrder (states D.state self.old) }
-        ensures same { AreSameDevices (states D.state self.old) (states D.state self.new) }
-        ensures answer { IfOk result (IsAnswerOf op.now) }
-        ensures done { IfOk result (λ a. DidExactly (states D.state self.old) (states D.state self.new) (deed_event grant.now op.now (Some a))) }
-        ensures bad { result ≡ Err DeviceError.Failed →
-            DidExactly (states D.state self.old) (states D.state self.new) (deed_event grant.now op.now None) }
-        ensures none { result ≡ Err DeviceError.Memory → DidExactly (states D.state self.old) (states D.state self.new) [] }
-        ensures failed { result ≡ Err DeviceError.Failed →
-            Rose (device_of (states D.state self.old) (kind_of op.now)).faults (device_of (states D.state self.new) (kind_of op.now)).faults }
+        ensures { IsAsked (states D.state self.old) (states D.state self.new) grant.now op.now result }
     {
-        match op {
-            Op::ConsoleRead => self.console.perform(grant, op),
-            Op::ConsoleWrite(_) => self.console.perform(grant, op),
-            Op::FolderRead(_) => self.folder.perform(grant, op),
-            Op::FolderHas(_) => self.folder.perform(grant, op),
-            Op::FolderWrite(_, _) => self.folder.perform(grant, op),
-            Op::FolderAppend(_, _) => self.folder.perform(grant, op),
-            Op::FolderNames => self.folder.perform(grant, op),
-            Op::ClockNow => self.clock.perform(grant, op),
-            Op::RandomWord => self.random.perform(grant, op),
-            Op::FolderRemove(_) => self.folder.perform(grant, op),
+        match op.name().kind() {
+            Kind::Console => self.console.perform(grant, op),
+            Kind::Folder => self.folder.perform(grant, op),
+            Kind::Clock => self.clock.perform(grant, op),
+            Kind::Random => self.random.perform(grant, op),
         }
     }
 

@@ -6,8 +6,8 @@ ghost use Rattle.wy_code.specs.declared.instruction.Instruction.TheVariants.{Cal
 ghost use Rattle.wy_device.specs.Devices.{IsInOrder};
 ghost use Rattle.wy_machine.specs.Devices.{states};
 ghost use Rattle.wy_device.specs.Requests as requests;
-ghost use Rattle.wy_machine.specs.Requesting.{is_answered_by_text, HasPlace, word_received, store_received, IsAsking, IsRequest};
-ghost use Rattle.wy_machine.specs.Observing.{IsObserved};
+ghost use Rattle.wy_machine.specs.Requesting.{is_answered_by_text, HasPlace, word_received, store_received, IsReceived, IsAsking, IsRequest};
+ghost use Rattle.wy_machine.specs.Observing.{Did, EndsByFailure, IsObserved};
 ghost use Rattle.wy_machine.specs.Steps.{acting, IsNotStuck};
 ghost use Rattle.wy_machine.specs.Wanting.{TrapsFirst};
 
@@ -25,7 +25,7 @@ use wy_code::code::{Code, Grant};
 use wy_device::device::{Device, DeviceError};
 use wy_device::operation::{Answer, Op, OpName};
 use wy_text::fault::Place;
-use wy_text::text::Memory;
+use wy_text::text::{Memory, Text};
 
 /// Makes the place of the text that answers an operation, where one does, and gives its number.
 fn make_place(code: &Code, store: &mut Store, operation: OpName) -> Result<Option<u32>, Memory>
@@ -59,6 +59,56 @@ fn received(store: &mut Store, place: Option<u32>, answer: Answer) -> Option<Wor
     }
 }
 
+/// Takes an answer where a call with so many arguments asked for it.
+fn receive(machine: &mut Machine, place: Option<u32>, answer: Answer, count: u32)
+    requires place { place ≢ None → 0 < length machine.old.store.texts }
+    requires fits { word_received place answer ≢ None }
+    requires there { count < length machine.old.stack.running.operands }
+    ensures { IsReceived place answer count machine.old.stack machine.new.stack machine.old.store machine.new.store }
+{
+    match received(&mut machine.store, place, answer) {
+        Some(word) => machine.stack.give(count as usize + 1, word),
+        None => unreachable!(),
+    }
+}
+
+/// Tells the observer what an operation was answered, and takes the answer.
+fn tell_and_receive<W: Observer>(
+    machine: &mut Machine,
+    place: Option<u32>,
+    count: u32,
+    grant: &Text,
+    op: &Op,
+    answer: Answer,
+    observer: &mut W,
+) -> Result<(), RunEnd>
+    requires place { place ≢ None → 0 < length machine.old.store.texts }
+    requires fits { word_received place answer ≢ None }
+    requires there { count < length machine.old.stack.running.operands }
+    ensures told { W.hears (Did (record { grant = grant.now; op = op.now; answer = Some answer })) observer.old observer.new result }
+    ensures received { IsReceived place answer count machine.old.stack machine.new.stack machine.old.store machine.new.store }
+{
+    let mut end = RunEnd::Spent;
+    let told = observer.performed(grant, op, Some(&answer), &mut end);
+    receive(machine, place, answer, count);
+    came(told, end)
+}
+
+/// Tells the observer that an operation failed, which ends the run.
+fn tell_and_fail<W: Observer>(grant: Text, op: &Op, observer: &mut W) -> Result<(), RunEnd>
+    ensures { EndsByFailure W.hears (record { grant = grant; op = op.now; answer = None }) observer.old observer.new result }
+{
+    let mut end = RunEnd::Spent;
+    if observer.performed(&grant, op, None, &mut end) {
+        Err(RunEnd::DeviceFailed {
+            grant,
+            op: op.name(),
+        })
+    } else {
+        Err(end)
+    }
+}
+
 /// Asks the device for an operation whose name is good, where a text may be built if it answers one. The text's place
 /// and the grant's name are there before the device is asked, so that its answer is kept, and its failure told. The
 /// observer is told what was asked and answered.
@@ -87,28 +137,8 @@ fn ask<D: Device, W: Observer>(
     let text = make_place(code, &mut machine.store, op.name())?;
     let name = grant.name.copy()?;
     match devices.ask(&grant.name, op) {
-        Ok(answer) => {
-            let mut end = RunEnd::Spent;
-            let told = observer.performed(&grant.name, op, Some(&answer), &mut end);
-            match received(&mut machine.store, text, answer) {
-                Some(word) => {
-                    machine.stack.give(count as usize + 1, word);
-                    came(told, end)
-                }
-                None => unreachable!(),
-            }
-        }
-        Err(DeviceError::Failed) => {
-            let mut end = RunEnd::Spent;
-            if observer.performed(&grant.name, op, None, &mut end) {
-                Err(RunEnd::DeviceFailed {
-                    grant: name,
-                    op: op.name(),
-                })
-            } else {
-                Err(end)
-            }
-        }
+        Ok(answer) => tell_and_receive(machine, text, count, &grant.name, op, answer, observer),
+        Err(DeviceError::Failed) => tell_and_fail(name, op, observer),
         Err(DeviceError::Memory) => Err(RunEnd::Memory),
     }
 }
@@ -143,9 +173,13 @@ fn request<D: Device, W: Observer>(
     ) {
         Some(kind) => Err(RunEnd::Trap { kind, place }),
         None => match requested(code, machine, operation, count as usize)? {
-            Some(op) => ask(
-                code, depth, machine, devices, place, method, count, grant, &op, observer,
-            ),
+            Some(op) => {
+                let asked = ask(
+                    code, depth, machine, devices, place, method, count, grant, &op, observer,
+                );
+                drop(op);
+                asked
+            }
             None => unreachable!(),
         },
     }

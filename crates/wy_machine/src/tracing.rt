@@ -4,6 +4,7 @@ ghost use Rattle.std.specs.Prelude.{◌≡◌, ◌∷◌, [], ◌≤◌, IfOk, s
 ghost use Rattle.std.specs.Option.{option_copied};
 ghost use Rattle.wy_code.specs.Machine.{all_instances, name_in};
 ghost use Rattle.wy_device.specs.declared.deed.Event.TheVariants as event;
+ghost use Rattle.wy_meaning.specs.EventLines as lines;
 ghost use Rattle.wy_machine.specs.Observing.{entering, event_told};
 ghost use Rattle.wy_machine.specs.States.{body_at};
 ghost use Rattle.wy_machine.specs.Steps.{outcome};
@@ -58,32 +59,31 @@ fn entry(alloc: Global, code: &Code, instance: u32, body: u32) -> Result<Event, 
     Ok(Event::Enter { instance, body })
 }
 
-/// The answer of a deed, if it has one.
-fn answer_of(answer: Option<&Answer>) -> Result<Option<Answer>, Memory>
-    ensures { IfOk result (λ own. own ≡ option_copied answer.entry) }
-{
-    match answer {
-        Some(answer) => Ok(Some(answer.copy()?)),
-        None => Ok(None),
-    }
-}
-
 /// That an operation was done, or failed.
 fn deed(grant: &Text, op: &Op, answer: Option<&Answer>) -> Result<Event, Memory>
     ensures { IfOk result (λ told. told ≡ event.Deed (record { grant = grant.now; op = op.now; answer = option_copied answer.entry })) }
 {
-    let grant = grant.copy()?;
-    let op = op.copy()?;
-    let answer = answer_of(answer)?;
-    Ok(Event::Deed(Deed { grant, op, answer }))
+    match answer {
+        Some(answer) => Ok(Event::Deed(Deed::done(grant, op, answer)?)),
+        None => Ok(Event::Deed(Deed::failed(grant, op)?)),
+    }
+}
+
+/// The line of an event.
+fn line_of(alloc: Global, event: Event) -> Result<Text, Memory>
+    ensures { IfOk result (λ line. line ≡ lines.event_line event) }
+{
+    let line = event_line(alloc, &event);
+    drop(event);
+    line
 }
 
 /// Writes the line of an event, as one piece.
-fn write_event<O: Sink>(alloc: Global, event: &Event, out: &mut O) -> Result<(), RunEnd>
-    ensures wrote { Wrote (event.now ∷ []) (O.state out.old) (O.state out.new) result }
+fn write_event<O: Sink>(alloc: Global, event: Event, out: &mut O) -> Result<(), RunEnd>
+    ensures wrote { Wrote (event ∷ []) (O.state out.old) (O.state out.new) result }
     ensures counted { (O.state out.old).faults ≤ (O.state out.new).faults }
 {
-    let line = event_line(alloc, event)?;
+    let line = line_of(alloc, event)?;
     match write_all(out, line.as_bytes()) {
         Ok(()) => Ok(()),
         Err(WriteError::Failed) => Err(RunEnd::SinkFailed),
@@ -103,7 +103,7 @@ fn write_entry<O: Sink>(
     ensures counted { (O.state out.old).faults ≤ (O.state out.new).faults }
 {
     let event = entry(alloc, code, instance, body)?;
-    write_event(alloc, &event, out)
+    write_event(alloc, event, out)
 }
 
 /// Writes that an operation was done, or failed.
@@ -118,7 +118,7 @@ fn write_deed<O: Sink>(
     ensures counted { (O.state out.old).faults ≤ (O.state out.new).faults }
 {
     let event = deed(grant, op, answer)?;
-    write_event(alloc, &event, out)
+    write_event(alloc, event, out)
 }
 
 impl<'o, O: Sink> Observer for Tracing<'o, O> {
@@ -133,7 +133,7 @@ impl<'o, O: Sink> Observer for Tracing<'o, O> {
     }
 
     fn left(&mut self, _instance: u32, end: &mut RunEnd) -> bool {
-        went_on(write_event(self.alloc, &Event::Leave, self.out), end)
+        went_on(write_event(self.alloc, Event::Leave, self.out), end)
     }
 
     fn performed(

@@ -22,8 +22,8 @@ returns-in_err-op-in-None-clause-traps g c =
     (λ t. ap (λ vs. refused c.args.operation (first_text (store_of c.args.code.now m.store t) vs) (length m.store.texts)) (sym c.arguments.ensures) ∙ sym (c.refusal.ensures t) ∙ c.in-None.is) c.requires.sound)
     c.from_residual.result
 
-pub ask-requires-clause-request : goal.ask-requires-clause-request
-ask-requires-clause-request g c =
+pub ask-asked-requires-clause-request : goal.ask-asked-requires-clause-request
+ask-asked-requires-clause-request g c =
     let m = c.args.machine.now in
     let r = c.requires.asking in
     record {
@@ -36,14 +36,14 @@ ask-requires-clause-request g c =
           (λ t. sym c.in-Some-2.is ∙ c.in_ok-op-in-None.ensures t);
     }
 
-pub ask-requires-clause-good : goal.ask-requires-clause-good
-ask-requires-clause-good g c =
+pub ask-asked-requires-clause-good : goal.ask-asked-requires-clause-good
+ask-asked-requires-clause-good g c =
     let m = c.args.machine.now in
     free_is_good c.args.operation (store_of c.args.code.now m.store no_tapes) (reverse (take c.args.count m.stack.running.operands)) c.in-Some-2.op (sym c.in-Some-2.is ∙ c.in_ok-op-in-None.ensures no_tapes)
     (ap (λ vs. refused c.args.operation (first_text (store_of c.args.code.now m.store no_tapes) vs) (length m.store.texts)) (sym c.arguments.ensures) ∙ sym (c.refusal.ensures no_tapes) ∙ c.in-None.is)
 
-pub ask-requires-clause-room : goal.ask-requires-clause-room
-ask-requires-clause-room g c =
+pub ask-asked-requires-clause-room : goal.ask-asked-requires-clause-room
+ask-asked-requires-clause-room g c =
     let m = c.args.machine.now in
     free_has_room c.args.operation (store_of c.args.code.now m.store no_tapes) (reverse (take c.args.count m.stack.running.operands)) c.in-Some-2.op (sym c.in-Some-2.is ∙ c.in_ok-op-in-None.ensures no_tapes)
     (ap (λ vs. refused c.args.operation (first_text (store_of c.args.code.now m.store no_tapes) vs) (length m.store.texts)) (sym c.arguments.ensures) ∙ sym (c.refusal.ensures no_tapes) ∙ c.in-None.is)
@@ -71,4 +71,4 @@ returns-in-Some-2-clause-traps g c =
     traps_none _
     (no_trap c.args.code.now c.args.depth c.args.place m.stack m.store c.args.method c.args.count r.number r.receiver c.args.grant.now r.granted r.method r.named c.args.operation r.called
     (λ t. ap (λ vs. refused c.args.operation (first_text (store_of c.args.code.now m.store t) vs) (length m.store.texts)) (sym c.arguments.ensures) ∙ sym (c.refusal.ensures t) ∙ c.in-None.is) c.requires.sound)
-    c.ask.result
+    c.ask-asked.result
