@@ -217,7 +217,7 @@ few_types d h =
     let none : nat_lt 1024 (length d.types) ≡ false = one_above d 1024 (length d.types) ∙ first_is (passes limit.Types d) limit.Types _ h in
     grind (arith, common_steps, none)
 
--- the second limit too
+-- of modules too
 pub few_modules : (d : Declared) → first_passed early_limits d ≡ None → length d.modules ≤ 256
 few_modules d h =
     let rest : first_passed (limit.Modules ∷ limit.Grants ∷ limit.Methods ∷ limit.Fields ∷ limit.Parameters ∷ []) d ≡ None = later_is (passes limit.Types d) limit.Types _ h in

@@ -8,8 +8,8 @@ ghost use Rattle.wy_symbols.specs.Declarations.{texts, repeated};
 ghost use Rattle.wy_symbols.specs.Atoms.{head_names, type_number, atom_scope};
 ghost use Rattle.wy_symbols.specs.TypeUses.{lacking, not_abstract};
 ghost use Rattle.wy_heads.specs.Fronts.{front_refusals};
-ghost use Rattle.wy_heads.specs.Lines.{param_refusals, uses_refusals, lines_refusals};
-ghost use Rattle.wy_heads.specs.ScopeHeads.{line_words, define_names, param_scope, early_owners, module_owners, module_atoms, module_meanings, module_scope, module_own, definitions_after, definitions_at, definitions_refusals, sealed_refusals};
+ghost use Rattle.wy_heads.specs.Lines.{param_refusals, uses_refusals};
+ghost use Rattle.wy_heads.specs.ScopeHeads.{line_words, define_names, param_scope, module_owners, module_atoms, module_meanings, module_scope, module_own, definitions_after, definitions_at, definitions_refusals, sealed_refusals};
 ghost use Rattle.wy_symbols.specs.Lent.{module_tree};
 
 use crate::behind::{add_behind, note_behind};

@@ -10,7 +10,8 @@ use std::marker::Model;
 use wy_symbols::{ModuleView, Table, module_table};
 use wy_text::text::{Memory, Text};
 
-/// The modules of a program, at most 256. The number of a name is found by a table.
+/// The modules of a program, at most 256, in the order of their numbers. The number of a name is found by a table.
+/// Contracts see the modules as they stand in their trees.
 #[derive(Drop)]
 pub struct ModuleIndex<'a> {
     numbers: Table,

@@ -3,9 +3,8 @@
 
 ghost use Rattle.std.specs.Prelude.{◌≡◌, ◌≤◌, ◌++◌, [], IfOk, OnOk, map};
 ghost use Rattle.wy_symbols.specs.Least.{noted};
-ghost use Rattle.wy_heads.specs.Lines.{lines_refusals};
 ghost use Rattle.wy_symbols.specs.Atoms.{atom_scope};
-ghost use Rattle.wy_heads.specs.ScopeHeads.{grant_owners, program_owners, program_atoms, program_own};
+ghost use Rattle.wy_heads.specs.ScopeHeads.{program_owners, program_atoms, program_own};
 ghost use Rattle.wy_heads.specs.Fronts.{program_front};
 ghost use Rattle.wy_symbols.specs.Lent.{module_tree, program_tree};
 
