@@ -1,5 +1,5 @@
 -- Refusals of a scope's head that speak of fewer things than their section of the definitions has.
-use Rattle.std.proofs.Common.{◌≡◌, ℕ, List, [], ◌∷◌, ◌++◌, take, length, Option, Some, None, Bool, true, false, refl, sym, ap, ◌∙◌, append_assoc}
+use Rattle.std.proofs.Common.{◌≡◌, ℕ, List, [], ◌∷◌, ◌++◌, take, length, Option, Some, None, Bool, true, false, refl, ap, ◌∙◌}
 use Rattle.wy_text.specs.declared.fault.AtomName.{AtomName}
 use Rattle.wy_syntax.specs.declared.types.Name.{Name}
 use Rattle.wy_syntax.specs.declared.items.Init.{Init}
@@ -11,7 +11,8 @@ use Rattle.wy_symbols.specs.Declarations.{ModuleTree, module_number}
 use Rattle.wy_symbols.specs.Atoms.{AtomScope, head_names, atom_scope}
 use Rattle.wy_heads.specs.Lines.{unless_number, uses_refusals}
 use Rattle.wy_heads.specs.ScopeHeads.{definitions_at, defined_refusals, sealed_refusals, start_effect, init_refusals, param_owners, param_scope, use_owners, line_owners, module_owners, module_atoms}
-use Rattle.wy_heads.proofs.Owned.{take_front, params_length}
+use Rattle.wy_heads.proofs.LaterOwners.{front_is}
+use Rattle.wy_heads.proofs.Owned.{params_length}
 
 defined_same : (heads : List Head) (ms ns : List ModuleTree) (m : ModuleTree) (plain : Bool) (members : List Meaning) → defined_refusals heads ms m plain members ≡ defined_refusals heads ns m plain members
 defined_same heads ms ns m true members = refl
@@ -44,12 +45,8 @@ pub params_seen : (heads : List Head) (modules : List ModuleTree) (m : ModuleTre
     atoms ≡ module_atoms heads modules m → owners ≡ module_owners heads modules m → atom_scope heads atoms (take (length m.params) owners) [] ≡ param_scope heads modules m
 params_seen heads modules m atoms owners at os =
     let params = param_owners heads modules m in
-    let front : take (length m.params) (module_owners heads modules m) ≡ params =
-    ap (take (length m.params)) (append_assoc params (use_owners heads modules m.uses) (line_owners heads modules m.lines))
-    ∙ take_front (length m.params) params (use_owners heads modules m.uses ++ line_owners heads modules m.lines) (sym (params_length (head_names heads) (is_plain m.kind) m.params)) in
-    ap (λ a. atom_scope heads a (take (length m.params) owners) []) at
-    ∙ ap (λ os. atom_scope heads (module_atoms heads modules m) (take (length m.params) os) []) os
-    ∙ ap (λ os. atom_scope heads (module_atoms heads modules m) os []) front
+    let front = front_is params (use_owners heads modules m.uses) (line_owners heads modules m.lines) owners (length m.params) os (params_length (head_names heads) (is_plain m.kind) m.params) in
+    ap (λ a. atom_scope heads a (take (length m.params) owners) []) at ∙ ap (λ os. atom_scope heads (module_atoms heads modules m) os []) front
 
 pub definitions_same : (heads : List Head) (ms ns : List ModuleTree) (plain : Bool) (meanings : List Meaning) (o : Option ℕ) → definitions_at heads ms plain meanings o ≡ definitions_at heads ns plain meanings o
 definitions_same heads ms ns plain meanings None = refl

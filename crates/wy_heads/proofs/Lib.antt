@@ -3,6 +3,7 @@ mod Cycling
 mod EdgesOnce
 mod ExamplesCycles
 pub mod Fronts
+mod LaterOwners
 mod MarksPut
 pub mod Mosts
 mod Owned

@@ -208,9 +208,20 @@ first_is : (b : Bool) (k : LimitName) (r : Option LimitName) → (if b then Some
 first_is true k r h = cc
 first_is false k r h = refl
 
+later_is : (b : Bool) (k : LimitName) (r : Option LimitName) → (if b then Some k else r) ≡ None → r ≡ None
+later_is true k r h = cc
+later_is false k r h = h
+
 pub few_types : (d : Declared) → first_passed early_limits d ≡ None → length d.types ≤ 1024
 few_types d h =
     let none : nat_lt 1024 (length d.types) ≡ false = one_above d 1024 (length d.types) ∙ first_is (passes limit.Types d) limit.Types _ h in
+    grind (arith, common_steps, none)
+
+-- of modules too
+pub few_modules : (d : Declared) → first_passed early_limits d ≡ None → length d.modules ≤ 256
+few_modules d h =
+    let rest : first_passed (limit.Modules ∷ limit.Grants ∷ limit.Methods ∷ limit.Fields ∷ limit.Parameters ∷ []) d ≡ None = later_is (passes limit.Types d) limit.Types _ h in
+    let none : nat_lt 256 (length d.modules) ≡ false = one_above d 256 (length d.modules) ∙ first_is (passes limit.Modules d) limit.Modules _ rest in
     grind (arith, common_steps, none)
 
 pub some_above-append : (n : ℕ) (xs ys : List ℕ) → some_above n (xs ++ ys) ≡ some_above n xs || some_above n ys

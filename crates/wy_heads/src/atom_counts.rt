@@ -1,14 +1,14 @@
 //! The count of atoms (docs/LANGUAGE.md, "Limits").
 
 ghost use Rattle.std.specs.Prelude.{◌≡◌, ◌≤◌, ℕ, List, map, length, min, nat_lt, IfOk};
-ghost use Rattle.wy_symbols.specs.Declarations.{module_names, texts};
 ghost use Rattle.wy_heads.specs.Counts.{abstract_count, type_counts, abstract_counts, opening_count, owners_count, module_count, program_count, some_above};
 ghost use Rattle.wy_symbols.specs.Lent.{lent_type, lent_program, module_tree};
 ghost use Rattle.wy_types.specs.Primitive.{most_types};
 
+use crate::module_index::ModuleIndex;
 use crate::owners::{module_owners, program_owners};
 use std::alloc::Global;
-use wy_symbols::{ModuleView, Opening, Owner, Table};
+use wy_symbols::{Opening, Owner, Table};
 use wy_syntax::items::{Member, Program, TypeDecl};
 use wy_text::limit::MOST_ATOMS;
 use wy_text::text::Memory;
@@ -85,16 +85,15 @@ pub fn types_pass(types: &[&TypeDecl]) -> bool
 pub fn modules_pass(
     alloc: Global,
     types: &Table,
-    numbers: &Table,
-    modules: &[ModuleView],
+    modules: &ModuleIndex,
     counts: &[usize],
 ) -> Result<bool, Memory>
-    requires few { length types.now ≤ most_types }
-    requires numbered { numbers.now ≡ texts (module_names (map module_tree modules.now)) }
+    requires { length types.now ≤ most_types }
     ensures { IfOk result (λ b. b ≡ some_above 512 (map (module_count types.now (map module_tree modules.now) counts.now) (map module_tree modules.now))) }
 {
-    for view in modules {
-        let owners = module_owners(alloc, types, numbers, modules, view)?;
+    let views = modules.views();
+    for view in views {
+        let owners = module_owners(alloc, types, modules, view)?;
         if open_too_many(counts, owners.as_slice()) {
             return Ok(true);
         }
@@ -106,17 +105,15 @@ pub fn modules_pass(
 pub fn programs_pass(
     alloc: Global,
     types: &Table,
-    numbers: &Table,
-    modules: &[ModuleView],
+    modules: &ModuleIndex,
     programs: &[&Program],
     counts: &[usize],
 ) -> Result<bool, Memory>
-    requires few { length types.now ≤ most_types }
-    requires numbered { numbers.now ≡ texts (module_names (map module_tree modules.now)) }
+    requires { length types.now ≤ most_types }
     ensures { IfOk result (λ b. b ≡ some_above 512 (map (program_count types.now (map module_tree modules.now) counts.now) (map lent_program programs.now))) }
 {
     for program in programs {
-        let owners = program_owners(alloc, types, numbers, modules, program)?;
+        let owners = program_owners(alloc, types, modules, program)?;
         if open_too_many(counts, owners.as_slice()) {
             return Ok(true);
         }

@@ -3,7 +3,7 @@
 
 ghost use Rattle.std.specs.Prelude.{◌≡◌, ◌≤◌, ◌+◌, ◌++◌, [], false, map, length, option_to_list, slice_index_or, IfOk, OnOk};
 ghost use Rattle.wy_symbols.specs.Least.{noted};
-ghost use Rattle.wy_symbols.specs.Declarations.{first_from, texts, module_names, module_number};
+ghost use Rattle.wy_symbols.specs.Declarations.{module_number};
 ghost use Rattle.wy_heads.specs.Cycles.{named_modules};
 ghost use Rattle.wy_symbols.specs.Collected as collected;
 ghost use Rattle.wy_heads.specs.Lines.{line_module};
@@ -13,8 +13,9 @@ ghost use Rattle.wy_symbols.specs.Lent.{lent_name, module_tree};
 
 use crate::cycles::reached_from;
 use crate::marked::{Marked, Marks};
+use crate::module_index::ModuleIndex;
 use std::alloc::Global;
-use wy_symbols::{Cause, ModuleView, Refusal, Table, WrittenNames, add_names, note_at};
+use wy_symbols::{Cause, ModuleView, Refusal, WrittenNames, add_names, note_at};
 use wy_syntax::items::Line;
 use wy_syntax::types::Name;
 use wy_text::list::Items;
@@ -51,47 +52,37 @@ fn named_modules<'a>(alloc: Global, view: &ModuleView<'a>) -> Result<Vec<&'a Nam
 }
 
 /// Adds the number of the module that a word names.
-fn add_number(list: &mut Marked, numbers: &Table, word: &Name) -> Result<(), Memory>
-    requires { list.old.below ≡ length numbers.now }
+fn add_number(list: &mut Marked, modules: &ModuleIndex, word: &Name) -> Result<(), Memory>
+    requires { list.old.below ≡ length modules.now }
     ensures bound { OnOk result (list.new.below ≡ list.old.below) }
-    ensures added { OnOk result (Adds list.old.list (option_to_list (first_from 0 numbers.now word.now.text)) list.new.list) }
+    ensures added { OnOk result (Adds list.old.list (option_to_list (module_number (map module_tree modules.now) word.now.text)) list.new.list) }
 {
-    match numbers.number(&word.text) {
+    match modules.number(&word.text) {
         Some(number) => list.add(number),
         None => Ok(()),
     }
 }
 
 /// The numbers of the modules that words name, each once.
-fn numbers_of(
-    alloc: Global,
-    numbers: &Table,
-    modules: &[ModuleView],
-    words: &[&Name],
-) -> Result<Items<usize>, Memory>
-    requires { numbers.now ≡ texts (module_names (map module_tree modules.now)) }
+fn numbers_of(alloc: Global, modules: &ModuleIndex, words: &[&Name]) -> Result<Items<usize>, Memory>
     ensures { IfOk result (λ ks. Adds [] (numbers_of (map module_tree modules.now) (map lent_name words.now)) ks) }
 {
-    let mut list = Marked::new(alloc, numbers.len())?;
+    let mut list = Marked::new(alloc, modules.views().len())?;
     for word in words {
-        add_number(&mut list, numbers, word)?;
+        add_number(&mut list, modules, word)?;
     }
     Ok(list.into_list())
 }
 
 /// For each module the numbers of those that its uses and lines name, each once.
-fn edges_of(
-    alloc: Global,
-    numbers: &Table,
-    modules: &[ModuleView],
-) -> Result<Vec<Items<usize>>, Memory>
-    requires { numbers.now ≡ texts (module_names (map module_tree modules.now)) }
+fn edges_of(alloc: Global, modules: &ModuleIndex) -> Result<Vec<Items<usize>>, Memory>
     ensures { IfOk result (λ es. EachOnce (edges_of (map module_tree modules.now)) es.items) }
 {
     let mut edges = Vec::new(alloc);
-    for view in modules {
+    let views = modules.views();
+    for view in views {
         let words = named_modules(alloc, view)?;
-        edges.push(numbers_of(alloc, numbers, modules, &words)?)?;
+        edges.push(numbers_of(alloc, modules, &words)?)?;
     }
     Ok(edges)
 }
@@ -120,33 +111,29 @@ fn is_reached(reached: &[Marks], from: usize, number: usize) -> bool
 
 /// Notes Cycle at each word of the module of a number that names a module from which that one is reached.
 fn note_words(
-    numbers: &Table,
-    modules: &[ModuleView],
+    modules: &ModuleIndex,
     reached: &[Marks],
     number: usize,
     words: &[&Name],
     least: &mut Option<Refusal>,
 )
-    requires { numbers.now ≡ texts (module_names (map module_tree modules.now)) }
     ensures { least.new ≡ noted least.old (words_refusals reached.now (map module_tree modules.now) number (map lent_name words.now)) }
 {
     for word in words {
-        note_word(numbers, modules, reached, number, word, least);
+        note_word(modules, reached, number, word, least);
     }
 }
 
 fn note_word(
-    numbers: &Table,
-    modules: &[ModuleView],
+    modules: &ModuleIndex,
     reached: &[Marks],
     number: usize,
     word: &Name,
     least: &mut Option<Refusal>,
 )
-    requires { numbers.now ≡ texts (module_names (map module_tree modules.now)) }
     ensures { least.new ≡ noted least.old (word_refusals reached.now number word.now (module_number (map module_tree modules.now) word.now.text)) }
 {
-    if let Some(next) = numbers.number(&word.text) {
+    if let Some(next) = modules.number(&word.text) {
         if is_reached(reached, next, number) {
             note_at(least, word.place, Cause::Cycle);
         }
@@ -156,17 +143,16 @@ fn note_word(
 /// Notes Cycle by what is reached from each module.
 fn note_reached(
     alloc: Global,
-    numbers: &Table,
-    modules: &[ModuleView],
+    modules: &ModuleIndex,
     reached: &[Marks],
     least: &mut Option<Refusal>,
 ) -> Result<(), Memory>
-    requires { numbers.now ≡ texts (module_names (map module_tree modules.now)) }
     ensures { OnOk result (least.new ≡ noted least.old (cycle_refusals reached.now (map module_tree modules.now) 0 (map module_tree modules.now))) }
 {
-    for i in 0..modules.len() {
-        let words = named_modules(alloc, &modules[i])?;
-        note_words(numbers, modules, reached, i, &words, least);
+    let views = modules.views();
+    for i in 0..views.len() {
+        let words = named_modules(alloc, &views[i])?;
+        note_words(modules, reached, i, &words, least);
     }
     Ok(())
 }
@@ -174,15 +160,13 @@ fn note_reached(
 /// Notes Cycle at each use and line that leads back to the module that it stands in.
 pub fn note_cycles(
     alloc: Global,
-    numbers: &Table,
-    modules: &[ModuleView],
+    modules: &ModuleIndex,
     least: &mut Option<Refusal>,
 ) -> Result<(), Memory>
-    requires { numbers.now ≡ texts (module_names (map module_tree modules.now)) }
     ensures { OnOk result (NotesCycles (map module_tree modules.now) least.old least.new) }
 {
-    let edges = edges_of(alloc, numbers, modules)?;
+    let edges = edges_of(alloc, modules)?;
     let reached = reached_of(alloc, &edges)?;
-    note_reached(alloc, numbers, modules, &reached, least)?;
+    note_reached(alloc, modules, &reached, least)?;
     Ok(())
 }

@@ -3,7 +3,7 @@
 ghost use Rattle.std.specs.Prelude.{◌≡◌, ◌∷◌, [], ℕ, List, map, length, ◌≤◌, IfOk, nat_lt, Some, None};
 ghost use Rattle.wy_text.specs.LimitName.{limit_number};
 ghost use Rattle.wy_symbols.specs.Atoms.{all_names};
-ghost use Rattle.wy_symbols.specs.Declarations.{Declared, module_names, texts};
+ghost use Rattle.wy_symbols.specs.Declarations.{Declared};
 ghost use Rattle.wy_heads.specs.Counts.{first_passed, early_limits, limits, passes, type_counts};
 ghost use Rattle.wy_heads.specs.Most.{greatest, types_most, module_params, modules_most, programs_most, grant_counts, first_over, declared_most};
 ghost use Rattle.wy_symbols.specs.Lent.{lent_type, lent_program, module_tree, lent_declared};
@@ -11,8 +11,9 @@ ghost use Rattle.wy_types.specs.Primitive.{most_types};
 
 use crate::atom_counts::{modules_pass, programs_pass, type_counts, types_pass};
 use crate::counts::{Most, module_most, tail_most, with_members};
+use crate::module_index::ModuleIndex;
 use std::alloc::Global;
-use wy_symbols::{ModuleView, Table, module_table, type_table};
+use wy_symbols::{ModuleView, Table, type_table};
 use wy_syntax::items::{Program, TypeDecl};
 use wy_text::limit::LimitName;
 use wy_text::text::Memory;
@@ -121,43 +122,39 @@ pub fn early_limit(
 fn some_pass(
     alloc: Global,
     names: &Table,
-    numbers: &Table,
     counts: &[usize],
     types: &[&TypeDecl],
-    modules: &[ModuleView],
+    modules: &ModuleIndex,
     programs: &[&Program],
 ) -> Result<bool, Memory>
     requires few { length names.now ≤ most_types }
     requires named { names.now ≡ all_names (map lent_type types.now) }
-    requires numbered { numbers.now ≡ texts (module_names (map module_tree modules.now)) }
     requires counted { counts.now ≡ type_counts (map lent_type types.now) }
     ensures { IfOk result (λ b. b ≡ passes LimitName.Atoms (lent_declared types.now modules.now programs.now)) }
 {
     if types_pass(types) {
         return Ok(true);
     }
-    if modules_pass(alloc, names, numbers, modules, counts)? {
+    if modules_pass(alloc, names, modules, counts)? {
         return Ok(true);
     }
-    programs_pass(alloc, names, numbers, modules, programs, counts)
+    programs_pass(alloc, names, modules, programs, counts)
 }
 
-/// Whether the number of atoms passes its limit somewhere, by tables of the types' and the modules' names.
+/// Whether the number of atoms passes its limit somewhere, by the types' names and the modules.
 fn atoms_pass_by(
     alloc: Global,
     names: &Table,
-    numbers: &Table,
     types: &[&TypeDecl],
-    modules: &[ModuleView],
+    modules: &ModuleIndex,
     programs: &[&Program],
 ) -> Result<bool, Memory>
     requires few { length names.now ≤ most_types }
     requires named { names.now ≡ all_names (map lent_type types.now) }
-    requires numbered { numbers.now ≡ texts (module_names (map module_tree modules.now)) }
     ensures { IfOk result (λ b. b ≡ passes LimitName.Atoms (lent_declared types.now modules.now programs.now)) }
 {
     let counts = type_counts(alloc, types)?;
-    some_pass(alloc, names, numbers, &counts, types, modules, programs)
+    some_pass(alloc, names, &counts, types, modules, programs)
 }
 
 /// Whether the number of atoms passes its limit somewhere, by a table of the types' names.
@@ -170,10 +167,11 @@ fn atoms_pass_among(
 ) -> Result<bool, Memory>
     requires few { length names.now ≤ most_types }
     requires named { names.now ≡ all_names (map lent_type types.now) }
+    requires modules { length modules.now ≤ 256 }
     ensures { IfOk result (λ b. b ≡ passes LimitName.Atoms (lent_declared types.now modules.now programs.now)) }
 {
-    let numbers = module_table(alloc, modules)?;
-    atoms_pass_by(alloc, names, &numbers, types, modules, programs)
+    let modules = ModuleIndex::new(alloc, modules)?;
+    atoms_pass_by(alloc, names, types, &modules, programs)
 }
 
 /// Whether the number of atoms passes its limit somewhere.
@@ -183,7 +181,8 @@ fn atoms_pass(
     modules: &[ModuleView],
     programs: &[&Program],
 ) -> Result<bool, Memory>
-    requires { length types.now ≤ 1024 }
+    requires types { length types.now ≤ 1024 }
+    requires modules { length modules.now ≤ 256 }
     ensures { IfOk result (λ b. b ≡ passes LimitName.Atoms (lent_declared types.now modules.now programs.now)) }
 {
     let names = type_table(alloc, types)?;

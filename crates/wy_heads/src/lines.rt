@@ -4,19 +4,17 @@
 ghost use Rattle.std.specs.Prelude.{◌≡◌, ◌≤◌, ◌<◌, ◌+◌, ◌^◌, ◌++◌, ◌∷◌, [], List, Some, map, take, drop, length, slice_get, IfOk, OnOk};
 ghost use Rattle.wy_syntax.specs.declared.items.Line.TheVariants as line;
 ghost use Rattle.wy_symbols.specs.Least.{noted};
-ghost use Rattle.wy_symbols.specs.Declarations.{first_from, texts, module_names, module_number};
+ghost use Rattle.wy_symbols.specs.Declarations.{first_from, module_number};
 ghost use Rattle.wy_symbols.specs.Atoms.{head_names, module_opening, use_owner, line_owner, set_of, set_refusals, owner_names, atom_scope};
 ghost use Rattle.wy_heads.specs.Lines.{number_or_zero, at_bound, argument_numbers, line_name, line_names, unless_number, uses_refusals, argument_refusals, line_refusals, lines_refusals};
 ghost use Rattle.wy_symbols.specs.Lent.{module_tree};
 
-use crate::own_names::{numbered, own_type};
+use crate::module_index::ModuleIndex;
+use crate::own_names::own_type;
 use crate::owners::module_opening;
 use std::alloc::Global;
 use wy_effects::set::EffSet;
-use wy_symbols::{
-    AtomScope, Cause, Meanings, ModuleView, Opening, Owners, Refusal, Table, note_at, note_set,
-    set_of,
-};
+use wy_symbols::{AtomScope, Cause, Meanings, Opening, Owners, Refusal, note_at, note_set, set_of};
 use wy_syntax::items::Line;
 use wy_syntax::types::{Name, NameList, SetUse};
 use wy_text::list::Items;
@@ -45,7 +43,7 @@ fn argument_number(owners: &Owners, visible: usize, name: &Name) -> Result<u32, 
 fn argument_numbers(
     alloc: Global,
     owners: &Owners,
-    modules: &[ModuleView],
+    modules: &ModuleIndex,
     visible: usize,
     names: &[Name],
 ) -> Result<Items<u32>, Memory>
@@ -70,7 +68,7 @@ fn bound_set(alloc: Global, owners: &Owners, number: usize, set: &SetUse) -> Res
 /// The type of an import: the type that its module is sealed at, at the bound.
 fn bound_type(
     owners: &Owners,
-    modules: &[ModuleView],
+    modules: &ModuleIndex,
     opening: Opening,
     bound: &EffSet,
 ) -> Result<TypeRef, Memory>
@@ -89,16 +87,13 @@ fn bound_type(
 fn instance(
     alloc: Global,
     owners: &Owners,
-    numbers: &Table,
-    modules: &[ModuleView],
+    modules: &ModuleIndex,
     number: usize,
     name: &Name,
     named: &Name,
     arguments: &NameList,
 ) -> Result<OwnName, Memory>
-    requires few { length numbers.now ≤ 256 }
-    requires numbered { numbers.now ≡ texts (module_names (map module_tree modules.now)) }
-    requires there { slice_get owners.now.owners number ≡ Some (line_owner (head_names owners.now.heads) (map module_tree modules.now) (line.Instance name.now named.now arguments.now)) }
+    requires { slice_get owners.now.owners number ≡ Some (line_owner (head_names owners.now.heads) (map module_tree modules.now) (line.Instance name.now named.now arguments.now)) }
     ensures { IfOk result (λ n. n ≡ line_name owners.now.heads (map module_tree modules.now) owners.now.atoms (take number owners.now.owners) (line.Instance name.now named.now arguments.now)) }
 {
     let written = name.text.copy()?;
@@ -109,7 +104,7 @@ fn instance(
         place: name.place,
         typ,
         origin: Origin::Instance {
-            module: numbered(numbers, modules, &named.text),
+            module: modules.number_or_zero(&named.text),
             arguments,
         },
     })
@@ -119,29 +114,26 @@ fn instance(
 fn import(
     alloc: Global,
     owners: &Owners,
-    numbers: &Table,
-    modules: &[ModuleView],
+    modules: &ModuleIndex,
     number: usize,
     name: &Name,
     named: &Name,
     arguments: &NameList,
     set: &SetUse,
 ) -> Result<OwnName, Memory>
-    requires few { length numbers.now ≤ 256 }
-    requires numbered { numbers.now ≡ texts (module_names (map module_tree modules.now)) }
     ensures { IfOk result (λ n. n ≡ line_name owners.now.heads (map module_tree modules.now) owners.now.atoms (take number owners.now.owners) (line.Import name.now named.now arguments.now set.now)) }
 {
     let written = name.text.copy()?;
     let arguments = argument_numbers(alloc, owners, modules, number, arguments.as_slice())?;
     let bound = bound_set(alloc, owners, number, set)?;
-    let opening = module_opening(owners.heads().names(), numbers, modules, &named.text);
+    let opening = module_opening(owners.heads().names(), modules, &named.text);
     let typ = bound_type(owners, modules, opening, &bound)?;
     Ok(OwnName {
         name: written,
         place: name.place,
         typ,
         origin: Origin::Import {
-            module: numbered(numbers, modules, &named.text),
+            module: modules.number_or_zero(&named.text),
             arguments,
             bound,
         },
@@ -152,22 +144,19 @@ fn import(
 fn line_own(
     alloc: Global,
     owners: &Owners,
-    numbers: &Table,
-    modules: &[ModuleView],
+    modules: &ModuleIndex,
     number: usize,
     written: &Line,
 ) -> Result<OwnName, Memory>
-    requires few { length numbers.now ≤ 256 }
-    requires numbered { numbers.now ≡ texts (module_names (map module_tree modules.now)) }
-    requires there { slice_get owners.now.owners number ≡ Some (line_owner (head_names owners.now.heads) (map module_tree modules.now) written.now) }
+    requires { slice_get owners.now.owners number ≡ Some (line_owner (head_names owners.now.heads) (map module_tree modules.now) written.now) }
     ensures { IfOk result (λ n. n ≡ line_name owners.now.heads (map module_tree modules.now) owners.now.atoms (take number owners.now.owners) written.now) }
 {
     match written {
         Line::Instance(name, named, arguments) => instance(
-            alloc, owners, numbers, modules, number, name, named, arguments,
+            alloc, owners, modules, number, name, named, arguments,
         ),
         Line::Import(name, named, arguments, set) => import(
-            alloc, owners, numbers, modules, number, name, named, arguments, set,
+            alloc, owners, modules, number, name, named, arguments, set,
         ),
     }
 }
@@ -177,53 +166,43 @@ pub fn add_lines(
     alloc: Global,
     list: &mut Items<OwnName>,
     owners: &Owners,
-    numbers: &Table,
-    modules: &[ModuleView],
+    modules: &ModuleIndex,
     first: usize,
     lines: &[Line],
 ) -> Result<(), Memory>
-    requires few { length numbers.now ≤ 256 }
-    requires numbered { numbers.now ≡ texts (module_names (map module_tree modules.now)) }
     requires fits { first + length lines.now < 2 ^ 64 }
     requires there { take (length lines.now) (drop first owners.now.owners) ≡ map (line_owner (head_names owners.now.heads) (map module_tree modules.now)) lines.now }
     ensures { OnOk result (list.new ≡ list.old ++ line_names owners.now.heads (map module_tree modules.now) owners.now.atoms (take first owners.now.owners) lines.now) }
 {
     for i in 0..lines.len() {
         let written = &lines[i];
-        list.push(line_own(alloc, owners, numbers, modules, first + i, written)?)?;
+        list.push(line_own(alloc, owners, modules, first + i, written)?)?;
     }
     Ok(())
 }
 
 /// Notes Unknown at a module's name that is not declared.
-fn note_module(numbers: &Table, modules: &[ModuleView], name: &Name, least: &mut Option<Refusal>)
-    requires { numbers.now ≡ texts (module_names (map module_tree modules.now)) }
+fn note_module(modules: &ModuleIndex, name: &Name, least: &mut Option<Refusal>)
     ensures { least.new ≡ noted least.old (unless_number [] (map module_tree modules.now) [] name.now (module_number (map module_tree modules.now) name.now.text)) }
 {
-    if numbers.number(&name.text).is_none() {
+    if modules.number(&name.text).is_none() {
         note_at(least, name.place, Cause::Unknown);
     }
 }
 
 /// Notes the refusals of uses.
-pub fn note_uses(
-    numbers: &Table,
-    modules: &[ModuleView],
-    uses: &[Name],
-    least: &mut Option<Refusal>,
-)
-    requires { numbers.now ≡ texts (module_names (map module_tree modules.now)) }
+pub fn note_uses(modules: &ModuleIndex, uses: &[Name], least: &mut Option<Refusal>)
     ensures { least.new ≡ noted least.old (uses_refusals [] (map module_tree modules.now) [] uses.now) }
 {
     for name in uses {
-        note_module(numbers, modules, name, least);
+        note_module(modules, name, least);
     }
 }
 
 /// Notes Unknown at each argument that is none of so many own names.
 fn note_arguments(
     owners: &Owners,
-    modules: &[ModuleView],
+    modules: &ModuleIndex,
     visible: usize,
     names: &[Name],
     least: &mut Option<Refusal>,
@@ -257,22 +236,20 @@ fn note_bound(
 fn note_line(
     alloc: Global,
     owners: &Owners,
-    numbers: &Table,
-    modules: &[ModuleView],
+    modules: &ModuleIndex,
     number: usize,
     written: &Line,
     least: &mut Option<Refusal>,
 )
-    requires { numbers.now ≡ texts (module_names (map module_tree modules.now)) }
     ensures { least.new ≡ noted least.old (line_refusals owners.now.heads (map module_tree modules.now) owners.now.atoms (take number owners.now.owners) written.now) }
 {
     match written {
         Line::Instance(_, named, arguments) => {
-            note_module(numbers, modules, named, least);
+            note_module(modules, named, least);
             note_arguments(owners, modules, number, arguments.as_slice(), least);
         }
         Line::Import(_, named, arguments, set) => {
-            note_module(numbers, modules, named, least);
+            note_module(modules, named, least);
             note_arguments(owners, modules, number, arguments.as_slice(), least);
             note_bound(alloc, owners, number, set, least);
         }
@@ -283,19 +260,17 @@ fn note_line(
 pub fn note_lines(
     alloc: Global,
     owners: &Owners,
-    numbers: &Table,
-    modules: &[ModuleView],
+    modules: &ModuleIndex,
     first: usize,
     lines: &[Line],
     least: &mut Option<Refusal>,
 )
-    requires numbered { numbers.now ≡ texts (module_names (map module_tree modules.now)) }
     requires fits { first + length lines.now < 2 ^ 64 }
     requires there { take (length lines.now) (drop first owners.now.owners) ≡ map (line_owner (head_names owners.now.heads) (map module_tree modules.now)) lines.now }
     ensures { least.new ≡ noted least.old (lines_refusals owners.now.heads (map module_tree modules.now) owners.now.atoms (take first owners.now.owners) lines.now) }
 {
     for i in 0..lines.len() {
         let written = &lines[i];
-        note_line(alloc, owners, numbers, modules, first + i, written, least);
+        note_line(alloc, owners, modules, first + i, written, least);
     }
 }

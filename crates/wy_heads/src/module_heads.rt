@@ -4,23 +4,24 @@
 ghost use Rattle.std.specs.Prelude.{◌≡◌, ◌≤◌, ◌++◌, [], map, take, length, IfOk, OnOk};
 ghost use Rattle.wy_types.specs.Types.{is_plain};
 ghost use Rattle.wy_symbols.specs.Least.{noted};
-ghost use Rattle.wy_symbols.specs.Declarations.{texts, module_names, repeated};
+ghost use Rattle.wy_symbols.specs.Declarations.{texts, repeated};
 ghost use Rattle.wy_symbols.specs.Atoms.{head_names, type_number, atom_scope};
 ghost use Rattle.wy_symbols.specs.TypeUses.{lacking, not_abstract};
 ghost use Rattle.wy_heads.specs.Fronts.{front_refusals};
-ghost use Rattle.wy_heads.specs.Lines.{param_refusals, uses_refusals, lines_refusals};
-ghost use Rattle.wy_heads.specs.ScopeHeads.{line_words, define_names, param_scope, early_owners, module_owners, module_atoms, module_meanings, module_scope, module_own, definitions_after, definitions_at, definitions_refusals, sealed_refusals};
+ghost use Rattle.wy_heads.specs.Lines.{param_refusals, uses_refusals};
+ghost use Rattle.wy_heads.specs.ScopeHeads.{line_words, define_names, param_scope, module_owners, module_atoms, module_meanings, module_scope, module_own, definitions_after, definitions_at, definitions_refusals, sealed_refusals};
 ghost use Rattle.wy_symbols.specs.Lent.{module_tree};
 
+use crate::behind::{add_behind, note_behind};
 use crate::definitions::{definitions_for, note_params, read_definitions};
-use crate::lines::{add_lines, note_lines, note_uses};
-use crate::own_names::{add_params, add_uses};
+use crate::module_index::ModuleIndex;
+use crate::own_names::add_params;
 use crate::owners::module_owners;
 use std::alloc::Global;
 use wy_effects::set::SetList;
 use wy_symbols::{
-    AtomScope, Cause, Heads, Meanings, ModuleView, Named, Owners, Refusal, Table, WrittenNames,
-    add_names, name_table, note_at, note_repeated, note_written,
+    AtomScope, Cause, Heads, Meanings, ModuleView, Named, Owners, Refusal, WrittenNames, add_names,
+    name_table, note_at, note_repeated, note_written,
 };
 use wy_syntax::items::Line;
 use wy_syntax::types::Name;
@@ -32,14 +33,12 @@ use wy_types::resolved::{OwnName, ScopeKind};
 pub fn owners_of<'a>(
     alloc: Global,
     heads: &'a Heads,
-    numbers: &Table,
-    modules: &[ModuleView],
+    modules: &ModuleIndex,
     view: &ModuleView,
 ) -> Result<Owners<'a>, Memory>
-    requires { numbers.now ≡ texts (module_names (map module_tree modules.now)) }
     ensures { IfOk result (λ o. o ≡ atom_scope heads.now (module_atoms heads.now (map module_tree modules.now) (module_tree view.now)) (module_owners heads.now (map module_tree modules.now) (module_tree view.now)) []) }
 {
-    let list = module_owners(alloc, heads.names(), numbers, modules, view)?;
+    let list = module_owners(alloc, heads.names(), modules, view)?;
     Owners::new(alloc, heads, list.as_slice())
 }
 
@@ -47,32 +46,17 @@ pub fn owners_of<'a>(
 pub fn own_of(
     alloc: Global,
     owners: &Owners,
-    numbers: &Table,
-    modules: &[ModuleView],
+    modules: &ModuleIndex,
     view: &ModuleView,
 ) -> Result<Items<OwnName>, Memory>
-    requires few { length numbers.now ≤ 256 }
-    requires numbered { numbers.now ≡ texts (module_names (map module_tree modules.now)) }
-    requires owned { owners.now ≡ atom_scope owners.now.heads (module_atoms owners.now.heads (map module_tree modules.now) (module_tree view.now)) (module_owners owners.now.heads (map module_tree modules.now) (module_tree view.now)) [] }
+    requires { owners.now ≡ atom_scope owners.now.heads (module_atoms owners.now.heads (map module_tree modules.now) (module_tree view.now)) (module_owners owners.now.heads (map module_tree modules.now) (module_tree view.now)) [] }
     ensures { IfOk result (λ ns. ns ≡ module_own owners.now.heads (map module_tree modules.now) (module_tree view.now)) }
 {
     let mut list = Items::new(alloc);
     let plain = view.kind == ScopeKind::Plain;
     let (params, uses, lines) = (view.params, view.uses, view.lines);
     add_params(alloc, &mut list, owners, plain, params)?;
-    add_uses(
-        alloc,
-        &mut list,
-        owners,
-        numbers,
-        modules,
-        params.len(),
-        uses,
-    )?;
-    let Some(first) = params.len().checked_add(uses.len()) else {
-        return Err(Memory);
-    };
-    add_lines(alloc, &mut list, owners, numbers, modules, first, lines)?;
+    add_behind(alloc, &mut list, owners, modules, params.len(), uses, lines)?;
     Ok(list)
 }
 
@@ -176,44 +160,29 @@ fn note_param_types(
     )
 }
 
-/// Notes the refusals of a module's lines.
-fn note_own_lines(
-    alloc: Global,
-    owners: &Owners,
-    numbers: &Table,
-    modules: &[ModuleView],
-    view: &ModuleView,
-    least: &mut Option<Refusal>,
-) -> Result<(), Memory>
-    requires numbered { numbers.now ≡ texts (module_names (map module_tree modules.now)) }
-    requires owned { owners.now ≡ atom_scope owners.now.heads (module_atoms owners.now.heads (map module_tree modules.now) (module_tree view.now)) (module_owners owners.now.heads (map module_tree modules.now) (module_tree view.now)) [] }
-    ensures { OnOk result (least.new ≡ noted least.old (lines_refusals owners.now.heads (map module_tree modules.now) owners.now.atoms (early_owners owners.now.heads (map module_tree modules.now) (module_tree view.now)) view.now.lines.now)) }
-{
-    let Some(first) = view.params.len().checked_add(view.uses.len()) else {
-        return Err(Memory);
-    };
-    note_lines(alloc, owners, numbers, modules, first, view.lines, least);
-    Ok(())
-}
-
 /// Notes the refusals of a module's head, up to its lines.
 pub fn note_front(
     alloc: Global,
     owners: &Owners,
-    numbers: &Table,
-    modules: &[ModuleView],
+    modules: &ModuleIndex,
     view: &ModuleView,
     least: &mut Option<Refusal>,
 ) -> Result<(), Memory>
-    requires numbered { numbers.now ≡ texts (module_names (map module_tree modules.now)) }
-    requires owned { owners.now ≡ atom_scope owners.now.heads (module_atoms owners.now.heads (map module_tree modules.now) (module_tree view.now)) (module_owners owners.now.heads (map module_tree modules.now) (module_tree view.now)) [] }
+    requires { owners.now ≡ atom_scope owners.now.heads (module_atoms owners.now.heads (map module_tree modules.now) (module_tree view.now)) (module_owners owners.now.heads (map module_tree modules.now) (module_tree view.now)) [] }
     ensures { OnOk result (least.new ≡ noted least.old (front_refusals owners.now.heads (map module_tree modules.now) (module_tree view.now))) }
 {
     note_sealed(alloc, owners.heads(), view, least)?;
     note_words(alloc, view.params, view.uses, view.lines, least)?;
     note_param_types(alloc, owners, view, least)?;
-    note_uses(numbers, modules, view.uses, least);
-    note_own_lines(alloc, owners, numbers, modules, view, least)?;
+    note_behind(
+        alloc,
+        owners,
+        modules,
+        view.params.len(),
+        view.uses,
+        view.lines,
+        least,
+    );
     Ok(())
 }
 

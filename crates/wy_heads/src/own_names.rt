@@ -2,14 +2,14 @@
 
 ghost use Rattle.std.specs.Prelude.{◌≡◌, ◌≤◌, ◌<◌, ◌+◌, ◌^◌, ◌++◌, ◌∷◌, [], List, Some, map, take, drop, length, slice_get, true, false, IfOk, OnOk};
 ghost use Rattle.wy_symbols.specs.declared.scoping.Owner.{Owner};
-ghost use Rattle.wy_symbols.specs.Declarations.{texts, module_names, module_number};
 ghost use Rattle.wy_symbols.specs.Atoms.{head_names, param_owner, params_owners, grant_owner, use_owner, atom_scope};
 ghost use Rattle.wy_heads.specs.Lines.{number_or_zero, opened_type, is_bare, param_type, param_name, grant_name, use_name};
 ghost use Rattle.wy_symbols.specs.Lent.{module_tree};
 
+use crate::module_index::ModuleIndex;
 use std::alloc::Global;
 use wy_effects::set::copy_sets;
-use wy_symbols::{AtomScope, Meanings, ModuleView, Opening, Owners, Table, type_ref};
+use wy_symbols::{AtomScope, Meanings, Opening, Owners, type_ref};
 use wy_syntax::items::Grant;
 use wy_syntax::types::{Name, Param, TypeUse};
 use wy_text::list::Items;
@@ -192,30 +192,15 @@ pub fn add_grants(
     Ok(())
 }
 
-/// The number of a module by its name; 0 where there is none.
-pub fn numbered(numbers: &Table, modules: &[ModuleView], name: &Text) -> u16
-    requires few { length numbers.now ≤ 256 }
-    requires numbered { numbers.now ≡ texts (module_names (map module_tree modules.now)) }
-    ensures { result ≡ number_or_zero (module_number (map module_tree modules.now) name.now) }
-{
-    match numbers.number(name) {
-        None => 0,
-        Some(number) => number as u16,
-    }
-}
-
 /// A used module that is the owner of a number.
 fn use_own(
     alloc: Global,
     owners: &Owners,
-    numbers: &Table,
-    modules: &[ModuleView],
+    modules: &ModuleIndex,
     number: usize,
     name: &Name,
 ) -> Result<OwnName, Memory>
-    requires few { length numbers.now ≤ 256 }
-    requires numbered { numbers.now ≡ texts (module_names (map module_tree modules.now)) }
-    requires there { slice_get owners.now.owners number ≡ Some (use_owner (head_names owners.now.heads) (map module_tree modules.now) name.now) }
+    requires { slice_get owners.now.owners number ≡ Some (use_owner (head_names owners.now.heads) (map module_tree modules.now) name.now) }
     ensures { IfOk result (λ n. n ≡ use_name owners.now.heads (map module_tree modules.now) owners.now.atoms name.now) }
 {
     Ok(OwnName {
@@ -223,7 +208,7 @@ fn use_own(
         place: name.place,
         typ: own_type(alloc, owners, number)?,
         origin: Origin::Use {
-            module: numbered(numbers, modules, &name.text),
+            module: modules.number_or_zero(&name.text),
         },
     })
 }
@@ -233,20 +218,17 @@ pub fn add_uses(
     alloc: Global,
     list: &mut Items<OwnName>,
     owners: &Owners,
-    numbers: &Table,
-    modules: &[ModuleView],
+    modules: &ModuleIndex,
     first: usize,
     uses: &[Name],
 ) -> Result<(), Memory>
-    requires few { length numbers.now ≤ 256 }
-    requires numbered { numbers.now ≡ texts (module_names (map module_tree modules.now)) }
     requires fits { first + length uses.now < 2 ^ 64 }
     requires there { take (length uses.now) (drop first owners.now.owners) ≡ map (use_owner (head_names owners.now.heads) (map module_tree modules.now)) uses.now }
     ensures { OnOk result (list.new ≡ list.old ++ map (use_name owners.now.heads (map module_tree modules.now) owners.now.atoms) uses.now) }
 {
     for i in 0..uses.len() {
         let name = &uses[i];
-        list.push(use_own(alloc, owners, numbers, modules, first + i, name)?)?;
+        list.push(use_own(alloc, owners, modules, first + i, name)?)?;
     }
     Ok(())
 }

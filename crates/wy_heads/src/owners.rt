@@ -1,13 +1,13 @@
 //! The names of a scope that open atoms (docs/LANGUAGE.md, "Names").
 
-ghost use Rattle.std.specs.Prelude.{◌≡◌, ◌≤◌, ◌++◌, ◌∷◌, [], ℕ, List, map, length, IfOk};
-ghost use Rattle.wy_symbols.specs.Declarations.{first_from, module_number, module_names, texts};
+ghost use Rattle.std.specs.Prelude.{◌≡◌, ◌≤◌, ◌++◌, ◌∷◌, [], ℕ, List, map, length, false, IfOk};
 ghost use Rattle.wy_symbols.specs.Atoms.{type_number, opened, primitive_opening, param_opening, params_owners, grant_owner, sealed_opening, module_at, module_opening, use_owner, line_owner};
 ghost use Rattle.wy_symbols.specs.Collected.{Adds};
 ghost use Rattle.wy_types.specs.Types.{is_plain};
-ghost use Rattle.wy_symbols.specs.Lent.{module_tree};
 ghost use Rattle.wy_types.specs.Primitive.{most_types};
+ghost use Rattle.wy_symbols.specs.Lent.{module_tree};
 
+use crate::module_index::ModuleIndex;
 use std::alloc::Global;
 use wy_symbols::{ModuleView, Opening, Owner, OwnerList, Table};
 use wy_syntax::items::{Grant, Line, Program};
@@ -66,19 +66,13 @@ pub fn grant_opening(types: &Table, name: &Text) -> Opening
 }
 
 /// What a used module or an instance of a module opens: the members of the type that it is sealed at.
-pub fn module_opening(
-    types: &Table,
-    numbers: &Table,
-    modules: &[ModuleView],
-    name: &Text,
-) -> Opening
-    requires few { length types.now ≤ most_types }
-    requires numbered { numbers.now ≡ texts (module_names (map module_tree modules.now)) }
+pub fn module_opening(types: &Table, modules: &ModuleIndex, name: &Text) -> Opening
+    requires { length types.now ≤ most_types }
     ensures { result ≡ module_opening types.now (map module_tree modules.now) name.now }
 {
-    match numbers.number(name) {
+    match modules.number(name) {
         None => Opening::Missing,
-        Some(number) => match modules.get(number) {
+        Some(number) => match modules.views().get(number) {
             None => Opening::Missing,
             Some(view) => opened(types, &view.sealed.text),
         },
@@ -119,80 +113,69 @@ fn add_grants(owners: &mut OwnerList, types: &Table, grants: &[Grant])
 }
 
 /// Adds the used modules of a scope.
-fn add_uses(
-    owners: &mut OwnerList,
-    types: &Table,
-    numbers: &Table,
-    modules: &[ModuleView],
-    uses: &[Name],
-)
-    requires few { length types.now ≤ most_types }
-    requires numbered { numbers.now ≡ texts (module_names (map module_tree modules.now)) }
+fn add_uses(owners: &mut OwnerList, types: &Table, modules: &ModuleIndex, uses: &[Name])
+    requires { length types.now ≤ most_types }
     ensures { Adds (map (use_owner types.now (map module_tree modules.now)) uses.now) owners.old owners.new }
 {
     for name in uses {
-        owners.add(
-            &name.text,
-            module_opening(types, numbers, modules, &name.text),
-        );
+        owners.add(&name.text, module_opening(types, modules, &name.text));
     }
 }
 
 /// Adds a line: what its name is, and what it opens.
-fn add_line(
-    owners: &mut OwnerList,
-    types: &Table,
-    numbers: &Table,
-    modules: &[ModuleView],
-    line: &Line,
-)
-    requires few { length types.now ≤ most_types }
-    requires numbered { numbers.now ≡ texts (module_names (map module_tree modules.now)) }
+fn add_line(owners: &mut OwnerList, types: &Table, modules: &ModuleIndex, line: &Line)
+    requires { length types.now ≤ most_types }
     ensures { Adds (line_owner types.now (map module_tree modules.now) line.now ∷ []) owners.old owners.new }
 {
     match line {
         Line::Instance(name, named, _arguments) => owners.add(
             &name.text,
-            module_opening(types, numbers, modules, &named.text),
+            module_opening(types, modules, &named.text),
         ),
         Line::Import(name, _named, _arguments, _bound) => owners.add(&name.text, Opening::Nothing),
     }
 }
 
 /// Adds the lines of a scope.
-fn add_lines(
-    owners: &mut OwnerList,
-    types: &Table,
-    numbers: &Table,
-    modules: &[ModuleView],
-    lines: &[Line],
-)
-    requires few { length types.now ≤ most_types }
-    requires numbered { numbers.now ≡ texts (module_names (map module_tree modules.now)) }
+fn add_lines(owners: &mut OwnerList, types: &Table, modules: &ModuleIndex, lines: &[Line])
+    requires { length types.now ≤ most_types }
     ensures { Adds (map (line_owner types.now (map module_tree modules.now)) lines.now) owners.old owners.new }
 {
     for line in lines {
-        add_line(owners, types, numbers, modules, line);
+        add_line(owners, types, modules, line);
     }
+}
+
+/// Adds what stands behind the parameters or grants of a scope: its used modules and its lines.
+fn add_behind(
+    owners: &mut OwnerList,
+    types: &Table,
+    modules: &ModuleIndex,
+    uses: &[Name],
+    lines: &[Line],
+)
+    requires { length types.now ≤ most_types }
+    ensures enough { owners.new.wanting ≡ false → owners.old.wanting ≡ false }
+    ensures added { owners.new.wanting ≡ false → owners.new.list ≡ (owners.old.list ++ map (use_owner types.now (map module_tree modules.now)) uses.now) ++ map (line_owner types.now (map module_tree modules.now)) lines.now }
+{
+    add_uses(owners, types, modules, uses);
+    add_lines(owners, types, modules, lines);
 }
 
 /// The owners of a module: its parameters, its used modules and its lines.
 pub fn module_owners(
     alloc: Global,
     types: &Table,
-    numbers: &Table,
-    modules: &[ModuleView],
+    modules: &ModuleIndex,
     view: &ModuleView,
 ) -> Result<Items<Owner>, Memory>
-    requires few { length types.now ≤ most_types }
-    requires numbered { numbers.now ≡ texts (module_names (map module_tree modules.now)) }
+    requires { length types.now ≤ most_types }
     ensures { IfOk result (λ os. os ≡ (params_owners types.now (is_plain view.now.kind) view.now.params.now ++ map (use_owner types.now (map module_tree modules.now)) view.now.uses.now) ++ map (line_owner types.now (map module_tree modules.now)) view.now.lines.now) }
 {
     let mut owners = OwnerList::new(alloc);
     let plain = view.kind == ScopeKind::Plain;
     add_params(&mut owners, types, plain, view.params);
-    add_uses(&mut owners, types, numbers, modules, view.uses);
-    add_lines(&mut owners, types, numbers, modules, view.lines);
+    add_behind(&mut owners, types, modules, view.uses, view.lines);
     owners.all()
 }
 
@@ -200,29 +183,15 @@ pub fn module_owners(
 pub fn program_owners(
     alloc: Global,
     types: &Table,
-    numbers: &Table,
-    modules: &[ModuleView],
+    modules: &ModuleIndex,
     program: &Program,
 ) -> Result<Items<Owner>, Memory>
-    requires few { length types.now ≤ most_types }
-    requires numbered { numbers.now ≡ texts (module_names (map module_tree modules.now)) }
+    requires { length types.now ≤ most_types }
     ensures { IfOk result (λ os. os ≡ (map (grant_owner types.now) program.now.grants ++ map (use_owner types.now (map module_tree modules.now)) program.now.uses) ++ map (line_owner types.now (map module_tree modules.now)) program.now.lines) }
 {
     let mut owners = OwnerList::new(alloc);
     add_grants(&mut owners, types, program.grants.as_slice());
-    add_uses(
-        &mut owners,
-        types,
-        numbers,
-        modules,
-        program.uses.as_slice(),
-    );
-    add_lines(
-        &mut owners,
-        types,
-        numbers,
-        modules,
-        program.lines.as_slice(),
-    );
+    let (uses, lines) = (program.uses.as_slice(), program.lines.as_slice());
+    add_behind(&mut owners, types, modules, uses, lines);
     owners.all()
 }

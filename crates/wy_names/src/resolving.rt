@@ -5,7 +5,7 @@ ghost use Rattle.wy_syntax.specs.Views.{file_tree};
 ghost use Rattle.wy_types.specs.Primitive.{primitive_types};
 ghost use Rattle.wy_types.specs.Program.{scope_of, program_of};
 ghost use Rattle.wy_symbols.specs.Least.{noted};
-ghost use Rattle.wy_symbols.specs.Declarations.{all_items, repeated, texts, type_names, module_names};
+ghost use Rattle.wy_symbols.specs.Declarations.{all_items, repeated, type_names, module_names};
 ghost use Rattle.wy_symbols.specs.Atoms.{member_scope, heads_of, primitive_names};
 ghost use Rattle.wy_symbols.specs.TypeUses.{declaration, declarations_refusals, declaration_scope};
 ghost use Rattle.wy_names.specs.Scopes.{scope_of_module, scope_of_program, modules_refusals, programs_refusals, second_programs};
@@ -16,10 +16,10 @@ ghost use Rattle.wy_symbols.specs.Lent.{lent_type, lent_program, module_tree, le
 use crate::refusal::NameRefusal;
 use crate::scopes::{module_scope, program_scope};
 use std::alloc::Global;
-use wy_heads::{first_limit, note_cycles};
+use wy_heads::{ModuleIndex, first_limit, note_cycles};
 use wy_symbols::{
-    Cause, Heads, ModuleView, Owners, Refusal, Table, gather, heads_of, module_table, note_at,
-    note_repeated, primitive_names, read_declarations,
+    Cause, Heads, ModuleView, Owners, Refusal, gather, heads_of, note_at, note_repeated,
+    primitive_names, read_declarations,
 };
 use wy_syntax::items::{Program, Tree, TypeDecl};
 use wy_text::list::Items;
@@ -48,17 +48,15 @@ fn add_modules(
     alloc: Global,
     scopes: &mut Items<Scope>,
     heads: &Heads,
-    numbers: &Table,
-    modules: &[ModuleView],
+    modules: &ModuleIndex,
     least: &mut Option<Refusal>,
 ) -> Result<(), Memory>
-    requires few { length numbers.now ≤ 256 }
-    requires numbered { numbers.now ≡ texts (module_names (map module_tree modules.now)) }
     ensures scopes { OnOk result (map scope_of scopes.new ≡ map scope_of scopes.old ++ map (scope_of_module heads.now (map module_tree modules.now)) (map module_tree modules.now)) }
     ensures noted { OnOk result (least.new ≡ noted least.old (modules_refusals heads.now (map module_tree modules.now) (map module_tree modules.now))) }
 {
-    for view in modules {
-        scopes.push(module_scope(alloc, heads, numbers, modules, view, least)?)?;
+    let views = modules.views();
+    for view in views {
+        scopes.push(module_scope(alloc, heads, modules, view, least)?)?;
     }
     Ok(())
 }
@@ -68,18 +66,15 @@ fn add_programs(
     alloc: Global,
     scopes: &mut Items<Scope>,
     heads: &Heads,
-    numbers: &Table,
-    modules: &[ModuleView],
+    modules: &ModuleIndex,
     programs: &[&Program],
     least: &mut Option<Refusal>,
 ) -> Result<(), Memory>
-    requires few { length numbers.now ≤ 256 }
-    requires numbered { numbers.now ≡ texts (module_names (map module_tree modules.now)) }
     ensures scopes { OnOk result (map scope_of scopes.new ≡ map scope_of scopes.old ++ map (scope_of_program heads.now (map module_tree modules.now)) (map lent_program programs.now)) }
     ensures noted { OnOk result (least.new ≡ noted least.old (programs_refusals heads.now (map module_tree modules.now) (map lent_program programs.now))) }
 {
     for program in programs {
-        scopes.push(program_scope(alloc, heads, numbers, modules, program, least)?)?;
+        scopes.push(program_scope(alloc, heads, modules, program, least)?)?;
     }
     Ok(())
 }
@@ -114,20 +109,12 @@ fn bind_scopes(
     ensures scopes { IfOk result (λ ss. map scope_of ss ≡ map (scope_of_module heads.now (map module_tree modules.now)) (map module_tree modules.now) ++ map (scope_of_program heads.now (map module_tree modules.now)) (map lent_program programs.now)) }
     ensures noted { OnOk result (NotesScopes heads.now (map module_tree modules.now) (map lent_program programs.now) least.old least.new) }
 {
-    let numbers = module_table(alloc, modules)?;
+    let modules = ModuleIndex::new(alloc, modules)?;
     let mut scopes = Items::new(alloc);
-    add_modules(alloc, &mut scopes, heads, &numbers, modules, least)?;
-    add_programs(
-        alloc,
-        &mut scopes,
-        heads,
-        &numbers,
-        modules,
-        programs,
-        least,
-    )?;
+    add_modules(alloc, &mut scopes, heads, &modules, least)?;
+    add_programs(alloc, &mut scopes, heads, &modules, programs, least)?;
     note_second(programs, least);
-    note_cycles(alloc, &numbers, modules, least)?;
+    note_cycles(alloc, &modules, least)?;
     Ok(scopes)
 }
 

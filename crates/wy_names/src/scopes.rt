@@ -1,10 +1,9 @@
 //! Modules and the program with their names resolved (docs/LANGUAGE.md, "Names").
 
-ghost use Rattle.std.specs.Prelude.{◌≡◌, ◌≤◌, ◌++◌, [], map, length, IfOk, OnOk};
+ghost use Rattle.std.specs.Prelude.{◌≡◌, ◌≤◌, ◌++◌, [], IfOk, OnOk, map};
 ghost use Rattle.std.specs.Option.{option_copied};
 ghost use Rattle.wy_types.specs.Program.{scope_of};
 ghost use Rattle.wy_symbols.specs.Least.{noted};
-ghost use Rattle.wy_symbols.specs.Declarations.{texts, module_names};
 ghost use Rattle.wy_symbols.specs.Atoms.{atom_scope};
 ghost use Rattle.wy_heads.specs.ScopeHeads.{start_place, init_refusals, module_atoms, module_owners, module_meanings, module_scope, program_atoms, program_owners};
 ghost use Rattle.wy_names.specs.Scopes.{module_within, scope_of_module, module_refusals, scope_of_program, program_refusals};
@@ -20,12 +19,10 @@ use wy_bodies::{Resolved, Within, module_parts, program_block};
 use wy_effects::atom::AtomTable;
 use wy_effects::set::{EffSet, SetList};
 use wy_heads::{
-    definitions_at, note_front, note_init, note_program, own_of, owners_of, program_own,
-    program_owners_of, read_defined, start_effect,
+    ModuleIndex, definitions_at, note_front, note_init, note_program, own_of, owners_of,
+    program_own, program_owners_of, read_defined, start_effect,
 };
-use wy_symbols::{
-    AtomScope, Heads, Meanings, ModuleView, Owners, Refusal, Table, note_set, set_of,
-};
+use wy_symbols::{AtomScope, Heads, Meanings, ModuleView, Owners, Refusal, note_set, set_of};
 use wy_syntax::items::Program;
 use wy_text::fault::Place;
 use wy_text::list::Items;
@@ -46,35 +43,29 @@ pub struct Parts {
 fn parts_of(
     alloc: Global,
     owners: &Owners,
-    numbers: &Table,
-    modules: &[ModuleView],
+    modules: &ModuleIndex,
     view: &ModuleView,
     least: &mut Option<Refusal>,
 ) -> Result<Parts, Memory>
-    requires few { length numbers.now ≤ 256 }
-    requires numbered { numbers.now ≡ texts (module_names (map module_tree modules.now)) }
-    requires owned { owners.now ≡ atom_scope owners.now.heads (module_atoms owners.now.heads (map module_tree modules.now) (module_tree view.now)) (module_owners owners.now.heads (map module_tree modules.now) (module_tree view.now)) [] }
+    requires { owners.now ≡ atom_scope owners.now.heads (module_atoms owners.now.heads (map module_tree modules.now) (module_tree view.now)) (module_owners owners.now.heads (map module_tree modules.now) (module_tree view.now)) [] }
     ensures parts { IfOk result (ArePartsOfModule owners.now.heads (map module_tree modules.now) (module_tree view.now)) }
     ensures noted { OnOk result (least.new ≡ noted least.old (module_refusals owners.now.heads (map module_tree modules.now) (module_tree view.now))) }
 {
     let visible = owners.names().len();
-    note_front(alloc, owners, numbers, modules, view, least)?;
+    note_front(alloc, owners, modules, view, least)?;
     let meanings = read_defined(alloc, owners, visible, view, least)?;
-    parts_with(alloc, owners, numbers, modules, view, &meanings, least)
+    parts_with(alloc, owners, modules, view, &meanings, least)
 }
 
 /// The same, by what the module defines. The refusals of its `init` and of what stands behind it are noted.
 fn parts_with(
     alloc: Global,
     owners: &Owners,
-    numbers: &Table,
-    modules: &[ModuleView],
+    modules: &ModuleIndex,
     view: &ModuleView,
     meanings: &Meanings,
     least: &mut Option<Refusal>,
 ) -> Result<Parts, Memory>
-    requires few { length numbers.now ≤ 256 }
-    requires numbered { numbers.now ≡ texts (module_names (map module_tree modules.now)) }
     requires owned { owners.now ≡ atom_scope owners.now.heads (module_atoms owners.now.heads (map module_tree modules.now) (module_tree view.now)) (module_owners owners.now.heads (map module_tree modules.now) (module_tree view.now)) [] }
     requires defined { meanings.now ≡ module_meanings owners.now.heads (map module_tree modules.now) (module_tree view.now) }
     ensures parts { IfOk result (ArePartsOfModule owners.now.heads (map module_tree modules.now) (module_tree view.now)) }
@@ -90,7 +81,7 @@ fn parts_with(
     };
     let number = owners.heads().number(&view.sealed.text);
     let bounds = owners.bounds(alloc)?;
-    let own = own_of(alloc, owners, numbers, modules, view)?;
+    let own = own_of(alloc, owners, modules, view)?;
     let definitions = definitions_at(alloc, owners.heads(), plain, meanings, number)?;
     let start_effect = start_effect(alloc, &scope, view.init)?;
     note_init(&scope, view.init, least);
@@ -159,19 +150,16 @@ fn scope_with(
 pub fn module_scope(
     alloc: Global,
     heads: &Heads,
-    numbers: &Table,
-    modules: &[ModuleView],
+    modules: &ModuleIndex,
     view: &ModuleView,
     least: &mut Option<Refusal>,
 ) -> Result<Scope, Memory>
-    requires few { length numbers.now ≤ 256 }
-    requires numbered { numbers.now ≡ texts (module_names (map module_tree modules.now)) }
     ensures scope { IfOk result (λ s. scope_of s ≡ scope_of_module heads.now (map module_tree modules.now) (module_tree view.now)) }
     ensures noted { OnOk result (least.new ≡ noted least.old (module_refusals heads.now (map module_tree modules.now) (module_tree view.now))) }
 {
     let name = view.name.text.copy()?;
-    let owners = owners_of(alloc, heads, numbers, modules, view)?;
-    let parts = parts_of(alloc, &owners, numbers, modules, view, least)?;
+    let owners = owners_of(alloc, heads, modules, view)?;
+    let parts = parts_of(alloc, &owners, modules, view, least)?;
     let ascribed = heads.number(&view.sealed.text);
     let atoms = owners.into_atoms();
     let at = start_place(view);
@@ -182,33 +170,27 @@ pub fn module_scope(
 fn program_parts(
     alloc: Global,
     owners: &Owners,
-    numbers: &Table,
-    modules: &[ModuleView],
+    modules: &ModuleIndex,
     program: &Program,
     least: &mut Option<Refusal>,
 ) -> Result<Parts, Memory>
-    requires few { length numbers.now ≤ 256 }
-    requires numbered { numbers.now ≡ texts (module_names (map module_tree modules.now)) }
-    requires owned { owners.now ≡ atom_scope owners.now.heads (program_atoms owners.now.heads (map module_tree modules.now) (program_tree program.now)) (program_owners owners.now.heads (map module_tree modules.now) (program_tree program.now)) [] }
+    requires { owners.now ≡ atom_scope owners.now.heads (program_atoms owners.now.heads (map module_tree modules.now) (program_tree program.now)) (program_owners owners.now.heads (map module_tree modules.now) (program_tree program.now)) [] }
     ensures parts { IfOk result (ArePartsOfProgram owners.now.heads (map module_tree modules.now) (program_tree program.now)) }
     ensures noted { OnOk result (least.new ≡ noted least.old (program_refusals owners.now.heads (map module_tree modules.now) (program_tree program.now))) }
 {
     let nothing = Meanings::new(alloc);
-    program_parts_with(alloc, owners, numbers, modules, program, &nothing, least)
+    program_parts_with(alloc, owners, modules, program, &nothing, least)
 }
 
 /// The same, where no names stand for sets of atoms.
 fn program_parts_with(
     alloc: Global,
     owners: &Owners,
-    numbers: &Table,
-    modules: &[ModuleView],
+    modules: &ModuleIndex,
     program: &Program,
     nothing: &Meanings,
     least: &mut Option<Refusal>,
 ) -> Result<Parts, Memory>
-    requires few { length numbers.now ≤ 256 }
-    requires numbered { numbers.now ≡ texts (module_names (map module_tree modules.now)) }
     requires owned { owners.now ≡ atom_scope owners.now.heads (program_atoms owners.now.heads (map module_tree modules.now) (program_tree program.now)) (program_owners owners.now.heads (map module_tree modules.now) (program_tree program.now)) [] }
     requires nothing { nothing.now ≡ [] }
     ensures parts { IfOk result (ArePartsOfProgram owners.now.heads (map module_tree modules.now) (program_tree program.now)) }
@@ -222,9 +204,9 @@ fn program_parts_with(
     };
     let effect = program.effect.as_slice();
     let bounds = owners.bounds(alloc)?;
-    let own = program_own(alloc, owners, numbers, modules, program)?;
+    let own = program_own(alloc, owners, modules, program)?;
     let start_effect = set_of(alloc, &scope, effect)?;
-    note_program(alloc, owners, numbers, modules, program, least)?;
+    note_program(alloc, owners, modules, program, least)?;
     note_set(&scope, effect, least);
     let resolved = program_block(alloc, &within, program.run, &program.body, least)?;
     let definitions = Items::new(alloc);
@@ -241,19 +223,16 @@ fn program_parts_with(
 pub fn program_scope(
     alloc: Global,
     heads: &Heads,
-    numbers: &Table,
-    modules: &[ModuleView],
+    modules: &ModuleIndex,
     program: &Program,
     least: &mut Option<Refusal>,
 ) -> Result<Scope, Memory>
-    requires few { length numbers.now ≤ 256 }
-    requires numbered { numbers.now ≡ texts (module_names (map module_tree modules.now)) }
     ensures scope { IfOk result (λ s. scope_of s ≡ scope_of_program heads.now (map module_tree modules.now) (program_tree program.now)) }
     ensures noted { OnOk result (least.new ≡ noted least.old (program_refusals heads.now (map module_tree modules.now) (program_tree program.now))) }
 {
     let name = from_bytes(alloc, b"main")?;
-    let owners = program_owners_of(alloc, heads, numbers, modules, program)?;
-    let parts = program_parts(alloc, &owners, numbers, modules, program, least)?;
+    let owners = program_owners_of(alloc, heads, modules, program)?;
+    let parts = program_parts(alloc, &owners, modules, program, least)?;
     let atoms = owners.into_atoms();
     Ok(scope_with(
         ScopeKind::Program,

@@ -7,4 +7,4 @@ use Rattle.wy_heads.proofs.leading.edges_of.Given as goal
 
 abbrev pub invariant-loop-view : goal.invariant-loop-view
 invariant-loop-view l =
-    EachOnce (map (λ (m : ModuleTree). numbers_of (map module_tree l.modules) (named_modules m)) (map module_tree (take l.view-index l.modules))) l.edges.items
+    EachOnce (map (λ (m : ModuleTree). numbers_of (map module_tree l.modules) (named_modules m)) (map module_tree (take l.view-index l.views))) l.edges.items

@@ -1,4 +1,4 @@
-use Rattle.std.proofs.Common.{◌≡◌, ◌+◌, ℕ, ap, map, rules, arith, slice_get}
+use Rattle.std.proofs.Common.{◌≡◌, ◌+◌, ℕ, ap, rules, arith, slice_get, map}
 use Rattle.wy_heads.specs.Leading.{EachOnce, edges_of}
 use Rattle.wy_heads.specs.CycleRefusals.{cycle_refusals}
 use Rattle.wy_symbols.specs.Lent.{module_tree}

@@ -8,12 +8,13 @@ use Rattle.wy_heads.proofs.leading.note_reached.Goals as goal
 
 pub loop-i-preserved : goal.loop-i-preserved
 loop-i-preserved c =
-    let lt : c.loop-i.i < length c.args.modules.now = search rules in
+    let views = c.views-views.result.now in
+    let lt : c.loop-i.i < length views = search rules in
     let modules = map module_tree c.args.modules.now in
     let refusals = cycle_refusals c.args.reached.now modules in
-    let m = c.index-modules-i.result in
+    let m = c.index-views-i.result in
     noted_turn c.loop-i.least c.note_words.new.least c.args.least.now (words_refusals c.args.reached.now modules c.loop-i.i (named_modules (module_tree m)))
-    (refusals (c.loop-i.i + 1) (map module_tree (drop (c.loop-i.i + 1) c.args.modules.now)))
-    (refusals c.loop-i.i (map module_tree (drop c.loop-i.i c.args.modules.now))) (refusals 0 modules) (search rules)
-    (ap (λ ms. refusals c.loop-i.i (map module_tree ms)) (next_of c.args.modules.now c.loop-i.i m lt c.index-modules-i.is))
+    (refusals (c.loop-i.i + 1) (map module_tree (drop (c.loop-i.i + 1) views)))
+    (refusals c.loop-i.i (map module_tree (drop c.loop-i.i views))) (refusals 0 modules) (search rules)
+    (ap (λ ms. refusals c.loop-i.i (map module_tree ms)) (next_of views c.loop-i.i m lt c.index-views-i.is))
     c.loop-i.invariant

@@ -6,5 +6,5 @@ use Rattle.wy_heads.proofs.leading.note_reached.Given as goal
 
 abbrev pub invariant-loop-i : goal.invariant-loop-i
 invariant-loop-i l =
-    noted l.least (cycle_refusals l.reached (map module_tree l.modules) l.i (map module_tree (drop l.i l.modules))) ≡
+    noted l.least (cycle_refusals l.reached (map module_tree l.modules) l.i (map module_tree (drop l.i l.views))) ≡
     noted l.initial.least (cycle_refusals l.reached (map module_tree l.modules) 0 (map module_tree l.modules))

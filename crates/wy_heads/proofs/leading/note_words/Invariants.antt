@@ -1,7 +1,7 @@
 use Rattle.std.proofs.Common.{◌≡◌, drop, map}
 use Rattle.wy_symbols.specs.Least.{noted}
 use Rattle.wy_heads.specs.CycleRefusals.{words_refusals}
-use Rattle.wy_symbols.specs.Lent.{lent_name, module_tree}
+use Rattle.wy_symbols.specs.Lent.{module_tree, lent_name}
 use Rattle.wy_heads.proofs.leading.note_words.Given as goal
 
 abbrev pub invariant-loop-word : goal.invariant-loop-word

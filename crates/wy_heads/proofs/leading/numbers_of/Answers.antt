@@ -4,7 +4,7 @@ use Rattle.std.proofs.lemmas.List.{take_all}
 use Rattle.wy_syntax.specs.declared.types.Name.{Name}
 use Rattle.wy_symbols.specs.Declarations.{module_number}
 use Rattle.wy_heads.specs.Leading.{numbers_of, Adds}
-use Rattle.wy_symbols.specs.Lent.{lent_name, module_tree}
+use Rattle.wy_symbols.specs.Lent.{module_tree, lent_name}
 use Rattle.wy_heads.proofs.Searching.{adds_then}
 use Rattle.wy_heads.proofs.Cycling.{numbers_taken}
 use Rattle.wy_heads.proofs.leading.numbers_of.Goals as goal

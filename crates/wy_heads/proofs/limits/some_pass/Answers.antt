@@ -1,7 +1,7 @@
 use Rattle.std.proofs.Common.{◌≡◌, Bool, true, false, refl, sym, ◌∙◌, map, subst}
 use Rattle.std.specs.Prelude.{IfOk}
 use Rattle.wy_heads.specs.Counts.{some_above, module_count, program_count}
-use Rattle.wy_symbols.specs.Lent.{lent_declared, lent_program, module_tree}
+use Rattle.wy_symbols.specs.Lent.{module_tree, lent_declared, lent_program}
 use Rattle.wy_heads.proofs.Mosts.{atoms_found}
 use Rattle.wy_heads.proofs.limits.some_pass.Goals as goal
 

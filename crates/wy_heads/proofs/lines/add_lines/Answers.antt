@@ -1,9 +1,9 @@
-use Rattle.std.proofs.Common.{◌≡◌, ◌<◌, ◌+◌, ◌++◌, ◌∷◌, [], ap, sym, ◌∙◌, rules, drop, take, length, map, append_assoc, arith}
+use Rattle.std.proofs.Common.{◌≡◌, ◌<◌, ◌+◌, ◌++◌, ◌∷◌, [], ap, sym, ◌∙◌, rules, drop, take, length, append_assoc, arith, map}
 use Rattle.std.specs.Prelude.{Some, slice_get}
 use Rattle.wy_symbols.specs.Atoms.{head_names, line_owner}
 use Rattle.wy_heads.specs.Lines.{line_name, line_names}
-use Rattle.wy_symbols.specs.Lent.{module_tree}
 use Rattle.wy_symbols.proofs.Turns.{next_of}
+use Rattle.wy_symbols.specs.Lent.{module_tree}
 use Rattle.wy_heads.proofs.Places.{at_place, take_next}
 use Rattle.wy_heads.proofs.lines.add_lines.Goals as goal
 

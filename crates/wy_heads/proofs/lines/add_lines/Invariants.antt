@@ -1,4 +1,4 @@
-use Rattle.std.proofs.Common.{◌≡◌, ◌++◌, ◌+◌, drop, map, take}
+use Rattle.std.proofs.Common.{◌≡◌, ◌++◌, ◌+◌, drop, take, map}
 use Rattle.wy_heads.specs.Lines.{line_names}
 use Rattle.wy_symbols.specs.Lent.{module_tree}
 use Rattle.wy_heads.proofs.lines.add_lines.Given as goal

@@ -1,9 +1,9 @@
-use Rattle.std.proofs.Common.{[], length, map, refl, rules, take, ◌<◌, ◌∷◌}
+use Rattle.std.proofs.Common.{[], length, refl, rules, take, ◌<◌, ◌∷◌, map}
 use Rattle.wy_symbols.specs.Declarations.{first_from}
 use Rattle.wy_heads.specs.Lines.{argument_numbers, number_or_zero}
 use Rattle.wy_symbols.specs.Atoms.{owner_names}
-use Rattle.wy_symbols.specs.Lent.{module_tree}
 use Rattle.wy_symbols.proofs.Nexts.{added_next}
+use Rattle.wy_symbols.specs.Lent.{module_tree}
 use Rattle.wy_heads.proofs.lines.argument_numbers.Goals as goal
 
 pub loop-name-preserved : goal.loop-name-preserved

@@ -1,4 +1,4 @@
-use Rattle.std.proofs.Common.{List, ap, ◌∙◌, map, rules}
+use Rattle.std.proofs.Common.{List, ap, ◌∙◌, rules, map}
 use Rattle.std.specs.Prelude.{ℕ}
 use Rattle.wy_syntax.specs.declared.items.Line.TheVariants as line
 use Rattle.wy_types.specs.declared.types.TypeRef.{TypeRef}
@@ -18,8 +18,8 @@ returns c =
     let modules = map module_tree c.args.modules.now in
     let opened = opened_type o.heads o.atoms c.args.name.now.text (module_opening (head_names o.heads) modules c.args.named.now.text) in
     let written = line.Instance c.args.name.now c.args.named.now c.args.arguments.now in
-    ap (λ n. N n c.in_ok-typ.typ c.numbered.result c.in_ok-arguments.arguments) c.in_ok-written.ensures
-    ∙ ap (λ t. N c.args.name.now.text t c.numbered.result c.in_ok-arguments.arguments)
-    (c.in_ok-typ.ensures (line_owner (head_names o.heads) modules written) c.requires.there)
-    ∙ ap (λ m. N c.args.name.now.text opened m c.in_ok-arguments.arguments) c.numbered.ensures
+    ap (λ n. N n c.in_ok-typ.typ c.number_or_zero.result c.in_ok-arguments.arguments) c.in_ok-written.ensures
+    ∙ ap (λ t. N c.args.name.now.text t c.number_or_zero.result c.in_ok-arguments.arguments)
+    (c.in_ok-typ.ensures (line_owner (head_names o.heads) modules written) c.requires)
+    ∙ ap (λ m. N c.args.name.now.text opened m c.in_ok-arguments.arguments) c.number_or_zero.ensures
     ∙ ap (N c.args.name.now.text opened (number_or_zero (module_number modules c.args.named.now.text))) (search rules)

@@ -1,10 +1,10 @@
-use Rattle.std.proofs.Common.{◌≡◌, ◌<◌, ◌+◌, ◌++◌, ap, sym, ◌∙◌, rules, drop, take, length, map, arith}
+use Rattle.std.proofs.Common.{◌≡◌, ◌<◌, ◌+◌, ◌++◌, ap, sym, ◌∙◌, rules, drop, take, length, arith, map}
 use Rattle.std.specs.Prelude.{Some, slice_get}
 use Rattle.wy_symbols.specs.Atoms.{head_names, line_owner}
 use Rattle.wy_heads.specs.Lines.{line_refusals, lines_refusals}
-use Rattle.wy_symbols.specs.Lent.{module_tree}
 use Rattle.wy_symbols.proofs.Turns.{next_of}
 use Rattle.wy_symbols.proofs.Leasts.{noted_turn}
+use Rattle.wy_symbols.specs.Lent.{module_tree}
 use Rattle.wy_heads.proofs.Places.{at_place, take_next}
 use Rattle.wy_heads.proofs.lines.note_lines.Goals as goal
 

@@ -1,4 +1,4 @@
-use Rattle.std.proofs.Common.{◌≡◌, ◌+◌, drop, map, take}
+use Rattle.std.proofs.Common.{◌≡◌, ◌+◌, drop, take, map}
 use Rattle.wy_symbols.specs.Least.{noted}
 use Rattle.wy_heads.specs.Lines.{lines_refusals}
 use Rattle.wy_symbols.specs.Lent.{module_tree}

@@ -1,7 +1,7 @@
 use Rattle.std.proofs.Common.{[], length, map, refl, rules, ◌++◌, ◌<◌, ◌∷◌}
 use Rattle.wy_heads.specs.Lines.{use_name}
-use Rattle.wy_symbols.specs.Lent.{module_tree}
 use Rattle.wy_symbols.proofs.Nexts.{added_next}
+use Rattle.wy_symbols.specs.Lent.{module_tree}
 use Rattle.wy_heads.proofs.own_names.add_uses.Goals as goal
 
 pub loop-i-preserved : goal.loop-i-preserved

@@ -11,7 +11,7 @@ pub returns : goal.returns
 returns c =
     let place = c.args.name.now.place in
     let N : List ℕ → TypeRef → ℕ → OwnName = λ n t m. record { name = n; place = place; typ = t; origin = origin.Use m } in
-    ap (λ n. N n c.in_ok-own_type.field-0 c.numbered.result) c.in_ok-copy.ensures
-    ∙ ap (λ t. N c.args.name.now.text t c.numbered.result)
-    (c.in_ok-own_type.ensures (use_owner (head_names c.args.owners.now.heads) (map module_tree c.args.modules.now) c.args.name.now) c.requires.there)
-    ∙ ap (N c.args.name.now.text _) c.numbered.ensures
+    ap (λ n. N n c.in_ok-own_type.field-0 c.number_or_zero.result) c.in_ok-copy.ensures
+    ∙ ap (λ t. N c.args.name.now.text t c.number_or_zero.result)
+    (c.in_ok-own_type.ensures (use_owner (head_names c.args.owners.now.heads) (map module_tree c.args.modules.now) c.args.name.now) c.requires)
+    ∙ ap (N c.args.name.now.text _) c.number_or_zero.ensures

@@ -1,7 +1,7 @@
 use Rattle.std.proofs.Common.{◌<◌, length, rules, [], map, refl, ◌∷◌}
 use Rattle.wy_symbols.specs.Atoms.{line_owner}
-use Rattle.wy_symbols.specs.Lent.{module_tree}
 use Rattle.wy_symbols.proofs.Nexts.{collected_next, collected_end}
+use Rattle.wy_symbols.specs.Lent.{module_tree}
 use Rattle.wy_heads.proofs.owners.add_lines.Goals as goal
 
 pub loop-line-preserved : goal.loop-line-preserved

@@ -1,10 +1,10 @@
 use Rattle.std.proofs.Common.{◌<◌, length, rules, [], map, refl, subst, ◌∷◌}
 use Rattle.wy_symbols.specs.Atoms.{use_owner}
-use Rattle.wy_symbols.specs.Lent.{module_tree}
 use Rattle.wy_symbols.specs.Collected.{Adds}
 use Rattle.wy_symbols.specs.declared.scoping.Owner.{Owner}
 use Rattle.wy_symbols.specs.declared.scoping.Opening.{Opening}
 use Rattle.wy_symbols.proofs.Nexts.{collected_next}
+use Rattle.wy_symbols.specs.Lent.{module_tree}
 use Rattle.wy_heads.proofs.owners.add_uses.Goals as goal
 
 pub loop-name-preserved : goal.loop-name-preserved

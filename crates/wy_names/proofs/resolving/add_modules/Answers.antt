@@ -9,13 +9,14 @@ use Rattle.wy_names.proofs.resolving.add_modules.Goals as goal
 
 pub loop-view-preserved : goal.loop-view-preserved
 loop-view-preserved c =
-    let lt : c.loop-view.view-index < length c.args.modules.now = search rules in
+    let views = c.views-views.result.now in
+    let lt : c.loop-view.view-index < length views = search rules in
     let heads = c.args.heads.now in
     let modules = map module_tree c.args.modules.now in
     let m = module_tree c.view-item.result in
-    let next = next_of c.args.modules.now c.loop-view.view-index c.view-item.result lt c.view-item.is in
-    let left = map module_tree (drop c.loop-view.view-index c.args.modules.now) in
-    let rest = map module_tree (drop (c.loop-view.view-index + 1) c.args.modules.now) in
+    let next = next_of views c.loop-view.view-index c.view-item.result lt c.view-item.is in
+    let left = map module_tree (drop c.loop-view.view-index views) in
+    let rest = map module_tree (drop (c.loop-view.view-index + 1) views) in
     let make = scope_of_module heads modules in
     record {
       scopes = pushed c.loop-view.scopes c.push.new.self c.in_ok-module_scope.field-0 (make m) (map make rest) (map make left) _

@@ -1,7 +1,7 @@
 use Rattle.std.proofs.Common.{◌<◌, ◌+◌, List, ap, rules, drop, length, map, Bor}
 use Rattle.wy_syntax.specs.declared.items.Program as code
 use Rattle.wy_names.specs.Scopes.{scope_of_program, program_refusals, programs_refusals}
-use Rattle.wy_symbols.specs.Lent.{lent_program, module_tree}
+use Rattle.wy_symbols.specs.Lent.{module_tree, lent_program}
 use Rattle.wy_symbols.proofs.Turns.{next_of}
 use Rattle.wy_symbols.proofs.Leasts.{noted_turn}
 use Rattle.wy_names.proofs.Judging.{pushed}

@@ -1,4 +1,4 @@
-use Rattle.std.proofs.Common.{[], List, map, ap, ◌∙◌, subst, refl}
+use Rattle.std.proofs.Common.{[], List, ap, ◌∙◌, subst, refl, map}
 use Rattle.wy_symbols.specs.declared.scoping.Head.{Head}
 use Rattle.wy_symbols.specs.Least.{noted}
 use Rattle.wy_symbols.specs.Atoms.{AtomScope}

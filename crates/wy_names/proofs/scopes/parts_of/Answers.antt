@@ -14,8 +14,8 @@ parts_with-requires-clause-defined c =
     let o = c.args.owners.now in
     let modules = map module_tree c.args.modules.now in
     let m = module_tree c.args.view.now in
-    let atoms = ap (λ (s : AtomScope). s.atoms) c.requires.owned in
-    let owners = ap (λ (s : AtomScope). s.owners) c.requires.owned in
+    let atoms = ap (λ (s : AtomScope). s.atoms) c.requires in
+    let owners = ap (λ (s : AtomScope). s.owners) c.requires in
     let visible : c.len-visible.result ≡ length o.owners = search (length-map, rules) in
     meanings_are o.heads modules m o.atoms o.owners c.len-visible.result atoms owners visible c.in_ok-meanings.meanings c.in_ok-meanings.ensures.value
 
@@ -24,8 +24,8 @@ returns-clause-noted c =
     let o = c.args.owners.now in
     let modules = map module_tree c.args.modules.now in
     let m = module_tree c.args.view.now in
-    let atoms = ap (λ (s : AtomScope). s.atoms) c.requires.owned in
-    let owners = ap (λ (s : AtomScope). s.owners) c.requires.owned in
+    let atoms = ap (λ (s : AtomScope). s.atoms) c.requires in
+    let owners = ap (λ (s : AtomScope). s.owners) c.requires in
     let visible : c.len-visible.result ≡ length o.owners = search (length-map, rules) in
     let front = c.note_front.new.least in
     let read = c.in_ok-meanings.ensures.noted

@@ -1,4 +1,4 @@
-use Rattle.std.proofs.Common.{◌≡◌, List, map, ap, ◌∙◌, subst, rules, refl, None}
+use Rattle.std.proofs.Common.{◌≡◌, List, ap, ◌∙◌, subst, rules, refl, None, map}
 use Rattle.wy_types.specs.declared.resolved.ScopeKind.TheVariants.{Program}
 use Rattle.wy_symbols.specs.declared.scoping.Head.{Head}
 use Rattle.wy_symbols.specs.Least.{noted}
