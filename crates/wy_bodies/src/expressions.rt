@@ -3,21 +3,22 @@
 ghost use Rattle.std.specs.Prelude.{◌≡◌, IfOk, OnOk};
 ghost use Rattle.wy_types.specs.View.{expr_of, value_of, values_of, block_of};
 ghost use Rattle.wy_types.specs.Code as plain;
+ghost use Rattle.wy_syntax.specs.Trees as t;
 ghost use Rattle.wy_syntax.specs.Views.{expr_tree, expr_trees};
 ghost use Rattle.wy_symbols.specs.Least.{noted};
 ghost use Rattle.wy_bodies.specs.Lending.{lent_within};
 ghost use Rattle.wy_bodies.specs.InSight.{sight_of};
-ghost use Rattle.wy_bodies.specs.Bodies.{bound, operand, expr_value, expr_values};
+ghost use Rattle.wy_bodies.specs.Bodies.{bound, operand, operator_of, expr_value, expr_values};
 ghost use Rattle.wy_bodies.specs.BodyRefusals.{value_refusals, this_refusals, expr_refusals, exprs_refusals};
 ghost use Rattle.wy_bodies.specs.ValueRows.{values_then};
 
 use crate::bodies::Within;
 use crate::sight::{Frame, Variables, binding_of};
-use crate::values::{add, boxed, boxed_operand, call, choice, last, operator_of, text_call};
+use crate::values::{boxed, boxed_operand, call, choice, last, operator_of, quoted, text_call};
 use std::alloc::Global;
-use wy_symbols::{Cause, Refusal, note_at, read_type};
-use wy_syntax::expressions::Expr;
-use wy_syntax::types::Name;
+use wy_symbols::{Cause, Refusal, add, note_at, read_type};
+use wy_syntax::expressions::{Expr, Operator};
+use wy_syntax::types::{Name, TypeUse};
 use wy_text::fault::Place;
 use wy_text::text::Memory;
 use wy_types::code::{self, Binding, Block, TextOperator, UnaryOperator, Value};
@@ -40,6 +41,21 @@ pub fn bound(
             Ok(Binding::Own(0))
         }
     }
+}
+
+/// A name, as a value.
+fn name_value(
+    within: &Within,
+    frame: &Frame,
+    variables: &Variables,
+    least: &mut Option<Refusal>,
+    name: &Name,
+) -> Result<Value, Memory>
+    ensures value { IfOk result (λ v. value_of v ≡ plain.Plain (plain.Name name.now.place (bound (lent_within within.now) (sight_of frame.now variables.now) name.now))) }
+    ensures noted { OnOk result (least.new ≡ noted least.old (value_refusals (lent_within within.now) (sight_of frame.now variables.now) name.now)) }
+{
+    let bound = bound(within, frame, variables, least, name)?;
+    Ok(Value::Plain(code::Expr::Name(name.place, bound)))
 }
 
 /// Notes Unknown at a `this` that stands outside methods.
@@ -66,48 +82,57 @@ pub fn expr_value(
 {
     match e {
         Expr::Number(number, place) => Ok(Value::Plain(code::Expr::Int(*place, *number))),
-        Expr::Text(text, place) => Ok(Value::Plain(code::Expr::Text(*place, text.copy()?))),
+        Expr::Text(text, place) => quoted(*place, text),
         Expr::True(place) => Ok(Value::Plain(code::Expr::Bool(*place, true))),
         Expr::False(place) => Ok(Value::Plain(code::Expr::Bool(*place, false))),
         Expr::This(place) => {
             note_this(frame, least, *place);
             Ok(Value::Plain(code::Expr::This(*place)))
         }
-        Expr::Name(name) => {
-            let bound = bound(within, frame, variables, least, name)?;
-            Ok(Value::Plain(code::Expr::Name(name.place, bound)))
-        }
+        Expr::Name(name) => name_value(within, frame, variables, least, name),
         Expr::Unit(place) => Ok(Value::Plain(code::Expr::Unit(*place))),
-        Expr::Negate(e, place) => {
-            let operand = operand_value(alloc, within, frame, variables, least, e)?;
-            Ok(Value::Plain(code::Expr::Unary(*place, UnaryOperator::Negate, operand)))
-        }
-        Expr::Not(e, place) => {
-            let operand = operand_value(alloc, within, frame, variables, least, e)?;
-            Ok(Value::Plain(code::Expr::Unary(*place, UnaryOperator::Not, operand)))
-        }
+        Expr::Negate(e, place) => unary_value(
+            alloc,
+            within,
+            frame,
+            variables,
+            least,
+            *place,
+            UnaryOperator::Negate,
+            e,
+        ),
+        Expr::Not(e, place) => unary_value(
+            alloc,
+            within,
+            frame,
+            variables,
+            least,
+            *place,
+            UnaryOperator::Not,
+            e,
+        ),
         Expr::Binary(operator, left, right, place) => {
             let left = operand_value(alloc, within, frame, variables, least, left)?;
-            let right = operand_value(alloc, within, frame, variables, least, right)?;
-            Ok(Value::Plain(code::Expr::Binary(*place, operator_of(*operator), left, right)))
+            binary_with(
+                alloc, within, frame, variables, least, *place, *operator, right, left,
+            )
         }
         Expr::Call(receiver, name, arguments) => {
             let receiver = operand_value(alloc, within, frame, variables, least, receiver)?;
-            let arguments = expr_values(alloc, within, frame, variables, least, arguments)?;
-            Ok(call(name.place, receiver, name.text.copy()?, arguments))
-        }
-        Expr::TextSize(e, place) => {
-            text_of_one(
-                alloc,
-                within,
-                frame,
-                variables,
-                least,
-                *place,
-                TextOperator::Size,
-                e,
+            call_with(
+                alloc, within, frame, variables, least, name, arguments, receiver,
             )
         }
+        Expr::TextSize(e, place) => text_of_one(
+            alloc,
+            within,
+            frame,
+            variables,
+            least,
+            *place,
+            TextOperator::Size,
+            e,
+        ),
         Expr::TextPart(e, from, to, place) => {
             let mut values = Vec::new(alloc);
             push_value(alloc, within, frame, variables, least, e, &mut values)?;
@@ -121,43 +146,136 @@ pub fn expr_value(
             push_value(alloc, within, frame, variables, least, at, &mut values)?;
             Ok(text_call(*place, TextOperator::Code, values))
         }
-        Expr::TextByte(e, place) => {
-            text_of_one(
-                alloc,
-                within,
-                frame,
-                variables,
-                least,
-                *place,
-                TextOperator::Byte,
-                e,
-            )
-        }
-        Expr::TextShow(e, place) => {
-            text_of_one(
-                alloc,
-                within,
-                frame,
-                variables,
-                least,
-                *place,
-                TextOperator::Show,
-                e,
-            )
-        }
-        Expr::Ascribe(e, type_use, place) => {
-            let value = expr_value(alloc, within, frame, variables, least, e)?;
-            let value = boxed(alloc, value)?;
-            let typ = read_type(alloc, within.atoms, within.plain, type_use, least)?;
-            Ok(Value::Plain(code::Expr::Ascribe(*place, value, typ)))
-        }
+        Expr::TextByte(e, place) => text_of_one(
+            alloc,
+            within,
+            frame,
+            variables,
+            least,
+            *place,
+            TextOperator::Byte,
+            e,
+        ),
+        Expr::TextShow(e, place) => text_of_one(
+            alloc,
+            within,
+            frame,
+            variables,
+            least,
+            *place,
+            TextOperator::Show,
+            e,
+        ),
+        Expr::Ascribe(e, type_use, place) => typed_value(
+            alloc, within, frame, variables, least, *place, e, type_use,
+        ),
         Expr::Choice(test, first, second, place) => {
             let test = operand_value(alloc, within, frame, variables, least, test)?;
             let first = last_value(alloc, within, frame, variables, least, first)?;
-            let second = last_value(alloc, within, frame, variables, least, second)?;
-            Ok(choice(*place, test, first, second))
+            choice_with(
+                alloc, within, frame, variables, least, *place, second, test, first,
+            )
         }
     }
+}
+
+/// An operation on one operand.
+#[cycle(expressions)]
+fn unary_value(
+    alloc: Global,
+    within: &Within,
+    frame: &Frame,
+    variables: &Variables,
+    least: &mut Option<Refusal>,
+    place: Place,
+    operator: UnaryOperator,
+    e: &Expr,
+) -> Result<Value, Memory>
+    ensures value { IfOk result (λ v. value_of v ≡ plain.Plain (plain.Unary place operator (operand (expr_value (lent_within within.now) (sight_of frame.now variables.now) (expr_tree e.now))))) }
+    ensures noted { OnOk result (least.new ≡ noted least.old (expr_refusals (lent_within within.now) (sight_of frame.now variables.now) (expr_tree e.now))) }
+{
+    let operand = operand_value(alloc, within, frame, variables, least, e)?;
+    Ok(Value::Plain(code::Expr::Unary(place, operator, operand)))
+}
+
+/// An operation on two operands, the first of which is this.
+#[cycle(expressions)]
+fn binary_with(
+    alloc: Global,
+    within: &Within,
+    frame: &Frame,
+    variables: &Variables,
+    least: &mut Option<Refusal>,
+    place: Place,
+    operator: Operator,
+    right: &Expr,
+    left: Box<code::Expr>,
+) -> Result<Value, Memory>
+    ensures value { IfOk result (λ v. value_of v ≡ plain.Plain (plain.Binary place (operator_of operator) (expr_of left.value) (operand (expr_value (lent_within within.now) (sight_of frame.now variables.now) (expr_tree right.now))))) }
+    ensures noted { OnOk result (least.new ≡ noted least.old (expr_refusals (lent_within within.now) (sight_of frame.now variables.now) (expr_tree right.now))) }
+{
+    let right = operand_value(alloc, within, frame, variables, least, right)?;
+    Ok(Value::Plain(code::Expr::Binary(place, operator_of(operator), left, right)))
+}
+
+/// A call of a method on this receiver.
+#[cycle(expressions)]
+fn call_with(
+    alloc: Global,
+    within: &Within,
+    frame: &Frame,
+    variables: &Variables,
+    least: &mut Option<Refusal>,
+    name: &Name,
+    arguments: &[Expr],
+    receiver: Box<code::Expr>,
+) -> Result<Value, Memory>
+    ensures value { IfOk result (λ v. value_of v ≡ plain.Plain (plain.Call name.now.place (expr_of receiver.value) name.now.text (expr_values (lent_within within.now) (sight_of frame.now variables.now) (expr_trees arguments.now)))) }
+    ensures noted { OnOk result (least.new ≡ noted least.old (exprs_refusals (lent_within within.now) (sight_of frame.now variables.now) (expr_trees arguments.now))) }
+{
+    let arguments = expr_values(alloc, within, frame, variables, least, arguments)?;
+    Ok(call(name.place, receiver, name.text.copy()?, arguments))
+}
+
+/// A value at a type that is written.
+#[cycle(expressions)]
+fn typed_value(
+    alloc: Global,
+    within: &Within,
+    frame: &Frame,
+    variables: &Variables,
+    least: &mut Option<Refusal>,
+    place: Place,
+    e: &Expr,
+    type_use: &TypeUse,
+) -> Result<Value, Memory>
+    ensures value { IfOk result (λ v. value_of v ≡ expr_value (lent_within within.now) (sight_of frame.now variables.now) (t.ascribe (expr_tree e.now) type_use.now place)) }
+    ensures noted { OnOk result (least.new ≡ noted least.old (expr_refusals (lent_within within.now) (sight_of frame.now variables.now) (t.ascribe (expr_tree e.now) type_use.now place))) }
+{
+    let value = expr_value(alloc, within, frame, variables, least, e)?;
+    let value = boxed(alloc, value)?;
+    let typ = read_type(alloc, within.atoms, within.plain, type_use, least)?;
+    Ok(Value::Plain(code::Expr::Ascribe(place, value, typ)))
+}
+
+/// An `if` with this condition and this first branch.
+#[cycle(expressions)]
+fn choice_with(
+    alloc: Global,
+    within: &Within,
+    frame: &Frame,
+    variables: &Variables,
+    least: &mut Option<Refusal>,
+    place: Place,
+    second: &Expr,
+    test: Box<code::Expr>,
+    first: Block,
+) -> Result<Value, Memory>
+    ensures value { IfOk result (λ v. value_of v ≡ plain.If place (expr_of test.value) (block_of first) (plain.Last (expr_value (lent_within within.now) (sight_of frame.now variables.now) (expr_tree second.now)))) }
+    ensures noted { OnOk result (least.new ≡ noted least.old (expr_refusals (lent_within within.now) (sight_of frame.now variables.now) (expr_tree second.now))) }
+{
+    let second = last_value(alloc, within, frame, variables, least, second)?;
+    Ok(choice(place, test, first, second))
 }
 
 /// An expression's value as a receiver or an operand.

@@ -1,6 +1,6 @@
 //! Values and blocks of several parts.
 
-ghost use Rattle.std.specs.Prelude.{◌≡◌, [], ◌∷◌, ◌++◌, IfOk, OnOk};
+ghost use Rattle.std.specs.Prelude.{◌≡◌, IfOk};
 ghost use Rattle.wy_types.specs.Code as code;
 ghost use Rattle.wy_types.specs.View.{expr_of, value_of, values_of, block_of};
 ghost use Rattle.wy_bodies.specs.Bodies.{operand, operator_of};
@@ -43,6 +43,13 @@ pub fn operand(value: Value) -> Expr
     }
 }
 
+/// A text that is written out.
+pub fn quoted(place: Place, text: &Text) -> Result<Value, Memory>
+    ensures { IfOk result (λ v. value_of v ≡ code.Plain (code.Quoted place text.now)) }
+{
+    Ok(Value::Plain(Expr::Text(place, text.copy()?)))
+}
+
 /// An operation on texts.
 pub fn text_call(place: Place, operator: TextOperator, values: Vec<Value>) -> Value
     ensures { value_of result ≡ code.Plain (code.TextCall place operator (values_of values.items)) }
@@ -69,14 +76,6 @@ pub fn choice(place: Place, test: Box<Expr>, first: Block, second: Block) -> Val
     ensures { value_of result ≡ code.If place (expr_of test.value) (block_of first) (block_of second) }
 {
     Value::If(place, test, first, second)
-}
-
-/// Adds an item at the end.
-pub fn add<X: Drop>(list: &mut Vec<X>, item: X) -> Result<(), Memory>
-    ensures { OnOk result (list.new.items ≡ list.old.items ++ item ∷ []) }
-{
-    list.push(item)?;
-    Ok(())
 }
 
 /// A value in a box.

@@ -17,5 +17,5 @@ pub use members::{
     add_argument_sets, argument_type, arguments_sets, member_set, members_of, names_of, opened,
     opened_members, parameters_of,
 };
-pub use operators::{binary_result, text_operands, text_result, unary_result, united};
+pub use operators::{binary_result, joined, text_operands, text_result, unary_result, united};
 pub use respecting::{first_outside, least_missing};

@@ -21,6 +21,13 @@ pub fn united(first: EffSet, mut second: EffSet) -> Result<EffSet, Memory>
     Ok(second)
 }
 
+/// The atoms of three sets.
+pub fn joined(first: EffSet, second: EffSet, third: EffSet) -> Result<EffSet, Memory>
+    ensures { IfOk result (λ e. e ≡ union first (union second third)) }
+{
+    united(first, united(second, third)?)
+}
+
 fn if_int(typ: &TypeRef, given: TypeRef) -> Option<TypeRef>
     ensures { result ≡ result_in (row (base.Int ∷ []) given ∷ []) typ.now }
 {

@@ -33,22 +33,6 @@ pub answers_no : (b : Truth) (P : Type 0) → (b ≡ true) ↔ P → (P → ⊥)
 answers_no true P f n = absurd (n (f.0 refl))
 answers_no false P f n = refl
 
--- of three tests one after the other the first two as one, and the last
-pub first_fails : (a b x : Truth) → both a b ≡ false → both a (both b x) ≡ false
-first_fails true true x h = absurd (cc)
-first_fails true false x h = refl
-first_fails false b x h = refl
-
-pub last_fails : (a b x : Truth) → both a b ≡ true → x ≡ false → both a (both b x) ≡ false
-last_fails true true x h e = e
-last_fails true false x h e = refl
-last_fails false b x h e = refl
-
-pub all_hold : (a b x : Truth) → both a b ≡ true → x ≡ true → both a (both b x) ≡ true
-all_hold true true x h e = e
-all_hold true false x h e = absurd (cc)
-all_hold false b x h e = absurd (cc)
-
 pub numbers_are : (e f : List ℕ) → (same_numbers e f ≡ true) ↔ (e ≡ f)
 numbers_are e f = (
   λ h. (let same : At 0 e ≡ At 0 f = (types_are_told_apart (At 0 e) (At 0 f)).0 h in cc),

@@ -14,9 +14,6 @@ use Rattle.wy_cert.specs.declared.certificate.CertScope.{CertScope}
 use Rattle.wy_premises.specs.Tried.{OfEach, HasOpened, FirstLack, missing_atom, Agrees, Disagrees, OrFails}
 use Rattle.wy_premises.proofs.Trying.{first_breaks}
 use Rattle.wy_proving.specs.Proving.{RuleStands, instance_of, IsListed}
-use Rattle.wy_recheck.specs.declared.lines.Asked.{Asked}
-use Rattle.wy_recheck.specs.declared.lines.Asked.TheVariants.{Substituted, Annotated, Erased}
-use Rattle.wy_recheck.specs.Rules.{AskedOf, AskedOfType}
 use Rattle.wy_recheck.proofs.Purity.{true_not_false}
 
 -- what an answer denies is denied by it
@@ -37,12 +34,6 @@ second_tells A B a b tells t tells' = (λ e. (tells.0 t, tells'.0 e), λ h. tell
 -- what was found of the parameters of a module, as code has them
 pub of_parameters : (P : Handed → Type 0) (ps qs : List OwnName) (arguments : List ℕ) (b : Truth) → ps ≡ qs → (b ≡ true) ↔ OfEach P (handed_to ps arguments) → (b ≡ true) ↔ OfEach P (handed_to qs arguments)
 of_parameters P ps qs arguments b e tells = subst (λ l. (b ≡ true) ↔ OfEach P (handed_to l arguments)) e tells
-
--- .. of an argument, by its type
-pub asked_as : (s : Scope) (c : CertScope) (a : Asked) (h : Handed) (b : Truth) → (b ≡ true) ↔ AskedOfType c a h.parameter.typ (type_of (slice_get s.names h.argument)) → (b ≡ true) ↔ AskedOf s c a h
-asked_as s c (Substituted sets) h b tells = tells
-asked_as s c (Annotated bound) h b tells = tells
-asked_as s c Erased h b tells = tells
 
 agreed : (A : Type 0) (D : ℕ → Type 0) (o : Option ℕ) → OrFails A D o → is_some o ≡ false → A
 agreed A D None h e = h

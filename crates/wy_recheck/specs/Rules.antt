@@ -42,9 +42,7 @@ AskedOfType c Erased u t = In {X = Pair} (erased t, erased u) (plain_pairs c)
 
 -- the pair that is asked of an argument is listed
 abbrev pub AskedOf : Scope → CertScope → Asked → Handed → Type 0
-AskedOf s c (Substituted sets) h = In {X = Pair} (type_of (slice_get s.names h.argument), substituted sets.now h.parameter.typ) (annotated_pairs c)
-AskedOf s c (Annotated bound) h = In {X = Pair} (type_of (slice_get s.names h.argument), annotated bound.now (erased (type_of (slice_get s.names h.argument)))) (annotated_pairs c)
-AskedOf s c Erased h = In {X = Pair} (erased (type_of (slice_get s.names h.argument)), erased h.parameter.typ) (plain_pairs c)
+AskedOf s c a h = AskedOfType c a h.parameter.typ (type_of (slice_get s.names h.argument))
 
 -- .. by M-Inst, with the sets that the arguments of a module put in
 abbrev pub ArgumentOf : Program → Scope → CertScope → ℕ → List ℕ → Handed → Type 0

@@ -16,8 +16,8 @@ use crate::reader::{Form, Read, Reader, Several, same};
 use wy_cert::Rule;
 use wy_effects::set::EffSet;
 use wy_premises::{
-    binary_result, declared_type, field_types, text_operands, text_result, unary_result, united,
-    var_field,
+    binary_result, declared_type, field_types, joined, text_operands, text_result, unary_result,
+    united, var_field,
 };
 use wy_text::fault::Place;
 use wy_text::text::{Memory, Text};
@@ -33,13 +33,6 @@ pub struct Waiting {
     pub place: Place,
     /// The effect of the statement.
     pub effect: EffSet,
-}
-
-/// The effect of what has three parts.
-fn joined(first: EffSet, second: EffSet, third: EffSet) -> Result<EffSet, Memory>
-    ensures { IfOk result (λ e. e ≡ union first (union second third)) }
-{
-    united(first, united(second, third)?)
 }
 
 impl Reader<'_> {

@@ -26,6 +26,7 @@ pub use collected::{Names, OwnerList, WrittenNames};
 pub use declarations::read_declarations;
 pub use gathering::{Gathered, ModuleView, gather};
 pub use heads::Heads;
+pub use items::add;
 pub use meanings::Meanings;
 pub use members::heads_of;
 pub use names_of::{module_table, primitive_names, type_table};

@@ -1,8 +1,11 @@
-use Rattle.std.proofs.Common.{◌≡◌, ◌<◌, ◌+◌, length, drop, rules, sym, ap, ap₂, ◌∙◌}
+use Rattle.std.proofs.Common.{◌≡◌, ◌<◌, ◌+◌, length, drop, rules, sym, ap, ap₂, ◌∙◌, subst}
+use Rattle.std.specs.Prelude.{IfOk, OnOk}
 use Rattle.std.proofs.lemmas.List.{drop_all}
+use Rattle.std.proofs.lemmas.Result.{on_ok_weaker, IfOk-weaker}
 use Rattle.wy_types.specs.declared.code.TextOperator.TheVariants as texts
 use Rattle.wy_types.specs.Code as plain
-use Rattle.wy_types.specs.View.{expr_of, value_of, values_of}
+use Rattle.wy_types.specs.View.{expr_of, value_of, values_of, block_of}
+use Rattle.wy_syntax.specs.Trees as trees
 use Rattle.wy_syntax.specs.Views.{expr_tree, expr_trees}
 use Rattle.wy_symbols.specs.Least.{noted}
 use Rattle.wy_bodies.specs.Lending.{lent_within}
@@ -17,61 +20,69 @@ use Rattle.wy_bodies.specs.ValueRows.{values_then}
 use Rattle.wy_bodies.proofs.ValueRows.{values_pushed, row_one, row_two, row_three, values_then-none, if_of}
 use Rattle.wy_bodies.proofs.expressions.+expressions.Goals as goal
 
-pub expr_value-returns-in_ok-right-in-Binary-clause-noted : goal.expr_value-returns-in_ok-right-in-Binary-clause-noted
-expr_value-returns-in_ok-right-in-Binary-clause-noted t c =
+pub expr_value-returns-in-Ascribe-clause-value : goal.expr_value-returns-in-Ascribe-clause-value
+expr_value-returns-in-Ascribe-clause-value t c =
+    let w = lent_within c.args.within.now in
+    let s = sight_of c.args.frame.now c.args.variables.now in
+    let same = ap (λ e. trees.ascribe (expr_tree e) c.in-Ascribe.type_use c.in-Ascribe.place) c.deref-in-Ascribe.ensures ∙ sym (expr_tree-Ascribe c.in-Ascribe.e c.in-Ascribe.type_use c.in-Ascribe.place) ∙ ap expr_tree (sym c.in-Ascribe.is) in
+    subst (λ x. IfOk c.typed_value.result (λ v. value_of v ≡ expr_value w s x)) same c.typed_value.ensures.value
+
+pub expr_value-returns-in-Ascribe-clause-noted : goal.expr_value-returns-in-Ascribe-clause-noted
+expr_value-returns-in-Ascribe-clause-noted t c =
+    let w = lent_within c.args.within.now in
+    let s = sight_of c.args.frame.now c.args.variables.now in
+    let same = ap (λ e. trees.ascribe (expr_tree e) c.in-Ascribe.type_use c.in-Ascribe.place) c.deref-in-Ascribe.ensures ∙ sym (expr_tree-Ascribe c.in-Ascribe.e c.in-Ascribe.type_use c.in-Ascribe.place) ∙ ap expr_tree (sym c.in-Ascribe.is) in
+    subst (λ x. OnOk c.typed_value.result (c.typed_value.new.least ≡ noted c.args.least.now (expr_refusals w s x))) same c.typed_value.ensures.noted
+
+pub typed_value-returns-clause-value : goal.typed_value-returns-clause-value
+typed_value-returns-clause-value t c =
+    let w = lent_within c.args.within.now in
+    let s = sight_of c.args.frame.now c.args.variables.now in
+    ap₂ (λ v u. plain.Plain (plain.Ascribe c.args.place v u)) (ap value_of c.in_ok-value-2.ensures ∙ c.in_ok-value.ensures.value) c.in_ok-typ.ensures.value
+
+pub typed_value-returns-clause-noted : goal.typed_value-returns-clause-noted
+typed_value-returns-clause-noted t c =
+    let w = lent_within c.args.within.now in
+    let s = sight_of c.args.frame.now c.args.variables.now in
+    noted_two c.args.least.now c.expr_value.new.least c.read_type.new.least (expr_refusals w s (expr_tree c.args.e.now)) (typed_refusals w c.args.type_use.now) c.in_ok-value.ensures.noted c.in_ok-typ.ensures.noted
+
+pub expr_value-returns-in_ok-left-in-Binary-clause-noted : goal.expr_value-returns-in_ok-left-in-Binary-clause-noted
+expr_value-returns-in_ok-left-in-Binary-clause-noted t c =
     let w = lent_within c.args.within.now in
     let s = sight_of c.args.frame.now c.args.variables.now in
     let first = c.in_ok-left-in-Binary.ensures.noted ∙ ap (λ e. noted c.args.least.now (expr_refusals w s (expr_tree e))) c.deref-in-Binary.ensures in
-    let second = c.in_ok-right-in-Binary.ensures.noted ∙ ap (λ e. noted c.operand_value-in-Binary.new.least (expr_refusals w s (expr_tree e))) c.deref-in-Binary-2.ensures in
-    noted_two c.args.least.now c.operand_value-in-Binary.new.least c.operand_value-in-Binary-2.new.least (expr_refusals w s (expr_tree c.in-Binary.left.value)) (expr_refusals w s (expr_tree c.in-Binary.right.value)) first second
-    ∙ ap (λ e. noted c.args.least.now (expr_refusals w s e)) (sym (expr_tree-Binary c.in-Binary.operator c.in-Binary.left c.in-Binary.right c.in-Binary.place) ∙ ap expr_tree (sym c.in-Binary.is))
+    let same = ap (λ e. noted c.operand_value.new.least (expr_refusals w s (expr_tree e))) c.deref-in-Binary-2.ensures in
+    let tree = ap (λ e. noted c.args.least.now (expr_refusals w s e)) (sym (expr_tree-Binary c.in-Binary.operator c.in-Binary.left c.in-Binary.right c.in-Binary.place) ∙ ap expr_tree (sym c.in-Binary.is)) in
+    on_ok_weaker c.binary_with.result
+    (λ h. noted_two c.args.least.now c.operand_value.new.least c.binary_with.new.least (expr_refusals w s (expr_tree c.in-Binary.left.value)) (expr_refusals w s (expr_tree c.in-Binary.right.value)) first (h ∙ same) ∙ tree) c.binary_with.ensures.noted
 
-pub expr_value-returns-in_ok-right-in-Binary-clause-value : goal.expr_value-returns-in_ok-right-in-Binary-clause-value
-expr_value-returns-in_ok-right-in-Binary-clause-value t c =
+pub expr_value-returns-in_ok-left-in-Binary-clause-value : goal.expr_value-returns-in_ok-left-in-Binary-clause-value
+expr_value-returns-in_ok-left-in-Binary-clause-value t c =
     let w = lent_within c.args.within.now in
     let s = sight_of c.args.frame.now c.args.variables.now in
     let left = c.in_ok-left-in-Binary.ensures.value ∙ ap (λ e. operand (expr_value w s (expr_tree e))) c.deref-in-Binary.ensures in
-    let right = c.in_ok-right-in-Binary.ensures.value ∙ ap (λ e. operand (expr_value w s (expr_tree e))) c.deref-in-Binary-2.ensures in
-    ap (λ o. plain.Plain (plain.Binary c.in-Binary.place o (expr_of c.in_ok-left-in-Binary.left.value) (expr_of c.in_ok-right-in-Binary.right.value))) c.operator_of.ensures
-    ∙ ap₂ (λ a b. plain.Plain (plain.Binary c.in-Binary.place (operator_of c.in-Binary.operator) a b)) left right
-    ∙ ap (expr_value w s) (sym (expr_tree-Binary c.in-Binary.operator c.in-Binary.left c.in-Binary.right c.in-Binary.place) ∙ ap expr_tree (sym c.in-Binary.is))
+    let right = ap (λ e. operand (expr_value w s (expr_tree e))) c.deref-in-Binary-2.ensures in
+    let same = ap₂ (λ a b. plain.Plain (plain.Binary c.in-Binary.place (operator_of c.in-Binary.operator) a b)) left right ∙ ap (expr_value w s) (sym (expr_tree-Binary c.in-Binary.operator c.in-Binary.left c.in-Binary.right c.in-Binary.place) ∙ ap expr_tree (sym c.in-Binary.is)) in
+    IfOk-weaker c.binary_with.result _ _ (λ v h. h ∙ same) c.binary_with.ensures.value
 
-pub expr_value-returns-in_ok-copy-in-Call-clause-value : goal.expr_value-returns-in_ok-copy-in-Call-clause-value
-expr_value-returns-in_ok-copy-in-Call-clause-value t c =
-    let w = lent_within c.args.within.now in
-    let s = sight_of c.args.frame.now c.args.variables.now in
-    let receiver = c.in_ok-receiver-in-Call.ensures.value ∙ ap (λ e. operand (expr_value w s (expr_tree e))) c.deref-in-Call.ensures in
-    let values = c.in_ok-arguments-in-Call.ensures.value ∙ ap (λ es. expr_values w s (expr_trees es)) c.deref-in-Call-2.ensures.value in
-    c.call.ensures
-    ∙ ap (λ n. plain.Plain (plain.Call c.in-Call.name.place (expr_of c.in_ok-receiver-in-Call.receiver.value) n (values_of c.in_ok-arguments-in-Call.arguments.items))) c.in_ok-copy-in-Call.ensures
-    ∙ ap₂ (λ a l. plain.Plain (plain.Call c.in-Call.name.place a c.in-Call.name.text l)) receiver values
-    ∙ ap (expr_value w s) (sym (expr_tree-Call c.in-Call.receiver c.in-Call.name c.in-Call.arguments) ∙ ap expr_tree (sym c.in-Call.is))
-
-pub expr_value-returns-in_ok-typ-in-Ascribe-clause-value : goal.expr_value-returns-in_ok-typ-in-Ascribe-clause-value
-expr_value-returns-in_ok-typ-in-Ascribe-clause-value t c =
-    let w = lent_within c.args.within.now in
-    let s = sight_of c.args.frame.now c.args.variables.now in
-    let value = ap value_of c.in_ok-value-in-Ascribe-2.ensures ∙ c.in_ok-value-in-Ascribe.ensures.value ∙ ap (λ e. expr_value w s (expr_tree e)) c.deref-in-Ascribe.ensures in
-    ap₂ (λ v u. plain.Plain (plain.Ascribe c.in-Ascribe.place v u)) value c.in_ok-typ-in-Ascribe.ensures.value
-    ∙ ap (expr_value w s) (sym (expr_tree-Ascribe c.in-Ascribe.e c.in-Ascribe.type_use c.in-Ascribe.place) ∙ ap expr_tree (sym c.in-Ascribe.is))
-
-pub expr_value-returns-in_ok-copy-in-Call-clause-noted : goal.expr_value-returns-in_ok-copy-in-Call-clause-noted
-expr_value-returns-in_ok-copy-in-Call-clause-noted t c =
+pub expr_value-returns-in_ok-receiver-in-Call-clause-noted : goal.expr_value-returns-in_ok-receiver-in-Call-clause-noted
+expr_value-returns-in_ok-receiver-in-Call-clause-noted t c =
     let w = lent_within c.args.within.now in
     let s = sight_of c.args.frame.now c.args.variables.now in
     let first = c.in_ok-receiver-in-Call.ensures.noted ∙ ap (λ e. noted c.args.least.now (expr_refusals w s (expr_tree e))) c.deref-in-Call.ensures in
-    let second : c.expr_values.new.least ≡ noted c.operand_value-in-Call.new.least (exprs_refusals w s (expr_trees c.in-Call.arguments.items)) = search rules in
-    noted_two c.args.least.now c.operand_value-in-Call.new.least c.expr_values.new.least (expr_refusals w s (expr_tree c.in-Call.receiver.value)) (exprs_refusals w s (expr_trees c.in-Call.arguments.items)) first second
-    ∙ ap (λ e. noted c.args.least.now (expr_refusals w s e)) (sym (expr_tree-Call c.in-Call.receiver c.in-Call.name c.in-Call.arguments) ∙ ap expr_tree (sym c.in-Call.is))
+    let same = ap (λ es. noted c.operand_value-in-Call.new.least (exprs_refusals w s (expr_trees es))) c.deref-in-Call-2.ensures.value in
+    let tree = ap (λ e. noted c.args.least.now (expr_refusals w s e)) (sym (expr_tree-Call c.in-Call.receiver c.in-Call.name c.in-Call.arguments) ∙ ap expr_tree (sym c.in-Call.is)) in
+    on_ok_weaker c.call_with.result
+    (λ h. noted_two c.args.least.now c.operand_value-in-Call.new.least c.call_with.new.least (expr_refusals w s (expr_tree c.in-Call.receiver.value)) (exprs_refusals w s (expr_trees c.in-Call.arguments.items)) first (h ∙ same) ∙ tree) c.call_with.ensures.noted
 
-pub expr_value-returns-in_ok-typ-in-Ascribe-clause-noted : goal.expr_value-returns-in_ok-typ-in-Ascribe-clause-noted
-expr_value-returns-in_ok-typ-in-Ascribe-clause-noted t c =
+pub expr_value-returns-in_ok-receiver-in-Call-clause-value : goal.expr_value-returns-in_ok-receiver-in-Call-clause-value
+expr_value-returns-in_ok-receiver-in-Call-clause-value t c =
     let w = lent_within c.args.within.now in
     let s = sight_of c.args.frame.now c.args.variables.now in
-    let first = c.in_ok-value-in-Ascribe.ensures.noted ∙ ap (λ e. noted c.args.least.now (expr_refusals w s (expr_tree e))) c.deref-in-Ascribe.ensures in
-    let second = c.in_ok-typ-in-Ascribe.ensures.noted in
-    noted_two c.args.least.now c.expr_value.new.least c.read_type.new.least (expr_refusals w s (expr_tree c.in-Ascribe.e.value)) (typed_refusals w c.in-Ascribe.type_use) first second
-    ∙ ap (λ e. noted c.args.least.now (expr_refusals w s e)) (sym (expr_tree-Ascribe c.in-Ascribe.e c.in-Ascribe.type_use c.in-Ascribe.place) ∙ ap expr_tree (sym c.in-Ascribe.is))
+    let receiver = c.in_ok-receiver-in-Call.ensures.value ∙ ap (λ e. operand (expr_value w s (expr_tree e))) c.deref-in-Call.ensures in
+    let values = ap (λ es. expr_values w s (expr_trees es)) c.deref-in-Call-2.ensures.value in
+    let same = ap₂ (λ a l. plain.Plain (plain.Call c.in-Call.name.place a c.in-Call.name.text l)) receiver values ∙ ap (expr_value w s) (sym (expr_tree-Call c.in-Call.receiver c.in-Call.name c.in-Call.arguments) ∙ ap expr_tree (sym c.in-Call.is)) in
+    IfOk-weaker c.call_with.result _ _ (λ v h. h ∙ same) c.call_with.ensures.value
 
 pub expr_value-returns-in_ok-push_value-in-TextCode-2-clause-noted : goal.expr_value-returns-in_ok-push_value-in-TextCode-2-clause-noted
 expr_value-returns-in_ok-push_value-in-TextCode-2-clause-noted t c =
@@ -115,26 +126,47 @@ expr_value-returns-in_ok-push_value-in-TextPart-3-clause-value t c =
     (row_three c.new-values.result.items c.push_value.new.values.items c.push_value-in-TextPart.new.values.items c.push_value-in-TextPart-2.new.values.items (expr_value w s (expr_tree c.in-TextPart.e.value)) (expr_value w s (expr_tree c.in-TextPart.from.value)) (expr_value w s (expr_tree c.in-TextPart.to.value)) c.new-values.ensures.items first second third)
     ∙ ap (expr_value w s) (sym (expr_tree-TextPart c.in-TextPart.e c.in-TextPart.from c.in-TextPart.to c.in-TextPart.place) ∙ ap expr_tree (sym c.in-TextPart.is))
 
-pub expr_value-returns-in_ok-second-in-Choice-clause-noted : goal.expr_value-returns-in_ok-second-in-Choice-clause-noted
-expr_value-returns-in_ok-second-in-Choice-clause-noted t c =
+pub expr_value-returns-in_ok-first-in-Choice-clause-noted : goal.expr_value-returns-in_ok-first-in-Choice-clause-noted
+expr_value-returns-in_ok-first-in-Choice-clause-noted t c =
     let w = lent_within c.args.within.now in
     let s = sight_of c.args.frame.now c.args.variables.now in
     let first = c.in_ok-test-in-Choice.ensures.noted ∙ ap (λ e. noted c.args.least.now (expr_refusals w s (expr_tree e))) c.deref-in-Choice.ensures in
     let second = c.in_ok-first-in-Choice.ensures.noted ∙ ap (λ e. noted c.operand_value-in-Choice.new.least (expr_refusals w s (expr_tree e))) c.deref-in-Choice-2.ensures in
-    let third = c.in_ok-second-in-Choice.ensures.noted ∙ ap (λ e. noted c.last_value.new.least (expr_refusals w s (expr_tree e))) c.deref-in-Choice-3.ensures in
-    noted_three c.args.least.now c.operand_value-in-Choice.new.least c.last_value.new.least c.last_value-in-Choice.new.least (expr_refusals w s (expr_tree c.in-Choice.test.value)) (expr_refusals w s (expr_tree c.in-Choice.first.value)) (expr_refusals w s (expr_tree c.in-Choice.second.value)) first second third
-    ∙ ap (λ e. noted c.args.least.now (expr_refusals w s e)) (sym (expr_tree-Choice c.in-Choice.test c.in-Choice.first c.in-Choice.second c.in-Choice.place) ∙ ap expr_tree (sym c.in-Choice.is))
+    let same = ap (λ e. noted c.last_value.new.least (expr_refusals w s (expr_tree e))) c.deref-in-Choice-3.ensures in
+    let tree = ap (λ e. noted c.args.least.now (expr_refusals w s e)) (sym (expr_tree-Choice c.in-Choice.test c.in-Choice.first c.in-Choice.second c.in-Choice.place) ∙ ap expr_tree (sym c.in-Choice.is)) in
+    on_ok_weaker c.choice_with.result
+    (λ h. noted_three c.args.least.now c.operand_value-in-Choice.new.least c.last_value.new.least c.choice_with.new.least (expr_refusals w s (expr_tree c.in-Choice.test.value)) (expr_refusals w s (expr_tree c.in-Choice.first.value)) (expr_refusals w s (expr_tree c.in-Choice.second.value)) first second (h ∙ same) ∙ tree) c.choice_with.ensures.noted
 
-pub expr_value-returns-in_ok-second-in-Choice-clause-value : goal.expr_value-returns-in_ok-second-in-Choice-clause-value
-expr_value-returns-in_ok-second-in-Choice-clause-value t c =
+pub expr_value-returns-in_ok-first-in-Choice-clause-value : goal.expr_value-returns-in_ok-first-in-Choice-clause-value
+expr_value-returns-in_ok-first-in-Choice-clause-value t c =
     let w = lent_within c.args.within.now in
     let s = sight_of c.args.frame.now c.args.variables.now in
     let test = c.in_ok-test-in-Choice.ensures.value ∙ ap (λ e. operand (expr_value w s (expr_tree e))) c.deref-in-Choice.ensures in
     let first = c.in_ok-first-in-Choice.ensures.value ∙ ap (λ e. plain.Last (expr_value w s (expr_tree e))) c.deref-in-Choice-2.ensures in
-    let second = c.in_ok-second-in-Choice.ensures.value ∙ ap (λ e. plain.Last (expr_value w s (expr_tree e))) c.deref-in-Choice-3.ensures in
-    c.choice.ensures
-    ∙ if_of c.in-Choice.place test first second
-    ∙ ap (expr_value w s) (sym (expr_tree-Choice c.in-Choice.test c.in-Choice.first c.in-Choice.second c.in-Choice.place) ∙ ap expr_tree (sym c.in-Choice.is))
+    let second = ap (λ e. plain.Last (expr_value w s (expr_tree e))) c.deref-in-Choice-3.ensures in
+    let same = if_of c.in-Choice.place test first second ∙ ap (expr_value w s) (sym (expr_tree-Choice c.in-Choice.test c.in-Choice.first c.in-Choice.second c.in-Choice.place) ∙ ap expr_tree (sym c.in-Choice.is)) in
+    IfOk-weaker c.choice_with.result _ _ (λ v h. h ∙ same) c.choice_with.ensures.value
+
+pub binary_with-returns-clause-value : goal.binary_with-returns-clause-value
+binary_with-returns-clause-value t c =
+    let w = lent_within c.args.within.now in
+    let s = sight_of c.args.frame.now c.args.variables.now in
+    ap (λ o. plain.Plain (plain.Binary c.args.place o (expr_of c.args.left.value) (expr_of c.in_ok-right.right.value))) c.operator_of.ensures
+    ∙ ap (λ b. plain.Plain (plain.Binary c.args.place (operator_of c.args.operator) (expr_of c.args.left.value) b)) c.in_ok-right.ensures.value
+
+pub call_with-returns-clause-value : goal.call_with-returns-clause-value
+call_with-returns-clause-value t c =
+    let w = lent_within c.args.within.now in
+    let s = sight_of c.args.frame.now c.args.variables.now in
+    c.call.ensures
+    ∙ ap (λ n. plain.Plain (plain.Call c.args.name.now.place (expr_of c.args.receiver.value) n (values_of c.in_ok-arguments.arguments.items))) c.in_ok-copy.ensures
+    ∙ ap (λ l. plain.Plain (plain.Call c.args.name.now.place (expr_of c.args.receiver.value) c.args.name.now.text l)) c.in_ok-arguments.ensures.value
+
+pub choice_with-returns-clause-value : goal.choice_with-returns-clause-value
+choice_with-returns-clause-value t c =
+    let w = lent_within c.args.within.now in
+    let s = sight_of c.args.frame.now c.args.variables.now in
+    c.choice.ensures ∙ ap (plain.If c.args.place (expr_of c.args.test.value) (block_of c.args.first)) c.in_ok-second.ensures.value
 
 pub text_of_one-returns-clause-value : goal.text_of_one-returns-clause-value
 text_of_one-returns-clause-value t c =
