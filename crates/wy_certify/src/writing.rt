@@ -18,7 +18,7 @@ use crate::writer::Writer;
 use std::alloc::Global;
 use wy_cert::Rule;
 use wy_effects::set::{EffSet, SetList};
-use wy_premises::{expr_mark, mark, text_operands, text_result, united};
+use wy_premises::{expr_mark, joined, mark, text_operands, text_result};
 use wy_text::fault::Place;
 use wy_text::list::Items;
 use wy_text::text::{Memory, Text};
@@ -45,13 +45,6 @@ pub fn block_mark(block: &Block) -> Place
         Some(statement) => stmt_mark(statement),
         None => mark(&block.last),
     }
-}
-
-/// The effect of what has three parts.
-fn joined(first: EffSet, second: EffSet, third: EffSet) -> Result<EffSet, Memory>
-    ensures { IfOk result (λ e. e ≡ union first (union second third)) }
-{
-    united(first, united(second, third)?)
 }
 
 /// T-Val, of a `val` whose initialiser has this effect.
