@@ -177,6 +177,7 @@ fn request<D: Device, W: Observer>(
                 let asked = ask(
                     code, depth, machine, devices, place, method, count, grant, &op, observer,
                 );
+                // Let go here by one call: at the end of the arm each of its texts would be proved dropped by itself.
                 drop(op);
                 asked
             }

@@ -69,11 +69,12 @@ fn deed(grant: &Text, op: &Op, answer: Option<&Answer>) -> Result<Event, Memory>
     }
 }
 
-/// The line of an event.
+/// The line of an event, which is let go.
 fn line_of(alloc: Global, event: Event) -> Result<Text, Memory>
     ensures { IfOk result (λ line. line ≡ lines.event_line event) }
 {
     let line = event_line(alloc, &event);
+    // Let go here by one call, as an operation is in `performing`.
     drop(event);
     line
 }
