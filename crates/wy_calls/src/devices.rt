@@ -9,20 +9,16 @@ use std::alloc::Global;
 use std::test::Fail;
 use wy_device::deed::{Deed, DeedList, Event};
 use wy_device::device::Device;
-use wy_device::folder_files::{FolderFile, FolderList};
 use wy_device::handed::Handed;
-use wy_device::mem_clock::MemClock;
-use wy_device::mem_console::MemConsole;
-use wy_device::mem_folder::MemFolder;
-use wy_device::mem_random::{MemRandom, NumberList};
 use wy_device::operation::{Answer, Kind, Op};
 use wy_engine::handing_in::devices;
 use wy_engine::top::wyvern;
 use wy_machine::devices::Devices;
 use wy_meaning::event_line;
+use wy_memory::{
+    FolderFile, FolderList, MemClock, MemConsole, MemFolder, MemRandom, MemShelf, MemSink, NumberList,
+};
 use wy_text::list::{CallList, Items};
-use wy_text::mem_shelf::MemShelf;
-use wy_text::mem_sink::MemSink;
 use wy_text::shelf::FileList;
 use wy_text::sink::Sink;
 use wy_text::text::{Memory, from_bytes};

@@ -5,7 +5,7 @@ use crate::three_files_table::{MAIN, PARTS, RUNS, TYPES};
 use crate::tracing_table::THREE_FILES;
 use std::alloc::Global;
 use std::test::Fail;
-use wy_device::folder_files::{FolderFile, FolderList};
+use wy_memory::{FolderFile, FolderList};
 use wy_text::list::Items;
 use wy_text::text::{Memory, from_bytes, from_vec};
 

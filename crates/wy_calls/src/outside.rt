@@ -5,8 +5,8 @@ use crate::devices::{BLANK, Part, Row, all_come_so};
 use crate::support::{Ended, end_of};
 use std::alloc::Global;
 use std::test::Fail;
+use wy_memory::MemSink;
 use wy_text::list::Items;
-use wy_text::mem_sink::MemSink;
 use wy_text::sink::{Sink, WriteError};
 
 const FOUR_WRITES: &str =

@@ -2,8 +2,8 @@ use crate::devices::all_come_so;
 use crate::samples_table::SAMPLES;
 use crate::support::{end_of, failing_at, outcome_of};
 use std::test::Fail;
+use wy_memory::MemSink;
 use wy_text::list::Items;
-use wy_text::mem_sink::MemSink;
 
 #[test]
 fn a_sample_is_run_and_summed_up(rt: HostRuntime) -> Result<(), Fail> {

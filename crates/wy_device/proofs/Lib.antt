@@ -1,5 +1,1 @@
 mod Examples
-pub mod Finding
-pub mod Naming
-pub mod Putting
-pub mod Rounds

@@ -1,5 +1,5 @@
 -- What a device means.
-use Rattle.std.specs.Prelude.{◌≡◌, ℕ, ◌≤◌, List, [], ◌∷◌, Option, Some, None, Result, Ok, Err, IfOk, OnOk, Contains, length, ⊤}
+use Rattle.std.specs.Prelude.{◌≡◌, ℕ, ◌≤◌, List, [], ◌∷◌, Option, Some, None, Result, Ok, Err, IfOk, length, ⊤}
 use Rattle.wy_device.specs.declared.operation.Kind.{Kind}
 use Rattle.wy_device.specs.declared.operation.Op.{Op}
 use Rattle.wy_device.specs.declared.operation.OpName.{OpName}
@@ -11,7 +11,7 @@ use Rattle.wy_device.specs.declared.device.DeviceError.{DeviceError}
 use Rattle.wy_device.specs.declared.device.DeviceError.TheVariants.{Failed, Memory}
 use Rattle.wy_device.specs.Operation.{name_of}
 use Rattle.wy_device.specs.Traps.{text_limit}
-use Rattle.wy_text.specs.Outside.{gained, next_count, Rose}
+use Rattle.wy_text.specs.Outside.{gained, Rose}
 
 -- a device's kind, its deeds, where it tells them, and its count of faults
 pub record DeviceState : Type 0 where
@@ -66,12 +66,6 @@ deed_done grant op answer = record { grant = grant; op = op; answer = Some answe
 abbrev pub deed_failed : List ℕ → Op → List Deed
 deed_failed grant op = record { grant = grant; op = op; answer = None } ∷ []
 
--- the count of faults after an answer of a device in memory: one more exactly where it failed
-abbrev pub faults_after : Result Answer DeviceError → ℕ → ℕ
-faults_after (Ok answer) faults = faults
-faults_after (Err Failed) faults = next_count faults
-faults_after (Err Memory) faults = faults
-
 -- a device did an operation for a grant: an answer is of the operation's kind, it and a failure each add their deed, want of
 -- memory adds none, and the count of faults never falls, and rises at a failure
 pub record Performs (old new : DeviceState) (grant : List ℕ) (op : Op) (result : Result Answer DeviceError) : Type 0 where
@@ -82,11 +76,3 @@ pub record Performs (old new : DeviceState) (grant : List ℕ) (op : Op) (result
   pub none : result ≡ Err Memory → new.deeds ≡ old.deeds
   pub counted : old.faults ≤ new.faults
   pub failed : result ≡ Err Failed → Rose old.faults new.faults
-
--- a device in memory was asked: it answers no call that it was told to fail, counts the call, keeps the list of those that are
--- to fail, and counts a fault exactly where it failed
-pub record FailsAsTold (old_fails : List ℕ) (old_calls old_faults : ℕ) (new_fails : List ℕ) (new_calls new_faults : ℕ) (result : Result Answer DeviceError) : Type 0 where
-  pub call : new_calls ≡ next_count old_calls
-  pub served : OnOk result (¬ Contains old_fails (next_count old_calls))
-  pub same_list : new_fails ≡ old_fails
-  pub faults : new_faults ≡ faults_after result old_faults

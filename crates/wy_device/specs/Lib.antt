@@ -1,13 +1,7 @@
-pub mod Deeds
 pub mod Device
 pub mod Devices
 pub mod Editions
 pub mod Events
-pub mod FolderFiles
-pub mod MemClock
-pub mod MemConsole
-pub mod MemFolder
-pub mod MemRandom
 pub mod Operation
 pub mod Operators
 pub mod Primitives

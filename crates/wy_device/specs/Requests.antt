@@ -1,6 +1,7 @@
 -- Operations on grants: which one a method asks for, what traps before a device is asked, and what a tape
 -- answers. (docs/LANGUAGE.md, "Operations on grants")
-use Rattle.std.specs.Prelude.{ℕ, ◌==◌, nat_le, Bool, true, false, not, ◌&&◌, ◌||◌, List, [], ◌∷◌, length, Option, Some, None, bytes_eq, if◌then◌else◌}
+use Rattle.std.specs.Prelude.{ℕ, ◌==◌, nat_le, Bool, true, false, not, ◌&&◌, ◌||◌, List, [], ◌∷◌, ◌++◌, length, Option, Some, None, bytes_eq, if◌then◌else◌}
+use Rattle.std.specs.List.{flat_map}
 use Rattle.wy_device.specs.Operation.{name_of, kind_of, method_text}
 use Rattle.wy_device.specs.Primitives.{operations_of}
 use Rattle.wy_device.specs.Tapes.{Tapes}
@@ -53,6 +54,10 @@ are_name_bytes (b ∷ bs) = is_name_byte b && are_name_bytes bs
 abbrev pub is_file_name : List ℕ → Bool
 is_file_name [] = false
 is_file_name (b ∷ bs) = not (b == 46) && are_name_bytes (b ∷ bs) && nat_le (length (b ∷ bs)) 64
+
+-- names, each followed by a newline, as a folder lists its files
+abbrev pub in_lines : List (List ℕ) → List ℕ
+in_lines names = flat_map (λ name. name ++ 10 ∷ []) names
 
 -- each name that the operation has is a file's
 abbrev pub has_good_name : Op → Bool

@@ -44,6 +44,12 @@ pub enum OpName {
     FolderRemove,
 }
 
+/// How many bytes a text of a run has at most, and so an answer of a folder (docs/LANGUAGE.md, "Limits").
+pub const LONGEST_TEXT: usize = 4_194_304;
+
+/// How many bytes one `read` of a console gives at most.
+pub const LONGEST_LINE: usize = 65_536;
+
 /// What a device answers: bytes, a truth value, a number, or that it is done.
 #[derive(Drop)]
 pub enum Answer {

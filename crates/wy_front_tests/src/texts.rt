@@ -3,11 +3,10 @@ ghost use Rattle.wy_text.specs.Outside.{SinkState};
 
 use std::alloc::Global;
 use std::test::Fail;
+use wy_memory::{MemShelf, MemSink};
 use wy_text::fault::RuleName;
 use wy_text::limit::LimitName;
 use wy_text::list::{CallList, Items};
-use wy_text::mem_shelf::MemShelf;
-use wy_text::mem_sink::MemSink;
 use wy_text::shelf::{FileList, NamedText, ReadError, Shelf};
 use wy_text::sink::{Sink, WriteError};
 use wy_text::text::{Memory, from_bytes, from_vec};

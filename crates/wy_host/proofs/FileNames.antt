@@ -9,8 +9,7 @@ use Rattle.std.specs.List.Sorted.{IsStrictlySortedBy}
 use Rattle.std.specs.Ordering.{nat_cmp}
 use Rattle.std.specs.String.{string_cmp}
 use Rattle.std.proofs.lemmas.List.Elements.{All-map}
-use Rattle.wy_device.specs.FolderFiles.{in_lines}
-use Rattle.wy_device.specs.Requests.{is_file_name}
+use Rattle.wy_device.specs.Requests.{in_lines, is_file_name}
 use Rattle.wy_host.specs.FolderNames.{HoldsFileNames, ListsFileNames}
 
 below-map : {A : Type 0} (x : List ℕ) (names : List (String A)) → AllByRecursion (λ y. slice_cmp nat_cmp x (string_bytes y) ≡ Less) names

@@ -6,8 +6,7 @@ use Rattle.std.specs.List.Sorted.{IsStrictlySortedBy}
 use Rattle.std.specs.Ordering.{nat_cmp}
 use Rattle.std.specs.String.{string_cmp}
 use Rattle.std.specs.declared.string.String.{String}
-use Rattle.wy_device.specs.FolderFiles.{in_lines}
-use Rattle.wy_device.specs.Requests.{is_file_name}
+use Rattle.wy_device.specs.Requests.{in_lines, is_file_name}
 
 -- a set of names of files
 pub record HoldsFileNames {A : Type 0} (names : BTreeSet (String A)) : Type 0 where

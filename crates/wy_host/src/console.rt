@@ -6,8 +6,7 @@ use std::alloc::{AllocError, Global};
 use std::io::{self, BufRead, Read, Write};
 use wy_device::deed::DeedList;
 use wy_device::device::{Device, DeviceError};
-use wy_device::mem_console::LONGEST_LINE;
-use wy_device::operation::{Answer, Kind, Op};
+use wy_device::operation::{Answer, Kind, LONGEST_LINE, Op};
 use wy_text::text::{Text, from_bytes};
 
 /// Lines of a reader as the input, and a writer as the output. It tells no deeds.

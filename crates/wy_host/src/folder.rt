@@ -18,8 +18,7 @@ use std::str;
 use wy_device::deed::DeedList;
 use wy_device::device::{Device, DeviceError};
 use wy_device::file_name::is_file_name;
-use wy_device::mem_folder::LONGEST_TEXT;
-use wy_device::operation::{Answer, Kind, Op};
+use wy_device::operation::{Answer, Kind, LONGEST_TEXT, Op};
 use wy_text::text::{Memory, Text, from_vec};
 
 /// The folders of the machine: a grant's is the one of its name in the base. It tells no deeds.

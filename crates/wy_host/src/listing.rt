@@ -1,6 +1,5 @@
 ghost use Rattle.std.specs.Prelude.{◌≡◌, ◌++◌, ◌∷◌, [], true, map, string_bytes, IfOk, OnOk};
-ghost use Rattle.wy_device.specs.FolderFiles.{in_lines};
-ghost use Rattle.wy_device.specs.Requests.{is_file_name};
+ghost use Rattle.wy_device.specs.Requests.{in_lines, is_file_name};
 ghost use Rattle.wy_host.specs.FolderNames.{HoldsFileNames, ListsFileNames};
 
 use std::alloc::{AllocError, Global};

@@ -18,7 +18,7 @@ use crate::store::Store;
 use crate::word::Word;
 use std::alloc::Global;
 use wy_code::code::Code;
-use wy_device::mem_folder::LONGEST_TEXT;
+use wy_device::operation::LONGEST_TEXT;
 use wy_text::text::{Memory, Text, from_bytes};
 
 /// The text of a number; `None` exactly where there is none.

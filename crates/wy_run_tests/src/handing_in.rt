@@ -7,11 +7,11 @@ use std::alloc::Global;
 use std::test::Fail;
 use wy_device::device::{Device, DeviceError};
 use wy_device::handed::Handed;
-use wy_device::mem_console::MemConsole;
 use wy_device::operation::{Kind, Op};
 use wy_device::shut::Shut;
 use wy_machine::devices::Devices;
 use wy_machine::devices::handing_in::devices;
+use wy_memory::MemConsole;
 use wy_text::list::Items;
 use wy_text::text::{Memory, from_bytes};
 

@@ -1,6 +1,4 @@
 pub mod LimitName
-pub mod MemShelf
-pub mod MemSink
 pub mod Members
 pub mod Outside
 pub mod Quoted

@@ -6,8 +6,6 @@ pub mod fault;
 pub mod limit;
 pub mod list;
 pub mod list_equality;
-pub mod mem_shelf;
-pub mod mem_sink;
 pub mod quoting;
 pub mod shelf;
 pub mod sink;

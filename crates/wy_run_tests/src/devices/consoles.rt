@@ -3,7 +3,8 @@ use crate::asking::{gives, read, write};
 use std::alloc::Global;
 use std::test::Fail;
 use wy_device::device::Device;
-use wy_device::mem_console::{LONGEST_LINE, MemConsole};
+use wy_device::operation::LONGEST_LINE;
+use wy_memory::MemConsole;
 use wy_text::text::{Memory, Text, from_bytes, from_vec};
 
 /// So many bytes, and two lines behind them.

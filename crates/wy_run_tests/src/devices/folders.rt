@@ -3,8 +3,8 @@ use crate::asking::{Asked, all_are_answered, answer};
 use std::alloc::Global;
 use std::test::Fail;
 use wy_device::device::Device;
-use wy_device::folder_files::{FolderFile, FolderList};
-use wy_device::mem_folder::{LONGEST_TEXT, MemFolder};
+use wy_device::operation::LONGEST_TEXT;
+use wy_memory::{FolderFile, FolderList, MemFolder};
 use wy_text::list::Items;
 use wy_text::text::{Memory, Text, from_bytes, from_vec};
 

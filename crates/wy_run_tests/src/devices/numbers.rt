@@ -2,9 +2,8 @@ use super::{are_told, failing_at};
 use std::alloc::Global;
 use std::test::Fail;
 use wy_device::device::{Device, DeviceError};
-use wy_device::mem_clock::MemClock;
-use wy_device::mem_random::{MemRandom, NumberList};
 use wy_device::operation::{Answer, Op};
+use wy_memory::{MemClock, MemRandom, NumberList};
 use wy_text::list::Items;
 use wy_text::text::{Memory, Text, from_bytes};
 

@@ -2,7 +2,7 @@ use crate::asking::{Asked, all_are_answered};
 use std::os::unix::fs::symlink;
 use std::test::Fail;
 use std::{env, fs, io, process};
-use wy_device::mem_folder::LONGEST_TEXT;
+use wy_device::operation::LONGEST_TEXT;
 use wy_host::folder::RealFolder;
 
 /// Writes a file below a path.

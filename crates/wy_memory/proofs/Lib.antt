@@ -1,0 +1,4 @@
+pub mod Finding
+pub mod Naming
+pub mod Putting
+pub mod Rounds

@@ -1,0 +1,9 @@
+pub mod Deeds
+pub mod Failing
+pub mod FolderFiles
+pub mod MemClock
+pub mod MemConsole
+pub mod MemFolder
+pub mod MemRandom
+pub mod MemShelf
+pub mod MemSink
