@@ -1,7 +1,9 @@
-ghost use Rattle.std.specs.Prelude.{◌≡◌, ◌≤◌, Err, IfOk, length};
-ghost use Rattle.wy_text.specs.Outside.{Rose};
+ghost use Rattle.std.specs.Prelude.{◌≤◌, IfOk, length};
+ghost use Rattle.std.specs.Result.{result_err};
 ghost use Rattle.wy_device.specs.Device.{DeviceState};
+ghost use Rattle.wy_host.specs.Failures.{CountsFailure};
 
+use crate::fault::count_fault;
 use std::alloc::{AllocError, Global};
 use std::io::{self, BufRead, Read, Write};
 use wy_device::deed::DeedList;
@@ -48,24 +50,13 @@ impl<I: BufRead + Drop, O: Write + Drop> RealConsole<I, O> {
         })
     }
 
-    /// Counts a fault.
-    fn fault(&mut self) -> DeviceError
-        ensures failed { result ≡ DeviceError.Failed }
-        ensures counted { self.old.faults ≤ self.new.faults }
-        ensures rose { Rose self.old.faults self.new.faults }
-    {
-        self.faults = self.faults.saturating_add(1);
-        DeviceError::Failed
-    }
-
     /// The next line with its newline, or a piece of it; the empty text at the end of the input.
     fn read_line(&mut self) -> Result<Text, DeviceError>
         ensures piece { IfOk result (λ text. length text ≤ 65536) }
-        ensures counted { self.old.faults ≤ self.new.faults }
-        ensures failed { result ≡ Err DeviceError.Failed → Rose self.old.faults self.new.faults }
+        ensures counted { CountsFailure self.old.faults self.new.faults (result_err result) }
     {
         if fill(&mut self.input, &mut self.line).is_err() || self.line.len() > LONGEST_LINE {
-            return Err(self.fault());
+            return Err(count_fault(&mut self.faults));
         }
         let line = from_bytes(self.alloc, self.line.as_slice())?;
         self.line.clear();
@@ -73,12 +64,11 @@ impl<I: BufRead + Drop, O: Write + Drop> RealConsole<I, O> {
     }
 
     fn write_text(&mut self, text: &Text) -> Result<(), DeviceError>
-        ensures counted { self.old.faults ≤ self.new.faults }
-        ensures failed { result ≡ Err DeviceError.Failed → Rose self.old.faults self.new.faults }
+        ensures counted { CountsFailure self.old.faults self.new.faults (result_err result) }
     {
         match self.output.write_all(text.as_bytes()) {
             Ok(()) => Ok(()),
-            Err(_) => Err(self.fault()),
+            Err(_) => Err(count_fault(&mut self.faults)),
         }
     }
 }

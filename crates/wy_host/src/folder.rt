@@ -1,8 +1,9 @@
-ghost use Rattle.std.specs.Prelude.{◌≡◌, ◌≤◌, ◌++◌, ◌∷◌, List, ℕ, Err, Ok, IfOk, OnOk, IfSome, OnSome, IsTrue, Contains, true, length, string_bytes};
-ghost use Rattle.wy_text.specs.Outside.{Rose};
+ghost use Rattle.std.specs.Prelude.{◌≡◌, ◌≤◌, ◌++◌, ◌∷◌, List, ℕ, Ok, IfOk, OnOk, IfSome, OnSome, IsTrue, Contains, true, length, string_bytes};
+ghost use Rattle.std.specs.Result.{result_err};
 ghost use Rattle.wy_device.specs.Device.{DeviceState, IsBytesUpTo, IsTruth};
 ghost use Rattle.wy_device.specs.Requests as requests;
 ghost use Rattle.wy_device.specs.Traps.{text_limit};
+ghost use Rattle.wy_host.specs.Failures.{CountsFailure};
 ghost use Rattle.wy_host.specs.FolderNames.{HoldsFileNames, ListsFileNames};
 
 use crate::fault::count_fault;
@@ -89,8 +90,7 @@ impl<R: Files + AllocGlobal + Clone + Drop> RealFolder<R> {
     /// What a look or a read gave. It changed nothing on the machine, so want of memory is no fault.
     fn told<T: Drop>(&mut self, outcome: io::Result<T>) -> Result<T, DeviceError>
         ensures same { IfOk result (λ value. outcome ≡ Ok value) }
-        ensures counted { self.old.faults ≤ self.new.faults }
-        ensures failed { result ≡ Err DeviceError.Failed → Rose self.old.faults self.new.faults }
+        ensures counted { CountsFailure self.old.faults self.new.faults (result_err result) }
     {
         match outcome {
             Ok(value) => Ok(value),
@@ -102,8 +102,7 @@ impl<R: Files + AllocGlobal + Clone + Drop> RealFolder<R> {
     /// What a write or a removal gave. It may have changed something, so each error is a fault.
     fn done(&mut self, outcome: io::Result<()>) -> Result<Answer, DeviceError>
         ensures unit { IfOk result (λ a. a ≡ Answer.Unit) }
-        ensures counted { self.old.faults ≤ self.new.faults }
-        ensures failed { result ≡ Err DeviceError.Failed → Rose self.old.faults self.new.faults }
+        ensures counted { CountsFailure self.old.faults self.new.faults (result_err result) }
     {
         match outcome {
             Ok(()) => Ok(Answer::Unit),
@@ -115,8 +114,7 @@ impl<R: Files + AllocGlobal + Clone + Drop> RealFolder<R> {
     fn answer(&mut self, bytes: Vec<u8>) -> Result<Answer, DeviceError>
         ensures text { IfOk result (λ a. a ≡ Answer.Bytes bytes.items) }
         ensures short { IfOk result (λ _. length bytes.items ≤ text_limit) }
-        ensures counted { self.old.faults ≤ self.new.faults }
-        ensures failed { result ≡ Err DeviceError.Failed → Rose self.old.faults self.new.faults }
+        ensures counted { CountsFailure self.old.faults self.new.faults (result_err result) }
     {
         if bytes.len() > LONGEST_TEXT {
             return Err(count_fault(&mut self.faults));
@@ -128,8 +126,7 @@ impl<R: Files + AllocGlobal + Clone + Drop> RealFolder<R> {
     /// machine may change: whoever may write in the base can put a link there.
     fn folder_path(&mut self, grant: &Text) -> Result<String, DeviceError>
         ensures path { IfOk result (λ path. string_bytes path ≡ string_bytes self.old.base ++ 47 ∷ grant.now) }
-        ensures counted { self.old.faults ≤ self.new.faults }
-        ensures failed { result ≡ Err DeviceError.Failed → Rose self.old.faults self.new.faults }
+        ensures counted { CountsFailure self.old.faults self.new.faults (result_err result) }
     {
         match folder_name(grant) {
             Some(name) => self.path_in_base(name),
@@ -140,8 +137,7 @@ impl<R: Files + AllocGlobal + Clone + Drop> RealFolder<R> {
     /// The path of a folder in the base, which is there and is no link.
     fn path_in_base(&mut self, name: &str) -> Result<String, DeviceError>
         ensures path { IfOk result (λ path. string_bytes path ≡ string_bytes self.old.base ++ 47 ∷ name.now) }
-        ensures counted { self.old.faults ≤ self.new.faults }
-        ensures failed { result ≡ Err DeviceError.Failed → Rose self.old.faults self.new.faults }
+        ensures counted { CountsFailure self.old.faults self.new.faults (result_err result) }
     {
         let path = path_in(self.alloc, self.base.as_str(), name)?;
         let there = is_folder(&self.rt, path.as_str());
@@ -156,8 +152,7 @@ impl<R: Files + AllocGlobal + Clone + Drop> RealFolder<R> {
     fn file_path(&mut self, grant: &Text, name: &Text) -> Result<String, DeviceError>
         ensures path { IfOk result (λ path. string_bytes path ≡ string_bytes self.old.base ++ 47 ∷ grant.now ++ 47 ∷ name.now) }
         ensures named { OnOk result (requests.is_file_name name.now ≡ true) }
-        ensures counted { self.old.faults ≤ self.new.faults }
-        ensures failed { result ≡ Err DeviceError.Failed → Rose self.old.faults self.new.faults }
+        ensures counted { CountsFailure self.old.faults self.new.faults (result_err result) }
     {
         match file_name(name) {
             Some(file) => self.path_in_folder(grant, file),
@@ -168,8 +163,7 @@ impl<R: Files + AllocGlobal + Clone + Drop> RealFolder<R> {
     /// The path of what goes by a name in a grant's folder.
     fn path_in_folder(&mut self, grant: &Text, name: &str) -> Result<String, DeviceError>
         ensures path { IfOk result (λ path. string_bytes path ≡ string_bytes self.old.base ++ 47 ∷ grant.now ++ 47 ∷ name.now) }
-        ensures counted { self.old.faults ≤ self.new.faults }
-        ensures failed { result ≡ Err DeviceError.Failed → Rose self.old.faults self.new.faults }
+        ensures counted { CountsFailure self.old.faults self.new.faults (result_err result) }
     {
         let folder = self.folder_path(grant)?;
         Ok(path_in(self.alloc, folder.as_str(), name)?)
@@ -177,8 +171,7 @@ impl<R: Files + AllocGlobal + Clone + Drop> RealFolder<R> {
 
     /// The bytes of a file, at most one more than an answer may have.
     fn bytes_of(&mut self, grant: &Text, name: &Text) -> Result<Vec<u8>, DeviceError>
-        ensures counted { self.old.faults ≤ self.new.faults }
-        ensures failed { result ≡ Err DeviceError.Failed → Rose self.old.faults self.new.faults }
+        ensures counted { CountsFailure self.old.faults self.new.faults (result_err result) }
     {
         let path = self.file_path(grant, name)?;
         let bytes = read_file(&self.rt, self.alloc, path.as_str(), LONGEST_TEXT as u64 + 1);
@@ -187,8 +180,7 @@ impl<R: Files + AllocGlobal + Clone + Drop> RealFolder<R> {
 
     fn read(&mut self, grant: &Text, name: &Text) -> Result<Answer, DeviceError>
         ensures short { IfOk result (IsBytesUpTo text_limit) }
-        ensures counted { self.old.faults ≤ self.new.faults }
-        ensures failed { result ≡ Err DeviceError.Failed → Rose self.old.faults self.new.faults }
+        ensures counted { CountsFailure self.old.faults self.new.faults (result_err result) }
     {
         let bytes = self.bytes_of(grant, name)?;
         self.answer(bytes)
@@ -196,8 +188,7 @@ impl<R: Files + AllocGlobal + Clone + Drop> RealFolder<R> {
 
     fn has(&mut self, grant: &Text, name: &Text) -> Result<Answer, DeviceError>
         ensures truth { IfOk result IsTruth }
-        ensures counted { self.old.faults ≤ self.new.faults }
-        ensures failed { result ≡ Err DeviceError.Failed → Rose self.old.faults self.new.faults }
+        ensures counted { CountsFailure self.old.faults self.new.faults (result_err result) }
     {
         let path = self.file_path(grant, name)?;
         let there = is_plain_file(&self.rt, path.as_str());
@@ -206,8 +197,7 @@ impl<R: Files + AllocGlobal + Clone + Drop> RealFolder<R> {
 
     fn write(&mut self, grant: &Text, name: &Text, text: &Text) -> Result<Answer, DeviceError>
         ensures unit { IfOk result (λ a. a ≡ Answer.Unit) }
-        ensures counted { self.old.faults ≤ self.new.faults }
-        ensures failed { result ≡ Err DeviceError.Failed → Rose self.old.faults self.new.faults }
+        ensures counted { CountsFailure self.old.faults self.new.faults (result_err result) }
     {
         let path = self.file_path(grant, name)?;
         let written = write_file(&self.rt, path.as_str(), text.as_bytes());
@@ -216,8 +206,7 @@ impl<R: Files + AllocGlobal + Clone + Drop> RealFolder<R> {
 
     fn append(&mut self, grant: &Text, name: &Text, text: &Text) -> Result<Answer, DeviceError>
         ensures unit { IfOk result (λ a. a ≡ Answer.Unit) }
-        ensures counted { self.old.faults ≤ self.new.faults }
-        ensures failed { result ≡ Err DeviceError.Failed → Rose self.old.faults self.new.faults }
+        ensures counted { CountsFailure self.old.faults self.new.faults (result_err result) }
     {
         let path = self.file_path(grant, name)?;
         let written = append_file(&self.rt, path.as_str(), text.as_bytes());
@@ -226,8 +215,7 @@ impl<R: Files + AllocGlobal + Clone + Drop> RealFolder<R> {
 
     fn remove(&mut self, grant: &Text, name: &Text) -> Result<Answer, DeviceError>
         ensures unit { IfOk result (λ a. a ≡ Answer.Unit) }
-        ensures counted { self.old.faults ≤ self.new.faults }
-        ensures failed { result ≡ Err DeviceError.Failed → Rose self.old.faults self.new.faults }
+        ensures counted { CountsFailure self.old.faults self.new.faults (result_err result) }
     {
         let path = self.file_path(grant, name)?;
         let removed = remove_file(&self.rt, path.as_str());
@@ -237,8 +225,7 @@ impl<R: Files + AllocGlobal + Clone + Drop> RealFolder<R> {
     /// The names of the files in a grant's folder.
     fn names_in(&mut self, grant: &Text) -> Result<BTreeSet<String>, DeviceError>
         ensures held { IfOk result HoldsFileNames }
-        ensures counted { self.old.faults ≤ self.new.faults }
-        ensures failed { result ≡ Err DeviceError.Failed → Rose self.old.faults self.new.faults }
+        ensures counted { CountsFailure self.old.faults self.new.faults (result_err result) }
     {
         let path = self.folder_path(grant)?;
         let names = file_names(&self.rt, path.as_str());
@@ -248,8 +235,7 @@ impl<R: Files + AllocGlobal + Clone + Drop> RealFolder<R> {
     fn names(&mut self, grant: &Text) -> Result<Answer, DeviceError>
         ensures listed { IfOk result (λ a. (text : List ℕ) × (a ≡ Answer.Bytes text) × ListsFileNames text) }
         ensures short { IfOk result (IsBytesUpTo text_limit) }
-        ensures counted { self.old.faults ≤ self.new.faults }
-        ensures failed { result ≡ Err DeviceError.Failed → Rose self.old.faults self.new.faults }
+        ensures counted { CountsFailure self.old.faults self.new.faults (result_err result) }
     {
         let names = self.names_in(grant)?;
         let lines = listing(self.alloc, &names)?;
