@@ -15,10 +15,13 @@ class GateTimes(ToolTest):
         os.makedirs(os.path.join(self.room, "rt-edit-1"))
 
     def test_each_process_goes_to_its_crate_and_kind(self):
-        gate = "./rattle build --crate-name wy_x; ./rattle check --test --crate-name wy_x; cd rt-edit-1; ../rattle check --crate-name wy_y; exit 3"
+        gate = (
+            "./rattle build --crate-name wy_x; ./rattle build --crate-name wy_x --crate-checked c; "
+            "./rattle check --test --crate-name wy_x; cd rt-edit-1; ../rattle check --crate-name wy_y; exit 3"
+        )
         self.assertEqual(self.tool("gate_times", "table", "sh", "-c", gate).returncode, 3)
         head, *lines = [it.split() for it in self.read("table").splitlines()]
-        self.assertEqual(sorted(it[1:] for it in lines), [["wy_x", "proof"], ["wy_x", "tests"], ["wy_y", "edits"]])
+        self.assertEqual(sorted(it[1:] for it in lines), [["wy_x", "builds"], ["wy_x", "proof"], ["wy_x", "tests"], ["wy_y", "edits"]])
         self.assertTrue(all(float(it[0]) > 0 for it in lines))
         self.assertEqual(head[1:3], ["in", "all:"])
 
