@@ -24,6 +24,10 @@ set_text (atom ∷ atoms) = atom_text atom ++ atoms_after atoms
 abbrev pub named_atoms : List AtomName → List ℕ → List AtomName
 named_atoms atoms set = map (λ a. slice_index_or atoms a (atom_name [] [])) set
 
+-- a line of the report: a name behind a beginning, and a set
+abbrev pub row_text : List AtomName → List ℕ → List ℕ → List ℕ → List ℕ
+row_text atoms before name set = (before ++ (name ++ codes ": ")) ++ (set_text (named_atoms atoms set) ++ codes "\n")
+
 abbrev pub body_lines : List AtomName → List BodyRow → List ℕ
 body_lines atoms [] = []
 body_lines atoms (b ∷ bs) = codes "  " ++ (b.name ++ (codes ": " ++ (set_text (named_atoms atoms b.set) ++ (codes "\n" ++ body_lines atoms bs))))

@@ -50,6 +50,35 @@ fn add_row(
     rows.push(BodyRow { name, set })
 }
 
+/// Adds the row of the body that a scope starts with.
+fn add_start(
+    alloc: Global,
+    rows: &mut Items<BodyRow>,
+    name: &str,
+    bound: &Option<EffSet>,
+    sets: &[EffSet],
+    effect: &EffSet,
+) -> Result<(), Memory>
+    ensures { OnOk result (rows.new ≡ rows.old ++ body_row name.now (body_set bound.now sets.now effect.now) ∷ []) }
+{
+    let name = from_bytes(alloc, name.as_bytes())?;
+    add_row(rows, name, bound, sets, effect)
+}
+
+/// Adds the row of a method.
+fn add_body(
+    alloc: Global,
+    rows: &mut Items<BodyRow>,
+    bound: &Option<EffSet>,
+    sets: &[EffSet],
+    body: &Body,
+) -> Result<(), Memory>
+    ensures { OnOk result (rows.new ≡ rows.old ++ body_row (body_name (body_of body.now)) (body_set bound.now sets.now body.now.signature.effect) ∷ []) }
+{
+    let name = body_name(alloc, body)?;
+    add_row(rows, name, bound, sets, &body.signature.effect)
+}
+
 /// The bodies of a scope: the one that it starts with, by the name that is given, and then its methods.
 fn body_rows(
     alloc: Global,
@@ -61,11 +90,9 @@ fn body_rows(
     ensures { IfOk result (λ rows. rows ≡ body_rows bound.now sets.now first.now (Some (scope_of scope.now))) }
 {
     let mut rows = Items::new(alloc);
-    let start = from_bytes(alloc, first.as_bytes())?;
-    add_row(&mut rows, start, bound, sets, &scope.start_effect)?;
+    add_start(alloc, &mut rows, first, bound, sets, &scope.start_effect)?;
     for body in scope.bodies.as_slice() {
-        let name = body_name(alloc, body)?;
-        add_row(&mut rows, name, bound, sets, &body.signature.effect)?;
+        add_body(alloc, &mut rows, bound, sets, body)?;
     }
     Ok(rows)
 }
@@ -154,15 +181,22 @@ fn members_of<'a>(core: &'a Core, typ: &TypeRef) -> &'a [Text]
     }
 }
 
+/// The atom of a member of an owner.
+fn atom_of(owner: &Text, member: &Text) -> Result<AtomName, Memory>
+    ensures { IfOk result (λ atom. atom ≡ atom_name owner.now member.now) }
+{
+    Ok(AtomName {
+        owner: owner.copy()?,
+        member: member.copy()?,
+    })
+}
+
 /// Adds the atoms of an owner and these members.
 fn add_members(atoms: &mut Items<AtomName>, owner: &Text, members: &[Text]) -> Result<(), Memory>
     ensures { OnOk result (atoms.new ≡ atoms.old ++ map (atom_name owner.now) members.now) }
 {
     for member in members {
-        atoms.push(AtomName {
-            owner: owner.copy()?,
-            member: member.copy()?,
-        })?;
+        atoms.push(atom_of(owner, member)?)?;
     }
     Ok(())
 }

@@ -5,7 +5,7 @@ ghost use Rattle.wy_text.specs.Outside.{Rose};
 ghost use Rattle.wy_text.specs.Writing.{StopsShort, WritesUpTo};
 ghost use Rattle.wy_effects.specs.AtomTable.{atom_name};
 ghost use Rattle.wy_authority.specs.Authority.{whole_set};
-ghost use Rattle.wy_authority.specs.Report.{atom_text, atoms_after, body_lines, instance_text, named_atoms, report_text, set_text};
+ghost use Rattle.wy_authority.specs.Report.{atom_text, atoms_after, body_lines, instance_text, named_atoms, report_text, row_text, set_text};
 
 use crate::rows::{Authority, BodyRow, InstanceRow};
 use std::alloc::Global;
@@ -28,18 +28,31 @@ pub fn whole_set(alloc: Global, bodies: &[BodyRow]) -> Result<EffSet, Memory>
     Ok(whole)
 }
 
+/// Adds three pieces, one behind the other.
+fn push_three(text: &mut Vec<u8>, first: &[u8], second: &[u8], third: &[u8]) -> Result<(), Memory>
+    ensures { OnOk result (text.new.items ≡ text.old.items ++ (first.now ++ (second.now ++ third.now))) }
+{
+    text.extend_from_slice(first)?;
+    text.extend_from_slice(second)?;
+    text.extend_from_slice(third)?;
+    Ok(())
+}
+
+/// Adds one piece.
+fn push(text: &mut Vec<u8>, piece: &[u8]) -> Result<(), Memory>
+    ensures { OnOk result (text.new.items ≡ text.old.items ++ piece.now) }
+{
+    text.extend_from_slice(piece)?;
+    Ok(())
+}
+
 fn push_atom(text: &mut Vec<u8>, atoms: &[AtomName], atom: Atom) -> Result<(), Memory>
     ensures { OnOk result (text.new.items ≡ text.old.items ++ atom_text (slice_index_or atoms.now atom.0 (atom_name [] []))) }
 {
     match atoms.get(atom.0 as usize) {
-        None => text.extend_from_slice(b".")?,
-        Some(name) => {
-            text.extend_from_slice(name.owner.as_bytes())?;
-            text.extend_from_slice(b".")?;
-            text.extend_from_slice(name.member.as_bytes())?;
-        }
+        None => push(text, b"."),
+        Some(name) => push_three(text, name.owner.as_bytes(), b".", name.member.as_bytes()),
     }
-    Ok(())
 }
 
 /// Adds the atoms that stand behind another, each after a comma.
@@ -60,24 +73,34 @@ pub fn push_set(text: &mut Vec<u8>, atoms: &[AtomName], set: &EffSet) -> Result<
 {
     let numbers = set.atoms()?;
     match numbers.as_slice().split_first() {
-        None => text.extend_from_slice(b"-")?,
+        None => push(text, b"-"),
         Some((first, others)) => {
             push_atom(text, atoms, *first)?;
-            push_others(text, atoms, others)?;
+            push_others(text, atoms, others)
         }
     }
-    Ok(())
+}
+
+/// Adds a name between two pieces, a set and a newline.
+fn push_row(
+    text: &mut Vec<u8>,
+    atoms: &[AtomName],
+    before: &[u8],
+    name: &Text,
+    set: &EffSet,
+) -> Result<(), Memory>
+    ensures { OnOk result (text.new.items ≡ text.old.items ++ row_text atoms.now before.now name.now set.now) }
+{
+    push_three(text, before, name.as_bytes(), b": ")?;
+    push_set(text, atoms, set)?;
+    push(text, b"\n")
 }
 
 fn push_bodies(text: &mut Vec<u8>, atoms: &[AtomName], bodies: &[BodyRow]) -> Result<(), Memory>
     ensures { OnOk result (text.new.items ≡ text.old.items ++ body_lines atoms.now bodies.now) }
 {
     for body in bodies {
-        text.extend_from_slice(b"  ")?;
-        text.extend_from_slice(body.name.as_bytes())?;
-        text.extend_from_slice(b": ")?;
-        push_set(text, atoms, &body.set)?;
-        text.extend_from_slice(b"\n")?;
+        push_row(text, atoms, b"  ", &body.name, &body.set)?;
     }
     Ok(())
 }
@@ -90,12 +113,8 @@ fn push_instance(
 ) -> Result<(), Memory>
     ensures { OnOk result (text.new.items ≡ text.old.items ++ instance_text atoms.now row.now) }
 {
-    text.extend_from_slice(b"authority of ")?;
-    text.extend_from_slice(row.name.as_bytes())?;
-    text.extend_from_slice(b": ")?;
     let whole = whole_set(alloc, row.bodies.as_slice())?;
-    push_set(text, atoms, &whole)?;
-    text.extend_from_slice(b"\n")?;
+    push_row(text, atoms, b"authority of ", &row.name, &whole)?;
     push_bodies(text, atoms, row.bodies.as_slice())
 }
 

@@ -1,4 +1,5 @@
 ghost use Rattle.std.specs.Prelude.{◌≡◌, ◌++◌, ◌∷◌, [], IfOk, OnOk};
+ghost use Rattle.std.specs.Fmt.{signed_decimal};
 ghost use Rattle.wy_text.specs.Quoted.{quoted_form};
 ghost use Rattle.wy_meaning.specs.EventLines as lines;
 
@@ -7,13 +8,37 @@ use wy_device::deed::{Deed, Event};
 use wy_device::operation::{Answer, Op};
 use wy_text::text::{Memory, Text, from_vec};
 
+/// Adds a piece.
+fn push(line: &mut Vec<u8>, piece: &[u8]) -> Result<(), Memory>
+    ensures { OnOk result (line.new.items ≡ line.old.items ++ piece.now) }
+{
+    line.extend_from_slice(piece)?;
+    Ok(())
+}
+
+/// Adds three pieces, one behind the other.
+fn push_three(line: &mut Vec<u8>, first: &[u8], second: &[u8], third: &[u8]) -> Result<(), Memory>
+    ensures { OnOk result (line.new.items ≡ line.old.items ++ (first.now ++ (second.now ++ third.now))) }
+{
+    push(line, first)?;
+    push(line, second)?;
+    push(line, third)
+}
+
 /// Adds a text between quotes.
 fn push_quoted(line: &mut Vec<u8>, text: &Text) -> Result<(), Memory>
     ensures { OnOk result (line.new.items ≡ line.old.items ++ quoted_form text.now) }
 {
     let quoted = text.quoted()?;
-    line.extend_from_slice(quoted.as_bytes())?;
-    Ok(())
+    push(line, quoted.as_bytes())
+}
+
+/// Adds a number.
+fn push_number(alloc: Global, line: &mut Vec<u8>, number: i64) -> Result<(), Memory>
+    ensures { OnOk result (line.new.items ≡ line.old.items ++ signed_decimal number) }
+{
+    let digits = format!(in alloc; "{number}")?;
+    push(line, digits.as_bytes())
 }
 
 /// Adds two texts between quotes, with a comma between them.
@@ -21,7 +46,7 @@ fn push_two(line: &mut Vec<u8>, first: &Text, second: &Text) -> Result<(), Memor
     ensures { OnOk result (line.new.items ≡ line.old.items ++ lines.arguments_text (first.now ∷ second.now ∷ [])) }
 {
     push_quoted(line, first)?;
-    line.extend_from_slice(b", ")?;
+    push(line, b", ")?;
     push_quoted(line, second)
 }
 
@@ -44,28 +69,23 @@ fn push_answer(alloc: Global, line: &mut Vec<u8>, answer: &Option<Answer>) -> Re
     ensures { OnOk result (line.new.items ≡ line.old.items ++ lines.answer_text answer.now) }
 {
     match answer {
-        None => line.extend_from_slice(b"failed")?,
-        Some(Answer::Bytes(text)) => push_quoted(line, text)?,
-        Some(Answer::Truth(true)) => line.extend_from_slice(b"true")?,
-        Some(Answer::Truth(false)) => line.extend_from_slice(b"false")?,
-        Some(Answer::Number(number)) => {
-            let digits = format!(in alloc; "{number}")?;
-            line.extend_from_slice(digits.as_bytes())?;
-        }
-        Some(Answer::Unit) => line.extend_from_slice(b"()")?,
+        None => push(line, b"failed"),
+        Some(Answer::Bytes(text)) => push_quoted(line, text),
+        Some(Answer::Truth(true)) => push(line, b"true"),
+        Some(Answer::Truth(false)) => push(line, b"false"),
+        Some(Answer::Number(number)) => push_number(alloc, line, *number),
+        Some(Answer::Unit) => push(line, b"()"),
     }
-    Ok(())
 }
 
 fn push_deed(alloc: Global, line: &mut Vec<u8>, deed: &Deed) -> Result<(), Memory>
     ensures { OnOk result (line.new.items ≡ line.old.items ++ lines.deed_text deed.now) }
 {
-    line.extend_from_slice(deed.grant.as_bytes())?;
-    line.extend_from_slice(b".")?;
-    line.extend_from_slice(deed.op.name().method().as_bytes())?;
-    line.extend_from_slice(b"(")?;
+    let method = deed.op.name().method();
+    push_three(line, deed.grant.as_bytes(), b".", method.as_bytes())?;
+    push(line, b"(")?;
     push_arguments(line, &deed.op)?;
-    line.extend_from_slice(b") = ")?;
+    push(line, b") = ")?;
     push_answer(alloc, line, &deed.answer)
 }
 
@@ -74,18 +94,15 @@ fn push_event(alloc: Global, line: &mut Vec<u8>, event: &Event) -> Result<(), Me
 {
     match event {
         Event::Enter { instance, body } => {
-            line.extend_from_slice(b"enter ")?;
-            line.extend_from_slice(instance.as_bytes())?;
-            line.extend_from_slice(b" ")?;
-            line.extend_from_slice(body.as_bytes())?;
+            push(line, b"enter ")?;
+            push_three(line, instance.as_bytes(), b" ", body.as_bytes())
         }
         Event::Deed(deed) => {
-            line.extend_from_slice(b"deed ")?;
-            push_deed(alloc, line, deed)?;
+            push(line, b"deed ")?;
+            push_deed(alloc, line, deed)
         }
-        Event::Leave => line.extend_from_slice(b"leave")?,
+        Event::Leave => push(line, b"leave"),
     }
-    Ok(())
 }
 
 /// The line that a traced run writes for an event, with its newline (docs/LANGUAGE.md, "Events").

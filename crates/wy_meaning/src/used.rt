@@ -20,6 +20,18 @@ pub struct Account {
     set: EffSet,
 }
 
+impl Account {
+    /// No call is open, and nothing was used. It takes no memory.
+    fn new(alloc: Global) -> Account
+        ensures { result ≡ used.no_account }
+    {
+        Account {
+            calls: 0,
+            set: EffSet::empty(alloc),
+        }
+    }
+}
+
 /// The atom of a place was used of an instance, if a call of it is open.
 fn note(account: &mut Account, place: Option<usize>)
     requires { IfSome place (λ at. at < 512) }
@@ -90,10 +102,7 @@ impl<'a> Used<'a> {
     {
         let mut accounts = Vec::new(alloc);
         for _ in 0..instances {
-            accounts.push(Account {
-                calls: 0,
-                set: EffSet::empty(alloc),
-            })?;
+            accounts.push(Account::new(alloc))?;
         }
         Ok(Used { atoms, accounts })
     }

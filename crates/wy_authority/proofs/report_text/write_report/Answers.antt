@@ -1,9 +1,6 @@
-use Rattle.std.proofs.Common.{rules, ◌∙◌, ◌++◌, ◌≡◌, [], List, ℕ, ◌+◌, drop, ap, sym, subst}
-use Rattle.wy_text.specs.Outside.{SinkState}
-use Rattle.wy_text.specs.Writing.{StopsShort, WritesUpTo}
+use Rattle.std.proofs.Common.{rules, ◌∙◌, [], List, ◌+◌, drop, ap}
 use Rattle.wy_text.proofs.Gains.{piece_short, rose_later, wrote_piece}
 use Rattle.wy_text.specs.declared.fault.AtomName.{AtomName}
-use Rattle.wy_authority.specs.declared.rows.InstanceRow.{InstanceRow}
 use Rattle.wy_authority.specs.Report.{instance_lines, instance_text, report_text}
 use Rattle.wy_authority.proofs.Reports.{row_next}
 use Rattle.wy_authority.proofs.report_text.write_report.Goals as goal
