@@ -167,14 +167,8 @@ fn emit_start(out: &mut Vec<Placed>, inside: &Inside, start: &Start) -> Result<(
     ensures { OnOk result (out.new.items ≡ start_listing (inside_of inside.now) (start_of start.now)) }
 {
     match start {
-        Start::Init(values) => {
-            emit_fields(out, inside, values)?;
-            Ok(())
-        }
-        Start::Run(block) => {
-            emit_block(out, inside, block)?;
-            Ok(())
-        }
+        Start::Init(values) => emit_fields(out, inside, values),
+        Start::Run(block) => emit_block(out, inside, block),
     }
 }
 

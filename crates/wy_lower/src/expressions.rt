@@ -278,24 +278,21 @@ fn emit_right(
     match evaluation(operator) {
         Sides::Both(operation) => {
             emit_expr(out, inside, right)?;
-            put(out, place, Instruction::Op(operation))?;
-            Ok(())
+            put(out, place, Instruction::Op(operation))
         }
         Sides::And => {
             let test = begin_first(out, place)?;
             emit_expr(out, inside, right)?;
             let first = begin_second(out, place, test)?;
             put(out, place, Instruction::Push(Constant::Truth(false)))?;
-            end_sides(out, place, first)?;
-            Ok(())
+            end_sides(out, place, first)
         }
         Sides::Or => {
             let test = begin_first(out, place)?;
             put(out, place, Instruction::Push(Constant::Truth(true)))?;
             let first = begin_second(out, place, test)?;
             emit_expr(out, inside, right)?;
-            end_sides(out, place, first)?;
-            Ok(())
+            end_sides(out, place, first)
         }
     }
 }
@@ -310,18 +307,14 @@ pub(crate) fn emit_value(
     ensures { OnOk result (Emits out.old.items out.new.items (λ at. value_listing (inside_of inside.now) at (value_of value.now))) }
 {
     match value {
-        Value::Plain(expr) => {
-            emit_expr(out, inside, expr)?;
-            Ok(())
-        }
+        Value::Plain(expr) => emit_expr(out, inside, expr),
         Value::If(place, test, first, second) => {
             emit_expr(out, inside, test)?;
             let tested = begin_first(out, *place)?;
             emit_block(out, inside, first)?;
             let turned = begin_second(out, *place, tested)?;
             emit_block(out, inside, second)?;
-            end_sides(out, *place, turned)?;
-            Ok(())
+            end_sides(out, *place, turned)
         }
     }
 }
@@ -346,13 +339,11 @@ fn emit_statement(out: &mut Vec<Placed>, inside: &Inside, statement: &Stmt) -> R
         Stmt::Val(place, number, _, value) => {
             emit_value(out, inside, value)?;
             let slot = val_slot(inside, *number)?;
-            put(out, *place, Instruction::Store(slot))?;
-            Ok(())
+            put(out, *place, Instruction::Store(slot))
         }
         Stmt::Do(value) => {
             emit_value(out, inside, value)?;
-            put(out, value_mark(value), Instruction::Drop)?;
-            Ok(())
+            put(out, value_mark(value), Instruction::Drop)
         }
     }
 }
@@ -369,8 +360,7 @@ pub(crate) fn emit_block(
     for i in 0..block.statements.len() {
         emit_statement(out, inside, &block.statements[i])?;
     }
-    emit_value(out, inside, &block.last)?;
-    Ok(())
+    emit_value(out, inside, &block.last)
 }
 
 /// The code of the initialisers of fields, each of which is set as soon as its value is there.

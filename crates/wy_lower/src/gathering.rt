@@ -35,46 +35,28 @@ fn gather_expr(names: &mut Names, found: &mut Found, expr: &Expr) -> Result<(), 
 {
     match expr {
         Expr::Int(_, _) => Ok(()),
-        Expr::Text(_, text) => {
-            put_text(&mut names.texts, text)?;
-            Ok(())
-        }
+        Expr::Text(_, text) => put_text(&mut names.texts, text),
         Expr::Bool(_, _) => Ok(()),
         Expr::Unit(_) => Ok(()),
         Expr::This(_) => Ok(()),
         Expr::Name(_, _) => Ok(()),
-        Expr::Unary(_, _, x) => {
-            gather_expr(names, found, x)?;
-            Ok(())
-        }
+        Expr::Unary(_, _, x) => gather_expr(names, found, x),
         Expr::Binary(_, _, x, y) => {
             gather_expr(names, found, x)?;
-            gather_expr(names, found, y)?;
-            Ok(())
+            gather_expr(names, found, y)
         }
-        Expr::TextCall(_, _, values) => {
-            gather_values(names, found, values)?;
-            Ok(())
-        }
+        Expr::TextCall(_, _, values) => gather_values(names, found, values),
         Expr::Call(_, receiver, name, values) => {
             gather_expr(names, found, receiver)?;
             gather_values(names, found, values)?;
-            put_text(&mut names.methods, name)?;
-            Ok(())
+            put_text(&mut names.methods, name)
         }
         Expr::New(_, literal, values) => {
             found.makes.push(*literal)?;
-            gather_values(names, found, values)?;
-            Ok(())
+            gather_values(names, found, values)
         }
-        Expr::Ascribe(_, value, _) => {
-            gather_value(names, found, value)?;
-            Ok(())
-        }
-        Expr::Assign(_, _, value) => {
-            gather_value(names, found, value)?;
-            Ok(())
-        }
+        Expr::Ascribe(_, value, _) => gather_value(names, found, value),
+        Expr::Assign(_, _, value) => gather_value(names, found, value),
     }
 }
 
@@ -84,15 +66,11 @@ fn gather_value(names: &mut Names, found: &mut Found, value: &Value) -> Result<(
     ensures { OnOk result (Gathers names.old names.new found.old found.new (value_parts (value_of value.now)) (value_vals (value_of value.now))) }
 {
     match value {
-        Value::Plain(expr) => {
-            gather_expr(names, found, expr)?;
-            Ok(())
-        }
+        Value::Plain(expr) => gather_expr(names, found, expr),
         Value::If(_, test, first, second) => {
             gather_expr(names, found, test)?;
             gather_block(names, found, first)?;
-            gather_block(names, found, second)?;
-            Ok(())
+            gather_block(names, found, second)
         }
     }
 }
@@ -116,13 +94,9 @@ fn gather_statement(names: &mut Names, found: &mut Found, statement: &Stmt) -> R
     match statement {
         Stmt::Val(_, number, _, value) => {
             found.vals.push(*number)?;
-            gather_value(names, found, value)?;
-            Ok(())
+            gather_value(names, found, value)
         }
-        Stmt::Do(value) => {
-            gather_value(names, found, value)?;
-            Ok(())
-        }
+        Stmt::Do(value) => gather_value(names, found, value),
     }
 }
 
@@ -138,8 +112,7 @@ pub(crate) fn gather_block(
     for i in 0..block.statements.len() {
         gather_statement(names, found, &block.statements[i])?;
     }
-    gather_value(names, found, &block.last)?;
-    Ok(())
+    gather_value(names, found, &block.last)
 }
 
 /// Collects what the `init` or `run` of a scope has.
@@ -151,13 +124,7 @@ pub(crate) fn gather_start(
     ensures { OnOk result (Gathers names.old names.new found.old found.new (start_parts (start_of start.now)) (start_vals (start_of start.now))) }
 {
     match start {
-        Start::Init(values) => {
-            gather_values(names, found, values)?;
-            Ok(())
-        }
-        Start::Run(block) => {
-            gather_block(names, found, block)?;
-            Ok(())
-        }
+        Start::Init(values) => gather_values(names, found, values),
+        Start::Run(block) => gather_block(names, found, block),
     }
 }

@@ -2,6 +2,7 @@
 
 ghost use Rattle.std.specs.Prelude.{◌≡◌, ◌<◌, ◌++◌, ◌∷◌, [], ℕ, length, get_or, nat_eq, if◌then◌else◌, IfOk, OnOk};
 ghost use Rattle.wy_types.specs.Program.{scope_of};
+ghost use Rattle.wy_lower.specs.Parts.{number_in};
 ghost use Rattle.wy_lower.specs.Lowering.{methods_code, captures_code, literals_code};
 ghost use Rattle.wy_lower.specs.EmitScopes.{IsTabled};
 ghost use Rattle.wy_lower.specs.EmitBodies.{IsWhole, whole_program, whole_starts};
@@ -15,7 +16,7 @@ use wy_code::code::{Literal, Method, Source};
 use wy_text::list::Items;
 use wy_text::text::Memory;
 use wy_types::code::Variable;
-use wy_types::resolved::{self, Scope};
+use wy_types::resolved::{self, Body, Scope};
 
 /// No methods for each of so many kinds.
 fn no_methods(alloc: Global, kinds: usize) -> Result<Vec<Items<Method>>, Memory>
@@ -40,6 +41,28 @@ fn add_method(methods: &mut Vec<Items<Method>>, owner: usize, method: Method) ->
     Ok(())
 }
 
+/// Adds the method that has this number among all bodies to those of its owner.
+fn add_body(
+    whole: &Whole,
+    body: &Body,
+    number: usize,
+    methods: &mut Vec<Items<Method>>,
+) -> Result<(), Memory>
+    ensures long { OnOk result (length methods.new.items ≡ length methods.old.items) }
+    ensures added { OnOk result ((l : ℕ) → l < length methods.old.items → get_or methods.new.items l [] ≡ get_or methods.old.items l [] ++ (if nat_eq body.now.owner l then record { method = number_in whole.now.methods.keys body.now.signature.name; body = number } ∷ [] else [])) }
+{
+    let method = number_in(&whole.methods, &body.signature.name)?;
+    let number = word(number)?;
+    add_method(
+        methods,
+        body.owner as usize,
+        Method {
+            method,
+            body: number,
+        },
+    )
+}
+
 /// The methods of each kind of objects; the first method of the scope has this number among all bodies.
 fn methods_of(
     alloc: Global,
@@ -54,18 +77,7 @@ fn methods_of(
     let mut methods = no_methods(alloc, scope.literals.len())?;
     let bodies = scope.bodies.as_slice();
     for k in 0..bodies.len() {
-        let body = &bodies[k];
-        let method = number_in(&whole.methods, &body.signature.name)?;
-        let number = word(sum(first, k)?)?;
-        let owner = body.owner as usize;
-        add_method(
-            &mut methods,
-            owner,
-            Method {
-                method,
-                body: number,
-            },
-        )?;
+        add_body(whole, &bodies[k], sum(first, k)?, &mut methods)?;
     }
     Ok(methods)
 }
@@ -101,17 +113,17 @@ fn captures_code(
     match tables.makers[literal] {
         Some(number) => {
             let inside = inside_body(whole, scope, tables, number);
-            Ok(capture_sources(alloc, &inside, variables)?)
+            capture_sources(alloc, &inside, variables)
         }
         None => {
             let inside = inside_start(whole, scope, tables);
-            Ok(capture_sources(alloc, &inside, variables)?)
+            capture_sources(alloc, &inside, variables)
         }
     }
 }
 
-/// The kind of objects of the literal of a number, with these methods.
-fn literal_code(
+/// Adds the kind of objects of the literal of a number, with these methods.
+fn add_literal(
     alloc: Global,
     whole: &Whole,
     scope: &Scope,
@@ -119,21 +131,22 @@ fn literal_code(
     number: usize,
     literal: &resolved::Literal,
     methods: &Items<Method>,
-) -> Result<Literal, Memory>
+    all: &mut Items<Literal>,
+) -> Result<(), Memory>
     requires whole { IsWhole whole.now }
     requires tables { IsTabled (scope_of scope.now) tables.now }
     requires there { number < length scope.now.literals }
-    ensures { IfOk result (λ l. l ≡ record {
+    ensures { OnOk result (all.new ≡ all.old ++ record {
       captures = captures_code (whole_program whole.now) (whole_starts whole.now) (scope_of scope.now) number literal.now.captures;
       fields = length literal.now.fields;
       methods = methods.now;
-    }) }
+    } ∷ []) }
 {
     let fields = word(literal.fields.len())?;
     let captures = literal.captures.as_slice();
     let captures = captures_code(alloc, whole, scope, tables, number, captures)?;
     let methods = copied(alloc, methods)?;
-    Ok(Literal {
+    all.push(Literal {
         captures,
         fields,
         methods,
@@ -156,8 +169,17 @@ pub(crate) fn literals_code(
     let mut all = Items::new(alloc);
     let literals = scope.literals.as_slice();
     for k in 0..literals.len() {
-        let code = literal_code(alloc, whole, scope, tables, k, &literals[k], &methods[k])?;
-        all.push(code)?;
+        let literal = &literals[k];
+        add_literal(
+            alloc,
+            whole,
+            scope,
+            tables,
+            k,
+            literal,
+            &methods[k],
+            &mut all,
+        )?;
     }
     Ok(all)
 }

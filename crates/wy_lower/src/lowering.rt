@@ -60,7 +60,7 @@ fn actuals_of(alloc: Global, core: &Core, linked: &Linked) -> Result<Vec<Actual>
     ensures { IfOk result (λ a. a.items ≡ main_actuals (map started_of linked.now) 0 (scope_names (slice_get (map scope_of core.now.scopes) (last_scope (map scope_of core.now.scopes))))) }
 {
     match core.scopes.get(last_scope(core)) {
-        Some(scope) => Ok(main_actuals(alloc, linked, scope.names.as_slice())?),
+        Some(scope) => main_actuals(alloc, linked, scope.names.as_slice()),
         None => Ok(Vec::new(alloc)),
     }
 }
@@ -70,7 +70,7 @@ fn grants_of(alloc: Global, core: &Core) -> Result<Items<Grant>, Memory>
     ensures { IfOk result (λ g. g ≡ grants_code (scope_names (slice_get (map scope_of core.now.scopes) (last_scope (map scope_of core.now.scopes))))) }
 {
     match core.scopes.get(last_scope(core)) {
-        Some(scope) => Ok(grants_code(alloc, scope.names.as_slice())?),
+        Some(scope) => grants_code(alloc, scope.names.as_slice()),
         None => Ok(Items::new(alloc)),
     }
 }

@@ -1,4 +1,5 @@
 use Rattle.std.proofs.Common.{rules, ◌<◌, ◌≤◌, length, refl, ap, ◌∙◌, subst, w64, SFits}
+use Rattle.std.specs.Prelude.{OnOk}
 use Rattle.std.proofs.lemmas.Int.{to_z-of_z}
 use Rattle.std.proofs.lemmas.Option.{slice_get_read}
 use Rattle.std.proofs.lemmas.Result.{on_ok_weaker}
@@ -65,24 +66,27 @@ pub emit_expr-returns-in_ok-emit_value-in-Assign : goal.emit_expr-returns-in_ok-
 emit_expr-returns-in_ok-emit_value-in-Assign t c =
     on_ok_weaker c.put_assigned.result (emits_assign _ _ _ _ _ _ _ _ _ (ap expr_of c.in-Assign.is) (ap value_of c.deref-in-Assign.ensures) c.in_ok-emit_value-in-Assign.ensures) c.put_assigned.ensures
 
-pub emit_right-returns-in_ok-end_sides-in-And : goal.emit_right-returns-in_ok-end_sides-in-And
-emit_right-returns-in_ok-end_sides-in-And t c =
-    subst (λ o. Emits c.args.out.now.items c.end_sides.new.out.items (λ at. right_listing c.args.place o at (λ at. listing (inside_of c.args.inside.now) at (expr_of c.args.right.now)))) c.in-And.ensures
-    (emits_sides _ _ _ _ _ _ _ _ _ _ _ c.in_ok-test-in-And.ensures.at c.in_ok-test-in-And.ensures.added c.in_ok-emit_expr-in-And.ensures c.in_ok-first-in-And.ensures.at c.in_ok-first-in-And.ensures.added c.in_ok-put-in-And.ensures c.in_ok-end_sides-in-And.ensures)
+pub emit_right-returns-in_ok-put-in-And : goal.emit_right-returns-in_ok-put-in-And
+emit_right-returns-in_ok-put-in-And t c =
+    subst (λ o. OnOk c.end_sides.result (Emits c.args.out.now.items c.end_sides.new.out.items (λ at. right_listing c.args.place o at (λ at. listing (inside_of c.args.inside.now) at (expr_of c.args.right.now))))) c.in-And.ensures
+    (on_ok_weaker c.end_sides.result
+    (emits_sides _ _ _ _ _ _ _ _ _ _ _ c.in_ok-test-in-And.ensures.at c.in_ok-test-in-And.ensures.added c.in_ok-emit_expr-in-And.ensures c.in_ok-first-in-And.ensures.at c.in_ok-first-in-And.ensures.added c.in_ok-put-in-And.ensures) c.end_sides.ensures)
 
-pub emit_right-returns-in_ok-end_sides-in-Or : goal.emit_right-returns-in_ok-end_sides-in-Or
-emit_right-returns-in_ok-end_sides-in-Or t c =
-    subst (λ o. Emits c.args.out.now.items c.end_sides-in-Or.new.out.items (λ at. right_listing c.args.place o at (λ at. listing (inside_of c.args.inside.now) at (expr_of c.args.right.now)))) c.in-Or.ensures
-    (emits_sides _ _ _ _ _ _ _ _ _ _ _ c.in_ok-test-in-Or.ensures.at c.in_ok-test-in-Or.ensures.added c.in_ok-put-in-Or.ensures c.in_ok-first-in-Or.ensures.at c.in_ok-first-in-Or.ensures.added c.in_ok-emit_expr-in-Or.ensures c.in_ok-end_sides-in-Or.ensures)
+pub emit_right-returns-in_ok-emit_expr-in-Or : goal.emit_right-returns-in_ok-emit_expr-in-Or
+emit_right-returns-in_ok-emit_expr-in-Or t c =
+    subst (λ o. OnOk c.end_sides-in-Or.result (Emits c.args.out.now.items c.end_sides-in-Or.new.out.items (λ at. right_listing c.args.place o at (λ at. listing (inside_of c.args.inside.now) at (expr_of c.args.right.now))))) c.in-Or.ensures
+    (on_ok_weaker c.end_sides-in-Or.result
+    (emits_sides _ _ _ _ _ _ _ _ _ _ _ c.in_ok-test-in-Or.ensures.at c.in_ok-test-in-Or.ensures.added c.in_ok-put-in-Or.ensures c.in_ok-first-in-Or.ensures.at c.in_ok-first-in-Or.ensures.added c.in_ok-emit_expr-in-Or.ensures) c.end_sides-in-Or.ensures)
 
-pub emit_value-returns-in_ok-emit_expr-in-Plain : goal.emit_value-returns-in_ok-emit_expr-in-Plain
-emit_value-returns-in_ok-emit_expr-in-Plain t c = emits_plain _ _ _ _ _ (ap value_of c.in-Plain.is) c.in_ok-emit_expr-in-Plain.ensures
+pub emit_value-returns-in-Plain : goal.emit_value-returns-in-Plain
+emit_value-returns-in-Plain t c = on_ok_weaker c.emit_expr.result (emits_plain _ _ _ _ _ (ap value_of c.in-Plain.is)) c.emit_expr.ensures
 
-pub emit_value-returns-in_ok-end_sides-in-If : goal.emit_value-returns-in_ok-end_sides-in-If
-emit_value-returns-in_ok-end_sides-in-If t c =
+pub emit_value-returns-in_ok-emit_block-in-If-2 : goal.emit_value-returns-in_ok-emit_block-in-If-2
+emit_value-returns-in_ok-emit_block-in-If-2 t c =
     let form = ap value_of c.in-If.is ∙ value_if c.in-If.place c.in-If.test c.in-If.first c.in-If.second in
-    emits_if _ _ _ _ _ _ _ _ _ _ form (ap expr_of c.deref.ensures) c.in_ok-emit_expr-in-If.ensures
-    (emits_sides _ _ _ _ _ _ _ _ _ _ _ c.in_ok-tested-in-If.ensures.at c.in_ok-tested-in-If.ensures.added c.in_ok-emit_block-in-If.ensures c.in_ok-turned-in-If.ensures.at c.in_ok-turned-in-If.ensures.added c.in_ok-emit_block-in-If-2.ensures c.in_ok-end_sides-in-If.ensures)
+    on_ok_weaker c.end_sides.result (emits_if _ _ _ _ _ _ _ _ _ _ form (ap expr_of c.deref.ensures) c.in_ok-emit_expr-in-If.ensures)
+    (on_ok_weaker c.end_sides.result
+    (emits_sides _ _ _ _ _ _ _ _ _ _ _ c.in_ok-tested-in-If.ensures.at c.in_ok-tested-in-If.ensures.added c.in_ok-emit_block-in-If.ensures c.in_ok-turned-in-If.ensures.at c.in_ok-turned-in-If.ensures.added c.in_ok-emit_block-in-If-2.ensures) c.end_sides.ensures)
 
 pub emit_values-loop-i-preserved : goal.emit_values-loop-i-preserved
 emit_values-loop-i-preserved t c =
@@ -110,4 +114,4 @@ pub emit_block-returns : goal.emit_block-returns
 emit_block-returns t c =
     let xs = c.args.block.now.statements.items in
     let le : length xs ≤ c.loop-i.i = search rules in
-    block_end _ _ _ _ xs c.loop-i.i _ _ _ le (ap value_of c.deref.ensures) c.loop-i.invariant c.in_ok-emit_value.ensures
+    on_ok_weaker c.emit_value.result (block_end _ _ _ _ xs c.loop-i.i _ _ _ le (ap value_of c.deref.ensures) c.loop-i.invariant) c.emit_value.ensures

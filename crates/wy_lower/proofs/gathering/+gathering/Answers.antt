@@ -1,34 +1,38 @@
 use Rattle.std.proofs.Common.{rules, ◌<◌, ◌∙◌, length, refl, ap}
 use Rattle.std.proofs.lemmas.Option.{slice_get_read}
+use Rattle.std.proofs.lemmas.Result.{on_ok_weaker}
 use Rattle.wy_types.specs.View.{expr_of, value_of}
 use Rattle.wy_types.proofs.Rows.{expr_text_call, expr_call, expr_new, value_if}
 use Rattle.wy_lower.proofs.EmitLists.{read_item}
 use Rattle.wy_lower.proofs.EmitParts.{values_more, block_more, gathers_text_call, gathers_new, gathers_binary, gathers_call, gathers_if}
 use Rattle.wy_lower.proofs.gathering.+gathering.Goals as goal
 
-pub gather_expr-returns-in_ok-gather_expr-in-Binary-2 : goal.gather_expr-returns-in_ok-gather_expr-in-Binary-2
-gather_expr-returns-in_ok-gather_expr-in-Binary-2 t c =
-    gathers_binary _ _ _ _ _ _ _ _ _ _ _ _ _ (ap expr_of c.in-Binary.is) (ap expr_of c.deref-in-Binary.ensures) (ap expr_of c.deref-in-Binary-2.ensures) c.in_ok-gather_expr-in-Binary.ensures c.in_ok-gather_expr-in-Binary-2.ensures
+pub gather_expr-returns-in_ok-gather_expr-in-Binary : goal.gather_expr-returns-in_ok-gather_expr-in-Binary
+gather_expr-returns-in_ok-gather_expr-in-Binary t c =
+    on_ok_weaker c.gather_expr-in-Binary-2.result
+    (gathers_binary _ _ _ _ _ _ _ _ _ _ _ _ _ (ap expr_of c.in-Binary.is) (ap expr_of c.deref-in-Binary.ensures) (ap expr_of c.deref-in-Binary-2.ensures) c.in_ok-gather_expr-in-Binary.ensures) c.gather_expr-in-Binary-2.ensures
 
-pub gather_expr-returns-in_ok-gather_values-in-TextCall : goal.gather_expr-returns-in_ok-gather_values-in-TextCall
-gather_expr-returns-in_ok-gather_values-in-TextCall t c =
+pub gather_expr-returns-in-TextCall : goal.gather_expr-returns-in-TextCall
+gather_expr-returns-in-TextCall t c =
     let form = ap expr_of c.in-TextCall.is ∙ expr_text_call c.in-TextCall.field-0 c.in-TextCall.field-1 c.in-TextCall.values in
-    gathers_text_call _ _ _ _ _ _ _ _ form c.in_ok-gather_values-in-TextCall.ensures
+    on_ok_weaker c.gather_values.result (gathers_text_call _ _ _ _ _ _ _ _ form) c.gather_values.ensures
 
-pub gather_expr-returns-in_ok-put_text-in-Call : goal.gather_expr-returns-in_ok-put_text-in-Call
-gather_expr-returns-in_ok-put_text-in-Call t c =
+pub gather_expr-returns-in_ok-gather_values-in-Call : goal.gather_expr-returns-in_ok-gather_values-in-Call
+gather_expr-returns-in_ok-gather_values-in-Call t c =
     let form = ap expr_of c.in-Call.is ∙ expr_call c.in-Call.field-0 c.in-Call.receiver c.in-Call.name c.in-Call.values in
-    gathers_call _ _ _ _ _ _ _ _ _ _ _ _ _ form (ap expr_of c.deref-in-Call.ensures) c.in_ok-gather_expr-in-Call.ensures c.in_ok-gather_values-in-Call.ensures refl c.in_ok-put_text-in-Call.ensures
+    on_ok_weaker c.put_text-in-Call.result
+    (gathers_call _ _ _ _ _ _ _ _ _ _ _ _ _ form (ap expr_of c.deref-in-Call.ensures) c.in_ok-gather_expr-in-Call.ensures c.in_ok-gather_values-in-Call.ensures refl) c.put_text-in-Call.ensures
 
-pub gather_expr-returns-in_ok-gather_values-in-New : goal.gather_expr-returns-in_ok-gather_values-in-New
-gather_expr-returns-in_ok-gather_values-in-New t c =
+pub gather_expr-returns-in_ok-push-in-New : goal.gather_expr-returns-in_ok-push-in-New
+gather_expr-returns-in_ok-push-in-New t c =
     let form = ap expr_of c.in-New.is ∙ expr_new c.in-New.field-0 c.in-New.literal c.in-New.values in
-    gathers_new _ _ _ _ _ _ _ _ _ form c.in_ok-push-in-New.ensures.items refl c.in_ok-gather_values-in-New.ensures
+    on_ok_weaker c.gather_values-in-New.result (gathers_new _ _ _ _ _ _ _ _ _ form c.in_ok-push-in-New.ensures.items refl) c.gather_values-in-New.ensures
 
-pub gather_value-returns-in_ok-gather_block-in-If-2 : goal.gather_value-returns-in_ok-gather_block-in-If-2
-gather_value-returns-in_ok-gather_block-in-If-2 t c =
+pub gather_value-returns-in_ok-gather_block-in-If : goal.gather_value-returns-in_ok-gather_block-in-If
+gather_value-returns-in_ok-gather_block-in-If t c =
     let form = ap value_of c.in-If.is ∙ value_if c.in-If.field-0 c.in-If.test c.in-If.first c.in-If.second in
-    gathers_if _ _ _ _ _ _ _ _ _ _ _ _ _ _ form (ap expr_of c.deref.ensures) c.in_ok-gather_expr-in-If.ensures c.in_ok-gather_block-in-If.ensures c.in_ok-gather_block-in-If-2.ensures
+    on_ok_weaker c.gather_block-in-If.result
+    (gathers_if _ _ _ _ _ _ _ _ _ _ _ _ _ _ form (ap expr_of c.deref.ensures) c.in_ok-gather_expr-in-If.ensures c.in_ok-gather_block-in-If.ensures) c.gather_block-in-If.ensures
 
 pub gather_values-loop-i-preserved : goal.gather_values-loop-i-preserved
 gather_values-loop-i-preserved t c =

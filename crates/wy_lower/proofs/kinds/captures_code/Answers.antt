@@ -1,5 +1,6 @@
 use Rattle.std.proofs.Common.{◌≡◌, ◌<◌, ℕ, length, None, sym, ap, ◌∙◌, arith}
 use Rattle.std.specs.Prelude.{slice_get}
+use Rattle.std.proofs.lemmas.Result.{IfOk-weaker}
 use Rattle.wy_types.specs.Program.{body_of, scope_of}
 use Rattle.wy_lower.specs.Inside.{capture_sources}
 use Rattle.wy_lower.specs.EmitBodies.{whole_program, whole_starts}
@@ -18,8 +19,8 @@ inside_body-inside-requires-clause-there c =
     let m = makes_some (whole_program c.args.whole.now) (whole_starts c.args.whole.now) s l 0 s.bodies c.in-Some.number maker in
     omega (arith, below_end s.bodies m.place m.body m.there, m.at, length_mapped body_of c.args.scope.now.bodies)
 
-pub returns-in_ok-capture_sources-in-Some : goal.returns-in_ok-capture_sources-in-Some
-returns-in_ok-capture_sources-in-Some c =
+pub returns-in-Some : goal.returns-in-Some
+returns-in-Some c =
     let p = whole_program c.args.whole.now in
     let starts = whole_starts c.args.whole.now in
     let s = scope_of c.args.scope.now in
@@ -30,11 +31,11 @@ returns-in_ok-capture_sources-in-Some c =
     let m = makes_some p starts s l 0 s.bodies c.in-Some.number maker in
     let place : c.in-Some.number ≡ m.place = omega (arith, m.at) in
     let there = ap (λ (i : ℕ). slice_get s.bodies i) place ∙ m.there in
-    c.in_ok-capture_sources-in-Some.ensures ∙ ap (λ i. capture_sources i c.args.variables.now) (c.inside_body-inside.ensures m.body there ∙ sym m.sees)
-    ∙ sym (captures_is p starts s l c.args.variables.now c.if-literal-eq0.false)
+    let same = ap (λ i. capture_sources i c.args.variables.now) (c.inside_body-inside.ensures m.body there ∙ sym m.sees) ∙ sym (captures_is p starts s l c.args.variables.now c.if-literal-eq0.false) in
+    IfOk-weaker c.capture_sources.result _ _ (λ found is. is ∙ same) c.capture_sources.ensures
 
-pub returns-in_ok-capture_sources-in-None : goal.returns-in_ok-capture_sources-in-None
-returns-in_ok-capture_sources-in-None c =
+pub returns-in-None : goal.returns-in-None
+returns-in-None c =
     let p = whole_program c.args.whole.now in
     let starts = whole_starts c.args.whole.now in
     let s = scope_of c.args.scope.now in
@@ -42,5 +43,5 @@ returns-in_ok-capture_sources-in-None c =
     let items = c.args.tables.now.makers.items in
     let lt : l < length items = omega (arith, c.requires.tables.long, c.requires.there) in
     let maker = sym (c.requires.tables.makers l c.requires.there) ∙ read_any items l None c.index.result.now lt ∙ sym c.index.ensures ∙ c.in-None.is in
-    c.in_ok-capture_sources-in-None.ensures ∙ ap (λ i. capture_sources i c.args.variables.now) (c.inside_start-inside.ensures ∙ sym (makes_none p starts s l 0 s.bodies maker))
-    ∙ sym (captures_is p starts s l c.args.variables.now c.if-literal-eq0.false)
+    let same = ap (λ i. capture_sources i c.args.variables.now) (c.inside_start-inside.ensures ∙ sym (makes_none p starts s l 0 s.bodies maker)) ∙ sym (captures_is p starts s l c.args.variables.now c.if-literal-eq0.false) in
+    IfOk-weaker c.capture_sources-in-None.result _ _ (λ found is. is ∙ same) c.capture_sources-in-None.ensures
