@@ -1,4 +1,4 @@
-use Rattle.std.proofs.Common.{◌<◌, ◌≤◌, [], List, ℕ, Bor, length, map, rules, subst, sym, take}
+use Rattle.std.proofs.Common.{◌∙◌, ◌<◌, ◌≤◌, [], List, ℕ, Bor, length, map, rules, subst, sym, take}
 use Rattle.std.specs.Prelude.{option_to_list}
 use Rattle.std.proofs.lemmas.List.{take_all}
 use Rattle.wy_syntax.specs.declared.types.Name.{Name}
@@ -16,10 +16,10 @@ loop-word-preserved c =
     let n = c.word-item.result in
     let P : List ℕ → Type 0 = λ l. Adds [] l c.add_number.new.list.list in
     record {
-      bound = search rules;
+      bound = c.in_ok-add_number.ensures.bound ∙ c.loop-word.invariant.bound;
       added = subst P (sym (numbers_taken modules c.args.words.now c.loop-word.word-index n lt c.word-item.is))
           (adds_then [] c.loop-word.list.list c.add_number.new.list.list (numbers_of modules (map lent_name (take c.loop-word.word-index c.args.words.now)))
-          (option_to_list (module_number modules n.now.text)) c.loop-word.invariant.added (search rules));
+          (option_to_list (module_number modules n.now.text)) c.loop-word.invariant.added c.in_ok-add_number.ensures.added);
     }
 
 pub returns : goal.returns

@@ -21,7 +21,7 @@ loop-i-preserved c =
     let more : c.args.first + (c.loop-i.i + 1) ≡ n + 1 = omega arith in
     let before = ap (λ k. take k o.owners) more ∙ take_next o.owners n (own x) at in
     ap (λ b. c.push.new.self ++ names b left) before
-    ∙ ap (λ l. l ++ names (take n o.owners ++ own x ∷ []) left) (search rules)
+    ∙ ap (λ l. l ++ names (take n o.owners ++ own x ∷ []) left) (c.in_ok-push.ensures.ok ∙ ap (λ y. c.loop-i.list ++ y ∷ []) c.in_ok-line_own.ensures)
     ∙ append_assoc c.loop-i.list (line_name o.heads modules o.atoms (take n o.owners) x ∷ []) (names (take n o.owners ++ own x ∷ []) left)
     ∙ ap (λ ls. c.loop-i.list ++ names (take n o.owners) ls) (sym (next_of c.args.lines.now c.loop-i.i x lt c.index-lines-i.is))
     ∙ c.loop-i.invariant

@@ -1,4 +1,4 @@
-use Rattle.std.proofs.Common.{List, ap, ◌∙◌, rules, map}
+use Rattle.std.proofs.Common.{List, ap, ◌∙◌, map, take}
 use Rattle.std.specs.Prelude.{ℕ}
 use Rattle.wy_syntax.specs.declared.items.Line.TheVariants as line
 use Rattle.wy_types.specs.declared.types.TypeRef.{TypeRef}
@@ -6,7 +6,7 @@ use Rattle.wy_types.specs.declared.resolved.OwnName.{OwnName}
 use Rattle.wy_types.specs.declared.resolved.Origin.TheVariants as origin
 use Rattle.wy_symbols.specs.Declarations.{module_number}
 use Rattle.wy_symbols.specs.Atoms.{head_names, line_owner, module_opening}
-use Rattle.wy_heads.specs.Lines.{number_or_zero, opened_type}
+use Rattle.wy_heads.specs.Lines.{argument_numbers, number_or_zero, opened_type}
 use Rattle.wy_symbols.specs.Lent.{module_tree}
 use Rattle.wy_heads.proofs.lines.instance.Goals as goal
 
@@ -22,4 +22,5 @@ returns c =
     ∙ ap (λ t. N c.args.name.now.text t c.number_or_zero.result c.in_ok-arguments.arguments)
     (c.in_ok-typ.ensures (line_owner (head_names o.heads) modules written) c.requires)
     ∙ ap (λ m. N c.args.name.now.text opened m c.in_ok-arguments.arguments) c.number_or_zero.ensures
-    ∙ ap (N c.args.name.now.text opened (number_or_zero (module_number modules c.args.named.now.text))) (search rules)
+    ∙ ap (N c.args.name.now.text opened (number_or_zero (module_number modules c.args.named.now.text)))
+    (c.in_ok-arguments.ensures ∙ ap (argument_numbers o.heads modules o.atoms (take c.args.number o.owners)) c.as_slice.ensures)

@@ -24,6 +24,6 @@ loop-i-preserved c =
     let one = line_refusals o.heads modules o.atoms (take n o.owners) x in
     noted_turn c.loop-i.least c.note_line.new.least c.args.least.now one
     (refusals (take (c.args.first + (c.loop-i.i + 1)) o.owners) left) (refusals (take n o.owners) (drop c.loop-i.i c.args.lines.now)) (refusals (take c.args.first o.owners) c.args.lines.now)
-    (search rules)
+    c.note_line.ensures
     (ap (refusals (take n o.owners)) (next_of c.args.lines.now c.loop-i.i x lt c.index-lines-i.is) ∙ ap (λ b. one ++ refusals b left) (sym before))
     c.loop-i.invariant
