@@ -8,9 +8,8 @@ pub returns : goal.returns
 returns c =
     let modules : List ℕ = flat_map later_module (later_numbers c.args.number) in
     let instances : List ℕ = flat_map later_instance (later_numbers c.args.number) in
-    c.from_vec.ensures ∙ c.in_ok-push_end.ensures
+    c.from_vec.ensures ∙ ap (λ v. v.items) c.into_bytes.ensures.value ∙ c.in_ok-push_end.ensures
     ∙ ap (λ (t : List ℕ). t ++ block_end c.args.number) (c.in_ok-push_instances.ensures
-    ∙ ap (λ (t : List ℕ). t ++ instances) (c.in_ok-extend_from_slice.ensures.items
-    ∙ ap (λ (t : List ℕ). c.push_modules.new.text.items ++ t) c.as_bytes-2.ensures.value
+    ∙ ap (λ (t : List ℕ). t ++ instances) (c.in_ok-push_str.ensures.bytes
     ∙ ap (λ (t : List ℕ). t ++ block_head) (c.in_ok-push_modules.ensures
-    ∙ ap (λ (t : List ℕ). t ++ modules) (c.in_ok-text.ensures.items ∙ c.as_bytes.ensures.value))))
+    ∙ ap (λ (t : List ℕ). t ++ modules) c.in_ok-text.ensures.ok)))
