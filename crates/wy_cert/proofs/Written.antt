@@ -10,6 +10,14 @@ three_written out out1 out2 out3 a b c e1 e2 e3 =
     let all : out3 ≡ ((out ++ a) ++ b) ++ c = cc in
     all ∙ three_regrouped out a b c
 
+five_regrouped : (out a b c d e : List ℕ) → ((((out ++ a) ++ b) ++ c) ++ d) ++ e ≡ out ++ ((((a ++ b) ++ c) ++ d) ++ e)
+five_regrouped out a b c d e = simp append_assoc
+
+pub five_written : (out out1 out2 out3 out4 a b c d e : List ℕ) → out1 ≡ out ++ a → out2 ≡ out1 ++ b → out3 ≡ out2 ++ c → out4 ≡ out3 ++ d → out4 ++ e ≡ out ++ ((((a ++ b) ++ c) ++ d) ++ e)
+five_written out out1 out2 out3 out4 a b c d e e1 e2 e3 e4 =
+    let all : out4 ≡ (((out ++ a) ++ b) ++ c) ++ d = cc in
+    ap (λ (t : List ℕ). t ++ e) all ∙ five_regrouped out a b c d e
+
 seven_regrouped : (out a b c d e f g : List ℕ) → ((((((out ++ a) ++ b) ++ c) ++ d) ++ e) ++ f) ++ g ≡ out ++ ((((((a ++ b) ++ c) ++ d) ++ e) ++ f) ++ g)
 seven_regrouped out a b c d e f g = simp append_assoc
 
