@@ -2,6 +2,9 @@
 use Rattle.std.proofs.Common.{◌≡◌, ℕ, suc, ◌-◌, ◌<◌, List, [], ◌∷◌, ◌++◌, length, get_or, take, drop, sym, ap, ◌∙◌, append_assoc, arith}
 use Rattle.std.proofs.lemmas.List.{take_all}
 
+pub form_written : (out out1 : List ℕ) (byte form : ℕ) → out1 ≡ out ++ byte ∷ [] → byte ≡ form → out1 ≡ out ++ form ∷ []
+form_written out out1 byte form e f = e ∙ ap (λ (n : ℕ). out ++ n ∷ []) f
+
 three_regrouped : (out a b c : List ℕ) → ((out ++ a) ++ b) ++ c ≡ out ++ ((a ++ b) ++ c)
 three_regrouped out a b c = simp append_assoc
 
