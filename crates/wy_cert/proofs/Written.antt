@@ -21,15 +21,6 @@ five_written out out1 out2 out3 out4 a b c d e e1 e2 e3 e4 =
     let all : out4 ≡ (((out ++ a) ++ b) ++ c) ++ d = cc in
     ap (λ (t : List ℕ). t ++ e) all ∙ five_regrouped out a b c d e
 
-seven_regrouped : (out a b c d e f g : List ℕ) → ((((((out ++ a) ++ b) ++ c) ++ d) ++ e) ++ f) ++ g ≡ out ++ ((((((a ++ b) ++ c) ++ d) ++ e) ++ f) ++ g)
-seven_regrouped out a b c d e f g = simp append_assoc
-
-pub seven_written : (out out1 out2 out3 out4 out5 out6 a b c d e f g : List ℕ) → out1 ≡ out ++ a → out2 ≡ out1 ++ b → out3 ≡ out2 ++ c → out4 ≡ out3 ++ d → out5 ≡ out4 ++ e → out6 ≡ out5 ++ f
-    → out6 ++ g ≡ out ++ ((((((a ++ b) ++ c) ++ d) ++ e) ++ f) ++ g)
-seven_written out out1 out2 out3 out4 out5 out6 a b c d e f g e1 e2 e3 e4 e5 e6 =
-    let all : out6 ≡ (((((out ++ a) ++ b) ++ c) ++ d) ++ e) ++ f = cc in
-    ap (λ (t : List ℕ). t ++ g) all ∙ seven_regrouped out a b c d e f g
-
 -- bytes are their first, and those behind it
 abbrev pub behind_first : List ℕ → List ℕ
 behind_first bytes = take (length bytes - 1) (drop 1 bytes)

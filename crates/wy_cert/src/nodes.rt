@@ -38,12 +38,8 @@ impl Spelled for CertNode {
     }
 
     fn write(&self, out: &mut Vec<u8>) -> Result<(), WriteRefusal> {
-        self.rule.write(out)?;
-        self.file.write(out)?;
-        self.line.write(out)?;
-        self.column.write(out)?;
-        self.parts.write(out)?;
-        self.typ.write(out)?;
+        let place = (self.file, (self.line, self.column));
+        (self.rule, (place, (self.parts, self.typ))).write(out)?;
         self.effect.write(out)
     }
 
