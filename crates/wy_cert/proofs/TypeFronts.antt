@@ -8,7 +8,7 @@ use Rattle.wy_cert.specs.declared.certificate.CertType.{CertType}
 use Rattle.wy_cert.specs.declared.certificate.CertType.TheVariants as typ
 
 -- the form's byte
-abbrev form_of : CertType → ℕ
+abbrev pub form_of : CertType → ℕ
 form_of t = get_or (type_bytes t) 0 0
 
 form_bound : (t : CertType) → form_of t ≤ 6

@@ -18,8 +18,7 @@ impl Spelled for CertPair {
     }
 
     fn write(&self, out: &mut Vec<u8>) -> Result<(), WriteRefusal> {
-        self.left.write(out)?;
-        self.right.write(out)
+        (self.left, self.right).write(out)
     }
 
     ghost some = { some_pair };

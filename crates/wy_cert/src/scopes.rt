@@ -1,6 +1,7 @@
 //! What is said of a scope as bytes.
 
-ghost use Rattle.wy_cert.specs.ScopeLaws.{scopes_apart, scopes_filled, some_scope};
+ghost use Rattle.std.specs.Prelude.{◌≡◌};
+ghost use Rattle.wy_cert.specs.ScopeLaws.{scope_of, scopes_apart, scopes_filled, some_scope};
 ghost use Rattle.wy_cert.specs.Spelled.{IsScopeSpelled, scope_bytes};
 
 use crate::certificate::{CertNode, CertPair, CertScope, CertType, NumberList};
@@ -17,21 +18,28 @@ type ScopeParts = (
     ),
 );
 
+/// What its lists say of a scope.
+fn scope_of(parts: ScopeParts) -> CertScope
+    ensures { result ≡ scope_of parts }
+{
+    let (types, (pairs, (plain, (locals, nodes)))) = parts;
+    CertScope {
+        types,
+        pairs,
+        plain,
+        locals,
+        nodes,
+    }
+}
+
 impl Spelled for CertScope {
     ghost IsSpelled = { IsScopeSpelled };
 
     ghost bytes_of = { scope_bytes };
 
     fn read(alloc: Global, bytes: &[u8]) -> Result<(CertScope, &[u8]), ReadError> {
-        let ((types, (pairs, (plain, (locals, nodes)))), rest) = ScopeParts::read(alloc, bytes)?;
-        let scope = CertScope {
-            types,
-            pairs,
-            plain,
-            locals,
-            nodes,
-        };
-        Ok((scope, rest))
+        let (parts, rest) = ScopeParts::read(alloc, bytes)?;
+        Ok((scope_of(parts), rest))
     }
 
     fn write(&self, out: &mut Vec<u8>) -> Result<(), WriteRefusal> {

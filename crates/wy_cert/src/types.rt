@@ -1,5 +1,6 @@
 //! Types as bytes: a byte that says of which form they are, and what that form has.
 
+ghost use Rattle.std.specs.Prelude.{◌≡◌, slice_index};
 ghost use Rattle.wy_cert.specs.Spelled.{IsTypeSpelled, type_bytes};
 ghost use Rattle.wy_cert.specs.TypeLaws.{types_apart, types_filled};
 ghost use Rattle.wy_cert.specs.declared.certificate.CertType.TheVariants as typ;
@@ -8,6 +9,21 @@ use crate::certificate::{CertType, NumberList};
 use std::alloc::Global;
 use wy_spelling::{ReadError, Spelled, WriteRefusal};
 use wy_text::list::Items;
+
+/// The byte that says of which form a type is.
+fn form_of(typ: &CertType) -> u8
+    ensures { result ≡ slice_index (type_bytes typ.now) 0 }
+{
+    match typ {
+        CertType::Int => 0,
+        CertType::Bool => 1,
+        CertType::Text => 2,
+        CertType::Unit => 3,
+        CertType::Named { .. } => 4,
+        CertType::At { .. } => 5,
+        CertType::Own { .. } => 6,
+    }
+}
 
 impl Spelled for CertType {
     ghost IsSpelled = { IsTypeSpelled };
@@ -40,27 +56,19 @@ impl Spelled for CertType {
     }
 
     fn write(&self, out: &mut Vec<u8>) -> Result<(), WriteRefusal> {
+        out.push(form_of(self))?;
         match self {
-            CertType::Int => out.push(0)?,
-            CertType::Bool => out.push(1)?,
-            CertType::Text => out.push(2)?,
-            CertType::Unit => out.push(3)?,
             CertType::Named { decl, members } => {
-                out.push(4)?;
                 decl.write(out)?;
-                members.write(out)?;
+                members.write(out)
             }
             CertType::At { decl, bound } => {
-                out.push(5)?;
                 decl.write(out)?;
-                bound.write(out)?;
+                bound.write(out)
             }
-            CertType::Own { literal } => {
-                out.push(6)?;
-                literal.write(out)?;
-            }
+            CertType::Own { literal } => literal.write(out),
+            _ => Ok(()),
         }
-        Ok(())
     }
 
     ghost some = { (typ.Int, tt) };

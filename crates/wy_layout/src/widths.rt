@@ -3,7 +3,7 @@ ghost use Rattle.wy_layout.specs.Gives.{within_of};
 ghost use Rattle.wy_layout.specs.Layout as layout;
 ghost use Rattle.wy_layout.specs.Lexed.{stack_after};
 ghost use Rattle.wy_layout.specs.Outs.{step_is};
-ghost use Rattle.wy_layout.specs.Widths.{above, rest, step_of};
+ghost use Rattle.wy_layout.specs.Widths.{above, is_top, rest, step_of};
 
 use crate::refusal::Fault;
 use wy_text::limit::{MOST_INDENTS, MOST_TOKENS};
@@ -33,6 +33,16 @@ fn close_widths(widths: &mut Vec<usize>, width: usize) -> usize
     outs
 }
 
+/// Whether a width is the last of these.
+fn is_last(widths: &[usize], width: usize) -> bool
+    ensures { result ≡ is_top width (reverse widths.now) }
+{
+    match widths.last() {
+        Some(top) => width == *top,
+        None => false,
+    }
+}
+
 /// What stands before a line of a width. The open widths, of which the last one is the greatest, are then
 /// those behind the line.
 pub fn next_line(widths: &mut Vec<usize>, width: usize) -> Result<Before, Memory>
@@ -40,16 +50,14 @@ pub fn next_line(widths: &mut Vec<usize>, width: usize) -> Result<Before, Memory
     ensures stack { OnOk result (reverse widths.new.items ≡ stack_after width (reverse widths.old.items)) }
 {
     let outs = close_widths(widths, width);
-    match widths.last() {
-        Some(top) if *top == width => Ok(Before::Out(outs)),
-        _ => {
-            if outs > 0 {
-                return Ok(Before::Wrong(outs));
-            }
-            widths.push(width)?;
-            Ok(Before::In)
-        }
+    if is_last(widths.as_slice(), width) {
+        return Ok(Before::Out(outs));
     }
+    if outs > 0 {
+        return Ok(Before::Wrong(outs));
+    }
+    widths.push(width)?;
+    Ok(Before::In)
 }
 
 /// How many tokens stand before a line.

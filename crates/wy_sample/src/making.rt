@@ -1,9 +1,10 @@
-ghost use Rattle.std.specs.Prelude.{◌≡◌, ◌≤◌, ◌++◌, codes, IfOk, OnOk};
+ghost use Rattle.std.specs.Prelude.{◌≡◌, ◌≤◌, ◌++◌, codes, string_bytes, IfOk, OnOk};
 ghost use Rattle.std.specs.List.{flat_map};
 ghost use Rattle.wy_sample.specs.Sample as texts;
 
-use std::alloc::Global;
-use wy_text::text::{Memory, Text, from_bytes, from_vec};
+use std::alloc::{AllocError, Global};
+use std::fmt::Write;
+use wy_text::text::{Memory, Text, from_vec};
 
 /// The type and the first module, which every sample begins with.
 const HEAD: &str = r#"type Step
@@ -23,58 +24,54 @@ const BLOCK_HEAD: &str = r#"program
 "#;
 
 /// Adds the module of a number from 2 on.
-fn push_module(alloc: Global, text: &mut Vec<u8>, number: u32) -> Result<(), Memory>
-    ensures { OnOk result (text.new.items ≡ text.old.items ++ texts.later_module number) }
+fn push_module(text: &mut String, number: u32) -> Result<(), AllocError>
+    ensures { OnOk result (string_bytes text.new ≡ string_bytes text.old ++ texts.later_module number) }
 {
-    let module = format!(in alloc;
+    write!(
+        text,
         "resource module m{number}(s: Step): Step\n  effect E = {{s.E}}\n  def go(t: Int): {{E}} Int = s.go(t) + {number}\n"
-    )?;
-    text.extend_from_slice(module.as_bytes())?;
-    Ok(())
+    )
 }
 
 /// Adds the instance of a number from 2 on.
-fn push_instance(alloc: Global, text: &mut Vec<u8>, number: u32) -> Result<(), Memory>
+fn push_instance(text: &mut String, number: u32) -> Result<(), AllocError>
     requires { 1 ≤ number }
-    ensures { OnOk result (text.new.items ≡ text.old.items ++ texts.later_instance number) }
+    ensures { OnOk result (string_bytes text.new ≡ string_bytes text.old ++ texts.later_instance number) }
 {
     let before = number - 1;
-    let instance = format!(in alloc; "  instance x{number} = m{number}(x{before})\n")?;
-    text.extend_from_slice(instance.as_bytes())?;
-    Ok(())
+    write!(text, "  instance x{number} = m{number}(x{before})\n")
 }
 
 /// Adds the modules from the second to the last one.
-fn push_modules(alloc: Global, text: &mut Vec<u8>, last: u32) -> Result<(), Memory>
+fn push_modules(text: &mut String, last: u32) -> Result<(), AllocError>
     requires { last ≤ 200 }
-    ensures { OnOk result (text.new.items ≡ text.old.items ++ flat_map texts.later_module (texts.later_numbers last)) }
+    ensures { OnOk result (string_bytes text.new ≡ string_bytes text.old ++ flat_map texts.later_module (texts.later_numbers last)) }
 {
     for number in 2..last + 1 {
-        push_module(alloc, text, number)?;
+        push_module(text, number)?;
     }
     Ok(())
 }
 
 /// Adds the instances from the second to the last one.
-fn push_instances(alloc: Global, text: &mut Vec<u8>, last: u32) -> Result<(), Memory>
+fn push_instances(text: &mut String, last: u32) -> Result<(), AllocError>
     requires { last ≤ 200 }
-    ensures { OnOk result (text.new.items ≡ text.old.items ++ flat_map texts.later_instance (texts.later_numbers last)) }
+    ensures { OnOk result (string_bytes text.new ≡ string_bytes text.old ++ flat_map texts.later_instance (texts.later_numbers last)) }
 {
     for number in 2..last + 1 {
-        push_instance(alloc, text, number)?;
+        push_instance(text, number)?;
     }
     Ok(())
 }
 
 /// Adds the end of the program's block, which calls the last instance.
-fn push_end(alloc: Global, text: &mut Vec<u8>, last: u32) -> Result<(), Memory>
-    ensures { OnOk result (text.new.items ≡ text.old.items ++ texts.block_end last) }
+fn push_end(text: &mut String, last: u32) -> Result<(), AllocError>
+    ensures { OnOk result (string_bytes text.new ≡ string_bytes text.old ++ texts.block_end last) }
 {
-    let end = format!(in alloc;
+    write!(
+        text,
         "  run: {{console.Out, x{last}.E}}\n    console.write(text_show(x{last}.go(0)) ++ \"\\n\")\n"
-    )?;
-    text.extend_from_slice(end.as_bytes())?;
-    Ok(())
+    )
 }
 
 /// The text of a program with so many modules, from 1 to 200, and one instance of each (docs/LANGUAGE.md,
@@ -85,12 +82,12 @@ pub fn sample(alloc: Global, number: u32) -> Result<Text, Memory>
     requires few { number ≤ 200 }
     ensures { IfOk result (λ text. text ≡ texts.sample_text number) }
 {
-    let mut text = Vec::from_slice(alloc, HEAD.as_bytes())?;
-    push_modules(alloc, &mut text, number)?;
-    text.extend_from_slice(BLOCK_HEAD.as_bytes())?;
-    push_instances(alloc, &mut text, number)?;
-    push_end(alloc, &mut text, number)?;
-    Ok(from_vec(text))
+    let mut text = String::from_str(alloc, HEAD)?;
+    push_modules(&mut text, number)?;
+    text.push_str(BLOCK_HEAD)?;
+    push_instances(&mut text, number)?;
+    push_end(&mut text, number)?;
+    Ok(from_vec(text.into_bytes()))
 }
 
 /// The line that sums the run of a sample up: its number, which is how many instances it has, and how
@@ -100,5 +97,5 @@ pub fn summary(alloc: Global, number: u32, bodies: u64) -> Result<Text, Memory>
     ensures { IfOk result (λ line. line ≡ texts.summary_line number bodies) }
 {
     let line = format!(in alloc; "sample {number}: instances {number}, bodies {bodies}\n")?;
-    from_bytes(alloc, line.as_bytes())
+    Ok(from_vec(line.into_bytes()))
 }

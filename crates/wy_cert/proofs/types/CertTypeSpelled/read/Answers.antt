@@ -1,4 +1,4 @@
-use Rattle.std.proofs.Common.{ℕ, List, [], ◌∷◌, sym, subst, arith}
+use Rattle.std.proofs.Common.{ℕ, List, [], ◌∷◌, ◌∙◌, ap, sym, subst, arith}
 use Rattle.std.proofs.lemmas.Result.{err_from_is_err_and}
 use Rattle.wy_spelling.specs.NumberLaws.{numbers_apart}
 use Rattle.wy_spelling.specs.Reading.{IsRefused}
@@ -39,3 +39,30 @@ returns-in_err-literal-in-6-clause-bad c =
     let error = c.in_err-literal-in-6.field-0.0 in
     let first = first_is bytes 6 (omega (arith, c.in-len1-up.len_at_least)) c.in-6.is in
     rw (p.1, p.2) (subst (λ (b : List ℕ). IsRefused IsTypeSpelled type_bytes b error) (sym first) (refused_behind IsNumber number_bytes IsTypeSpelled type_bytes (6 ∷ []) (behind_first bytes) error numbers_apart own_goes c.in_err-literal-in-6.ensures.bad))
+
+pub returns-in-0-clause-found : goal.returns-in-0-clause-found
+returns-in-0-clause-found c = (tt, first_is c.args.bytes.now 0 (omega (arith, c.in-len1-up.len_at_least)) c.in-0.is)
+
+pub returns-in-1-clause-found : goal.returns-in-1-clause-found
+returns-in-1-clause-found c = (tt, first_is c.args.bytes.now 1 (omega (arith, c.in-len1-up.len_at_least)) c.in-1.is)
+
+pub returns-in-2-clause-found : goal.returns-in-2-clause-found
+returns-in-2-clause-found c = (tt, first_is c.args.bytes.now 2 (omega (arith, c.in-len1-up.len_at_least)) c.in-2.is)
+
+pub returns-in-3-clause-found : goal.returns-in-3-clause-found
+returns-in-3-clause-found c = (tt, first_is c.args.bytes.now 3 (omega (arith, c.in-len1-up.len_at_least)) c.in-3.is)
+
+pub returns-in_ok-decl-in-4-clause-found : goal.returns-in_ok-decl-in-4-clause-found
+returns-in_ok-decl-in-4-clause-found c =
+    let found = c.in_ok-decl-in-4.ensures.found in
+    (found.0, first_is c.args.bytes.now 4 (omega (arith, c.in-len1-up.len_at_least)) c.in-4.is ∙ ap (λ (b : List ℕ). 4 ∷ b) found.1)
+
+pub returns-in_ok-decl-in-5-clause-found : goal.returns-in_ok-decl-in-5-clause-found
+returns-in_ok-decl-in-5-clause-found c =
+    let found = c.in_ok-decl-in-5.ensures.found in
+    (found.0, first_is c.args.bytes.now 5 (omega (arith, c.in-len1-up.len_at_least)) c.in-5.is ∙ ap (λ (b : List ℕ). 5 ∷ b) found.1)
+
+pub returns-in_ok-literal-in-6-clause-found : goal.returns-in_ok-literal-in-6-clause-found
+returns-in_ok-literal-in-6-clause-found c =
+    let found = c.in_ok-literal-in-6.ensures.found in
+    (found.0, first_is c.args.bytes.now 6 (omega (arith, c.in-len1-up.len_at_least)) c.in-6.is ∙ ap (λ (b : List ℕ). 6 ∷ b) found.1)
