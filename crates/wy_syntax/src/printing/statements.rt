@@ -5,7 +5,7 @@ ghost use Rattle.wy_syntax.specs.Canonical.{block_text, expr_text, field_text, i
 
 use crate::expressions::Expr;
 use crate::printing::expressions::{CONDITION, is_lower, push_enclosed, push_expr};
-use crate::printing::pieces::{Printed, push, push_indentation};
+use crate::printing::pieces::{Printed, push, push_behind, push_indentation};
 use crate::printing::types::{push_signature, push_type};
 use crate::statements::{FieldKind, Part, Rhs, Stmt, Tail};
 use crate::types::{Name, TypeUse};
@@ -36,8 +36,7 @@ fn push_written_type(out: &mut Vec<u8>, type_use: &Option<TypeUse>) -> Result<()
 fn push_val(out: &mut Vec<u8>, name: &Name, type_use: &Option<TypeUse>) -> Result<(), Memory>
     ensures { OnOk result (out.new.items ≡ out.old.items ++ (codes "val " ++ name.now.text ++ written_type_text type_use.now)) }
 {
-    push(out, b"val ")?;
-    name.push_to(out)?;
+    push_behind(out, b"val ", name)?;
     push_written_type(out, type_use)
 }
 

@@ -2,7 +2,7 @@
 ghost use Rattle.std.specs.Prelude.{◌≡◌, ◌++◌, OnOk};
 ghost use Rattle.wy_syntax.specs.Canonical.{atom_text, effect_text, member_set_text, name_text, owner_text, param_text, set_text, signature_text, type_text};
 
-use crate::printing::pieces::{Printed, push, push_with_commas};
+use crate::printing::pieces::{Printed, push, push_behind, push_list};
 use crate::types::{AtomUse, MemberSet, Name, Param, SetUse, Signature, TypeUse};
 use wy_text::text::Memory;
 
@@ -38,9 +38,7 @@ impl Printed for AtomUse {
 pub fn push_set(out: &mut Vec<u8>, set: &SetUse) -> Result<(), Memory>
     ensures { OnOk result (out.new.items ≡ out.old.items ++ set_text set.now) }
 {
-    push(out, b"{")?;
-    push_with_commas(out, set.as_slice())?;
-    push(out, b"}")
+    push_list(out, b"{", set.as_slice(), b"}")
 }
 
 impl Printed for MemberSet {
@@ -65,9 +63,7 @@ pub fn push_type(out: &mut Vec<u8>, type_use: &TypeUse) -> Result<(), Memory>
         TypeUse::Bare(name) => name.push_to(out),
         TypeUse::With(name, sets) => {
             name.push_to(out)?;
-            push(out, b"[")?;
-            push_with_commas(out, sets.as_slice())?;
-            push(out, b"]")
+            push_list(out, b"[", sets.as_slice(), b"]")
         }
         TypeUse::At(name, set) => {
             name.push_to(out)?;
@@ -102,11 +98,8 @@ fn push_effect(out: &mut Vec<u8>, effect: &Option<SetUse>) -> Result<(), Memory>
 pub fn push_signature(out: &mut Vec<u8>, signature: &Signature) -> Result<(), Memory>
     ensures { OnOk result (out.new.items ≡ out.old.items ++ signature_text signature.now) }
 {
-    push(out, b"def ")?;
-    signature.name.push_to(out)?;
-    push(out, b"(")?;
-    push_with_commas(out, signature.params.as_slice())?;
-    push(out, b"): ")?;
+    push_behind(out, b"def ", &signature.name)?;
+    push_list(out, b"(", signature.params.as_slice(), b"): ")?;
     push_effect(out, &signature.effect)?;
     push_type(out, &signature.result)
 }

@@ -39,14 +39,33 @@ push_arguments-returns t c =
 pub push_expr-returns-in_ok-push_operator-in-Binary : goal.push_expr-returns-in_ok-push_operator-in-Binary
 push_expr-returns-in_ok-push_operator-in-Binary t c =
     rw (c.in-Binary.is, expr_tree-Binary c.in-Binary.operator c.in-Binary.left c.in-Binary.right c.in-Binary.field-3) (simp append_assoc
-    (simp (c.in_ok-push_operator-in-Binary.ensures, c.in_ok-push_enclosed-in-Binary.ensures, c.is_lower-in-Binary.ensures, c.left_level.ensures, c.deref-in-Binary.ensures, c.deref-in-Binary-2.ensures,
-    c.is_lower-in-Binary-2.ensures, c.right_level.ensures, c.deref-in-Binary-3.ensures, c.deref-in-Binary-4.ensures, append_assoc) at c.push_enclosed-in-Binary-2.ensures))
+    (simp (
+      c.in_ok-push_operator-in-Binary.ensures,
+      c.in_ok-push_enclosed-in-Binary.ensures,
+      c.is_lower-in-Binary.ensures,
+      c.left_level.ensures,
+      c.deref-in-Binary.ensures,
+      c.deref-in-Binary-2.ensures,
+      c.is_lower-in-Binary-2.ensures,
+      c.right_level.ensures,
+      c.deref-in-Binary-3.ensures,
+      c.deref-in-Binary-4.ensures,
+      append_assoc,
+    ) at c.push_enclosed-in-Binary-2.ensures))
 
 pub push_expr-returns-in_ok-push_arguments-in-Call : goal.push_expr-returns-in_ok-push_arguments-in-Call
 push_expr-returns-in_ok-push_arguments-in-Call t c =
     rw (c.in-Call.is, expr_tree-Call c.in-Call.receiver c.in-Call.name c.in-Call.arguments) (simp append_assoc
-    (simp (c.in_ok-push_arguments-in-Call.ensures, c.deref-in-Call-3.ensures.value, c.in_ok-push_method-in-Call.ensures, c.in_ok-push_enclosed-in-Call.ensures, c.is_lower-in-Call.ensures,
-    c.deref-in-Call.ensures, c.deref-in-Call-2.ensures, append_assoc) at c.push-in-Call.ensures))
+    (simp (
+      c.in_ok-push_arguments-in-Call.ensures,
+      c.deref-in-Call-3.ensures.value,
+      c.in_ok-push_method-in-Call.ensures,
+      c.in_ok-push_enclosed-in-Call.ensures,
+      c.is_lower-in-Call.ensures,
+      c.deref-in-Call.ensures,
+      c.deref-in-Call-2.ensures,
+      append_assoc,
+    ) at c.push-in-Call.ensures))
 
 pub push_worded-returns-in_ok-push_behind-in-TextPart-2 : goal.push_worded-returns-in_ok-push_behind-in-TextPart-2
 push_worded-returns-in_ok-push_behind-in-TextPart-2 t c =
@@ -67,8 +86,17 @@ push_worded-returns-in_ok-push_behind-in-Ascribe t c =
 pub push_worded-returns-in_ok-push_behind-in-Choice : goal.push_worded-returns-in_ok-push_behind-in-Choice
 push_worded-returns-in_ok-push_behind-in-Choice t c =
     rw (c.in-Choice.is, expr_tree-Choice c.in-Choice.condition c.in-Choice.first c.in-Choice.second c.in-Choice.field-3) (simp append_assoc
-    (simp (c.in_ok-push_behind-in-Choice.ensures, c.in_ok-push_enclosed-in-Choice.ensures, c.in_ok-push-in-Choice.ensures, c.is_lower.ensures, c.deref-in-Choice.ensures, c.deref-in-Choice-2.ensures,
-    c.deref-in-Choice-3.ensures, c.deref-in-Choice-4.ensures, append_assoc) at c.push_behind-in-Choice-2.ensures))
+    (simp (
+      c.in_ok-push_behind-in-Choice.ensures,
+      c.in_ok-push_enclosed-in-Choice.ensures,
+      c.in_ok-push-in-Choice.ensures,
+      c.is_lower.ensures,
+      c.deref-in-Choice.ensures,
+      c.deref-in-Choice-2.ensures,
+      c.deref-in-Choice-3.ensures,
+      c.deref-in-Choice-4.ensures,
+      append_assoc,
+    ) at c.push_behind-in-Choice-2.ensures))
 
 pub push_expr-returns-in_ok-push-in-Not : goal.push_expr-returns-in_ok-push-in-Not
 push_expr-returns-in_ok-push-in-Not t c =
