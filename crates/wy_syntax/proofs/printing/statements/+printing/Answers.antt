@@ -4,7 +4,7 @@ use Rattle.wy_syntax.specs.declared.statements.Stmt.{Stmt}
 use Rattle.wy_syntax.specs.Views.{part_tree, part_trees, stmt_tree, stmt_trees}
 use Rattle.wy_syntax.specs.Canonical.{block_text, indented, part_text, parts_text, stmt_text}
 use Rattle.wy_syntax.proofs.Layers.{part_tree-Field, part_tree-Method, rhs_tree-Branch, rhs_tree-New, rhs_tree-Value, stmt_tree-Assign, stmt_tree-Run, stmt_tree-Val, tail_tree-Long, tail_tree-Short}
-use Rattle.wy_syntax.proofs.Turns.{printed_turn}
+use Rattle.wy_syntax.proofs.Turns.{printed_all, printed_turn}
 use Rattle.wy_syntax.proofs.printing.statements.+printing.Goals as goal
 
 pub push_block-loop-stmt-preserved : goal.push_block-loop-stmt-preserved
@@ -62,3 +62,13 @@ pub push_rhs-returns-in_ok-push_else-in-Branch : goal.push_rhs-returns-in_ok-pus
 push_rhs-returns-in_ok-push_else-in-Branch t c =
     rw (c.in-Branch.is, rhs_tree-Branch c.in-Branch.field-0 c.in-Branch.condition c.in-Branch.first c.in-Branch.second) (simp append_assoc
     (simp (c.in_ok-push_else-in-Branch.ensures, c.in_ok-push_block-in-Branch.ensures, c.in_ok-push_if-in-Branch.ensures, c.deref-in-Branch.ensures.value, c.deref-in-Branch-2.ensures.value, c.in_ok-inside-in-Branch.ensures, append_assoc) at c.push_block-in-Branch.ensures))
+
+pub push_block-returns : goal.push_block-returns
+push_block-returns t c =
+    let f : List Stmt → List ℕ = λ ss. block_text c.args.indents (stmt_trees ss) in
+    printed_all c.args.block.now c.loop-stmt.stmt-index f c.loop-stmt.out.items (c.args.out.now.items ++ f c.args.block.now) c.loop-stmt-test.false refl c.loop-stmt.invariant
+
+pub push_parts-returns : goal.push_parts-returns
+push_parts-returns t c =
+    let f : List Part → List ℕ = λ ps. parts_text c.args.indents (part_trees ps) in
+    printed_all c.args.parts.now c.loop-part.part-index f c.loop-part.out.items (c.args.out.now.items ++ f c.args.parts.now) c.loop-part-test.false refl c.loop-part.invariant
