@@ -125,7 +125,7 @@ fn push_inside(out: &mut Vec<u8>, inside: &Inside) -> Result<(), Memory>
     push_each(out, inside.lines.as_slice())?;
     push_each(out, inside.defines.as_slice())?;
     push_init(out, &inside.init)?;
-    push_parts(out, &inside.parts, 1)
+    push_parts(out, &inside.parts, 0)
 }
 
 fn push_type_decl(out: &mut Vec<u8>, decl: &TypeDecl) -> Result<(), Memory>
@@ -178,7 +178,7 @@ fn push_plain(out: &mut Vec<u8>, plain: &PlainModule) -> Result<(), Memory>
 {
     push(out, b"plain module ")?;
     push_heading(out, &plain.name, plain.params.as_slice(), &plain.sealed)?;
-    push_parts(out, &plain.parts, 1)
+    push_parts(out, &plain.parts, 0)
 }
 
 fn push_program(out: &mut Vec<u8>, program: &Program) -> Result<(), Memory>
