@@ -9,7 +9,7 @@ use crate::items::{
 };
 use crate::printing::pieces::{Printed, push, push_behind, push_each, push_list};
 use crate::printing::statements::{push_parts, push_tail};
-use crate::printing::types::{push_set, push_signature};
+use crate::printing::types::{push_name_and_set, push_set, push_signature};
 use crate::types::{Name, Param, SetUse};
 use wy_text::text::Memory;
 
@@ -20,9 +20,8 @@ const BLANK_LINE: [u8; 1] = [b'\n'];
 fn push_effect_line(out: &mut Vec<u8>, name: &Name, sign: &[u8], set: &SetUse) -> Result<(), Memory>
     ensures { OnOk result (out.new.items ≡ out.old.items ++ (codes "  effect " ++ name.now.text ++ sign.now ++ set_text set.now ++ newline)) }
 {
-    push_behind(out, b"  effect ", name)?;
-    push(out, sign)?;
-    push_set(out, set)?;
+    push(out, b"  effect ")?;
+    push_name_and_set(out, name, sign, set)?;
     push(out, b"\n")
 }
 

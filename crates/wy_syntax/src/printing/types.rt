@@ -41,13 +41,25 @@ pub fn push_set(out: &mut Vec<u8>, set: &SetUse) -> Result<(), Memory>
     push_list(out, b"{", set.as_slice(), b"}")
 }
 
+/// Adds a name and a set with a sign or a word between.
+pub fn push_name_and_set(
+    out: &mut Vec<u8>,
+    name: &Name,
+    between: &[u8],
+    set: &SetUse,
+) -> Result<(), Memory>
+    ensures { OnOk result (out.new.items ≡ out.old.items ++ (name.now.text ++ between.now ++ set_text set.now)) }
+{
+    name.push_to(out)?;
+    push(out, between)?;
+    push_set(out, set)
+}
+
 impl Printed for MemberSet {
     ghost text = { member_set_text };
 
     fn push_to(&self, out: &mut Vec<u8>) -> Result<(), Memory> {
-        self.name.push_to(out)?;
-        push(out, b" = ")?;
-        push_set(out, &self.effect)
+        push_name_and_set(out, &self.name, b" = ", &self.effect)
     }
 }
 
@@ -65,11 +77,7 @@ pub fn push_type(out: &mut Vec<u8>, type_use: &TypeUse) -> Result<(), Memory>
             name.push_to(out)?;
             push_list(out, b"[", sets.as_slice(), b"]")
         }
-        TypeUse::At(name, set) => {
-            name.push_to(out)?;
-            push(out, b" at ")?;
-            push_set(out, set)
-        }
+        TypeUse::At(name, set) => push_name_and_set(out, name, b" at ", set),
     }
 }
 
