@@ -1,20 +1,29 @@
 //! Items and the lines inside them, which have one indentation.
 ghost use Rattle.std.specs.Prelude.{◌≡◌, ◌++◌, codes, map, OnOk};
 ghost use Rattle.wy_syntax.specs.Views.{inside_tree, item_tree};
-ghost use Rattle.wy_syntax.specs.Canonical.{after_blank, canonical_form, define_text, grant_text, in_order, init_text, inside_text, item_text, line_text, member_text, name_text, newline, param_text, use_text, with_commas};
+ghost use Rattle.wy_syntax.specs.Canonical.{after_blank, canonical_form, define_text, grant_text, in_order, init_text, inside_text, item_text, line_text, member_text, name_text, newline, param_text, set_text, use_text, with_commas};
 
 use crate::items::{
     Define, Grant, Init, Inside, Item, Line, Member, PlainModule, Program, PureModule,
     ResourceModule, TypeDecl,
 };
-use crate::printing::pieces::{Printed, push, push_each, push_with_commas};
+use crate::printing::pieces::{Printed, push, push_behind, push_each, push_list};
 use crate::printing::statements::{push_parts, push_tail};
-use crate::printing::types::{push_set, push_signature};
-use crate::types::{Name, Param};
+use crate::printing::types::{push_name_and_set, push_set, push_signature};
+use crate::types::{Name, Param, SetUse};
 use wy_text::text::Memory;
 
 /// What stands between two items.
 const BLANK_LINE: [u8; 1] = [b'\n'];
+
+/// Adds the line of an effect, a sign and a set.
+fn push_effect_line(out: &mut Vec<u8>, name: &Name, sign: &[u8], set: &SetUse) -> Result<(), Memory>
+    ensures { OnOk result (out.new.items ≡ out.old.items ++ (codes "  effect " ++ name.now.text ++ sign.now ++ set_text set.now ++ newline)) }
+{
+    push(out, b"  effect ")?;
+    push_name_and_set(out, name, sign, set)?;
+    push(out, b"\n")
+}
 
 impl Printed for Member {
     ghost text = { member_text };
@@ -22,27 +31,17 @@ impl Printed for Member {
     fn push_to(&self, out: &mut Vec<u8>) -> Result<(), Memory> {
         match self {
             Member::Abstract(name) => {
-                push(out, b"  effect ")?;
-                name.push_to(out)?;
+                push_behind(out, b"  effect ", name)?;
+                push(out, b"\n")
             }
-            Member::Bounded(name, set) => {
-                push(out, b"  effect ")?;
-                name.push_to(out)?;
-                push(out, b" <= ")?;
-                push_set(out, set)?;
-            }
-            Member::Defined(name, set) => {
-                push(out, b"  effect ")?;
-                name.push_to(out)?;
-                push(out, b" = ")?;
-                push_set(out, set)?;
-            }
+            Member::Bounded(name, set) => push_effect_line(out, name, b" <= ", set),
+            Member::Defined(name, set) => push_effect_line(out, name, b" = ", set),
             Member::Method(signature) => {
                 push(out, b"  ")?;
                 push_signature(out, signature)?;
+                push(out, b"\n")
             }
         }
-        push(out, b"\n")
     }
 }
 
@@ -51,11 +50,8 @@ fn push_made(out: &mut Vec<u8>, name: &Name, maker: &Name, arguments: &[Name]) -
     ensures { OnOk result (out.new.items ≡ out.old.items ++ (name.now.text ++ codes " = " ++ maker.now.text ++ codes "(" ++ with_commas name_text arguments.now ++ codes ")")) }
 {
     name.push_to(out)?;
-    push(out, b" = ")?;
-    maker.push_to(out)?;
-    push(out, b"(")?;
-    push_with_commas(out, arguments)?;
-    push(out, b")")
+    push_behind(out, b" = ", maker)?;
+    push_list(out, b"(", arguments, b")")
 }
 
 impl Printed for Line {
@@ -83,11 +79,7 @@ impl Printed for Define {
     ghost text = { define_text };
 
     fn push_to(&self, out: &mut Vec<u8>) -> Result<(), Memory> {
-        push(out, b"  effect ")?;
-        self.name.push_to(out)?;
-        push(out, b" = ")?;
-        push_set(out, &self.effect)?;
-        push(out, b"\n")
+        push_effect_line(out, &self.name, b" = ", &self.effect)
     }
 }
 
@@ -95,10 +87,8 @@ impl Printed for Grant {
     ghost text = { grant_text };
 
     fn push_to(&self, out: &mut Vec<u8>) -> Result<(), Memory> {
-        push(out, b"  grant ")?;
-        self.name.push_to(out)?;
-        push(out, b": ")?;
-        self.kind.push_to(out)?;
+        push_behind(out, b"  grant ", &self.name)?;
+        push_behind(out, b": ", &self.kind)?;
         push(out, b"\n")
     }
 }
@@ -108,8 +98,7 @@ fn push_uses(out: &mut Vec<u8>, uses: &[Name]) -> Result<(), Memory>
     ensures { OnOk result (out.new.items ≡ out.old.items ++ in_order use_text uses.now) }
 {
     for name in uses {
-        push(out, b"  use ")?;
-        name.push_to(out)?;
+        push_behind(out, b"  use ", name)?;
         push(out, b"\n")?;
     }
     Ok(())
@@ -135,14 +124,13 @@ fn push_inside(out: &mut Vec<u8>, inside: &Inside) -> Result<(), Memory>
     push_each(out, inside.lines.as_slice())?;
     push_each(out, inside.defines.as_slice())?;
     push_init(out, &inside.init)?;
-    push_parts(out, &inside.parts, 1)
+    push_parts(out, &inside.parts, 0)
 }
 
 fn push_type_decl(out: &mut Vec<u8>, decl: &TypeDecl) -> Result<(), Memory>
     ensures { OnOk result (out.new.items ≡ out.old.items ++ item_text (item_tree (Item.Type decl.now))) }
 {
-    push(out, b"type ")?;
-    decl.name.push_to(out)?;
+    push_behind(out, b"type ", &decl.name)?;
     push(out, b"\n")?;
     push_each(out, decl.members.as_slice())
 }
@@ -150,10 +138,8 @@ fn push_type_decl(out: &mut Vec<u8>, decl: &TypeDecl) -> Result<(), Memory>
 fn push_pure(out: &mut Vec<u8>, pure: &PureModule) -> Result<(), Memory>
     ensures { OnOk result (out.new.items ≡ out.old.items ++ item_text (item_tree (Item.Pure pure.now))) }
 {
-    push(out, b"module ")?;
-    pure.name.push_to(out)?;
-    push(out, b": ")?;
-    pure.sealed.push_to(out)?;
+    push_behind(out, b"module ", &pure.name)?;
+    push_behind(out, b": ", &pure.sealed)?;
     push(out, b"\n")?;
     push_inside(out, &pure.inside)
 }
@@ -168,9 +154,7 @@ fn push_heading(
     ensures { OnOk result (out.new.items ≡ out.old.items ++ (name.now.text ++ codes "(" ++ with_commas param_text params.now ++ codes "): " ++ sealed.now.text ++ newline)) }
 {
     name.push_to(out)?;
-    push(out, b"(")?;
-    push_with_commas(out, params)?;
-    push(out, b"): ")?;
+    push_list(out, b"(", params, b"): ")?;
     sealed.push_to(out)?;
     push(out, b"\n")
 }
@@ -193,7 +177,7 @@ fn push_plain(out: &mut Vec<u8>, plain: &PlainModule) -> Result<(), Memory>
 {
     push(out, b"plain module ")?;
     push_heading(out, &plain.name, plain.params.as_slice(), &plain.sealed)?;
-    push_parts(out, &plain.parts, 1)
+    push_parts(out, &plain.parts, 0)
 }
 
 fn push_program(out: &mut Vec<u8>, program: &Program) -> Result<(), Memory>

@@ -21,6 +21,14 @@ pub fn push(out: &mut Vec<u8>, bytes: &[u8]) -> Result<(), Memory>
     Ok(())
 }
 
+/// Adds bytes and behind them an item's text.
+pub fn push_behind<X: Printed>(out: &mut Vec<u8>, bytes: &[u8], item: &X) -> Result<(), Memory>
+    ensures { OnOk result (out.new.items ≡ out.old.items ++ (bytes.now ++ X.text item.now)) }
+{
+    push(out, bytes)?;
+    item.push_to(out)
+}
+
 /// Adds two spaces for each indentation.
 pub fn push_indentation(out: &mut Vec<u8>, indents: usize) -> Result<(), Memory>
     ensures { OnOk result (out.new.items ≡ out.old.items ++ indented indents) }
@@ -53,7 +61,7 @@ fn push_after_commas<X: Printed>(out: &mut Vec<u8>, items: &[X]) -> Result<(), M
 }
 
 /// Adds the texts of the items with a comma and a space between.
-pub fn push_with_commas<X: Printed>(out: &mut Vec<u8>, items: &[X]) -> Result<(), Memory>
+fn push_with_commas<X: Printed>(out: &mut Vec<u8>, items: &[X]) -> Result<(), Memory>
     ensures { OnOk result (out.new.items ≡ out.old.items ++ with_commas X.text items.now) }
 {
     match items {
@@ -63,4 +71,18 @@ pub fn push_with_commas<X: Printed>(out: &mut Vec<u8>, items: &[X]) -> Result<()
             push_after_commas(out, others)
         }
     }
+}
+
+/// Adds the texts of the items with a comma and a space between, and around them what opens and closes them.
+pub fn push_list<X: Printed>(
+    out: &mut Vec<u8>,
+    opening: &[u8],
+    items: &[X],
+    closing: &[u8],
+) -> Result<(), Memory>
+    ensures { OnOk result (out.new.items ≡ out.old.items ++ (opening.now ++ with_commas X.text items.now ++ closing.now)) }
+{
+    push(out, opening)?;
+    push_with_commas(out, items)?;
+    push(out, closing)
 }

@@ -5,7 +5,7 @@ ghost use Rattle.wy_syntax.specs.Canonical.{block_text, expr_text, field_text, i
 
 use crate::expressions::Expr;
 use crate::printing::expressions::{CONDITION, is_lower, push_enclosed, push_expr};
-use crate::printing::pieces::{Printed, push, push_indentation};
+use crate::printing::pieces::{Printed, push, push_behind, push_indentation};
 use crate::printing::types::{push_signature, push_type};
 use crate::statements::{FieldKind, Part, Rhs, Stmt, Tail};
 use crate::types::{Name, TypeUse};
@@ -36,8 +36,7 @@ fn push_written_type(out: &mut Vec<u8>, type_use: &Option<TypeUse>) -> Result<()
 fn push_val(out: &mut Vec<u8>, name: &Name, type_use: &Option<TypeUse>) -> Result<(), Memory>
     ensures { OnOk result (out.new.items ≡ out.old.items ++ (codes "val " ++ name.now.text ++ written_type_text type_use.now)) }
 {
-    push(out, b"val ")?;
-    name.push_to(out)?;
+    push_behind(out, b"val ", name)?;
     push_written_type(out, type_use)
 }
 
@@ -54,6 +53,14 @@ fn push_field(
     name.push_to(out)?;
     push(out, b": ")?;
     push_type(out, type_use)
+}
+
+/// Adds an expression and the end of its line.
+fn push_value(out: &mut Vec<u8>, e: &Expr) -> Result<(), Memory>
+    ensures { OnOk result (out.new.items ≡ out.old.items ++ (expr_text (expr_tree e.now) ++ newline)) }
+{
+    push_expr(out, e)?;
+    push(out, b"\n")
 }
 
 /// Adds the line of an `if` before its first block.
@@ -88,19 +95,15 @@ fn push_rhs(out: &mut Vec<u8>, rhs: &Rhs, indents: usize) -> Result<(), Memory>
     match rhs {
         Rhs::New(_, parts) => {
             push(out, b"new\n")?;
-            push_parts(out, parts, deeper(indents)?)
+            push_parts(out, parts, indents)
         }
         Rhs::Branch(_, condition, first, second) => {
-            let inside = deeper(indents)?;
             push_if(out, condition)?;
-            push_block(out, first, inside)?;
+            push_block(out, first, indents)?;
             push_else(out, indents)?;
-            push_block(out, second, inside)
+            push_block(out, second, indents)
         }
-        Rhs::Value(e) => {
-            push_expr(out, e)?;
-            push(out, b"\n")
-        }
+        Rhs::Value(e) => push_value(out, e),
     }
 }
 
@@ -131,14 +134,15 @@ fn push_stmt(out: &mut Vec<u8>, stmt: &Stmt, indents: usize) -> Result<(), Memor
     }
 }
 
-/// Adds statements, each in lines of its own.
+/// Adds statements, each in lines of its own, with one indentation more.
 #[cycle(printing)]
 fn push_block(out: &mut Vec<u8>, block: &[Stmt], indents: usize) -> Result<(), Memory>
-    ensures { OnOk result (out.new.items ≡ out.old.items ++ block_text indents (stmt_trees block.now)) }
+    ensures { OnOk result (out.new.items ≡ out.old.items ++ block_text (suc indents) (stmt_trees block.now)) }
 {
+    let inside = deeper(indents)?;
     for stmt in block {
-        push_indentation(out, indents)?;
-        push_stmt(out, stmt, indents)?;
+        push_indentation(out, inside)?;
+        push_stmt(out, stmt, inside)?;
     }
     Ok(())
 }
@@ -160,14 +164,15 @@ fn push_part(out: &mut Vec<u8>, part: &Part, indents: usize) -> Result<(), Memor
     }
 }
 
-/// Adds fields and methods, each in lines of its own.
+/// Adds fields and methods, each in lines of its own, with one indentation more.
 #[cycle(printing)]
 pub fn push_parts(out: &mut Vec<u8>, parts: &[Part], indents: usize) -> Result<(), Memory>
-    ensures { OnOk result (out.new.items ≡ out.old.items ++ parts_text indents (part_trees parts.now)) }
+    ensures { OnOk result (out.new.items ≡ out.old.items ++ parts_text (suc indents) (part_trees parts.now)) }
 {
+    let inside = deeper(indents)?;
     for part in parts {
-        push_indentation(out, indents)?;
-        push_part(out, part, indents)?;
+        push_indentation(out, inside)?;
+        push_part(out, part, inside)?;
     }
     Ok(())
 }
@@ -181,7 +186,7 @@ pub fn push_tail(out: &mut Vec<u8>, tail: &Tail, indents: usize) -> Result<(), M
         Tail::Short(rhs) => push_assigned(out, rhs, indents),
         Tail::Long(block) => {
             push(out, b"\n")?;
-            push_block(out, block, deeper(indents)?)
+            push_block(out, block, indents)
         }
     }
 }

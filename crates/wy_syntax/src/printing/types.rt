@@ -2,7 +2,7 @@
 ghost use Rattle.std.specs.Prelude.{◌≡◌, ◌++◌, OnOk};
 ghost use Rattle.wy_syntax.specs.Canonical.{atom_text, effect_text, member_set_text, name_text, owner_text, param_text, set_text, signature_text, type_text};
 
-use crate::printing::pieces::{Printed, push, push_with_commas};
+use crate::printing::pieces::{Printed, push, push_behind, push_list};
 use crate::types::{AtomUse, MemberSet, Name, Param, SetUse, Signature, TypeUse};
 use wy_text::text::Memory;
 
@@ -38,18 +38,28 @@ impl Printed for AtomUse {
 pub fn push_set(out: &mut Vec<u8>, set: &SetUse) -> Result<(), Memory>
     ensures { OnOk result (out.new.items ≡ out.old.items ++ set_text set.now) }
 {
-    push(out, b"{")?;
-    push_with_commas(out, set.as_slice())?;
-    push(out, b"}")
+    push_list(out, b"{", set.as_slice(), b"}")
+}
+
+/// Adds a name and a set with a sign or a word between.
+pub fn push_name_and_set(
+    out: &mut Vec<u8>,
+    name: &Name,
+    between: &[u8],
+    set: &SetUse,
+) -> Result<(), Memory>
+    ensures { OnOk result (out.new.items ≡ out.old.items ++ (name.now.text ++ between.now ++ set_text set.now)) }
+{
+    name.push_to(out)?;
+    push(out, between)?;
+    push_set(out, set)
 }
 
 impl Printed for MemberSet {
     ghost text = { member_set_text };
 
     fn push_to(&self, out: &mut Vec<u8>) -> Result<(), Memory> {
-        self.name.push_to(out)?;
-        push(out, b" = ")?;
-        push_set(out, &self.effect)
+        push_name_and_set(out, &self.name, b" = ", &self.effect)
     }
 }
 
@@ -65,15 +75,9 @@ pub fn push_type(out: &mut Vec<u8>, type_use: &TypeUse) -> Result<(), Memory>
         TypeUse::Bare(name) => name.push_to(out),
         TypeUse::With(name, sets) => {
             name.push_to(out)?;
-            push(out, b"[")?;
-            push_with_commas(out, sets.as_slice())?;
-            push(out, b"]")
+            push_list(out, b"[", sets.as_slice(), b"]")
         }
-        TypeUse::At(name, set) => {
-            name.push_to(out)?;
-            push(out, b" at ")?;
-            push_set(out, set)
-        }
+        TypeUse::At(name, set) => push_name_and_set(out, name, b" at ", set),
     }
 }
 
@@ -102,11 +106,8 @@ fn push_effect(out: &mut Vec<u8>, effect: &Option<SetUse>) -> Result<(), Memory>
 pub fn push_signature(out: &mut Vec<u8>, signature: &Signature) -> Result<(), Memory>
     ensures { OnOk result (out.new.items ≡ out.old.items ++ signature_text signature.now) }
 {
-    push(out, b"def ")?;
-    signature.name.push_to(out)?;
-    push(out, b"(")?;
-    push_with_commas(out, signature.params.as_slice())?;
-    push(out, b"): ")?;
+    push_behind(out, b"def ", &signature.name)?;
+    push_list(out, b"(", signature.params.as_slice(), b"): ")?;
     push_effect(out, &signature.effect)?;
     push_type(out, &signature.result)
 }
