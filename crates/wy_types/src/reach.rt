@@ -76,11 +76,13 @@ fn add_names(alloc: Global, out: &mut TypeList, names: &[OwnName]) -> Result<(),
 fn add_sealed(alloc: Global, out: &mut TypeList, scope: &Scope) -> Result<(), Memory>
     ensures { OnOk result (out.new ≡ out.old ++ sealed_types scope.now.ascribed scope.now.definitions) }
 {
-    if let Some(decl) = scope.ascribed {
-        let members = copy_sets(alloc, scope.definitions.as_slice())?;
-        out.push(TypeRef::Named { decl, members })?;
+    match scope.ascribed {
+        Some(decl) => out.push(TypeRef::Named {
+            decl,
+            members: copy_sets(alloc, scope.definitions.as_slice())?,
+        }),
+        None => Ok(()),
     }
-    Ok(())
 }
 
 /// Adds the own types from a number on and below another.
