@@ -137,8 +137,7 @@ fn add_method(
     ensures methods { OnOk result (methods.new ≡ methods.old ++ method_of scope.now false signature.now ∷ []) }
     ensures noted { OnOk result (least.new ≡ noted least.old (signature_refusals scope.now false signature.now)) }
 {
-    methods.push(read_method(alloc, scope, false, signature, least)?)?;
-    Ok(())
+    methods.push(read_method(alloc, scope, false, signature, least)?)
 }
 
 /// Adds the methods of a declaration, and its effect members as those before the next one. The refusals inside
@@ -207,6 +206,34 @@ fn read_members(
     Ok(methods)
 }
 
+/// Notes Twice at each effect member that repeats the name of one before it.
+fn note_repeated_effects(
+    alloc: Global,
+    members: &[Member],
+    least: &mut Option<Refusal>,
+) -> Result<(), Memory>
+    ensures { OnOk result (least.new ≡ noted least.old (repeated [] (member_names members.now))) }
+{
+    let mut names = WrittenNames::new(alloc);
+    add_member_names(&mut names, members);
+    let names = names.all()?;
+    note_repeated(alloc, &[], &names, least)
+}
+
+/// Notes Twice at each method that repeats the name of one before it.
+fn note_repeated_methods(
+    alloc: Global,
+    members: &[Member],
+    least: &mut Option<Refusal>,
+) -> Result<(), Memory>
+    ensures { OnOk result (least.new ≡ noted least.old (repeated [] (method_names members.now))) }
+{
+    let mut names = WrittenNames::new(alloc);
+    add_method_names(&mut names, members);
+    let names = names.all()?;
+    note_repeated(alloc, &[], &names, least)
+}
+
 /// Notes Twice at each effect member and each method that repeats the name of one before it.
 #[tactic(auto, using(crate::proofs::Leasts::noted_append))]
 fn note_repeated_members(
@@ -216,14 +243,8 @@ fn note_repeated_members(
 ) -> Result<(), Memory>
     ensures { OnOk result (least.new ≡ noted least.old (repeated [] (member_names members.now) ++ repeated [] (method_names members.now))) }
 {
-    let mut effects = WrittenNames::new(alloc);
-    add_member_names(&mut effects, members);
-    let effects = effects.all()?;
-    note_repeated(alloc, &[], &effects, least)?;
-    let mut methods = WrittenNames::new(alloc);
-    add_method_names(&mut methods, members);
-    let methods = methods.all()?;
-    note_repeated(alloc, &[], &methods, least)
+    note_repeated_effects(alloc, members, least)?;
+    note_repeated_methods(alloc, members, least)
 }
 
 /// A type declaration with its names resolved. `nothing` and `types` have no owners; these see the types. Its

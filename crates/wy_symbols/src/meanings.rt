@@ -52,10 +52,8 @@ impl Meanings {
         if !self.numbers.contains_key(&meaning.name) {
             self.numbers.insert(meaning.name.copy()?, number)?;
         }
-        match self.list.push(meaning) {
-            Ok(()) => Ok(()),
-            Err(_) => unreachable!(),
-        }
+        self.list.push_reserved(meaning);
+        Ok(())
     }
 
     /// The first of a name. It takes no memory.

@@ -59,7 +59,6 @@ fn read_effect(
 }
 
 /// What a signature stands for, in a plain module or elsewhere. Its refusals are noted.
-#[tactic(auto, using(crate::proofs::Leasts::noted_append))]
 pub fn read_method(
     alloc: Global,
     scope: &AtomScope,

@@ -6,7 +6,7 @@ ghost use Rattle.wy_symbols.specs.Least.{noted};
 ghost use Rattle.wy_symbols.specs.Declarations.{repeated};
 ghost use Rattle.wy_symbols.specs.Meanings.{meaning_of, abstract_names};
 ghost use Rattle.wy_symbols.specs.Atoms.{head_names, type_number, set_refusals};
-ghost use Rattle.wy_symbols.specs.TypeUses.{written_set, written_sets, named_type, bound_type, type_ref, texts_of, all_among, lacking, not_abstract, sets_refusals, type_name_refusals, bare_refusals, with_refusals, type_refusals, plain_refusals, use_refusals};
+ghost use Rattle.wy_symbols.specs.TypeUses.{written_set, written_sets, named_type, bound_type, type_ref, texts_of, set_names, all_among, lacking, not_abstract, sets_refusals, type_name_refusals, bare_refusals, with_refusals, type_refusals, plain_refusals, use_refusals};
 
 use crate::atom_scope::AtomScope;
 use crate::meanings::Meanings;
@@ -211,6 +211,20 @@ fn note_type_name(scope: &AtomScope, name: &Name, least: &mut Option<Refusal>)
     }
 }
 
+/// Notes MemberUndefined at a name where there is an abstract member.
+fn note_all_lacking(
+    alloc: Global,
+    name: &Name,
+    members: &Meanings,
+    least: &mut Option<Refusal>,
+) -> Result<(), Memory>
+    ensures { OnOk result (least.new ≡ noted least.old (lacking name.now members.now [])) }
+{
+    let written = Table::new(alloc, Vec::new(alloc))?;
+    note_lacking(name, members, &written, least);
+    Ok(())
+}
+
 /// Notes the refusals of a type without sets, which lacks all its members' unless it may be bare.
 fn note_bare(
     alloc: Global,
@@ -228,11 +242,10 @@ fn note_bare(
     if bare {
         return Ok(());
     }
-    if let Some(head) = scope.heads().head(decl) {
-        let written = Table::new(alloc, Vec::new(alloc))?;
-        note_lacking(name, &head.members, &written, least);
+    match scope.heads().head(decl) {
+        None => Ok(()),
+        Some(head) => note_all_lacking(alloc, name, &head.members, least),
     }
-    Ok(())
 }
 
 /// Notes what is refused of the names that are written for members.
@@ -250,6 +263,21 @@ pub fn note_written<T: Named>(
     note_not_abstract(members, things, least);
 }
 
+/// Notes what is refused of the names that sets are written for.
+fn note_set_names(
+    alloc: Global,
+    name: &Name,
+    members: &Meanings,
+    sets: &[MemberSet],
+    least: &mut Option<Refusal>,
+) -> Result<(), Memory>
+    ensures { OnOk result (least.new ≡ noted least.old (lacking name.now members.now (texts_of sets.now) ++ not_abstract members.now (set_names sets.now))) }
+{
+    let written = set_table(alloc, sets)?;
+    note_written(name, members, &written, sets, least);
+    Ok(())
+}
+
 /// Notes the refusals of a type with sets for its members, but for those inside the sets.
 fn note_with(
     alloc: Global,
@@ -264,12 +292,10 @@ fn note_with(
         note_at(least, name.place, Cause::Unknown);
         return Ok(());
     };
-    let written = set_table(alloc, sets)?;
     match scope.heads().head(decl) {
-        None => note_written(name, &Meanings::new(alloc), &written, sets, least),
-        Some(head) => note_written(name, &head.members, &written, sets, least),
+        None => note_set_names(alloc, name, &Meanings::new(alloc), sets, least),
+        Some(head) => note_set_names(alloc, name, &head.members, sets, least),
     }
-    Ok(())
 }
 
 /// Notes the refusals of a type in an annotated scope.

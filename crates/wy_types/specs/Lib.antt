@@ -12,8 +12,10 @@ pub mod Marks
 pub mod Order
 pub mod Paths
 pub mod Primitive
+pub mod PrimitiveRows
 pub mod Program
 pub mod Reached
+pub mod Readings
 pub mod Signature
 pub mod Subtyping
 pub mod Types

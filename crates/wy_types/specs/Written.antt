@@ -1,6 +1,8 @@
 -- The types that are written in bodies, in the order in which they stand.
 use Rattle.std.specs.Prelude.{List, [], ◌∷◌, ◌++◌, Option, Some, None}
 use Rattle.wy_types.specs.declared.types.TypeRef.{TypeRef}
+use Rattle.wy_types.specs.declared.code.Stmt as s
+use Rattle.wy_types.specs.View.{value_of}
 use Rattle.wy_types.specs.Code.{Expr, Number, Quoted, Truth, Nothing, This, Name, Unary, Binary, TextCall, Call, New, Ascribe, Assign, Value, Plain, If, Values, none, more, Block, Last, Then, Val}
 
 abbrev pub written_types : Option TypeRef → List TypeRef
@@ -35,3 +37,7 @@ abbrev mutual
   block_types (Last x) = value_types x
   block_types (Then x b) = value_types x ++ block_types b
   block_types (Val place number typ x b) = written_types typ ++ (value_types x ++ block_types b)
+
+abbrev pub stmt_types : s.Stmt → List TypeRef
+stmt_types (s.Val place number typ x) = written_types typ ++ value_types (value_of x)
+stmt_types (s.Do x) = value_types (value_of x)

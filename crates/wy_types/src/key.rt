@@ -1,6 +1,6 @@
 //! Keys of types, by which tables find what they have.
 
-ghost use Rattle.std.specs.Prelude.{◌≡◌, ◌++◌, IfOk, OnOk};
+ghost use Rattle.std.specs.Prelude.{◌≡◌, ◌++◌, ◌∷◌, [], IfOk, OnOk};
 ghost use Rattle.wy_types.specs.Keys.{set_key, sets_key, type_key, pair_key, mark_key};
 
 use crate::types::TypeRef;
@@ -60,6 +60,20 @@ impl Hash for Key {
     }
 }
 
+fn add_number(out: &mut Vec<u32>, number: u32) -> Result<(), Memory>
+    ensures { OnOk result (out.new.items ≡ out.old.items ++ number ∷ []) }
+{
+    out.push(number)?;
+    Ok(())
+}
+
+fn add_pair(out: &mut Vec<u32>, first: u32, second: u32) -> Result<(), Memory>
+    ensures { OnOk result (out.new.items ≡ out.old.items ++ first ∷ second ∷ []) }
+{
+    out.push(first)?;
+    add_number(out, second)
+}
+
 fn add_set(out: &mut Vec<u32>, set: &EffSet) -> Result<(), Memory>
     ensures { OnOk result (out.new.items ≡ out.old.items ++ set_key set.now) }
 {
@@ -67,8 +81,7 @@ fn add_set(out: &mut Vec<u32>, set: &EffSet) -> Result<(), Memory>
     for atom in &atoms {
         out.push(u32::from(atom.0) + 1)?;
     }
-    out.push(0)?;
-    Ok(())
+    add_number(out, 0)
 }
 
 fn add_sets(out: &mut Vec<u32>, sets: &[EffSet]) -> Result<(), Memory>
@@ -78,34 +91,27 @@ fn add_sets(out: &mut Vec<u32>, sets: &[EffSet]) -> Result<(), Memory>
         out.push(1)?;
         add_set(out, set)?;
     }
-    out.push(0)?;
-    Ok(())
+    add_number(out, 0)
 }
 
 fn add_type(out: &mut Vec<u32>, t: &TypeRef) -> Result<(), Memory>
     ensures { OnOk result (out.new.items ≡ out.old.items ++ type_key t.now) }
 {
     match t {
-        TypeRef::Int => out.push(0)?,
-        TypeRef::Bool => out.push(1)?,
-        TypeRef::Text => out.push(2)?,
-        TypeRef::Unit => out.push(3)?,
+        TypeRef::Int => add_number(out, 0),
+        TypeRef::Bool => add_number(out, 1),
+        TypeRef::Text => add_number(out, 2),
+        TypeRef::Unit => add_number(out, 3),
         TypeRef::Named { decl, members } => {
-            out.push(4)?;
-            out.push(u32::from(*decl))?;
-            add_sets(out, members.as_slice())?;
+            add_pair(out, 4, u32::from(*decl))?;
+            add_sets(out, members.as_slice())
         }
         TypeRef::At { decl, bound } => {
-            out.push(5)?;
-            out.push(u32::from(*decl))?;
-            add_set(out, bound)?;
+            add_pair(out, 5, u32::from(*decl))?;
+            add_set(out, bound)
         }
-        TypeRef::Own { literal } => {
-            out.push(6)?;
-            out.push(*literal)?;
-        }
+        TypeRef::Own { literal } => add_pair(out, 6, *literal),
     }
-    Ok(())
 }
 
 /// The key of a type.

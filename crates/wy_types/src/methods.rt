@@ -1,99 +1,42 @@
-ghost use Rattle.std.specs.Prelude.{◌≡◌, [], map, IfOk, slice_get, true, false};
+ghost use Rattle.std.specs.Prelude.{◌≡◌, List, map, IfOk, slice_get};
 ghost use Rattle.std.specs.Option.{option_copied, option_map};
-ghost use Rattle.wy_effects.specs.EffSet.{replace};
 ghost use Rattle.wy_types.specs.Program.{program_of, scope_of, body_of};
-ghost use Rattle.wy_types.specs.Signature.{mapped_signature, find_method};
-ghost use Rattle.wy_types.specs.Types.{signature, substituted, erased, annotated, declared_methods, methods_of_owner, named_methods, bounded_methods, methods_of, scope_bodies, scope_is_plain};
+ghost use Rattle.wy_types.specs.Signature.{Signature, find_method};
+ghost use Rattle.wy_types.specs.Types.{signature, declared_methods, methods_of_owner, named_methods, methods_of, scope_bodies, scope_is_plain};
+ghost use Rattle.wy_types.specs.Readings.{signature_read};
 
-use crate::reading::{
-    annotate, annotate_types, copy_types, erase, erase_types, substitute, substitute_types,
-};
+use crate::reading::{Reading, read_effect, read_type, read_types};
 use crate::resolved::{Body, Core, ScopeKind};
 use crate::types::{Method, TypeRef};
 use std::alloc::Global;
 use wy_effects::set::EffSet;
 use wy_text::text::{Memory, Text};
 
+/// The method, read so.
+fn read_method(alloc: Global, m: &Method, reading: Reading) -> Result<Method, Memory>
+    ensures { IfOk result (λ r. signature r ≡ signature_read reading.entry (signature m.now)) }
+{
+    Ok(Method {
+        name: m.name.copy()?,
+        params: read_types(alloc, m.params.as_slice(), reading)?,
+        effect: read_effect(alloc, &m.effect, reading)?,
+        result: read_type(alloc, &m.result, reading)?,
+    })
+}
+
 fn copied(alloc: Global, m: &Method) -> Result<Method, Memory>
     ensures { IfOk result (λ r. r ≡ m.now) }
 {
-    Ok(Method {
-        name: m.name.copy()?,
-        params: copy_types(alloc, m.params.as_slice())?,
-        effect: m.effect.copy()?,
-        result: m.result.copy(alloc)?,
-    })
+    read_method(alloc, m, Reading::Same)
 }
 
-/// The method with the sets put in for the members.
-fn with_sets(alloc: Global, m: &Method, members: &[EffSet]) -> Result<Method, Memory>
-    ensures { IfOk result (λ r. signature r ≡ mapped_signature (substituted members.now) (replace members.now) (signature m.now)) }
-{
-    Ok(Method {
-        name: m.name.copy()?,
-        params: substitute_types(alloc, m.params.as_slice(), members)?,
-        effect: m.effect.substitute(members)?,
-        result: substitute(alloc, &m.result, members)?,
-    })
-}
-
-/// The method with every declared type bare and no effect.
-fn without_sets(alloc: Global, m: &Method) -> Result<Method, Memory>
-    ensures { IfOk result (λ r. signature r ≡ mapped_signature erased (λ e. []) (signature m.now)) }
-{
-    Ok(Method {
-        name: m.name.copy()?,
-        params: erase_types(alloc, m.params.as_slice())?,
-        effect: EffSet::empty(alloc),
-        result: erase(alloc, &m.result)?,
-    })
-}
-
-/// The method with every declared type and its effect at the bound.
-fn at_bound(alloc: Global, m: &Method, bound: &EffSet) -> Result<Method, Memory>
-    ensures { IfOk result (λ r. signature r ≡ mapped_signature (annotated bound.now) (λ e. bound.now) (signature m.now)) }
-{
-    Ok(Method {
-        name: m.name.copy()?,
-        params: annotate_types(alloc, m.params.as_slice(), bound)?,
-        effect: bound.copy()?,
-        result: annotate(alloc, &m.result, bound)?,
-    })
-}
-
-/// The methods with the sets put in for the members.
-fn with_members(
-    alloc: Global,
-    methods: &[Method],
-    members: &[EffSet],
-) -> Result<Vec<Method>, Memory>
-    ensures { IfOk result (λ v. map signature v.items ≡ named_methods false members.now (map signature methods.now)) }
+/// The methods, read so.
+fn read_methods(alloc: Global, methods: &[Method], reading: Reading) -> Result<Vec<Method>, Memory>
+    ensures { IfOk result (λ v. map signature v.items ≡ map (signature_read reading.entry) (map signature methods.now)) }
 {
     let mut out = Vec::new(alloc);
     for m in methods {
-        out.push(with_sets(alloc, m, members)?)?;
-    }
-    Ok(out)
-}
-
-/// The methods with every declared type bare and no effect.
-fn bare(alloc: Global, methods: &[Method], members: &[EffSet]) -> Result<Vec<Method>, Memory>
-    ensures { IfOk result (λ v. map signature v.items ≡ named_methods true members.now (map signature methods.now)) }
-{
-    let mut out = Vec::new(alloc);
-    for m in methods {
-        out.push(without_sets(alloc, m)?)?;
-    }
-    Ok(out)
-}
-
-/// The methods with every declared type and every effect at the bound.
-fn bounded(alloc: Global, methods: &[Method], bound: &EffSet) -> Result<Vec<Method>, Memory>
-    ensures { IfOk result (λ v. map signature v.items ≡ bounded_methods bound.now (map signature methods.now)) }
-{
-    let mut out = Vec::new(alloc);
-    for m in methods {
-        out.push(at_bound(alloc, m, bound)?)?;
+        out.push(read_method(alloc, m, reading)?)?;
     }
     Ok(out)
 }
@@ -141,6 +84,18 @@ fn is_plain_scope(core: &Core, scope: u16) -> bool
     }
 }
 
+/// How a scope reads the methods of a declared type with sets for its members: as the sets say,
+/// or bare in a plain module.
+fn named_reading<'a>(core: &Core, scope: u16, members: &'a [EffSet]) -> Reading<'a>
+    ensures { (ms : List (Signature TypeRef)) → map (signature_read result) ms ≡ named_methods (scope_is_plain (slice_get (program_of core.now).scopes scope)) members.now ms }
+{
+    if is_plain_scope(core, scope) {
+        Reading::Bare
+    } else {
+        Reading::Replaced(members)
+    }
+}
+
 /// The methods of a type in a scope, in the order of their declaration (docs/LANGUAGE.md,
 /// "Effects and types").
 pub fn methods(alloc: Global, core: &Core, scope: u16, t: &TypeRef) -> Result<Vec<Method>, Memory>
@@ -149,12 +104,14 @@ pub fn methods(alloc: Global, core: &Core, scope: u16, t: &TypeRef) -> Result<Ve
     match t {
         TypeRef::Int | TypeRef::Bool | TypeRef::Text | TypeRef::Unit => Ok(Vec::new(alloc)),
         TypeRef::Named { decl, members } => {
-            if is_plain_scope(core, scope) {
-                return bare(alloc, declared(core, *decl), members.as_slice());
-            }
-            with_members(alloc, declared(core, *decl), members.as_slice())
+            let reading = named_reading(core, scope, members.as_slice());
+            read_methods(alloc, declared(core, *decl), reading)
         }
-        TypeRef::At { decl, bound } => bounded(alloc, declared(core, *decl), bound),
+        TypeRef::At { decl, bound } => read_methods(
+            alloc,
+            declared(core, *decl),
+            Reading::Bound(bound),
+        ),
         TypeRef::Own { literal } => owned(alloc, bodies_around(core, scope, *literal), *literal),
     }
 }
@@ -183,45 +140,20 @@ fn find_owned<'a>(bodies: &'a [Body], owner: u32, name: &Text) -> Option<&'a Met
     None
 }
 
-/// The method of a declared type with sets for its members.
+/// The method of a declared type, read so.
 #[tactic(auto, using(crate::proofs::FindingMethods::find_mapped))]
-fn named_method(
-    alloc: Global,
-    core: &Core,
-    scope: u16,
-    decl: u16,
-    members: &[EffSet],
-    name: &Text,
-) -> Result<Option<Method>, Memory>
-    ensures { IfOk result (λ o. option_map signature o ≡ find_method name.now (named_methods (scope_is_plain (slice_get (program_of core.now).scopes scope)) members.now (declared_methods (slice_get core.now.declarations decl)))) }
-{
-    match find(declared(core, decl), name) {
-        None => Ok(None),
-        Some(m) => {
-            let plain = is_plain_scope(core, scope);
-            Ok(Some(if plain {
-                without_sets(alloc, m)?
-            } else {
-                with_sets(alloc, m, members)?
-            }))
-        }
-    }
-}
-
-/// The method of a declared type at a bound.
-#[tactic(auto, using(crate::proofs::FindingMethods::find_mapped))]
-fn bounded_method(
+fn find_read(
     alloc: Global,
     core: &Core,
     decl: u16,
-    bound: &EffSet,
     name: &Text,
+    reading: Reading,
 ) -> Result<Option<Method>, Memory>
-    ensures { IfOk result (λ o. option_map signature o ≡ find_method name.now (bounded_methods bound.now (declared_methods (slice_get core.now.declarations decl)))) }
+    ensures { IfOk result (λ o. option_map signature o ≡ find_method name.now (map (signature_read reading.entry) (declared_methods (slice_get core.now.declarations decl)))) }
 {
     match find(declared(core, decl), name) {
         None => Ok(None),
-        Some(m) => Ok(Some(at_bound(alloc, m, bound)?)),
+        Some(m) => Ok(Some(read_method(alloc, m, reading)?)),
     }
 }
 
@@ -239,9 +171,10 @@ pub fn find_method(
     match t {
         TypeRef::Int | TypeRef::Bool | TypeRef::Text | TypeRef::Unit => Ok(None),
         TypeRef::Named { decl, members } => {
-            named_method(alloc, core, scope, *decl, members.as_slice(), name)
+            let reading = named_reading(core, scope, members.as_slice());
+            find_read(alloc, core, *decl, name, reading)
         }
-        TypeRef::At { decl, bound } => bounded_method(alloc, core, *decl, bound, name),
+        TypeRef::At { decl, bound } => find_read(alloc, core, *decl, name, Reading::Bound(bound)),
         TypeRef::Own { literal } => match find_owned(
             bodies_around(core, scope, *literal),
             *literal,

@@ -1,7 +1,8 @@
 //! The primitive types, which stand before the declared ones.
 
-ghost use Rattle.std.specs.Prelude.{◌≡◌, ◌<◌, ◌++◌, ◌∷◌, [], None, replicate, OnOk, IfOk};
-ghost use Rattle.wy_types.specs.Primitive.{primitive_method, primitive_type, console, folder, clock, random, full_folder, primitive_types};
+ghost use Rattle.std.specs.Prelude.{◌≡◌, ◌++◌, ◌∷◌, [], None, map, replicate, OnOk, IfOk};
+ghost use Rattle.wy_types.specs.Primitive.{primitive_type, primitive_types};
+ghost use Rattle.wy_types.specs.PrimitiveRows.{base_type, row_method};
 
 use crate::resolved::{BoundList, TypeDecl};
 use crate::types::{Method, TypeList, TypeRef};
@@ -14,6 +15,47 @@ use wy_text::text::{Memory, Text, from_bytes};
 /// The number of the first declared type: the primitive ones come before.
 pub const FIRST_DECLARED: usize = 5;
 
+/// What a primitive type's method gives.
+#[derive(Clone, Copy)]
+enum Base {
+    Int,
+    Bool,
+    Text,
+    Unit,
+}
+
+/// A method: its name, how many texts are its parameters, the number of the member that is its
+/// effect, and its result.
+struct MethodRow(&'static str, usize, u8, Base);
+
+static CONSOLE_MEMBERS: [&str; 2] = ["In", "Out"];
+
+static CONSOLE_METHODS: [MethodRow; 2] = [
+    MethodRow("read", 0, 0, Base::Text),
+    MethodRow("write", 1, 1, Base::Unit),
+];
+
+/// The members of a full folder. A folder has all but the last.
+static FOLDER_MEMBERS: [&str; 5] = ["Read", "Write", "Append", "List", "Remove"];
+
+/// The methods of a full folder. A folder has all but the last.
+static FOLDER_METHODS: [MethodRow; 6] = [
+    MethodRow("read", 1, 0, Base::Text),
+    MethodRow("has", 1, 0, Base::Bool),
+    MethodRow("write", 2, 1, Base::Unit),
+    MethodRow("append", 2, 2, Base::Unit),
+    MethodRow("names", 0, 3, Base::Text),
+    MethodRow("remove", 1, 4, Base::Unit),
+];
+
+static CLOCK_MEMBERS: [&str; 1] = ["Tick"];
+
+static CLOCK_METHODS: [MethodRow; 1] = [MethodRow("now", 0, 0, Base::Int)];
+
+static RANDOM_MEMBERS: [&str; 1] = ["Draw"];
+
+static RANDOM_METHODS: [MethodRow; 1] = [MethodRow("word", 0, 0, Base::Int)];
+
 fn texts(alloc: Global, number: usize) -> Result<TypeList, Memory>
     ensures { IfOk result (λ ts. ts ≡ replicate number TypeRef.Text) }
 {
@@ -24,32 +66,49 @@ fn texts(alloc: Global, number: usize) -> Result<TypeList, Memory>
     Ok(params)
 }
 
-/// Adds a method with a number of texts as parameters and the effect of one member.
-fn add_method(
-    alloc: Global,
-    methods: &mut Items<Method>,
-    name: &str,
-    params: usize,
-    member: u16,
-    result_type: TypeRef,
-) -> Result<(), Memory>
-    requires { member < 512 }
-    ensures { OnOk result (methods.new ≡ methods.old ++ primitive_method name.now params member result_type ∷ []) }
+fn type_of(base: Base) -> TypeRef
+    ensures { result ≡ base_type base }
 {
+    match base {
+        Base::Int => TypeRef::Int,
+        Base::Bool => TypeRef::Bool,
+        Base::Text => TypeRef::Text,
+        Base::Unit => TypeRef::Unit,
+    }
+}
+
+fn add_method(alloc: Global, methods: &mut Items<Method>, row: &MethodRow) -> Result<(), Memory>
+    ensures { OnOk result (methods.new ≡ methods.old ++ row_method row.now ∷ []) }
+{
+    let MethodRow(name, number, member, result) = row;
     let mut effect = EffSet::empty(alloc);
-    effect.insert(Atom(member))?;
+    effect.insert(Atom(u16::from(*member)))?;
     methods.push(Method {
         name: from_bytes(alloc, name.as_bytes())?,
-        params: texts(alloc, params)?,
+        params: texts(alloc, *number)?,
         effect,
-        result: result_type,
+        result: type_of(*result),
     })
 }
 
-fn add_member(alloc: Global, members: &mut Items<Text>, name: &str) -> Result<(), Memory>
-    ensures { OnOk result (members.new ≡ members.old ++ name.now ∷ []) }
+fn methods_of(alloc: Global, rows: &[MethodRow]) -> Result<Items<Method>, Memory>
+    ensures { IfOk result (λ ms. ms ≡ map row_method rows.now) }
 {
-    members.push(from_bytes(alloc, name.as_bytes())?)
+    let mut methods = Items::new(alloc);
+    for row in rows {
+        add_method(alloc, &mut methods, row)?;
+    }
+    Ok(methods)
+}
+
+fn members_of(alloc: Global, names: &[&str]) -> Result<Items<Text>, Memory>
+    ensures { IfOk result (λ ts. ts ≡ map (λ n. n.now) names.now) }
+{
+    let mut members = Items::new(alloc);
+    for name in names {
+        members.push(from_bytes(alloc, name.as_bytes())?)?;
+    }
+    Ok(members)
 }
 
 /// No upper bound for any of so many members.
@@ -68,104 +127,34 @@ fn add_type(
     alloc: Global,
     out: &mut Items<TypeDecl>,
     name: &str,
-    members: Items<Text>,
-    methods: Items<Method>,
+    members: &[&str],
+    methods: &[MethodRow],
 ) -> Result<(), Memory>
-    ensures { OnOk result (out.new ≡ out.old ++ primitive_type name.now members methods ∷ []) }
+    ensures { OnOk result (out.new ≡ out.old ++ primitive_type name.now (map (λ m. m.now) members.now) (map row_method methods.now) ∷ []) }
 {
-    let bounds = unbounded(alloc, members.len())?;
     out.push(TypeDecl {
         name: from_bytes(alloc, name.as_bytes())?,
-        members,
-        bounds,
+        members: members_of(alloc, members)?,
+        bounds: unbounded(alloc, members.len())?,
         defined: Items::new(alloc),
-        methods,
+        methods: methods_of(alloc, methods)?,
     })
-}
-
-fn add_console(alloc: Global, out: &mut Items<TypeDecl>) -> Result<(), Memory>
-    ensures { OnOk result (out.new ≡ out.old ++ console ∷ []) }
-{
-    let mut members = Items::new(alloc);
-    add_member(alloc, &mut members, "In")?;
-    add_member(alloc, &mut members, "Out")?;
-    let mut methods = Items::new(alloc);
-    add_method(alloc, &mut methods, "read", 0, 0, TypeRef::Text)?;
-    add_method(alloc, &mut methods, "write", 1, 1, TypeRef::Unit)?;
-    add_type(alloc, out, "Console", members, methods)
-}
-
-/// Adds the members of a folder.
-fn add_folder_members(alloc: Global, members: &mut Items<Text>) -> Result<(), Memory>
-    ensures { OnOk result (members.new ≡ members.old ++ folder.members) }
-{
-    add_member(alloc, members, "Read")?;
-    add_member(alloc, members, "Write")?;
-    add_member(alloc, members, "Append")?;
-    add_member(alloc, members, "List")
-}
-
-/// The methods of a folder.
-fn folder_methods(alloc: Global) -> Result<Items<Method>, Memory>
-    ensures { IfOk result (λ ms. ms ≡ folder.methods) }
-{
-    let mut methods = Items::new(alloc);
-    add_method(alloc, &mut methods, "read", 1, 0, TypeRef::Text)?;
-    add_method(alloc, &mut methods, "has", 1, 0, TypeRef::Bool)?;
-    add_method(alloc, &mut methods, "write", 2, 1, TypeRef::Unit)?;
-    add_method(alloc, &mut methods, "append", 2, 2, TypeRef::Unit)?;
-    add_method(alloc, &mut methods, "names", 0, 3, TypeRef::Text)?;
-    Ok(methods)
-}
-
-fn add_folder(alloc: Global, out: &mut Items<TypeDecl>) -> Result<(), Memory>
-    ensures { OnOk result (out.new ≡ out.old ++ folder ∷ []) }
-{
-    let mut members = Items::new(alloc);
-    add_folder_members(alloc, &mut members)?;
-    let methods = folder_methods(alloc)?;
-    add_type(alloc, out, "Folder", members, methods)
-}
-
-fn add_clock(alloc: Global, out: &mut Items<TypeDecl>) -> Result<(), Memory>
-    ensures { OnOk result (out.new ≡ out.old ++ clock ∷ []) }
-{
-    let mut members = Items::new(alloc);
-    add_member(alloc, &mut members, "Tick")?;
-    let mut methods = Items::new(alloc);
-    add_method(alloc, &mut methods, "now", 0, 0, TypeRef::Int)?;
-    add_type(alloc, out, "Clock", members, methods)
-}
-
-fn add_random(alloc: Global, out: &mut Items<TypeDecl>) -> Result<(), Memory>
-    ensures { OnOk result (out.new ≡ out.old ++ random ∷ []) }
-{
-    let mut members = Items::new(alloc);
-    add_member(alloc, &mut members, "Draw")?;
-    let mut methods = Items::new(alloc);
-    add_method(alloc, &mut methods, "word", 0, 0, TypeRef::Int)?;
-    add_type(alloc, out, "Random", members, methods)
-}
-
-fn add_full_folder(alloc: Global, out: &mut Items<TypeDecl>) -> Result<(), Memory>
-    ensures { OnOk result (out.new ≡ out.old ++ full_folder ∷ []) }
-{
-    let mut members = Items::new(alloc);
-    add_folder_members(alloc, &mut members)?;
-    add_member(alloc, &mut members, "Remove")?;
-    let mut methods = folder_methods(alloc)?;
-    add_method(alloc, &mut methods, "remove", 1, 4, TypeRef::Unit)?;
-    add_type(alloc, out, "FullFolder", members, methods)
 }
 
 fn add_primitives(alloc: Global, out: &mut Items<TypeDecl>) -> Result<(), Memory>
     ensures { OnOk result (out.new ≡ out.old ++ primitive_types) }
 {
-    add_console(alloc, out)?;
-    add_folder(alloc, out)?;
-    add_clock(alloc, out)?;
-    add_random(alloc, out)?;
-    add_full_folder(alloc, out)
+    add_type(alloc, out, "Console", &CONSOLE_MEMBERS, &CONSOLE_METHODS)?;
+    add_type(
+        alloc,
+        out,
+        "Folder",
+        &FOLDER_MEMBERS[..4],
+        &FOLDER_METHODS[..5],
+    )?;
+    add_type(alloc, out, "Clock", &CLOCK_MEMBERS, &CLOCK_METHODS)?;
+    add_type(alloc, out, "Random", &RANDOM_MEMBERS, &RANDOM_METHODS)?;
+    add_type(alloc, out, "FullFolder", &FOLDER_MEMBERS, &FOLDER_METHODS)
 }
 
 /// The primitive types in the order of their numbers (docs/LANGUAGE.md, "Effects and types").

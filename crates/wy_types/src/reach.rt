@@ -11,7 +11,7 @@ use crate::methods::methods;
 use crate::resolved::{Body, Core, Literal, OwnName, Scope, ScopeKind, Start};
 use crate::type_set::TypeSet;
 use crate::types::{Method, TypeList, TypeRef};
-use crate::written::{add_block, add_values};
+use crate::written::{add_block, add_copy, add_values};
 use std::alloc::Global;
 use wy_effects::set::copy_sets;
 use wy_text::limit::LimitName;
@@ -67,7 +67,7 @@ fn add_names(alloc: Global, out: &mut TypeList, names: &[OwnName]) -> Result<(),
     ensures { OnOk result (out.new ≡ out.old ++ map (λ n. n.typ) names.now) }
 {
     for name in names {
-        out.push(name.typ.copy(alloc)?)?;
+        add_copy(alloc, out, &name.typ)?;
     }
     Ok(())
 }
@@ -76,11 +76,13 @@ fn add_names(alloc: Global, out: &mut TypeList, names: &[OwnName]) -> Result<(),
 fn add_sealed(alloc: Global, out: &mut TypeList, scope: &Scope) -> Result<(), Memory>
     ensures { OnOk result (out.new ≡ out.old ++ sealed_types scope.now.ascribed scope.now.definitions) }
 {
-    if let Some(decl) = scope.ascribed {
-        let members = copy_sets(alloc, scope.definitions.as_slice())?;
-        out.push(TypeRef::Named { decl, members })?;
+    match scope.ascribed {
+        Some(decl) => out.push(TypeRef::Named {
+            decl,
+            members: copy_sets(alloc, scope.definitions.as_slice())?,
+        }),
+        None => Ok(()),
     }
-    Ok(())
 }
 
 /// Adds the own types from a number on and below another.
@@ -107,7 +109,7 @@ fn add_literal(alloc: Global, out: &mut TypeList, literal: &Literal) -> Result<(
     ensures { OnOk result (out.new ≡ out.old ++ map (λ f. f.typ) literal.now.fields) }
 {
     for field in literal.fields.as_slice() {
-        out.push(field.typ.copy(alloc)?)?;
+        add_copy(alloc, out, &field.typ)?;
     }
     Ok(())
 }
@@ -157,11 +159,11 @@ fn firsts(alloc: Global, scope: &Scope) -> Result<TypeList, Memory>
 fn begin(alloc: Global, core: &Core, scope: u16) -> Result<TypeSet, ReachRefusal>
     ensures { Begins (scope_first_types (slice_get (program_of core.now).scopes scope)) result }
 {
-    let mut seen = TypeSet::new(alloc);
     match core.scopes.get(scope as usize) {
-        None => Ok(seen),
+        None => Ok(TypeSet::new(alloc)),
         Some(s) => {
             let types = firsts(alloc, s)?;
+            let mut seen = TypeSet::new(alloc);
             add_all(&mut seen, types.as_slice())?;
             Ok(seen)
         }

@@ -90,10 +90,16 @@ impl TypeSet {
     pub fn into_list(self) -> Result<TypeList, Memory>
         ensures { IfOk result (λ l. l ≡ self) }
     {
-        let mut list = Items::new(*self.types.allocator());
-        for t in self.types {
-            list.push(t)?;
-        }
-        Ok(list)
+        list_of(self.types)
     }
+}
+
+fn list_of(types: Vec<TypeRef>) -> Result<TypeList, Memory>
+    ensures { IfOk result (λ l. l ≡ types.items) }
+{
+    let mut list = Items::new(*types.allocator());
+    for t in types {
+        list.push(t)?;
+    }
+    Ok(list)
 }

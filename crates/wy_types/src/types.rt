@@ -76,20 +76,20 @@ impl TypeRef {
     pub fn copy(&self, alloc: Global) -> Result<TypeRef, Memory>
         ensures { IfOk result (λ t. t ≡ self.now) }
     {
-        Ok(match self {
-            TypeRef::Int => TypeRef::Int,
-            TypeRef::Bool => TypeRef::Bool,
-            TypeRef::Text => TypeRef::Text,
-            TypeRef::Unit => TypeRef::Unit,
-            TypeRef::Named { decl, members } => TypeRef::Named {
+        match self {
+            TypeRef::Int => Ok(TypeRef::Int),
+            TypeRef::Bool => Ok(TypeRef::Bool),
+            TypeRef::Text => Ok(TypeRef::Text),
+            TypeRef::Unit => Ok(TypeRef::Unit),
+            TypeRef::Named { decl, members } => Ok(TypeRef::Named {
                 decl: *decl,
                 members: copy_sets(alloc, members.as_slice())?,
-            },
-            TypeRef::At { decl, bound } => TypeRef::At {
+            }),
+            TypeRef::At { decl, bound } => Ok(TypeRef::At {
                 decl: *decl,
                 bound: bound.copy()?,
-            },
-            TypeRef::Own { literal } => TypeRef::Own { literal: *literal },
-        })
+            }),
+            TypeRef::Own { literal } => Ok(TypeRef::Own { literal: *literal }),
+        }
     }
 }

@@ -1,8 +1,8 @@
 //! The types that are written in a scope.
 
-ghost use Rattle.std.specs.Prelude.{◌≡◌, ◌++◌, OnOk};
+ghost use Rattle.std.specs.Prelude.{◌≡◌, ◌++◌, ◌∷◌, [], OnOk};
 ghost use Rattle.wy_types.specs.View.{expr_of, value_of, values_of, block_of, stmts_block};
-ghost use Rattle.wy_types.specs.Written.{expr_types, value_types, values_types, block_types, written_types};
+ghost use Rattle.wy_types.specs.Written.{expr_types, value_types, values_types, block_types, written_types, stmt_types};
 
 use crate::code::{Block, Expr, Stmt, Value};
 use crate::types::{TypeList, TypeRef};
@@ -34,7 +34,7 @@ pub fn add_expr(alloc: Global, out: &mut TypeList, expr: &Expr) -> Result<(), Me
         Expr::New(_place, _literal, values) => add_values(alloc, out, values),
         Expr::Ascribe(_place, value, t) => {
             add_value(alloc, out, value)?;
-            out.push(t.copy(alloc)?)
+            add_copy(alloc, out, t)
         }
         Expr::Assign(_place, _name, value) => add_value(alloc, out, value),
     }
@@ -72,23 +72,38 @@ pub fn add_block(alloc: Global, out: &mut TypeList, block: &Block) -> Result<(),
     ensures { OnOk result (out.new ≡ out.old ++ block_types (block_of block.now)) }
 {
     for statement in &block.statements {
-        match statement {
-            Stmt::Val(_place, _number, typ, value) => {
-                add_written(alloc, out, typ)?;
-                add_value(alloc, out, value)?;
-            }
-            Stmt::Do(value) => add_value(alloc, out, value)?,
-        }
+        add_statement(alloc, out, statement)?;
     }
     add_value(alloc, out, &block.last)
+}
+
+/// Adds the types written in a statement.
+#[cycle(written)]
+fn add_statement(alloc: Global, out: &mut TypeList, statement: &Stmt) -> Result<(), Memory>
+    ensures { OnOk result (out.new ≡ out.old ++ stmt_types statement.now) }
+{
+    match statement {
+        Stmt::Val(_place, _number, typ, value) => {
+            add_written(alloc, out, typ)?;
+            add_value(alloc, out, value)
+        }
+        Stmt::Do(value) => add_value(alloc, out, value),
+    }
 }
 
 /// Adds the type that a `val` is written with.
 fn add_written(alloc: Global, out: &mut TypeList, typ: &Option<TypeRef>) -> Result<(), Memory>
     ensures { OnOk result (out.new ≡ out.old ++ written_types typ.now) }
 {
-    if let Some(t) = typ {
-        out.push(t.copy(alloc)?)?;
+    match typ {
+        Some(t) => add_copy(alloc, out, t),
+        None => Ok(()),
     }
-    Ok(())
+}
+
+/// Adds a type.
+pub(crate) fn add_copy(alloc: Global, out: &mut TypeList, t: &TypeRef) -> Result<(), Memory>
+    ensures { OnOk result (out.new ≡ out.old ++ t.now ∷ []) }
+{
+    out.push(t.copy(alloc)?)
 }

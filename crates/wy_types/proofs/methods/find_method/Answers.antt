@@ -10,5 +10,5 @@ use Rattle.wy_types.proofs.methods.find_method.Goals as goal
 pub returns-in-At : goal.returns-in-At
 returns-in-At c =
     let p = program_of c.args.core.now in
-    let P : List (Signature TypeRef) → Type 0 = λ ms. IfOk c.bounded_method.result (λ o. option_map signature o ≡ find_method c.args.name.now ms) in
-    subst P (ap (methods_of p c.args.scope) (sym c.in-At.is)) c.bounded_method.ensures
+    let P : List (Signature TypeRef) → Type 0 = λ ms. IfOk c.find_read-in-At.result (λ o. option_map signature o ≡ find_method c.args.name.now ms) in
+    subst P (ap (methods_of p c.args.scope) (sym c.in-At.is)) c.find_read-in-At.ensures

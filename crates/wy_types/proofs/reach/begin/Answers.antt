@@ -30,9 +30,9 @@ returns-in_err-add_all-in-Some c =
 pub returns-in-None : goal.returns-in-None
 returns-in-None c =
     let there = scope_there c.args.core.now.scopes c.args.scope None c.in-None.ensures in
-    let P : Option plain.Scope → Type 0 = λ o. IsGathered [] (scope_first_types o) c.new-seen.result in
+    let P : Option plain.Scope → Type 0 = λ o. IsGathered [] (scope_first_types o) c.new.result in
     let Q : List TypeRef → Type 0 = λ l. IsGathered [] [] l in
-    subst P (sym there) (subst Q (sym c.new-seen.ensures) (gathered_none [] tt (omega arith)))
+    subst P (sym there) (subst Q (sym c.new.ensures) (gathered_none [] tt (omega arith)))
 
 pub returns-in_ok-add_all-in-Some : goal.returns-in_ok-add_all-in-Some
 returns-in_ok-add_all-in-Some c =

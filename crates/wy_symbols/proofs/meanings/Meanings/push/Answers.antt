@@ -14,7 +14,7 @@ pub invariant_of-self-2 : goal.invariant_of-self-2
 invariant_of-self-2 c =
     let ms = c.self.inside.list.items in
     let n = c.args.meaning in
-    let more : meaning_names ms ++ n.name ∷ [] ≡ meaning_names c.push.new.self.items =
+    let more : meaning_names ms ++ n.name ∷ [] ≡ meaning_names c.push_reserved.new.self.items =
     sym (map-append (λ (m : Meaning). m.name) ms (n ∷ [])) ∙ ap meaning_names (search rules) in
     let here = ap (λ o. is_some o) (sym (c.self.invariant n.name)) ∙ sym c.contains_key.ensures in
     let number : c.len-number.result ≡ length (meaning_names ms) = search (length-map, rules) in
