@@ -16,7 +16,8 @@ use wy_engine::top::wyvern;
 use wy_machine::devices::Devices;
 use wy_meaning::event_line;
 use wy_memory::{
-    FolderFile, FolderList, MemClock, MemConsole, MemFolder, MemRandom, MemShelf, MemSink, NumberList,
+    FolderFile, FolderList, MemClock, MemConsole, MemFolder, MemRandom, MemShelf, MemSink,
+    NumberList,
 };
 use wy_text::list::{CallList, Items};
 use wy_text::shelf::FileList;
