@@ -4,7 +4,7 @@ ghost use Rattle.wy_syntax.specs.Views.{expr_tree, file_tree};
 
 use std::alloc::Global;
 use std::test::Fail;
-use wy_syntax::counting::nodes_before;
+use wy_nodes::nodes_before;
 use wy_syntax::expressions::{Expr, Operator};
 use wy_syntax::items::{Item, PlainModule, Tree};
 use wy_syntax::printing::print;

@@ -2,6 +2,5 @@ mod Arguments
 mod Indentation
 pub mod Layers
 mod Numbers
-mod Sums
 pub mod TokensSpelled
 mod Turns

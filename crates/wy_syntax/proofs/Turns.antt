@@ -1,5 +1,5 @@
--- One turn of a loop over a list, and its end: what they print, and what they count.
-use Rattle.std.proofs.Common.{◌≡◌, ◌≤◌, ℕ, ◌+◌, ◌<◌, List, [], ◌∷◌, ◌++◌, length, drop, get_or, sym, ap, ◌∙◌, append_assoc, arith}
+-- One turn of a loop over a list, and its end: what they print.
+use Rattle.std.proofs.Common.{◌≡◌, ◌≤◌, ℕ, ◌+◌, ◌<◌, List, [], ◌∷◌, ◌++◌, length, drop, get_or, sym, ap, ◌∙◌, append_assoc}
 use Rattle.std.proofs.lemmas.List.{append-nil, drop_all, drop_more}
 
 module _ {X : Type 0} (xs : List X) (i : ℕ) (x : X) (lt : i < length xs) (at : x ≡ get_or xs i x) where
@@ -12,14 +12,6 @@ module _ {X : Type 0} (xs : List X) (i : ℕ) (x : X) (lt : i < length xs) (at :
       new ≡ old ++ one → f (x ∷ drop (i + 1) xs) ≡ one ++ f (drop (i + 1) xs) → old ++ f (drop i xs) ≡ whole → new ++ f (drop (i + 1) xs) ≡ whole
   printed_turn f old new one whole is more h =
       ap (λ l. l ++ f (drop (i + 1) xs)) is ∙ append_assoc old one (f (drop (i + 1) xs)) ∙ ap (λ l. old ++ l) (sym (ap f next ∙ more)) ∙ h
-
-  -- one element is counted
-  pub counted_turn : (f : List X → ℕ) (old step one whole : ℕ) → step ≡ one → f (x ∷ drop (i + 1) xs) ≡ one + f (drop (i + 1) xs) → old + f (drop i xs) ≡ whole → old + step + f (drop (i + 1) xs) ≡ whole
-  counted_turn f old step one whole is more h = let left = ap f next ∙ more in omega (arith, is, left, h)
-
-  -- one element is counted, and there are no more of them than these
-  pub within_turn : (f : List X → ℕ) (old step one whole : ℕ) → step ≤ one → f (x ∷ drop (i + 1) xs) ≡ one + f (drop (i + 1) xs) → old + f (drop i xs) ≤ whole → old + step + f (drop (i + 1) xs) ≤ whole
-  within_turn f old step one whole is more h = let left = ap f next ∙ more in omega (arith, is, left, h)
 
 -- all are printed
 pub printed_all : {X : Type 0} (xs : List X) (i : ℕ) (f : List X → List ℕ) (old whole : List ℕ) → length xs ≤ i → f [] ≡ [] → old ++ f (drop i xs) ≡ whole → old ≡ whole

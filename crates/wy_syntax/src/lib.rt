@@ -1,7 +1,6 @@
-//! Trees of a file's items, what spells them, how they are printed, and how their nodes are counted.
+//! Trees of a file's items, what spells them, and how they are printed.
 #![tactic(auto)]
 
-pub mod counting;
 pub mod expressions;
 pub mod items;
 pub mod printing;

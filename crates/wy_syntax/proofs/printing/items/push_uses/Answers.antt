@@ -1,4 +1,4 @@
-use Rattle.std.proofs.Common.{◌<◌, ◌++◌, List, length, refl, rules, ap, ◌∙◌, append_assoc}
+use Rattle.std.proofs.Common.{◌<◌, ◌++◌, length, refl, rules, ap, ◌∙◌, append_assoc}
 use Rattle.std.specs.Prelude.{codes}
 use Rattle.wy_syntax.specs.Canonical.{in_order, newline, use_text}
 use Rattle.wy_syntax.proofs.Turns.{printed_all, printed_turn}

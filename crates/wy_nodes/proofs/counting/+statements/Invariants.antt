@@ -1,7 +1,7 @@
 use Rattle.std.proofs.Common.{◌≡◌, ◌≤◌, ◌+◌, true, drop}
 use Rattle.wy_syntax.specs.Views.{part_trees, stmt_trees}
 use Rattle.wy_syntax.specs.Nodes.{block_nodes, is_before, parts_nodes}
-use Rattle.wy_syntax.proofs.counting.+statements.Given as goal
+use Rattle.wy_nodes.proofs.counting.+statements.Given as goal
 
 abbrev pub invariant-block_nodes-loop-stmt : goal.invariant-block_nodes-loop-stmt
 invariant-block_nodes-loop-stmt l = record {

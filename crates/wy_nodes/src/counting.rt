@@ -4,9 +4,9 @@ ghost use Rattle.std.specs.Prelude.{◌≡◌, ◌<◌, ◌≤◌, ◌^◌, map,
 ghost use Rattle.wy_syntax.specs.Views.{expr_tree, expr_trees, file_tree, item_tree, part_tree, part_trees, rhs_tree, stmt_tree, stmt_trees, tail_tree};
 ghost use Rattle.wy_syntax.specs.Nodes.{all_nodes, block_nodes, count_before, expr_nodes, exprs_nodes, file_nodes, is_before, item_nodes, one_if, part_nodes, parts_nodes, rhs_nodes, stmt_nodes, tail_nodes};
 
-use crate::expressions::Expr;
-use crate::items::{Item, Tree};
-use crate::statements::{Part, Rhs, Stmt, Tail};
+use wy_syntax::expressions::Expr;
+use wy_syntax::items::{Item, Tree};
+use wy_syntax::statements::{Part, Rhs, Stmt, Tail};
 use wy_text::fault::Place;
 
 /// One for a node whose mark stands before the place.

@@ -4,9 +4,9 @@ use Rattle.wy_syntax.specs.declared.statements.Stmt.{Stmt}
 use Rattle.wy_syntax.specs.Nodes.{block_nodes, expr_nodes, is_before, one_if, part_nodes, parts_nodes, stmt_nodes}
 use Rattle.wy_syntax.specs.Views.{expr_tree, part_tree, part_trees, stmt_tree, stmt_trees}
 use Rattle.wy_syntax.proofs.Layers.{rhs_tree-Branch}
-use Rattle.wy_syntax.proofs.Sums.{sum_of_four}
-use Rattle.wy_syntax.proofs.Turns.{counted_turn, within_turn}
-use Rattle.wy_syntax.proofs.counting.+statements.Goals as goal
+use Rattle.wy_nodes.proofs.Sums.{sum_of_four}
+use Rattle.wy_nodes.proofs.Turns.{counted_turn, within_turn}
+use Rattle.wy_nodes.proofs.counting.+statements.Goals as goal
 
 pub rhs_nodes-returns-in-Branch-clause-count : goal.rhs_nodes-returns-in-Branch-clause-count
 rhs_nodes-returns-in-Branch-clause-count t c =

@@ -3,9 +3,9 @@ use Rattle.wy_syntax.specs.declared.expressions.Expr.{Expr}
 use Rattle.wy_syntax.specs.Nodes.{expr_nodes, exprs_nodes, is_before, one_if}
 use Rattle.wy_syntax.specs.Views.{expr_tree, expr_trees}
 use Rattle.wy_syntax.proofs.Layers.{expr_tree-Binary, expr_tree-Call, expr_tree-Choice, expr_tree-TextCode, expr_tree-TextPart}
-use Rattle.wy_syntax.proofs.Sums.{sum_of_four, sum_of_three}
-use Rattle.wy_syntax.proofs.Turns.{counted_turn, within_turn}
-use Rattle.wy_syntax.proofs.counting.+expressions.Goals as goal
+use Rattle.wy_nodes.proofs.Sums.{sum_of_four, sum_of_three}
+use Rattle.wy_nodes.proofs.Turns.{counted_turn, within_turn}
+use Rattle.wy_nodes.proofs.counting.+expressions.Goals as goal
 
 pub expr_nodes-returns-in-Binary-clause-count : goal.expr_nodes-returns-in-Binary-clause-count
 expr_nodes-returns-in-Binary-clause-count t c =
