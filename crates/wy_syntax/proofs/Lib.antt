@@ -1,6 +1,4 @@
-mod Arguments
-mod Indentation
+mod Gathered
 pub mod Layers
 mod Numbers
 pub mod TokensSpelled
-mod Turns

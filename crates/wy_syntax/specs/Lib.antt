@@ -1,5 +1,6 @@
 pub mod Canonical
 pub mod ExprGrammar
+pub mod Gathering
 pub mod Grammar
 pub mod Languages
 pub mod Marks

@@ -1,18 +1,20 @@
 //! Expressions, with parentheses exactly where an operand's level is lower than its place asks for.
-ghost use Rattle.std.specs.Prelude.{◌≡◌, ◌++◌, codes, map, not, nat_le, OnOk};
+ghost use Rattle.std.specs.Prelude.{◌≡◌, ◌++◌, codes, map, not, nat_le};
 ghost use Rattle.std.specs.Fmt.{signed_decimal};
 ghost use Rattle.wy_text.specs.Quoted.{quoted_form};
 ghost use Rattle.wy_text.specs.Spelling.{spelling_of};
 ghost use Rattle.wy_syntax.specs.ExprGrammar.{left_level_of, level_of_op, right_level_of, symbol_of};
 ghost use Rattle.wy_syntax.specs.Views.{expr_tree, expr_trees};
 ghost use Rattle.wy_syntax.specs.Printing.{worded_text};
+ghost use Rattle.wy_syntax.specs.Gathering.{IsGathered};
 ghost use Rattle.wy_syntax.specs.Canonical.{arguments_text, enclosed, expr_text, is_numbered, level_of, type_text};
 
 use crate::expressions::{Expr, Operator};
-use crate::printing::pieces::{Printed, push};
+use crate::printing::output::{Output, push};
+use crate::printing::pieces::Printed;
 use crate::printing::types::push_type;
 use crate::types::{Name, TypeUse};
-use wy_text::text::{Memory, Text};
+use wy_text::text::Text;
 
 /// The level that the condition of an `if` asks for.
 pub const CONDITION: u8 = 1;
@@ -135,51 +137,52 @@ fn is_numbered(e: &Expr) -> bool
     }
 }
 
-fn push_number(out: &mut Vec<u8>, number: i64) -> Result<(), Memory>
-    ensures { OnOk result (out.new.items ≡ out.old.items ++ signed_decimal number) }
+fn push_number(out: &mut Output, number: i64)
+    ensures { IsGathered out.old (signed_decimal number) out.new }
 {
-    let digits = format!(in *out.allocator(); "{number}")?;
-    push(out, digits.as_bytes())
+    match format!(in out.alloc; "{number}") {
+        Ok(digits) => push(out, digits.as_bytes()),
+        Err(_) => out.lose(),
+    }
 }
 
-fn push_quoted(out: &mut Vec<u8>, text: &Text) -> Result<(), Memory>
-    ensures { OnOk result (out.new.items ≡ out.old.items ++ quoted_form text.now) }
+fn push_quoted(out: &mut Output, text: &Text)
+    ensures { IsGathered out.old (quoted_form text.now) out.new }
 {
-    let quoted = text.quoted()?;
-    push(out, quoted.as_bytes())
+    out.push_made(text.quoted())
 }
 
 /// Adds an operator's symbol with a space on each side.
-fn push_operator(out: &mut Vec<u8>, operator: Operator) -> Result<(), Memory>
-    ensures { OnOk result (out.new.items ≡ out.old.items ++ (codes " " ++ spelling_of (symbol_of operator) ++ codes " ")) }
+fn push_operator(out: &mut Output, operator: Operator)
+    ensures { IsGathered out.old (codes " " ++ spelling_of (symbol_of operator) ++ codes " ") out.new }
 {
-    push(out, b" ")?;
-    push(out, symbol(operator).as_bytes())?;
+    push(out, b" ");
+    push(out, symbol(operator).as_bytes());
     push(out, b" ")
 }
 
 /// Adds a dot, a method's name and the parenthesis that opens its arguments.
-fn push_method(out: &mut Vec<u8>, name: &Name) -> Result<(), Memory>
-    ensures { OnOk result (out.new.items ≡ out.old.items ++ (codes "." ++ name.now.text ++ codes "(")) }
+fn push_method(out: &mut Output, name: &Name)
+    ensures { IsGathered out.old (codes "." ++ name.now.text ++ codes "(") out.new }
 {
-    push(out, b".")?;
-    name.push_to(out)?;
+    push(out, b".");
+    name.push_to(out);
     push(out, b"(")
 }
 
 /// Adds a colon, a type and the parenthesis that closes them.
-fn push_ascribed(out: &mut Vec<u8>, type_use: &TypeUse) -> Result<(), Memory>
-    ensures { OnOk result (out.new.items ≡ out.old.items ++ (codes " : " ++ type_text type_use.now ++ codes ")")) }
+fn push_ascribed(out: &mut Output, type_use: &TypeUse)
+    ensures { IsGathered out.old ((codes " : " ++ type_text type_use.now ++ codes ")")) out.new }
 {
-    push(out, b" : ")?;
-    push_type(out, type_use)?;
+    push(out, b" : ");
+    push_type(out, type_use);
     push(out, b")")
 }
 
 /// Adds an expression.
 #[cycle(printing)]
-pub fn push_expr(out: &mut Vec<u8>, e: &Expr) -> Result<(), Memory>
-    ensures { OnOk result (out.new.items ≡ out.old.items ++ expr_text (expr_tree e.now)) }
+pub fn push_expr(out: &mut Output, e: &Expr)
+    ensures { IsGathered out.old (expr_text (expr_tree e.now)) out.new }
 {
     match e {
         Expr::Number(value, _) => push_number(out, *value),
@@ -190,22 +193,22 @@ pub fn push_expr(out: &mut Vec<u8>, e: &Expr) -> Result<(), Memory>
         Expr::Name(name) => name.push_to(out),
         Expr::Unit(_) => push(out, b"()"),
         Expr::Negate(e, _) => {
-            push(out, b"-")?;
+            push(out, b"-");
             push_enclosed(out, e, is_lower(e, UNARY) || is_numbered(e))
         }
         Expr::Not(e, _) => {
-            push(out, b"!")?;
+            push(out, b"!");
             push_enclosed(out, e, is_lower(e, UNARY))
         }
         Expr::Binary(operator, left, right, _) => {
-            push_enclosed(out, left, is_lower(left, left_level(*operator)))?;
-            push_operator(out, *operator)?;
+            push_enclosed(out, left, is_lower(left, left_level(*operator)));
+            push_operator(out, *operator);
             push_enclosed(out, right, is_lower(right, right_level(*operator)))
         }
         Expr::Call(receiver, name, arguments) => {
-            push_enclosed(out, receiver, is_lower(receiver, POST))?;
-            push_method(out, name)?;
-            push_arguments(out, arguments)?;
+            push_enclosed(out, receiver, is_lower(receiver, POST));
+            push_method(out, name);
+            push_arguments(out, arguments);
             push(out, b")")
         }
         Expr::TextSize(_, _)
@@ -220,8 +223,8 @@ pub fn push_expr(out: &mut Vec<u8>, e: &Expr) -> Result<(), Memory>
 
 /// Adds an expression, in parentheses where that is asked for.
 #[cycle(printing)]
-pub fn push_enclosed(out: &mut Vec<u8>, e: &Expr, enclose: bool) -> Result<(), Memory>
-    ensures { OnOk result (out.new.items ≡ out.old.items ++ enclosed enclose (expr_text (expr_tree e.now))) }
+pub fn push_enclosed(out: &mut Output, e: &Expr, enclose: bool)
+    ensures { IsGathered out.old (enclosed enclose (expr_text (expr_tree e.now))) out.new }
 {
     if enclose {
         push_last(out, b"(", e)
@@ -232,64 +235,63 @@ pub fn push_enclosed(out: &mut Vec<u8>, e: &Expr, enclose: bool) -> Result<(), M
 
 /// Adds a call's arguments with commas between.
 #[cycle(printing)]
-fn push_arguments(out: &mut Vec<u8>, arguments: &[Expr]) -> Result<(), Memory>
-    ensures { OnOk result (out.new.items ≡ out.old.items ++ arguments_text (expr_trees arguments.now)) }
+fn push_arguments(out: &mut Output, arguments: &[Expr])
+    ensures { IsGathered out.old (arguments_text (expr_trees arguments.now)) out.new }
 {
-    for (i, argument) in arguments.iter().enumerate() {
-        if i > 0 {
-            push(out, b", ")?;
+    if let [first, others @ ..] = arguments {
+        push_expr(out, first);
+        for argument in others {
+            push_behind(out, b", ", argument);
         }
-        push_expr(out, argument)?;
     }
-    Ok(())
 }
 
 /// Adds an expression whose operands stand behind words and signs of its own; nothing for another one.
 #[cycle(printing)]
-fn push_worded(out: &mut Vec<u8>, e: &Expr) -> Result<(), Memory>
-    ensures { OnOk result (out.new.items ≡ out.old.items ++ worded_text (expr_tree e.now)) }
+fn push_worded(out: &mut Output, e: &Expr)
+    ensures { IsGathered out.old (worded_text (expr_tree e.now)) out.new }
 {
     match e {
         Expr::TextSize(e, _) => push_last(out, b"text_size(", e),
         Expr::TextPart(e, from, to, _) => {
-            push_behind(out, b"text_part(", e)?;
-            push_behind(out, b", ", from)?;
+            push_behind(out, b"text_part(", e);
+            push_behind(out, b", ", from);
             push_last(out, b", ", to)
         }
         Expr::TextCode(e, at, _) => {
-            push_behind(out, b"text_code(", e)?;
+            push_behind(out, b"text_code(", e);
             push_last(out, b", ", at)
         }
         Expr::TextByte(e, _) => push_last(out, b"text_byte(", e),
         Expr::TextShow(e, _) => push_last(out, b"text_show(", e),
         Expr::Ascribe(e, type_use, _) => {
-            push_behind(out, b"(", e)?;
+            push_behind(out, b"(", e);
             push_ascribed(out, type_use)
         }
         Expr::Choice(condition, first, second, _) => {
-            push(out, b"if ")?;
-            push_enclosed(out, condition, is_lower(condition, CONDITION))?;
-            push_behind(out, b" then ", first)?;
+            push(out, b"if ");
+            push_enclosed(out, condition, is_lower(condition, CONDITION));
+            push_behind(out, b" then ", first);
             push_behind(out, b" else ", second)
         }
-        _ => Ok(()),
+        _ => {},
     }
 }
 
 /// Adds an operand behind what is before it.
 #[cycle(printing)]
-fn push_behind(out: &mut Vec<u8>, before: &[u8], e: &Expr) -> Result<(), Memory>
-    ensures { OnOk result (out.new.items ≡ out.old.items ++ (before.now ++ expr_text (expr_tree e.now))) }
+fn push_behind(out: &mut Output, before: &[u8], e: &Expr)
+    ensures { IsGathered out.old (before.now ++ expr_text (expr_tree e.now)) out.new }
 {
-    push(out, before)?;
+    push(out, before);
     push_expr(out, e)
 }
 
 /// Adds an operand behind what is before it, and a closing parenthesis.
 #[cycle(printing)]
-fn push_last(out: &mut Vec<u8>, before: &[u8], e: &Expr) -> Result<(), Memory>
-    ensures { OnOk result (out.new.items ≡ out.old.items ++ (before.now ++ expr_text (expr_tree e.now) ++ codes ")")) }
+fn push_last(out: &mut Output, before: &[u8], e: &Expr)
+    ensures { IsGathered out.old ((before.now ++ expr_text (expr_tree e.now) ++ codes ")")) out.new }
 {
-    push_behind(out, before, e)?;
+    push_behind(out, before, e);
     push(out, b")")
 }

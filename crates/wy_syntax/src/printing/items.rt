@@ -1,74 +1,90 @@
 //! Items and the lines inside them, which have one indentation.
-ghost use Rattle.std.specs.Prelude.{◌≡◌, ◌++◌, codes, map, OnOk};
+ghost use Rattle.std.specs.Prelude.{◌≡◌, ◌++◌, codes, map};
 ghost use Rattle.wy_syntax.specs.Views.{inside_tree, item_tree};
+ghost use Rattle.wy_syntax.specs.Gathering.{IsGathered};
 ghost use Rattle.wy_syntax.specs.Canonical.{after_blank, canonical_form, define_text, grant_text, in_order, init_text, inside_text, item_text, line_text, member_text, name_text, newline, param_text, set_text, use_text, with_commas};
 
 use crate::items::{
     Define, Grant, Init, Inside, Item, Line, Member, PlainModule, Program, PureModule,
     ResourceModule, TypeDecl,
 };
-use crate::printing::pieces::{Printed, push, push_behind, push_each, push_list};
+use crate::printing::output::{Output, push};
+use crate::printing::pieces::{Printed, push_behind, push_each, push_list};
 use crate::printing::statements::{push_parts, push_tail};
 use crate::printing::types::{push_name_and_set, push_set, push_signature};
 use crate::types::{Name, Param, SetUse};
-use wy_text::text::Memory;
 
 /// What stands between two items.
 const BLANK_LINE: [u8; 1] = [b'\n'];
 
 /// Adds the line of an effect, a sign and a set.
-fn push_effect_line(out: &mut Vec<u8>, name: &Name, sign: &[u8], set: &SetUse) -> Result<(), Memory>
-    ensures { OnOk result (out.new.items ≡ out.old.items ++ (codes "  effect " ++ name.now.text ++ sign.now ++ set_text set.now ++ newline)) }
+fn push_effect_line(out: &mut Output, name: &Name, sign: &[u8], set: &SetUse)
+    ensures { IsGathered out.old (codes "  effect " ++ name.now.text ++ sign.now ++ set_text set.now ++ newline) out.new }
 {
-    push(out, b"  effect ")?;
-    push_name_and_set(out, name, sign, set)?;
+    push(out, b"  effect ");
+    push_name_and_set(out, name, sign, set);
     push(out, b"\n")
 }
 
 impl Printed for Member {
     ghost text = { member_text };
 
-    fn push_to(&self, out: &mut Vec<u8>) -> Result<(), Memory> {
+    fn push_to(&self, out: &mut Output) {
         match self {
             Member::Abstract(name) => {
-                push_behind(out, b"  effect ", name)?;
+                push_behind(out, b"  effect ", name);
                 push(out, b"\n")
             }
             Member::Bounded(name, set) => push_effect_line(out, name, b" <= ", set),
             Member::Defined(name, set) => push_effect_line(out, name, b" = ", set),
             Member::Method(signature) => {
-                push(out, b"  ")?;
-                push_signature(out, signature)?;
+                push(out, b"  ");
+                push_signature(out, signature);
                 push(out, b"\n")
             }
         }
     }
 }
 
-/// Adds what a line makes: its name, the module that makes it and the arguments.
-fn push_made(out: &mut Vec<u8>, name: &Name, maker: &Name, arguments: &[Name]) -> Result<(), Memory>
-    ensures { OnOk result (out.new.items ≡ out.old.items ++ (name.now.text ++ codes " = " ++ maker.now.text ++ codes "(" ++ with_commas name_text arguments.now ++ codes ")")) }
+/// Adds the word of a line, what it makes, the module that makes it and the arguments, with what closes them.
+fn push_made(
+    out: &mut Output,
+    word: &[u8],
+    name: &Name,
+    maker: &Name,
+    arguments: &[Name],
+    closing: &[u8],
+)
+    ensures { IsGathered out.old (word.now ++ name.now.text ++ codes " = " ++ maker.now.text ++ codes "(" ++ with_commas name_text arguments.now ++ closing.now) out.new }
 {
-    name.push_to(out)?;
-    push_behind(out, b" = ", maker)?;
-    push_list(out, b"(", arguments, b")")
+    push_behind(out, word, name);
+    push_behind(out, b" = ", maker);
+    push_list(out, b"(", arguments, closing)
 }
 
 impl Printed for Line {
     ghost text = { line_text };
 
-    fn push_to(&self, out: &mut Vec<u8>) -> Result<(), Memory> {
+    fn push_to(&self, out: &mut Output) {
         match self {
-            Line::Instance(name, module, arguments) => {
-                push(out, b"  instance ")?;
-                push_made(out, name, module, arguments.as_slice())?;
-                push(out, b"\n")
-            }
+            Line::Instance(name, module, arguments) => push_made(
+                out,
+                b"  instance ",
+                name,
+                module,
+                arguments.as_slice(),
+                b")\n",
+            ),
             Line::Import(name, module, arguments, bound) => {
-                push(out, b"  import ")?;
-                push_made(out, name, module, arguments.as_slice())?;
-                push(out, b" at ")?;
-                push_set(out, bound)?;
+                push_made(
+                    out,
+                    b"  import ",
+                    name,
+                    module,
+                    arguments.as_slice(),
+                    b") at ",
+                );
+                push_set(out, bound);
                 push(out, b"\n")
             }
         }
@@ -78,7 +94,7 @@ impl Printed for Line {
 impl Printed for Define {
     ghost text = { define_text };
 
-    fn push_to(&self, out: &mut Vec<u8>) -> Result<(), Memory> {
+    fn push_to(&self, out: &mut Output) {
         push_effect_line(out, &self.name, b" = ", &self.effect)
     }
 }
@@ -86,115 +102,108 @@ impl Printed for Define {
 impl Printed for Grant {
     ghost text = { grant_text };
 
-    fn push_to(&self, out: &mut Vec<u8>) -> Result<(), Memory> {
-        push_behind(out, b"  grant ", &self.name)?;
-        push_behind(out, b": ", &self.kind)?;
+    fn push_to(&self, out: &mut Output) {
+        push_behind(out, b"  grant ", &self.name);
+        push_behind(out, b": ", &self.kind);
         push(out, b"\n")
     }
 }
 
 /// Adds a line for each used module.
-fn push_uses(out: &mut Vec<u8>, uses: &[Name]) -> Result<(), Memory>
-    ensures { OnOk result (out.new.items ≡ out.old.items ++ in_order use_text uses.now) }
+fn push_uses(out: &mut Output, uses: &[Name])
+    ensures { IsGathered out.old (in_order use_text uses.now) out.new }
 {
     for name in uses {
-        push_behind(out, b"  use ", name)?;
-        push(out, b"\n")?;
+        push_behind(out, b"  use ", name);
+        push(out, b"\n");
     }
-    Ok(())
 }
 
 /// Adds the line of `init`, where there is one.
-fn push_init(out: &mut Vec<u8>, init: &Option<Init>) -> Result<(), Memory>
-    ensures { OnOk result (out.new.items ≡ out.old.items ++ init_text init.now) }
+fn push_init(out: &mut Output, init: &Option<Init>)
+    ensures { IsGathered out.old (init_text init.now) out.new }
 {
     if let Some(init) = init {
-        push(out, b"  init: ")?;
-        push_set(out, &init.effect)?;
-        push(out, b"\n")?;
+        push(out, b"  init: ");
+        push_set(out, &init.effect);
+        push(out, b"\n");
     }
-    Ok(())
 }
 
 /// Adds what stands inside a pure or a resource module.
-fn push_inside(out: &mut Vec<u8>, inside: &Inside) -> Result<(), Memory>
-    ensures { OnOk result (out.new.items ≡ out.old.items ++ inside_text (inside_tree inside.now)) }
+fn push_inside(out: &mut Output, inside: &Inside)
+    ensures { IsGathered out.old (inside_text (inside_tree inside.now)) out.new }
 {
-    push_uses(out, inside.uses.as_slice())?;
-    push_each(out, inside.lines.as_slice())?;
-    push_each(out, inside.defines.as_slice())?;
-    push_init(out, &inside.init)?;
+    push_uses(out, inside.uses.as_slice());
+    push_each(out, inside.lines.as_slice());
+    push_each(out, inside.defines.as_slice());
+    push_init(out, &inside.init);
     push_parts(out, &inside.parts, 0)
 }
 
-fn push_type_decl(out: &mut Vec<u8>, decl: &TypeDecl) -> Result<(), Memory>
-    ensures { OnOk result (out.new.items ≡ out.old.items ++ item_text (item_tree (Item.Type decl.now))) }
+fn push_type_decl(out: &mut Output, decl: &TypeDecl)
+    ensures { IsGathered out.old (item_text (item_tree (Item.Type decl.now))) out.new }
 {
-    push_behind(out, b"type ", &decl.name)?;
-    push(out, b"\n")?;
+    push_behind(out, b"type ", &decl.name);
+    push(out, b"\n");
     push_each(out, decl.members.as_slice())
 }
 
-fn push_pure(out: &mut Vec<u8>, pure: &PureModule) -> Result<(), Memory>
-    ensures { OnOk result (out.new.items ≡ out.old.items ++ item_text (item_tree (Item.Pure pure.now))) }
+fn push_pure(out: &mut Output, pure: &PureModule)
+    ensures { IsGathered out.old (item_text (item_tree (Item.Pure pure.now))) out.new }
 {
-    push_behind(out, b"module ", &pure.name)?;
-    push_behind(out, b": ", &pure.sealed)?;
-    push(out, b"\n")?;
+    push_behind(out, b"module ", &pure.name);
+    push_behind(out, b": ", &pure.sealed);
+    push(out, b"\n");
     push_inside(out, &pure.inside)
 }
 
 /// Adds the rest of the heading of a module with parameters, from its name on.
-fn push_heading(
-    out: &mut Vec<u8>,
-    name: &Name,
-    params: &[Param],
-    sealed: &Name,
-) -> Result<(), Memory>
-    ensures { OnOk result (out.new.items ≡ out.old.items ++ (name.now.text ++ codes "(" ++ with_commas param_text params.now ++ codes "): " ++ sealed.now.text ++ newline)) }
+fn push_heading(out: &mut Output, name: &Name, params: &[Param], sealed: &Name)
+    ensures { IsGathered out.old (name.now.text ++ codes "(" ++ with_commas param_text params.now ++ codes "): " ++ sealed.now.text ++ newline) out.new }
 {
-    name.push_to(out)?;
-    push_list(out, b"(", params, b"): ")?;
-    sealed.push_to(out)?;
+    name.push_to(out);
+    push_list(out, b"(", params, b"): ");
+    sealed.push_to(out);
     push(out, b"\n")
 }
 
-fn push_resource(out: &mut Vec<u8>, resource: &ResourceModule) -> Result<(), Memory>
-    ensures { OnOk result (out.new.items ≡ out.old.items ++ item_text (item_tree (Item.Resource resource.now))) }
+fn push_resource(out: &mut Output, resource: &ResourceModule)
+    ensures { IsGathered out.old (item_text (item_tree (Item.Resource resource.now))) out.new }
 {
-    push(out, b"resource module ")?;
+    push(out, b"resource module ");
     push_heading(
         out,
         &resource.name,
         resource.params.as_slice(),
         &resource.sealed,
-    )?;
+    );
     push_inside(out, &resource.inside)
 }
 
-fn push_plain(out: &mut Vec<u8>, plain: &PlainModule) -> Result<(), Memory>
-    ensures { OnOk result (out.new.items ≡ out.old.items ++ item_text (item_tree (Item.Plain plain.now))) }
+fn push_plain(out: &mut Output, plain: &PlainModule)
+    ensures { IsGathered out.old (item_text (item_tree (Item.Plain plain.now))) out.new }
 {
-    push(out, b"plain module ")?;
-    push_heading(out, &plain.name, plain.params.as_slice(), &plain.sealed)?;
+    push(out, b"plain module ");
+    push_heading(out, &plain.name, plain.params.as_slice(), &plain.sealed);
     push_parts(out, &plain.parts, 0)
 }
 
-fn push_program(out: &mut Vec<u8>, program: &Program) -> Result<(), Memory>
-    ensures { OnOk result (out.new.items ≡ out.old.items ++ item_text (item_tree (Item.Program program.now))) }
+fn push_program(out: &mut Output, program: &Program)
+    ensures { IsGathered out.old (item_text (item_tree (Item.Program program.now))) out.new }
 {
-    push(out, b"program\n")?;
-    push_each(out, program.grants.as_slice())?;
-    push_uses(out, program.uses.as_slice())?;
-    push_each(out, program.lines.as_slice())?;
-    push(out, b"  run: ")?;
-    push_set(out, &program.effect)?;
+    push(out, b"program\n");
+    push_each(out, program.grants.as_slice());
+    push_uses(out, program.uses.as_slice());
+    push_each(out, program.lines.as_slice());
+    push(out, b"  run: ");
+    push_set(out, &program.effect);
     push_tail(out, &program.body, 1)
 }
 
 /// Adds an item.
-fn push_item(out: &mut Vec<u8>, item: &Item) -> Result<(), Memory>
-    ensures { OnOk result (out.new.items ≡ out.old.items ++ item_text (item_tree item.now)) }
+fn push_item(out: &mut Output, item: &Item)
+    ensures { IsGathered out.old (item_text (item_tree item.now)) out.new }
 {
     match item {
         Item::Type(decl) => push_type_decl(out, decl),
@@ -206,24 +215,23 @@ fn push_item(out: &mut Vec<u8>, item: &Item) -> Result<(), Memory>
 }
 
 /// Adds items, each behind a blank line.
-fn push_after_blanks(out: &mut Vec<u8>, items: &[Item]) -> Result<(), Memory>
-    ensures { OnOk result (out.new.items ≡ out.old.items ++ in_order after_blank (map item_tree items.now)) }
+fn push_after_blanks(out: &mut Output, items: &[Item])
+    ensures { IsGathered out.old (in_order after_blank (map item_tree items.now)) out.new }
 {
     for item in items {
-        push(out, &BLANK_LINE)?;
-        push_item(out, item)?;
+        push(out, &BLANK_LINE);
+        push_item(out, item);
     }
-    Ok(())
 }
 
 /// Adds items with one blank line between.
-pub fn push_items(out: &mut Vec<u8>, items: &[Item]) -> Result<(), Memory>
-    ensures { OnOk result (out.new.items ≡ out.old.items ++ canonical_form (map item_tree items.now)) }
+pub fn push_items(out: &mut Output, items: &[Item])
+    ensures { IsGathered out.old (canonical_form (map item_tree items.now)) out.new }
 {
     match items {
-        [] => Ok(()),
+        [] => {},
         [first, others @ ..] => {
-            push_item(out, first)?;
+            push_item(out, first);
             push_after_blanks(out, others)
         }
     }
