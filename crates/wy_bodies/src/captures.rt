@@ -8,7 +8,7 @@ ghost use Rattle.wy_syntax.specs.Trees.{PartTrees};
 ghost use Rattle.wy_syntax.specs.Views.{expr_tree, expr_trees, rhs_tree, stmt_tree, stmt_trees, part_tree, part_trees, tail_tree};
 ghost use Rattle.wy_bodies.specs.Sight.{written_of};
 ghost use Rattle.wy_bodies.specs.InSight.{entries};
-ghost use Rattle.wy_symbols.specs.Collected.{Adds};
+ghost use Rattle.wy_syntax.specs.Collected.{Adds};
 ghost use Rattle.wy_bodies.specs.Written.{expr_names, exprs_names, rhs_names, stmt_names, stmts_names, part_names, parts_names, tail_names, methods_names, mark};
 ghost use Rattle.wy_symbols.specs.Lent.{lent_text};
 

@@ -4,7 +4,7 @@
 ghost use Rattle.std.specs.Prelude.{◌≡◌, ◌++◌, [], List, IfOk, OnOk};
 ghost use Rattle.wy_syntax.specs.Views.{part_trees};
 ghost use Rattle.wy_symbols.specs.Least.{noted};
-ghost use Rattle.wy_symbols.specs.Collected.{Adds};
+ghost use Rattle.wy_syntax.specs.Collected.{Adds};
 ghost use Rattle.wy_bodies.specs.Lending.{lent_within};
 ghost use Rattle.wy_bodies.specs.Sight.{written_of};
 ghost use Rattle.wy_bodies.specs.InSight.{entries};

@@ -5,7 +5,7 @@ ghost use Rattle.std.specs.Prelude.{◌≡◌, ◌≤◌, ◌+◌, ◌++◌, [],
 ghost use Rattle.wy_symbols.specs.Least.{noted};
 ghost use Rattle.wy_symbols.specs.Declarations.{module_number};
 ghost use Rattle.wy_heads.specs.Cycles.{named_modules};
-ghost use Rattle.wy_symbols.specs.Collected as collected;
+ghost use Rattle.wy_syntax.specs.Collected as collected;
 ghost use Rattle.wy_heads.specs.Lines.{line_module};
 ghost use Rattle.wy_heads.specs.Leading.{numbers_of, edges_of, Adds, EachOnce, LeadsInside};
 ghost use Rattle.wy_heads.specs.CycleRefusals.{AreReached, word_refusals, words_refusals, cycle_refusals, NotesCycles};

@@ -2,7 +2,7 @@
 
 ghost use Rattle.std.specs.Prelude.{◌≡◌, ◌≤◌, ◌++◌, ◌∷◌, [], ℕ, List, map, length, false, IfOk};
 ghost use Rattle.wy_symbols.specs.Atoms.{type_number, opened, primitive_opening, param_opening, params_owners, grant_owner, sealed_opening, module_at, module_opening, use_owner, line_owner};
-ghost use Rattle.wy_symbols.specs.Collected.{Adds};
+ghost use Rattle.wy_syntax.specs.Collected.{Adds};
 ghost use Rattle.wy_types.specs.Types.{is_plain};
 ghost use Rattle.wy_types.specs.Primitive.{most_types};
 ghost use Rattle.wy_symbols.specs.Lent.{module_tree};

@@ -1,5 +1,4 @@
 pub mod Atoms
-pub mod Collected
 pub mod Declarations
 pub mod Found
 pub mod Least

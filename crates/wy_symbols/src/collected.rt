@@ -1,7 +1,7 @@
 //! Names and owners that a walk collects without a result at each step.
 
 ghost use Rattle.std.specs.Prelude.{◌≡◌, ◌∷◌, [], false, map, IfOk};
-ghost use Rattle.wy_symbols.specs.Collected.{Adds};
+ghost use Rattle.wy_syntax.specs.Collected.{Adds};
 ghost use Rattle.wy_symbols.specs.declared.scoping.Owner.{Owner};
 ghost use Rattle.wy_symbols.specs.Lent.{lent_name, lent_text};
 
@@ -21,7 +21,7 @@ pub struct Names<'a> {
 
 impl<'a> Model for Names<'a> {
     ghost use Rattle.std.specs.Prelude.{ℕ, List, map};
-    ghost use Rattle.wy_symbols.specs.Collected.{Collected};
+    ghost use Rattle.wy_syntax.specs.Collected.{Collected};
     ghost use Rattle.wy_symbols.specs.Lent.{lent_text};
 
     ghost Value = { Collected (List ℕ) };
@@ -72,7 +72,7 @@ pub struct WrittenNames<'a> {
 impl<'a> Model for WrittenNames<'a> {
     ghost use Rattle.std.specs.Prelude.{map};
     ghost use Rattle.wy_syntax.specs.declared.types.Name.{Name};
-    ghost use Rattle.wy_symbols.specs.Collected.{Collected};
+    ghost use Rattle.wy_syntax.specs.Collected.{Collected};
     ghost use Rattle.wy_symbols.specs.Lent.{lent_name};
 
     ghost Value = { Collected Name };
@@ -122,7 +122,7 @@ pub struct OwnerList {
 
 impl Model for OwnerList {
     ghost use Rattle.wy_symbols.specs.declared.scoping.Owner.{Owner};
-    ghost use Rattle.wy_symbols.specs.Collected.{Collected};
+    ghost use Rattle.wy_syntax.specs.Collected.{Collected};
 
     ghost Value = { Collected Owner };
 

@@ -4,7 +4,7 @@ ghost use Rattle.std.specs.Prelude.{◌≡◌, ◌≤◌, ◌++◌, ◌∷◌, [
 ghost use Rattle.wy_types.specs.Primitive.{primitive_types};
 ghost use Rattle.wy_symbols.specs.Least.{noted};
 ghost use Rattle.wy_symbols.specs.Declarations.{repeated};
-ghost use Rattle.wy_symbols.specs.Collected.{Adds};
+ghost use Rattle.wy_syntax.specs.Collected.{Adds};
 ghost use Rattle.wy_symbols.specs.Meanings.{abstract_names, abstract_bounds};
 ghost use Rattle.wy_symbols.specs.Atoms.{member_scope, members_after};
 ghost use Rattle.wy_symbols.specs.TypeUses.{declaration_scope, defined_members, declared_methods, method_of, signature_refusals, declaration, declarations_of, member_names, method_names, members_refusals, declaration_refusals, declarations_refusals};

@@ -6,7 +6,7 @@ ghost use Rattle.wy_syntax.specs.declared.types.Param.{Param};
 ghost use Rattle.wy_syntax.specs.declared.types.MemberSet.{MemberSet};
 ghost use Rattle.wy_syntax.specs.declared.items.Define.{Define};
 ghost use Rattle.wy_syntax.specs.declared.items.Grant.{Grant};
-ghost use Rattle.wy_symbols.specs.Collected.{Adds};
+ghost use Rattle.wy_syntax.specs.Collected.{Adds};
 ghost use Rattle.wy_symbols.specs.Lent.{lent_name};
 ghost use Rattle.wy_symbols.specs.Things.{type_name, module_name, line_word};
 

@@ -1,6 +1,6 @@
 pub mod Canonical
+pub mod Collected
 pub mod ExprGrammar
-pub mod Gathering
 pub mod Grammar
 pub mod Languages
 pub mod Marks

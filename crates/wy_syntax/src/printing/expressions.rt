@@ -6,7 +6,7 @@ ghost use Rattle.wy_text.specs.Spelling.{spelling_of};
 ghost use Rattle.wy_syntax.specs.ExprGrammar.{left_level_of, level_of_op, right_level_of, symbol_of};
 ghost use Rattle.wy_syntax.specs.Views.{expr_tree, expr_trees};
 ghost use Rattle.wy_syntax.specs.Printing.{worded_text};
-ghost use Rattle.wy_syntax.specs.Gathering.{IsGathered};
+ghost use Rattle.wy_syntax.specs.Collected.{Adds};
 ghost use Rattle.wy_syntax.specs.Canonical.{arguments_text, enclosed, expr_text, is_numbered, level_of, type_text};
 
 use crate::expressions::{Expr, Operator};
@@ -138,23 +138,23 @@ fn is_numbered(e: &Expr) -> bool
 }
 
 fn push_number(out: &mut Output, number: i64)
-    ensures { IsGathered out.old (signed_decimal number) out.new }
+    ensures { Adds (signed_decimal number) out.old out.new }
 {
-    match format!(in out.alloc; "{number}") {
+    match format!(in out.alloc(); "{number}") {
         Ok(digits) => push(out, digits.as_bytes()),
         Err(_) => out.lose(),
     }
 }
 
 fn push_quoted(out: &mut Output, text: &Text)
-    ensures { IsGathered out.old (quoted_form text.now) out.new }
+    ensures { Adds (quoted_form text.now) out.old out.new }
 {
     out.push_made(text.quoted())
 }
 
 /// Adds an operator's symbol with a space on each side.
 fn push_operator(out: &mut Output, operator: Operator)
-    ensures { IsGathered out.old (codes " " ++ spelling_of (symbol_of operator) ++ codes " ") out.new }
+    ensures { Adds (codes " " ++ spelling_of (symbol_of operator) ++ codes " ") out.old out.new }
 {
     push(out, b" ");
     push(out, symbol(operator).as_bytes());
@@ -163,7 +163,7 @@ fn push_operator(out: &mut Output, operator: Operator)
 
 /// Adds a dot, a method's name and the parenthesis that opens its arguments.
 fn push_method(out: &mut Output, name: &Name)
-    ensures { IsGathered out.old (codes "." ++ name.now.text ++ codes "(") out.new }
+    ensures { Adds (codes "." ++ name.now.text ++ codes "(") out.old out.new }
 {
     push(out, b".");
     name.push_to(out);
@@ -172,7 +172,7 @@ fn push_method(out: &mut Output, name: &Name)
 
 /// Adds a colon, a type and the parenthesis that closes them.
 fn push_ascribed(out: &mut Output, type_use: &TypeUse)
-    ensures { IsGathered out.old ((codes " : " ++ type_text type_use.now ++ codes ")")) out.new }
+    ensures { Adds ((codes " : " ++ type_text type_use.now ++ codes ")")) out.old out.new }
 {
     push(out, b" : ");
     push_type(out, type_use);
@@ -182,7 +182,7 @@ fn push_ascribed(out: &mut Output, type_use: &TypeUse)
 /// Adds an expression.
 #[cycle(printing)]
 pub fn push_expr(out: &mut Output, e: &Expr)
-    ensures { IsGathered out.old (expr_text (expr_tree e.now)) out.new }
+    ensures { Adds (expr_text (expr_tree e.now)) out.old out.new }
 {
     match e {
         Expr::Number(value, _) => push_number(out, *value),
@@ -224,7 +224,7 @@ pub fn push_expr(out: &mut Output, e: &Expr)
 /// Adds an expression, in parentheses where that is asked for.
 #[cycle(printing)]
 pub fn push_enclosed(out: &mut Output, e: &Expr, enclose: bool)
-    ensures { IsGathered out.old (enclosed enclose (expr_text (expr_tree e.now))) out.new }
+    ensures { Adds (enclosed enclose (expr_text (expr_tree e.now))) out.old out.new }
 {
     if enclose {
         push_last(out, b"(", e)
@@ -236,7 +236,7 @@ pub fn push_enclosed(out: &mut Output, e: &Expr, enclose: bool)
 /// Adds a call's arguments with commas between.
 #[cycle(printing)]
 fn push_arguments(out: &mut Output, arguments: &[Expr])
-    ensures { IsGathered out.old (arguments_text (expr_trees arguments.now)) out.new }
+    ensures { Adds (arguments_text (expr_trees arguments.now)) out.old out.new }
 {
     if let [first, others @ ..] = arguments {
         push_expr(out, first);
@@ -249,7 +249,7 @@ fn push_arguments(out: &mut Output, arguments: &[Expr])
 /// Adds an expression whose operands stand behind words and signs of its own; nothing for another one.
 #[cycle(printing)]
 fn push_worded(out: &mut Output, e: &Expr)
-    ensures { IsGathered out.old (worded_text (expr_tree e.now)) out.new }
+    ensures { Adds (worded_text (expr_tree e.now)) out.old out.new }
 {
     match e {
         Expr::TextSize(e, _) => push_last(out, b"text_size(", e),
@@ -281,7 +281,7 @@ fn push_worded(out: &mut Output, e: &Expr)
 /// Adds an operand behind what is before it.
 #[cycle(printing)]
 fn push_behind(out: &mut Output, before: &[u8], e: &Expr)
-    ensures { IsGathered out.old (before.now ++ expr_text (expr_tree e.now)) out.new }
+    ensures { Adds (before.now ++ expr_text (expr_tree e.now)) out.old out.new }
 {
     push(out, before);
     push_expr(out, e)
@@ -290,7 +290,7 @@ fn push_behind(out: &mut Output, before: &[u8], e: &Expr)
 /// Adds an operand behind what is before it, and a closing parenthesis.
 #[cycle(printing)]
 fn push_last(out: &mut Output, before: &[u8], e: &Expr)
-    ensures { IsGathered out.old ((before.now ++ expr_text (expr_tree e.now) ++ codes ")")) out.new }
+    ensures { Adds ((before.now ++ expr_text (expr_tree e.now) ++ codes ")")) out.old out.new }
 {
     push_behind(out, before, e);
     push(out, b")")

@@ -1,7 +1,7 @@
 //! Items and the lines inside them, which have one indentation.
 ghost use Rattle.std.specs.Prelude.{◌≡◌, ◌++◌, codes, map};
 ghost use Rattle.wy_syntax.specs.Views.{inside_tree, item_tree};
-ghost use Rattle.wy_syntax.specs.Gathering.{IsGathered};
+ghost use Rattle.wy_syntax.specs.Collected.{Adds};
 ghost use Rattle.wy_syntax.specs.Canonical.{after_blank, canonical_form, define_text, grant_text, in_order, init_text, inside_text, item_text, line_text, member_text, name_text, newline, param_text, set_text, use_text, with_commas};
 
 use crate::items::{
@@ -19,7 +19,7 @@ const BLANK_LINE: [u8; 1] = [b'\n'];
 
 /// Adds the line of an effect, a sign and a set.
 fn push_effect_line(out: &mut Output, name: &Name, sign: &[u8], set: &SetUse)
-    ensures { IsGathered out.old (codes "  effect " ++ name.now.text ++ sign.now ++ set_text set.now ++ newline) out.new }
+    ensures { Adds (codes "  effect " ++ name.now.text ++ sign.now ++ set_text set.now ++ newline) out.old out.new }
 {
     push(out, b"  effect ");
     push_name_and_set(out, name, sign, set);
@@ -55,7 +55,7 @@ fn push_made(
     arguments: &[Name],
     closing: &[u8],
 )
-    ensures { IsGathered out.old (word.now ++ name.now.text ++ codes " = " ++ maker.now.text ++ codes "(" ++ with_commas name_text arguments.now ++ closing.now) out.new }
+    ensures { Adds (word.now ++ name.now.text ++ codes " = " ++ maker.now.text ++ codes "(" ++ with_commas name_text arguments.now ++ closing.now) out.old out.new }
 {
     push_behind(out, word, name);
     push_behind(out, b" = ", maker);
@@ -111,7 +111,7 @@ impl Printed for Grant {
 
 /// Adds a line for each used module.
 fn push_uses(out: &mut Output, uses: &[Name])
-    ensures { IsGathered out.old (in_order use_text uses.now) out.new }
+    ensures { Adds (in_order use_text uses.now) out.old out.new }
 {
     for name in uses {
         push_behind(out, b"  use ", name);
@@ -121,7 +121,7 @@ fn push_uses(out: &mut Output, uses: &[Name])
 
 /// Adds the line of `init`, where there is one.
 fn push_init(out: &mut Output, init: &Option<Init>)
-    ensures { IsGathered out.old (init_text init.now) out.new }
+    ensures { Adds (init_text init.now) out.old out.new }
 {
     if let Some(init) = init {
         push(out, b"  init: ");
@@ -132,7 +132,7 @@ fn push_init(out: &mut Output, init: &Option<Init>)
 
 /// Adds what stands inside a pure or a resource module.
 fn push_inside(out: &mut Output, inside: &Inside)
-    ensures { IsGathered out.old (inside_text (inside_tree inside.now)) out.new }
+    ensures { Adds (inside_text (inside_tree inside.now)) out.old out.new }
 {
     push_uses(out, inside.uses.as_slice());
     push_each(out, inside.lines.as_slice());
@@ -142,7 +142,7 @@ fn push_inside(out: &mut Output, inside: &Inside)
 }
 
 fn push_type_decl(out: &mut Output, decl: &TypeDecl)
-    ensures { IsGathered out.old (item_text (item_tree (Item.Type decl.now))) out.new }
+    ensures { Adds (item_text (item_tree (Item.Type decl.now))) out.old out.new }
 {
     push_behind(out, b"type ", &decl.name);
     push(out, b"\n");
@@ -150,7 +150,7 @@ fn push_type_decl(out: &mut Output, decl: &TypeDecl)
 }
 
 fn push_pure(out: &mut Output, pure: &PureModule)
-    ensures { IsGathered out.old (item_text (item_tree (Item.Pure pure.now))) out.new }
+    ensures { Adds (item_text (item_tree (Item.Pure pure.now))) out.old out.new }
 {
     push_behind(out, b"module ", &pure.name);
     push_behind(out, b": ", &pure.sealed);
@@ -160,7 +160,7 @@ fn push_pure(out: &mut Output, pure: &PureModule)
 
 /// Adds the rest of the heading of a module with parameters, from its name on.
 fn push_heading(out: &mut Output, name: &Name, params: &[Param], sealed: &Name)
-    ensures { IsGathered out.old (name.now.text ++ codes "(" ++ with_commas param_text params.now ++ codes "): " ++ sealed.now.text ++ newline) out.new }
+    ensures { Adds (name.now.text ++ codes "(" ++ with_commas param_text params.now ++ codes "): " ++ sealed.now.text ++ newline) out.old out.new }
 {
     name.push_to(out);
     push_list(out, b"(", params, b"): ");
@@ -169,7 +169,7 @@ fn push_heading(out: &mut Output, name: &Name, params: &[Param], sealed: &Name)
 }
 
 fn push_resource(out: &mut Output, resource: &ResourceModule)
-    ensures { IsGathered out.old (item_text (item_tree (Item.Resource resource.now))) out.new }
+    ensures { Adds (item_text (item_tree (Item.Resource resource.now))) out.old out.new }
 {
     push(out, b"resource module ");
     push_heading(
@@ -182,7 +182,7 @@ fn push_resource(out: &mut Output, resource: &ResourceModule)
 }
 
 fn push_plain(out: &mut Output, plain: &PlainModule)
-    ensures { IsGathered out.old (item_text (item_tree (Item.Plain plain.now))) out.new }
+    ensures { Adds (item_text (item_tree (Item.Plain plain.now))) out.old out.new }
 {
     push(out, b"plain module ");
     push_heading(out, &plain.name, plain.params.as_slice(), &plain.sealed);
@@ -190,7 +190,7 @@ fn push_plain(out: &mut Output, plain: &PlainModule)
 }
 
 fn push_program(out: &mut Output, program: &Program)
-    ensures { IsGathered out.old (item_text (item_tree (Item.Program program.now))) out.new }
+    ensures { Adds (item_text (item_tree (Item.Program program.now))) out.old out.new }
 {
     push(out, b"program\n");
     push_each(out, program.grants.as_slice());
@@ -203,7 +203,7 @@ fn push_program(out: &mut Output, program: &Program)
 
 /// Adds an item.
 fn push_item(out: &mut Output, item: &Item)
-    ensures { IsGathered out.old (item_text (item_tree item.now)) out.new }
+    ensures { Adds (item_text (item_tree item.now)) out.old out.new }
 {
     match item {
         Item::Type(decl) => push_type_decl(out, decl),
@@ -216,7 +216,7 @@ fn push_item(out: &mut Output, item: &Item)
 
 /// Adds items, each behind a blank line.
 fn push_after_blanks(out: &mut Output, items: &[Item])
-    ensures { IsGathered out.old (in_order after_blank (map item_tree items.now)) out.new }
+    ensures { Adds (in_order after_blank (map item_tree items.now)) out.old out.new }
 {
     for item in items {
         push(out, &BLANK_LINE);
@@ -226,7 +226,7 @@ fn push_after_blanks(out: &mut Output, items: &[Item])
 
 /// Adds items with one blank line between.
 pub fn push_items(out: &mut Output, items: &[Item])
-    ensures { IsGathered out.old (canonical_form (map item_tree items.now)) out.new }
+    ensures { Adds (canonical_form (map item_tree items.now)) out.old out.new }
 {
     match items {
         [] => {},

@@ -1,6 +1,6 @@
 //! Pieces of the canonical form, which are added to a text at its end.
 ghost use Rattle.std.specs.Prelude.{◌≡◌, ◌++◌, List, ℕ};
-ghost use Rattle.wy_syntax.specs.Gathering.{IsGathered};
+ghost use Rattle.wy_syntax.specs.Collected.{Adds};
 ghost use Rattle.wy_syntax.specs.Canonical.{after_commas, in_order, indented, with_commas};
 
 use crate::printing::output::{Output, push};
@@ -11,12 +11,12 @@ pub trait Printed {
 
     /// Adds the text at the end.
     fn push_to(&self, out: &mut Output)
-        ensures { IsGathered out.old (text self.now) out.new };
+        ensures { Adds (text self.now) out.old out.new };
 }
 
 /// Adds bytes and behind them an item's text.
 pub fn push_behind<X: Printed>(out: &mut Output, bytes: &[u8], item: &X)
-    ensures { IsGathered out.old (bytes.now ++ X.text item.now) out.new }
+    ensures { Adds (bytes.now ++ X.text item.now) out.old out.new }
 {
     push(out, bytes);
     item.push_to(out)
@@ -24,7 +24,7 @@ pub fn push_behind<X: Printed>(out: &mut Output, bytes: &[u8], item: &X)
 
 /// Adds two spaces for each indentation.
 pub fn push_indentation(out: &mut Output, indents: usize)
-    ensures { IsGathered out.old (indented indents) out.new }
+    ensures { Adds (indented indents) out.old out.new }
 {
     for _ in 0..indents {
         push(out, b"  ");
@@ -33,7 +33,7 @@ pub fn push_indentation(out: &mut Output, indents: usize)
 
 /// Adds the texts of the items, one behind the other.
 pub fn push_each<X: Printed>(out: &mut Output, items: &[X])
-    ensures { IsGathered out.old (in_order X.text items.now) out.new }
+    ensures { Adds (in_order X.text items.now) out.old out.new }
 {
     for item in items {
         item.push_to(out);
@@ -42,7 +42,7 @@ pub fn push_each<X: Printed>(out: &mut Output, items: &[X])
 
 /// Adds the texts of the items, each behind a comma and a space.
 fn push_after_commas<X: Printed>(out: &mut Output, items: &[X])
-    ensures { IsGathered out.old (after_commas X.text items.now) out.new }
+    ensures { Adds (after_commas X.text items.now) out.old out.new }
 {
     for item in items {
         push(out, b", ");
@@ -52,7 +52,7 @@ fn push_after_commas<X: Printed>(out: &mut Output, items: &[X])
 
 /// Adds the texts of the items with a comma and a space between.
 fn push_with_commas<X: Printed>(out: &mut Output, items: &[X])
-    ensures { IsGathered out.old (with_commas X.text items.now) out.new }
+    ensures { Adds (with_commas X.text items.now) out.old out.new }
 {
     match items {
         [] => {},
@@ -65,7 +65,7 @@ fn push_with_commas<X: Printed>(out: &mut Output, items: &[X])
 
 /// Adds the texts of the items with a comma and a space between, and around them what opens and closes them.
 pub fn push_list<X: Printed>(out: &mut Output, opening: &[u8], items: &[X], closing: &[u8])
-    ensures { IsGathered out.old (opening.now ++ with_commas X.text items.now ++ closing.now) out.new }
+    ensures { Adds (opening.now ++ with_commas X.text items.now ++ closing.now) out.old out.new }
 {
     push(out, opening);
     push_with_commas(out, items);

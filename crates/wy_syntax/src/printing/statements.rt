@@ -1,7 +1,7 @@
 //! Right sides, statements, parts and bodies, in lines with some indentations.
 ghost use Rattle.std.specs.Prelude.{◌≡◌, ◌++◌, codes, suc, IfOk};
 ghost use Rattle.wy_syntax.specs.Views.{expr_tree, part_tree, part_trees, rhs_tree, stmt_tree, stmt_trees, tail_tree};
-ghost use Rattle.wy_syntax.specs.Gathering.{IsGathered};
+ghost use Rattle.wy_syntax.specs.Collected.{Adds};
 ghost use Rattle.wy_syntax.specs.Canonical.{block_text, expr_text, field_text, indented, level_of, newline, part_text, parts_text, placed, rhs_text, stmt_text, tail_text, type_text, written_type_text};
 
 use crate::expressions::Expr;
@@ -14,7 +14,7 @@ use crate::types::{Name, TypeUse};
 
 /// Adds the word that begins a field.
 fn push_field_word(out: &mut Output, kind: FieldKind)
-    ensures { IsGathered out.old (field_text kind) out.new }
+    ensures { Adds (field_text kind) out.old out.new }
 {
     match kind {
         FieldKind::Val => push(out, b"val "),
@@ -24,7 +24,7 @@ fn push_field_word(out: &mut Output, kind: FieldKind)
 
 /// Adds a colon and a type, where one is written.
 fn push_written_type(out: &mut Output, type_use: &Option<TypeUse>)
-    ensures { IsGathered out.old (written_type_text type_use.now) out.new }
+    ensures { Adds (written_type_text type_use.now) out.old out.new }
 {
     if let Some(type_use) = type_use {
         push(out, b": ");
@@ -34,7 +34,7 @@ fn push_written_type(out: &mut Output, type_use: &Option<TypeUse>)
 
 /// Adds what stands before the equals sign of a `val`.
 fn push_val(out: &mut Output, name: &Name, type_use: &Option<TypeUse>)
-    ensures { IsGathered out.old (codes "val " ++ name.now.text ++ written_type_text type_use.now) out.new }
+    ensures { Adds (codes "val " ++ name.now.text ++ written_type_text type_use.now) out.old out.new }
 {
     push_behind(out, b"val ", name);
     push_written_type(out, type_use)
@@ -42,7 +42,7 @@ fn push_val(out: &mut Output, name: &Name, type_use: &Option<TypeUse>)
 
 /// Adds what stands before the equals sign of a field.
 fn push_field(out: &mut Output, kind: FieldKind, name: &Name, type_use: &TypeUse)
-    ensures { IsGathered out.old (field_text kind ++ name.now.text ++ codes ": " ++ type_text type_use.now) out.new }
+    ensures { Adds (field_text kind ++ name.now.text ++ codes ": " ++ type_text type_use.now) out.old out.new }
 {
     push_field_word(out, kind);
     name.push_to(out);
@@ -52,7 +52,7 @@ fn push_field(out: &mut Output, kind: FieldKind, name: &Name, type_use: &TypeUse
 
 /// Adds an expression and the end of its line.
 fn push_value(out: &mut Output, e: &Expr)
-    ensures { IsGathered out.old (expr_text (expr_tree e.now) ++ newline) out.new }
+    ensures { Adds (expr_text (expr_tree e.now) ++ newline) out.old out.new }
 {
     push_expr(out, e);
     push(out, b"\n")
@@ -60,7 +60,7 @@ fn push_value(out: &mut Output, e: &Expr)
 
 /// Adds the line of an `if` before its first block.
 fn push_if(out: &mut Output, condition: &Expr)
-    ensures { IsGathered out.old (codes "if " ++ placed 1 (level_of (expr_tree condition.now)) (expr_text (expr_tree condition.now)) ++ newline) out.new }
+    ensures { Adds (codes "if " ++ placed 1 (level_of (expr_tree condition.now)) (expr_text (expr_tree condition.now)) ++ newline) out.old out.new }
 {
     push(out, b"if ");
     push_enclosed(out, condition, is_lower(condition, CONDITION));
@@ -69,7 +69,7 @@ fn push_if(out: &mut Output, condition: &Expr)
 
 /// Adds the line between the two blocks of an `if`.
 fn push_else(out: &mut Output, indents: usize)
-    ensures { IsGathered out.old (indented indents ++ codes "else" ++ newline) out.new }
+    ensures { Adds (indented indents ++ codes "else" ++ newline) out.old out.new }
 {
     push_indentation(out, indents);
     push(out, b"else\n")
@@ -78,7 +78,7 @@ fn push_else(out: &mut Output, indents: usize)
 /// Adds what stands behind an equals sign or alone, up to the end of its last line.
 #[cycle(printing)]
 fn push_rhs(out: &mut Output, rhs: &Rhs, indents: usize)
-    ensures { IsGathered out.old (rhs_text indents (rhs_tree rhs.now)) out.new }
+    ensures { Adds (rhs_text indents (rhs_tree rhs.now)) out.old out.new }
 {
     match rhs {
         Rhs::New(_, parts) => {
@@ -98,7 +98,7 @@ fn push_rhs(out: &mut Output, rhs: &Rhs, indents: usize)
 /// Adds an equals sign and what stands behind it.
 #[cycle(printing)]
 fn push_assigned(out: &mut Output, rhs: &Rhs, indents: usize)
-    ensures { IsGathered out.old (codes " = " ++ rhs_text indents (rhs_tree rhs.now)) out.new }
+    ensures { Adds (codes " = " ++ rhs_text indents (rhs_tree rhs.now)) out.old out.new }
 {
     push(out, b" = ");
     push_rhs(out, rhs, indents)
@@ -107,7 +107,7 @@ fn push_assigned(out: &mut Output, rhs: &Rhs, indents: usize)
 /// Adds a statement.
 #[cycle(printing)]
 fn push_stmt(out: &mut Output, stmt: &Stmt, indents: usize)
-    ensures { IsGathered out.old (stmt_text indents (stmt_tree stmt.now)) out.new }
+    ensures { Adds (stmt_text indents (stmt_tree stmt.now)) out.old out.new }
 {
     match stmt {
         Stmt::Val(name, type_use, rhs) => {
@@ -125,7 +125,7 @@ fn push_stmt(out: &mut Output, stmt: &Stmt, indents: usize)
 /// Adds statements, each in lines of its own, with one indentation more.
 #[cycle(printing)]
 fn push_block(out: &mut Output, block: &[Stmt], indents: usize)
-    ensures { IsGathered out.old (block_text (suc indents) (stmt_trees block.now)) out.new }
+    ensures { Adds (block_text (suc indents) (stmt_trees block.now)) out.old out.new }
 {
     let Some(inside) = indents.checked_add(1) else {
         return out.lose();
@@ -139,7 +139,7 @@ fn push_block(out: &mut Output, block: &[Stmt], indents: usize)
 /// Adds a field or a method.
 #[cycle(printing)]
 fn push_part(out: &mut Output, part: &Part, indents: usize)
-    ensures { IsGathered out.old (part_text indents (part_tree part.now)) out.new }
+    ensures { Adds (part_text indents (part_tree part.now)) out.old out.new }
 {
     match part {
         Part::Field(kind, name, type_use, rhs) => {
@@ -156,7 +156,7 @@ fn push_part(out: &mut Output, part: &Part, indents: usize)
 /// Adds fields and methods, each in lines of its own, with one indentation more.
 #[cycle(printing)]
 pub fn push_parts(out: &mut Output, parts: &[Part], indents: usize)
-    ensures { IsGathered out.old (parts_text (suc indents) (part_trees parts.now)) out.new }
+    ensures { Adds (parts_text (suc indents) (part_trees parts.now)) out.old out.new }
 {
     let Some(inside) = indents.checked_add(1) else {
         return out.lose();
@@ -170,7 +170,7 @@ pub fn push_parts(out: &mut Output, parts: &[Part], indents: usize)
 /// Adds a body in the form in which it was written.
 #[cycle(printing)]
 pub fn push_tail(out: &mut Output, tail: &Tail, indents: usize)
-    ensures { IsGathered out.old (tail_text indents (tail_tree tail.now)) out.new }
+    ensures { Adds (tail_text indents (tail_tree tail.now)) out.old out.new }
 {
     match tail {
         Tail::Short(rhs) => push_assigned(out, rhs, indents),

@@ -1,6 +1,6 @@
 //! Sets, types and signatures.
 ghost use Rattle.std.specs.Prelude.{◌≡◌, ◌++◌};
-ghost use Rattle.wy_syntax.specs.Gathering.{IsGathered};
+ghost use Rattle.wy_syntax.specs.Collected.{Adds};
 ghost use Rattle.wy_syntax.specs.Canonical.{atom_text, effect_text, member_set_text, name_text, owner_text, param_text, set_text, signature_text, type_text};
 
 use crate::printing::output::{Output, push};
@@ -17,7 +17,7 @@ impl Printed for Name {
 
 /// Adds an owner and a dot, where there is one.
 fn push_owner(out: &mut Output, owner: &Option<Name>)
-    ensures { IsGathered out.old (owner_text owner.now) out.new }
+    ensures { Adds (owner_text owner.now) out.old out.new }
 {
     if let Some(owner) = owner {
         owner.push_to(out);
@@ -36,14 +36,14 @@ impl Printed for AtomUse {
 
 /// Adds a set in braces.
 pub fn push_set(out: &mut Output, set: &SetUse)
-    ensures { IsGathered out.old (set_text set.now) out.new }
+    ensures { Adds (set_text set.now) out.old out.new }
 {
     push_list(out, b"{", set.as_slice(), b"}")
 }
 
 /// Adds a name and a set with a sign or a word between.
 pub fn push_name_and_set(out: &mut Output, name: &Name, between: &[u8], set: &SetUse)
-    ensures { IsGathered out.old (name.now.text ++ between.now ++ set_text set.now) out.new }
+    ensures { Adds (name.now.text ++ between.now ++ set_text set.now) out.old out.new }
 {
     name.push_to(out);
     push(out, between);
@@ -60,7 +60,7 @@ impl Printed for MemberSet {
 
 /// Adds a type.
 pub fn push_type(out: &mut Output, type_use: &TypeUse)
-    ensures { IsGathered out.old (type_text type_use.now) out.new }
+    ensures { Adds (type_text type_use.now) out.old out.new }
 {
     match type_use {
         TypeUse::Int(_) => push(out, b"Int"),
@@ -88,7 +88,7 @@ impl Printed for Param {
 
 /// Adds an effect and the space before the result, where one is written.
 fn push_effect(out: &mut Output, effect: &Option<SetUse>)
-    ensures { IsGathered out.old (effect_text effect.now) out.new }
+    ensures { Adds (effect_text effect.now) out.old out.new }
 {
     if let Some(effect) = effect {
         push_set(out, effect);
@@ -98,7 +98,7 @@ fn push_effect(out: &mut Output, effect: &Option<SetUse>)
 
 /// Adds what stands before a method's body.
 pub fn push_signature(out: &mut Output, signature: &Signature)
-    ensures { IsGathered out.old (signature_text signature.now) out.new }
+    ensures { Adds (signature_text signature.now) out.old out.new }
 {
     push_behind(out, b"def ", &signature.name);
     push_list(out, b"(", signature.params.as_slice(), b"): ");

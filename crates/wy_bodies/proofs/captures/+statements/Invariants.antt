@@ -1,6 +1,6 @@
 use Rattle.std.proofs.Common.{ℕ, List, drop}
 use Rattle.wy_syntax.specs.Views.{stmt_trees, part_trees}
-use Rattle.wy_symbols.specs.Collected.{Collected, Adds}
+use Rattle.wy_syntax.specs.Collected.{Collected, Adds}
 use Rattle.wy_bodies.specs.Written.{stmts_names, parts_names}
 use Rattle.wy_bodies.proofs.captures.+statements.Given as goal
 

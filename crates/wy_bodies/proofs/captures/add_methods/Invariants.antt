@@ -1,6 +1,6 @@
 use Rattle.std.proofs.Common.{ℕ, List, drop}
 use Rattle.wy_syntax.specs.Views.{part_trees}
-use Rattle.wy_symbols.specs.Collected.{Collected, Adds}
+use Rattle.wy_syntax.specs.Collected.{Collected, Adds}
 use Rattle.wy_bodies.specs.Written.{methods_names}
 use Rattle.wy_bodies.proofs.captures.add_methods.Given as goal
 

@@ -1,7 +1,7 @@
 use Rattle.std.proofs.Common.{drop}
 use Rattle.wy_syntax.specs.declared.types.Name.{Name}
 use Rattle.wy_syntax.specs.Views.{part_trees}
-use Rattle.wy_symbols.specs.Collected.{Collected, Adds}
+use Rattle.wy_syntax.specs.Collected.{Collected, Adds}
 use Rattle.wy_bodies.specs.BodyRefusals.{def_names}
 use Rattle.wy_bodies.proofs.literals.add_def_names.Given as goal
 

@@ -1,6 +1,6 @@
 use Rattle.std.proofs.Common.{drop, map}
 use Rattle.wy_syntax.specs.declared.types.Name.{Name}
-use Rattle.wy_symbols.specs.Collected.{Collected, Adds}
+use Rattle.wy_syntax.specs.Collected.{Collected, Adds}
 use Rattle.wy_heads.specs.Lines.{line_module}
 use Rattle.wy_heads.proofs.leading.add_line_modules.Given as goal
 

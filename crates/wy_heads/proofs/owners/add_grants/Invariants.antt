@@ -1,6 +1,6 @@
 use Rattle.std.proofs.Common.{drop, map}
 use Rattle.wy_symbols.specs.declared.scoping.Owner.{Owner}
-use Rattle.wy_symbols.specs.Collected.{Collected, Adds}
+use Rattle.wy_syntax.specs.Collected.{Collected, Adds}
 use Rattle.wy_symbols.specs.Atoms.{grant_owner}
 use Rattle.wy_heads.proofs.owners.add_grants.Given as goal
 

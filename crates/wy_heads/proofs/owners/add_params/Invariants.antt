@@ -1,6 +1,6 @@
 use Rattle.std.proofs.Common.{drop}
 use Rattle.wy_symbols.specs.declared.scoping.Owner.{Owner}
-use Rattle.wy_symbols.specs.Collected.{Collected, Adds}
+use Rattle.wy_syntax.specs.Collected.{Collected, Adds}
 use Rattle.wy_symbols.specs.Atoms.{params_owners}
 use Rattle.wy_heads.proofs.owners.add_params.Given as goal
 

@@ -1,6 +1,6 @@
 use Rattle.std.proofs.Common.{◌<◌, length, rules, [], map, refl, subst, ◌∷◌}
 use Rattle.wy_symbols.specs.Atoms.{use_owner}
-use Rattle.wy_symbols.specs.Collected.{Adds}
+use Rattle.wy_syntax.specs.Collected.{Adds}
 use Rattle.wy_symbols.specs.declared.scoping.Owner.{Owner}
 use Rattle.wy_symbols.specs.declared.scoping.Opening.{Opening}
 use Rattle.wy_symbols.proofs.Nexts.{collected_next}

@@ -1,6 +1,6 @@
 use Rattle.std.proofs.Common.{drop, map}
 use Rattle.wy_symbols.specs.declared.scoping.Owner.{Owner}
-use Rattle.wy_symbols.specs.Collected.{Collected, Adds}
+use Rattle.wy_syntax.specs.Collected.{Collected, Adds}
 use Rattle.wy_symbols.specs.Atoms.{use_owner}
 use Rattle.wy_symbols.specs.Lent.{module_tree}
 use Rattle.wy_heads.proofs.owners.add_uses.Given as goal

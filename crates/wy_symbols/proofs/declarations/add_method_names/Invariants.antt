@@ -1,6 +1,6 @@
 use Rattle.std.proofs.Common.{drop}
 use Rattle.wy_syntax.specs.declared.types.Name.{Name}
-use Rattle.wy_symbols.specs.Collected.{Collected, Adds}
+use Rattle.wy_syntax.specs.Collected.{Collected, Adds}
 use Rattle.wy_symbols.specs.TypeUses.{method_names}
 use Rattle.wy_symbols.proofs.declarations.add_method_names.Given as goal
 

@@ -1,6 +1,6 @@
 use Rattle.std.proofs.Common.{drop, map}
 use Rattle.wy_syntax.specs.declared.types.Name.{Name}
-use Rattle.wy_symbols.specs.Collected.{Collected, Adds}
+use Rattle.wy_syntax.specs.Collected.{Collected, Adds}
 use Rattle.wy_symbols.proofs.naming.add_names.Given as goal
 
 abbrev pub invariant-loop-thing : goal.invariant-loop-thing
