@@ -16,11 +16,11 @@ returns-then-not-are_numbers-clause-limit c =
 
 pub written_by-requires : goal.written_by-requires
 written_by-requires c =
-    let yes : IsTrue c.are_numbers.result = search rules in
+    let yes : IsTrue c.are_numbers.result = c.if-not-are_numbers.false in
     subst (λ (l : List own.Step). AreNumbers c.in_ok-table.table (steps_of l)) c.as_slice.ensures (c.are_numbers.ensures.0 yes)
 
 pub returns-clause-numbers : goal.returns-clause-numbers
 returns-clause-numbers c =
-    let yes : IsTrue c.are_numbers.result = search rules in
+    let yes : IsTrue c.are_numbers.result = c.if-not-are_numbers.false in
     let here = subst (λ (l : List own.Step). AreNumbers c.in_ok-table.table (steps_of l)) c.as_slice.ensures (c.are_numbers.ensures.0 yes) in
     subst (λ (l : List TypeRef). AreNumbers l (part_steps c.args.part.now)) c.in_ok-table.ensures here
