@@ -766,3 +766,231 @@ infer-returns-in_ok-copy-in-Some-type_of_binding-clause-outcome t c =
     let copied = c.in_ok-copy-in-Some-type_of_binding.field-0 in
     let is = ap (λ z. type_of_binding s z o c.in-Name.binding) (sym c.deref.ensures.value) ∙ sym c.in-Some-type_of_binding.ensures ∙ ap Some (sym c.in_ok-copy-in-Some-type_of_binding.ensures) in
     least_as form c.least-in-Some-type_of_binding.ensures (name_to _ _ _ c.requires.walk.context _ _ c.in-Name.field-0 c.in-Name.binding copied (subst (ExprReady _ _ _ _ _) form c.requires.ready) is)
+
+------------------------------------------------------------
+-- The table of pairs is about the same at each end
+
+pub infer-returns-in-Int-clause-asks : goal.infer-returns-in-Int-clause-asks
+infer-returns-in-Int-clause-asks t c = c.requires.asks
+
+pub infer-returns-in-Text-clause-asks : goal.infer-returns-in-Text-clause-asks
+infer-returns-in-Text-clause-asks t c = c.requires.asks
+
+pub infer-returns-in-Bool-clause-asks : goal.infer-returns-in-Bool-clause-asks
+infer-returns-in-Bool-clause-asks t c = c.requires.asks
+
+pub infer-returns-in-Unit-clause-asks : goal.infer-returns-in-Unit-clause-asks
+infer-returns-in-Unit-clause-asks t c = c.requires.asks
+
+pub infer-returns-in-Some-clause-asks : goal.infer-returns-in-Some-clause-asks
+infer-returns-in-Some-clause-asks t c = c.requires.asks
+
+pub infer_unary-returns-in_err-operand-clause-asks : goal.infer_unary-returns-in_err-operand-clause-asks
+infer_unary-returns-in_err-operand-clause-asks t c = c.infer.ensures.asks
+
+pub infer_unary-returns-in-Some-clause-asks : goal.infer_unary-returns-in-Some-clause-asks
+infer_unary-returns-in-Some-clause-asks t c = c.infer.ensures.asks
+
+pub infer_unary-returns-clause-asks : goal.infer_unary-returns-clause-asks
+infer_unary-returns-clause-asks t c = c.infer.ensures.asks
+
+pub infer-returns-in_err-first-in-Binary-clause-asks : goal.infer-returns-in_err-first-in-Binary-clause-asks
+infer-returns-in_err-first-in-Binary-clause-asks t c = c.infer.ensures.asks
+
+pub infer-returns-in_ok-first-in-Binary-clause-asks : goal.infer-returns-in_ok-first-in-Binary-clause-asks
+infer-returns-in_ok-first-in-Binary-clause-asks t c = c.infer_second.ensures.asks
+
+pub infer_second-returns-in_err-second-clause-asks : goal.infer_second-returns-in_err-second-clause-asks
+infer_second-returns-in_err-second-clause-asks t c = c.infer.ensures.asks
+
+pub infer_second-returns-clause-asks : goal.infer_second-returns-clause-asks
+infer_second-returns-clause-asks t c = c.infer.ensures.asks
+
+pub infer_text_call-returns-in_err-effect-clause-asks : goal.infer_text_call-returns-in_err-effect-clause-asks
+infer_text_call-returns-in_err-effect-clause-asks t c = c.fit_all.ensures.asks
+
+pub infer_text_call-returns-in-Have-clause-asks : goal.infer_text_call-returns-in-Have-clause-asks
+infer_text_call-returns-in-Have-clause-asks t c = c.fit_all.ensures.asks
+
+pub infer_text_call-returns-clause-asks : goal.infer_text_call-returns-clause-asks
+infer_text_call-returns-clause-asks t c = c.fit_all.ensures.asks
+
+pub infer_arguments-returns-in-Without-clause-asks : goal.infer_arguments-returns-in-Without-clause-asks
+infer_arguments-returns-in-Without-clause-asks t c = c.probe_arguments.ensures.asks
+
+pub infer_arguments-returns-in-Found-clause-asks : goal.infer_arguments-returns-in-Found-clause-asks
+infer_arguments-returns-in-Found-clause-asks t c = c.fit_arguments.ensures.asks
+
+pub probe_arguments-returns-in_err-probe_all-clause-asks : goal.probe_arguments-returns-in_err-probe_all-clause-asks
+probe_arguments-returns-in_err-probe_all-clause-asks t c = c.probe_all.ensures.asks
+
+pub probe_arguments-returns-clause-asks : goal.probe_arguments-returns-clause-asks
+probe_arguments-returns-clause-asks t c = c.probe_all.ensures.asks
+
+pub fit_arguments-returns-in_err-arguments-clause-asks : goal.fit_arguments-returns-in_err-arguments-clause-asks
+fit_arguments-returns-in_err-arguments-clause-asks t c = c.fit_all.ensures.asks
+
+pub fit_arguments-returns-in-Have-clause-asks : goal.fit_arguments-returns-in-Have-clause-asks
+fit_arguments-returns-in-Have-clause-asks t c = c.fit_all.ensures.asks
+
+pub fit_arguments-returns-in-Misfit-clause-asks : goal.fit_arguments-returns-in-Misfit-clause-asks
+fit_arguments-returns-in-Misfit-clause-asks t c = c.fit_all.ensures.asks
+
+pub infer_new-returns-in_err-effect-clause-asks : goal.infer_new-returns-in_err-effect-clause-asks
+infer_new-returns-in_err-effect-clause-asks t c = c.fit_all.ensures.asks
+
+pub infer_new-returns-in-Have-clause-asks : goal.infer_new-returns-in-Have-clause-asks
+infer_new-returns-in-Have-clause-asks t c = c.fit_all.ensures.asks
+
+pub infer_new-returns-clause-asks : goal.infer_new-returns-clause-asks
+infer_new-returns-clause-asks t c = c.fit_all.ensures.asks
+
+pub infer_ascription-returns-in_err-effect-clause-asks : goal.infer_ascription-returns-in_err-effect-clause-asks
+infer_ascription-returns-in_err-effect-clause-asks t c = c.fit.ensures.asks
+
+pub infer_ascription-returns-in_ok-copy-in-Has-clause-asks : goal.infer_ascription-returns-in_ok-copy-in-Has-clause-asks
+infer_ascription-returns-in_ok-copy-in-Has-clause-asks t c = c.fit.ensures.asks
+
+pub infer_ascription-returns-in-Misfit-clause-asks : goal.infer_ascription-returns-in-Misfit-clause-asks
+infer_ascription-returns-in-Misfit-clause-asks t c = c.fit.ensures.asks
+
+pub infer_assignment-returns-in_err-effect-in-Some-clause-asks : goal.infer_assignment-returns-in_err-effect-in-Some-clause-asks
+infer_assignment-returns-in_err-effect-in-Some-clause-asks t c = c.fit.ensures.asks
+
+pub infer_assignment-returns-in-Has-clause-asks : goal.infer_assignment-returns-in-Has-clause-asks
+infer_assignment-returns-in-Has-clause-asks t c = c.fit.ensures.asks
+
+pub infer_assignment-returns-in-Misfit-clause-asks : goal.infer_assignment-returns-in-Misfit-clause-asks
+infer_assignment-returns-in-Misfit-clause-asks t c = c.fit.ensures.asks
+
+pub infer_assignment-returns-in_err-probe-in-None-clause-asks : goal.infer_assignment-returns-in_err-probe-in-None-clause-asks
+infer_assignment-returns-in_err-probe-in-None-clause-asks t c = c.probe.ensures.asks
+
+pub infer_assignment-returns-in_ok-probe-in-None-clause-asks : goal.infer_assignment-returns-in_ok-probe-in-None-clause-asks
+infer_assignment-returns-in_ok-probe-in-None-clause-asks t c = c.probe.ensures.asks
+
+pub infer-returns-in-Unary-clause-asks : goal.infer-returns-in-Unary-clause-asks
+infer-returns-in-Unary-clause-asks t c = c.infer_unary.ensures.asks
+
+pub infer-returns-in-TextCall-clause-asks : goal.infer-returns-in-TextCall-clause-asks
+infer-returns-in-TextCall-clause-asks t c = c.infer_text_call.ensures.asks
+
+pub infer-returns-in-New-clause-asks : goal.infer-returns-in-New-clause-asks
+infer-returns-in-New-clause-asks t c = c.infer_new.ensures.asks
+
+pub infer-returns-in-Ascribe-clause-asks : goal.infer-returns-in-Ascribe-clause-asks
+infer-returns-in-Ascribe-clause-asks t c = c.infer_ascription.ensures.asks
+
+pub infer-returns-in-Assign-clause-asks : goal.infer-returns-in-Assign-clause-asks
+infer-returns-in-Assign-clause-asks t c = c.infer_assignment.ensures.asks
+
+pub infer-returns-in_err-receiver-in-Call-clause-asks : goal.infer-returns-in_err-receiver-in-Call-clause-asks
+infer-returns-in_err-receiver-in-Call-clause-asks t c = c.infer-in-Call.ensures.asks
+
+pub infer-returns-in_ok-receiver-in-Call-clause-asks : goal.infer-returns-in_ok-receiver-in-Call-clause-asks
+infer-returns-in_ok-receiver-in-Call-clause-asks t c = c.infer_call.ensures.asks
+
+pub infer_call-returns-clause-asks : goal.infer_call-returns-clause-asks
+infer_call-returns-clause-asks t c = c.infer_arguments.ensures.asks
+
+pub fit-returns-in_err-least-in-Plain-clause-asks : goal.fit-returns-in_err-least-in-Plain-clause-asks
+fit-returns-in_err-least-in-Plain-clause-asks t c = c.infer.ensures.asks
+
+pub fit-returns-in_ok-fitted-in-Plain-clause-asks : goal.fit-returns-in_ok-fitted-in-Plain-clause-asks
+fit-returns-in_ok-fitted-in-Plain-clause-asks t c = c.fitted.ensures.same ∙ c.infer.ensures.asks
+
+pub fit-returns-in_err-least-in-If-clause-asks : goal.fit-returns-in_err-least-in-If-clause-asks
+fit-returns-in_err-least-in-If-clause-asks t c = c.infer-in-If.ensures.asks
+
+pub fit-returns-in_err-first-in-If-clause-asks : goal.fit-returns-in_err-first-in-If-clause-asks
+fit-returns-in_err-first-in-If-clause-asks t c = c.fit_block.ensures.asks
+
+pub fit-returns-in_err-second-in-If-clause-asks : goal.fit-returns-in_err-second-in-If-clause-asks
+fit-returns-in_err-second-in-If-clause-asks t c = c.fit_block-in-If.ensures.asks
+
+pub fit-returns-in_ok-second-in-If-clause-asks : goal.fit-returns-in_ok-second-in-If-clause-asks
+fit-returns-in_ok-second-in-If-clause-asks t c = c.fit_block-in-If.ensures.asks
+
+pub probe-returns-in_err-infer-in-Plain-clause-asks : goal.probe-returns-in_err-infer-in-Plain-clause-asks
+probe-returns-in_err-infer-in-Plain-clause-asks t c = c.infer.ensures.asks
+
+pub probe-returns-in_ok-infer-in-Plain-clause-asks : goal.probe-returns-in_ok-infer-in-Plain-clause-asks
+probe-returns-in_ok-infer-in-Plain-clause-asks t c = c.infer.ensures.asks
+
+pub probe-returns-in_err-infer-in-If-clause-asks : goal.probe-returns-in_err-infer-in-If-clause-asks
+probe-returns-in_err-infer-in-If-clause-asks t c = c.infer-in-If.ensures.asks
+
+pub probe-returns-in_err-probe_block-in-If-clause-asks : goal.probe-returns-in_err-probe_block-in-If-clause-asks
+probe-returns-in_err-probe_block-in-If-clause-asks t c = c.probe_block.ensures.asks
+
+pub probe-returns-in_ok-probe_block-in-If-clause-asks : goal.probe-returns-in_ok-probe_block-in-If-clause-asks
+probe-returns-in_ok-probe_block-in-If-clause-asks t c = c.probe_block-in-If.ensures.asks
+
+pub fit_all-returns-in_err-next-clause-asks : goal.fit_all-returns-in_err-next-clause-asks
+fit_all-returns-in_err-next-clause-asks t c = c.fit.ensures.asks
+
+pub fit_all-returns-clause-asks : goal.fit_all-returns-clause-asks
+fit_all-returns-clause-asks t c = c.loop-i.invariant.asks
+
+pub probe_all-returns-in_err-probe-clause-asks : goal.probe_all-returns-in_err-probe-clause-asks
+probe_all-returns-in_err-probe-clause-asks t c = c.probe.ensures.asks
+
+pub probe_all-returns-clause-asks : goal.probe_all-returns-clause-asks
+probe_all-returns-clause-asks t c = c.loop-i.invariant.asks
+
+pub step-returns-in_err-effect-in-Do-clause-asks : goal.step-returns-in_err-effect-in-Do-clause-asks
+step-returns-in_err-effect-in-Do-clause-asks t c = c.fit.ensures.asks
+
+pub step-returns-in-Has-clause-asks : goal.step-returns-in-Has-clause-asks
+step-returns-in-Has-clause-asks t c = c.fit.ensures.asks
+
+pub step-returns-in-Misfit-clause-asks : goal.step-returns-in-Misfit-clause-asks
+step-returns-in-Misfit-clause-asks t c = c.fit.ensures.asks
+
+pub step_typed-returns-in_err-effect-clause-asks : goal.step_typed-returns-in_err-effect-clause-asks
+step_typed-returns-in_err-effect-clause-asks t c = c.fit.ensures.asks
+
+pub step_typed-returns-in_ok-put-in-Has-clause-asks : goal.step_typed-returns-in_ok-put-in-Has-clause-asks
+step_typed-returns-in_ok-put-in-Has-clause-asks t c = c.fit.ensures.asks
+
+pub step_typed-returns-in-Misfit-clause-asks : goal.step_typed-returns-in-Misfit-clause-asks
+step_typed-returns-in-Misfit-clause-asks t c = c.fit.ensures.asks
+
+pub step_untyped-returns-in_err-least-in-Plain-clause-asks : goal.step_untyped-returns-in_err-least-in-Plain-clause-asks
+step_untyped-returns-in_err-least-in-Plain-clause-asks t c = c.infer.ensures.asks
+
+pub step_untyped-returns-in_ok-put-in-Plain-clause-asks : goal.step_untyped-returns-in_ok-put-in-Plain-clause-asks
+step_untyped-returns-in_ok-put-in-Plain-clause-asks t c = c.infer.ensures.asks
+
+pub step_untyped-returns-in_err-probe-in-If-clause-asks : goal.step_untyped-returns-in_err-probe-in-If-clause-asks
+step_untyped-returns-in_err-probe-in-If-clause-asks t c = c.probe.ensures.asks
+
+pub step_untyped-returns-in_ok-probe-in-If-clause-asks : goal.step_untyped-returns-in_ok-probe-in-If-clause-asks
+step_untyped-returns-in_ok-probe-in-If-clause-asks t c = c.probe.ensures.asks
+
+pub steps-returns-in_err-next-clause-asks : goal.steps-returns-in_err-next-clause-asks
+steps-returns-in_err-next-clause-asks t c = c.step.ensures.asks
+
+pub steps-returns-clause-asks : goal.steps-returns-clause-asks
+steps-returns-clause-asks t c = c.loop-i.invariant.asks
+
+pub fit_block-returns-in_err-before-clause-asks : goal.fit_block-returns-in_err-before-clause-asks
+fit_block-returns-in_err-before-clause-asks t c = c.steps.ensures.asks
+
+pub fit_block-returns-in_err-last-clause-asks : goal.fit_block-returns-in_err-last-clause-asks
+fit_block-returns-in_err-last-clause-asks t c = c.fit.ensures.asks
+
+pub fit_block-returns-in_ok-united-in-Has-clause-asks : goal.fit_block-returns-in_ok-united-in-Has-clause-asks
+fit_block-returns-in_ok-united-in-Has-clause-asks t c = c.fit.ensures.asks
+
+pub fit_block-returns-in-Misfit-clause-asks : goal.fit_block-returns-in-Misfit-clause-asks
+fit_block-returns-in-Misfit-clause-asks t c = c.fit.ensures.asks
+
+pub probe_block-returns-in_err-steps-clause-asks : goal.probe_block-returns-in_err-steps-clause-asks
+probe_block-returns-in_err-steps-clause-asks t c = c.steps.ensures.asks
+
+pub probe_block-returns-clause-asks : goal.probe_block-returns-clause-asks
+probe_block-returns-clause-asks t c = c.probe.ensures.asks
+
+pub infer-returns-in_ok-copy-in-Some-type_of_binding-clause-asks : goal.infer-returns-in_ok-copy-in-Some-type_of_binding-clause-asks
+infer-returns-in_ok-copy-in-Some-type_of_binding-clause-asks t c = c.requires.asks
