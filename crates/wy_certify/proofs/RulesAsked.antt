@@ -13,12 +13,6 @@ use Rattle.wy_certify.specs.Pair.{pair_of}
 pub pair_pushed : (old new : List TypePair) (q : TypePair) → new ≡ old ++ q ∷ [] → map pair_of new ≡ map pair_of old ++ pair_of q ∷ []
 pair_pushed old new q e = ap (map pair_of) e ∙ map-append pair_of old (q ∷ [])
 
--- .. of two types
-pub pushed_as : (old new : List TypePair) (q : TypePair) (a b : TypeRef) → q.left ≡ a → q.right ≡ b → new ≡ old ++ q ∷ [] → map pair_of new ≡ map pair_of old ++ (a, b) ∷ []
-pushed_as old new q a b f g e =
-    let P : TypeRef → TypeRef → Type 0 = λ u v. map pair_of new ≡ map pair_of old ++ (u, v) ∷ [] in
-    subst (λ v. P a v) g (subst (λ u. P u q.right) f (pair_pushed old new q e))
-
 -- what is added, and what is left to add, are what was to be added
 pub added_next : {X : Type 0} (out next whole one rest : List X) (left : List X) → left ≡ one ++ rest → next ≡ out ++ one → out ++ left ≡ whole → next ++ rest ≡ whole
 added_next out next whole one rest left e f g = ap (λ l. l ++ rest) f ∙ append_assoc out one rest ∙ ap (λ l. out ++ l) (sym e) ∙ g

@@ -14,11 +14,15 @@ use Rattle.wy_proving.specs.Written.{asked_by, asked_plainly, asked_by_all, unle
 use Rattle.wy_certify.specs.declared.asking.Asked.{Asked}
 use Rattle.wy_certify.specs.declared.asking.Asked.TheVariants.{Substituted, Annotated, Declared}
 
+-- the type that an argument of a type is to be below, by the type of the parameter
+abbrev pub expected_by : Asked → TypeRef → TypeRef → TypeRef
+expected_by (Substituted sets) u t = substituted sets.now u
+expected_by (Annotated bound) u t = annotated bound.now (erased t)
+expected_by Declared u t = u
+
 -- the pair that is asked of an argument
 abbrev pub argument_asks : Scope → Asked → Handed → Pair
-argument_asks s (Substituted sets) h = (type_of (slice_get s.names h.argument), substituted sets.now h.parameter.typ)
-argument_asks s (Annotated bound) h = (type_of (slice_get s.names h.argument), annotated bound.now (erased (type_of (slice_get s.names h.argument))))
-argument_asks s Declared h = (type_of (slice_get s.names h.argument), h.parameter.typ)
+argument_asks s a h = (type_of (slice_get s.names h.argument), expected_by a h.parameter.typ (type_of (slice_get s.names h.argument)))
 
 -- the pairs that a rule asks
 abbrev pub asked_in : Mode → Program → ℕ → Scope → LineRule → List Pair

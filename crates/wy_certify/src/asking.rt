@@ -8,7 +8,7 @@ ghost use Rattle.wy_proving.specs.Proving.{scope_rules, ascription, instance_of,
 ghost use Rattle.wy_proving.specs.Certified.{pair_of as pair_of_sub};
 ghost use Rattle.wy_proving.specs.Written.{asked_by_all, seal, sub_pairs};
 ghost use Rattle.wy_recheck.specs.Rules.{rule_of};
-ghost use Rattle.wy_certify.specs.Asking.{argument_asks, asked_in, subs_in, asks_in};
+ghost use Rattle.wy_certify.specs.Asking.{expected_by, argument_asks, asked_in, subs_in, asks_in};
 ghost use Rattle.wy_certify.specs.Pair.{pair_of};
 ghost use Rattle.wy_certify.specs.Step.{steps_of};
 
@@ -46,6 +46,25 @@ struct Asking<'a> {
 }
 
 impl Asking<'_> {
+    /// The type that an argument of a type is to be below.
+    fn expected(
+        &self,
+        asked: &Asked<'_>,
+        parameter: &OwnName,
+        typ: &TypeRef,
+    ) -> Result<TypeRef, Memory>
+        ensures { IfOk result (λ t. t ≡ expected_by asked.now parameter.now.typ typ.now) }
+    {
+        match asked {
+            Asked::Substituted(sets) => substitute(self.alloc, &parameter.typ, sets),
+            Asked::Annotated(bound) => {
+                let bare = erase(self.alloc, typ)?;
+                annotate(self.alloc, &bare, bound)
+            }
+            Asked::Declared => parameter.typ.copy(self.alloc),
+        }
+    }
+
     /// The pair that is asked of an argument.
     fn pair(
         &self,
@@ -56,14 +75,7 @@ impl Asking<'_> {
         ensures { IfOk result (λ q. pair_of q ≡ argument_asks (scope_of self.now.scope.now) asked.now (handed_pair parameter.now argument)) }
     {
         let left = argument_type(self.alloc, self.scope.names.as_slice(), argument)?;
-        let right = match asked {
-            Asked::Substituted(sets) => substitute(self.alloc, &parameter.typ, sets)?,
-            Asked::Annotated(bound) => {
-                let bare = erase(self.alloc, &left)?;
-                annotate(self.alloc, &bare, bound)?
-            }
-            Asked::Declared => parameter.typ.copy(self.alloc)?,
-        };
+        let right = self.expected(asked, parameter, &left)?;
         Ok(TypePair { left, right })
     }
 

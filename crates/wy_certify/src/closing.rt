@@ -2,13 +2,14 @@
 
 ghost use Rattle.std.specs.Prelude.{◌≡◌, ◌<◌, ◌∷◌, [], IfOk, OnOk, length, map, slice_get};
 ghost use Rattle.wy_types.specs.Program.{Scope as ProgramScope, program_of};
+ghost use Rattle.wy_types.specs.Types.{annotated};
 ghost use Rattle.wy_types.specs.Core.{IsCore};
 ghost use Rattle.wy_subtype.specs.Unfolding.{sides};
 ghost use Rattle.wy_recheck.specs.Closing.{looked_up};
 ghost use Rattle.wy_certify.specs.Pair.{pair_of};
 ghost use Rattle.wy_certify.specs.Closed.{AllHold, IsClosedList, pairs_in, IsKept, all_looked_up, IsGrown, AreReady, Advances, IsExplored, given_back};
 
-use crate::pair::TypePair;
+use crate::pair::{TypePair, copied_pair};
 use indexmap::IndexSet;
 use std::alloc::Global;
 use std::marker::Brand;
@@ -52,11 +53,7 @@ impl Work {
     {
         let key = key_of_pair(alloc, left, right)?;
         if self.keys.insert(key)? {
-            let pair = TypePair {
-                left: left.copy(alloc)?,
-                right: right.copy(alloc)?,
-            };
-            self.pairs.push(pair)?;
+            self.pairs.push(copied_pair(alloc, left, right)?)?;
         }
         Ok(())
     }
@@ -177,6 +174,16 @@ impl Closing<'_> {
 // ----------------------------------------------------------------------------
 // The list that is given
 
+/// The types of a pair at a set.
+fn annotated_pair(alloc: Global, pair: &TypePair, set: &EffSet) -> Result<TypePair, Memory>
+    ensures { IfOk result (λ q. pair_of q ≡ (annotated set.now pair.now.left, annotated set.now pair.now.right)) }
+{
+    Ok(TypePair {
+        left: annotate(alloc, &pair.left, set)?,
+        right: annotate(alloc, &pair.right, set)?,
+    })
+}
+
 /// The types of a list of pairs at the empty set.
 fn at_empty(alloc: Global, pairs: &[TypePair]) -> Result<Items<TypePair>, Memory>
     ensures { IfOk result (λ l. map pair_of l ≡ given_back Mode.Plain (map pair_of pairs.now)) }
@@ -184,10 +191,7 @@ fn at_empty(alloc: Global, pairs: &[TypePair]) -> Result<Items<TypePair>, Memory
     let none = EffSet::empty(alloc);
     let mut out = Items::new(alloc);
     for pair in pairs {
-        out.push(TypePair {
-            left: annotate(alloc, &pair.left, &none)?,
-            right: annotate(alloc, &pair.right, &none)?,
-        })?;
+        out.push(annotated_pair(alloc, pair, &none)?)?;
     }
     Ok(out)
 }

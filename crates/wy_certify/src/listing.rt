@@ -1,6 +1,6 @@
 //! What is said of a scope, written out: each type by its number (docs/LANGUAGE.md, "Certificates").
 
-ghost use Rattle.std.specs.Prelude.{◌≡◌, ◌↔◌, IfErr, IfOk, IsTrue, OnOk, length, map};
+ghost use Rattle.std.specs.Prelude.{◌≡◌, ◌↔◌, [], IfErr, IfOk, IsTrue, OnOk, length, map};
 ghost use Rattle.wy_spelling.specs.Spelling.{IsNumber};
 ghost use Rattle.wy_proving.specs.Written.{number, cert_type, cert_pair, cert_node};
 ghost use Rattle.wy_certify.specs.Numbering.{AreNumbers};
@@ -175,15 +175,23 @@ fn are_numbers(table: &TypeNumbers, steps: &[Step]) -> bool
     table.len() <= u32::MAX as usize
 }
 
+/// Adds the types of a part to a table that has none.
+fn add_types(table: &mut TypeNumbers, part: &ScopePart) -> Result<(), Memory>
+    requires { table.old ≡ [] }
+    ensures { OnOk result (table.new ≡ types_in part.now) }
+{
+    table.add_pairs(part.pairs.as_slice())?;
+    table.add_pairs(part.bares.as_slice())?;
+    table.add_steps(part.steps.as_slice())?;
+    table.add_all(part.vals.as_slice())
+}
+
 /// The table of the types of a part.
 fn table_of(alloc: Global, part: &ScopePart) -> Result<TypeNumbers, Memory>
     ensures { IfOk result (λ ts. ts ≡ types_in part.now) }
 {
     let mut table = TypeNumbers::new(alloc);
-    table.add_pairs(part.pairs.as_slice())?;
-    table.add_pairs(part.bares.as_slice())?;
-    table.add_steps(part.steps.as_slice())?;
-    table.add_all(part.vals.as_slice())?;
+    add_types(&mut table, part)?;
     Ok(table)
 }
 
@@ -201,6 +209,23 @@ fn written_by(alloc: Global, table: &TypeNumbers, part: &ScopePart) -> Result<Ce
     })
 }
 
+/// What is said of a part by the numbers of the table of its types. `Limit` comes where four bytes cannot say a number.
+fn numbered_by(
+    alloc: Global,
+    table: &TypeNumbers,
+    part: &ScopePart,
+) -> Result<CertScope, PartRefusal>
+    requires { table.now ≡ types_in part.now }
+    ensures written { IfOk result (λ c. c ≡ said part.now) }
+    ensures numbers { OnOk result (AreNumbers (types_in part.now) (part_steps part.now)) }
+    ensures limit { IfErr result (λ e. e ≡ refusal.Limit → ¬ AreNumbers (types_in part.now) (part_steps part.now)) }
+{
+    if !are_numbers(table, part.steps.as_slice()) {
+        return Err(PartRefusal::Limit);
+    }
+    Ok(written_by(alloc, table, part)?)
+}
+
 /// What is said of a scope by the numbers of its types in the list of all of them, each once. `Limit` comes, but for `Memory`, exactly
 /// where there are 4,294,967,296 types or more, or a step has as many parts.
 pub fn part_of(alloc: Global, part: &ScopePart) -> Result<CertScope, PartRefusal>
@@ -209,8 +234,5 @@ pub fn part_of(alloc: Global, part: &ScopePart) -> Result<CertScope, PartRefusal
     ensures limit { IfErr result (λ e. e ≡ refusal.Limit → ¬ AreNumbers (types_in part.now) (part_steps part.now)) }
 {
     let table = table_of(alloc, part)?;
-    if !are_numbers(&table, part.steps.as_slice()) {
-        return Err(PartRefusal::Limit);
-    }
-    Ok(written_by(alloc, &table, part)?)
+    numbered_by(alloc, &table, part)
 }

@@ -1,6 +1,7 @@
 -- What a result gives of a whole, by what it says of a part.
-use Rattle.std.proofs.Common.{◌≡◌, subst, Option, Some, None}
+use Rattle.std.proofs.Common.{◌≡◌, subst, ap, Option, Some, None}
 use Rattle.std.specs.Prelude.{Result, Ok, Err}
+use Rattle.std.specs.Result.{IsErrAnd}
 use Rattle.wy_text.specs.declared.fault.Fault.{Fault}
 use Rattle.wy_judge.specs.declared.outcomes.Stop.{Stop}
 use Rattle.wy_judge.specs.declared.outcomes.Stop.TheVariants as stop
@@ -34,3 +35,8 @@ inferred_weaker (Err e) P Q f h = fault_weaker e (λ fault. P (inferred.Fails fa
 pub fit_weaker : (r : Result one.Fit Stop) (P Q : Fit → Type 0) → ((u : Fit) → P u → Q u) → IfFit r P → IfFit r Q
 fit_weaker (Ok u) P Q f h = f (fit_of u) h
 fit_weaker (Err e) P Q f h = fault_weaker e (λ fault. P (fit.Fails fault)) (λ fault. Q (fit.Fails fault)) (λ fault. f (fit.Fails fault)) h
+
+-- what a `?` hands on
+pub handed_on : {X E : Type 0} (result : Result X E) (e : E) → IsErrAnd result (λ f. f ≡ e) → result ≡ Err e
+handed_on (Ok x) e h = absurd h
+handed_on (Err f) e h = ap (λ g. Err g) h

@@ -20,7 +20,8 @@ use crate::targets::{Target, fitted, target_of, type_of_binding};
 use crate::walk::{Known, Walk, put};
 use wy_effects::set::EffSet;
 use wy_premises::{
-    binary_result, field_types, mark, text_operands, text_result, unary_result, united, var_field,
+    binary_result, field_types, joined, mark, text_operands, text_result, unary_result, united,
+    var_field,
 };
 use wy_text::fault::{Place, RuleName};
 use wy_text::text::{Memory, Text};
@@ -33,11 +34,9 @@ use wy_types::types::{Method, TypeRef};
 fn called(method: Method, effect: EffSet, arguments: EffSet) -> Result<Least, Stop>
     ensures { IfInferred result (λ u. u ≡ inferred.Least method.result (union effect (union arguments method.effect))) }
 {
-    let rest = united(arguments, method.effect)?;
-    Ok(Least {
-        typ: method.result,
-        effect: united(effect, rest)?,
-    })
+    let effect = joined(effect, arguments, method.effect)?;
+    let typ = method.result;
+    Ok(Least { typ, effect })
 }
 
 /// An operation on two operands.
@@ -75,7 +74,7 @@ fn chosen(place: Place, test: Fit, first: Fit, second: Fit) -> Result<Fit, Stop>
     let Fit::Has(second) = second else {
         return Err(fails(place, RuleName::TIf, 3));
     };
-    Ok(Fit::Has(united(test, united(first, second)?)?))
+    Ok(Fit::Has(joined(test, first, second)?))
 }
 
 /// Several values with one more, which has this number.

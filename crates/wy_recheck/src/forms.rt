@@ -13,6 +13,7 @@ ghost use Rattle.wy_recheck.specs.Nodes.{IsReader, reading_of, lists_of, node_re
 
 use crate::failure::Failure;
 use crate::reader::{Form, Read, Reader, Several, same};
+use crate::types::type_at;
 use wy_cert::Rule;
 use wy_effects::set::EffSet;
 use wy_premises::{
@@ -87,7 +88,7 @@ impl Reader<'_> {
         ensures { option_copied result ≡ binding_type (reading_of self.now) (scope_of self.now.scope.now) self.now.locals.now self.now.owner binding }
     {
         match binding {
-            Binding::Variable(Variable::Local(number)) => self.locals.get(number as usize),
+            Binding::Variable(Variable::Local(number)) => type_at(self.locals, number),
             Binding::Variable(Variable::Parameter { .. }) | Binding::Field(_) | Binding::Own(_) =>
                 declared_type(self.scope, self.owner, binding),
         }
@@ -342,7 +343,7 @@ impl Reader<'_> {
     ) -> bool
         ensures { result ≡ val_holds (reading_of self.now) same_type (lists_of self.now) (slice_get self.now.locals.now number) written.now (value_of value.now) typ.now }
     {
-        let Some(local) = self.locals.get(number as usize) else {
+        let Some(local) = type_at(self.locals, number) else {
             return false;
         };
         if !same(local, typ) {

@@ -10,7 +10,7 @@ ghost use Rattle.wy_recheck.specs.Nodes.{IsReader, reading_of, lists_of, subs_re
 
 use crate::failure::Failure;
 use crate::pair_set::PairSet;
-use crate::types::standing_set;
+use crate::types::{standing_set, type_at};
 use std::alloc::Global;
 use wy_cert::{CertNode, CertScope, Rule};
 use wy_effects::set::EffSet;
@@ -129,7 +129,7 @@ impl Reader<'_> {
         if !says_rule(node, form) {
             return Ok(false);
         }
-        match self.types.get(node.typ as usize) {
+        match type_at(self.types, node.typ) {
             None => Ok(false),
             Some(typ) => {
                 if !same(typ, &part.typ) {
@@ -262,7 +262,7 @@ impl Reader<'_> {
         if !says_rule(node, form) {
             return Ok(None);
         }
-        let Some(typ) = self.types.get(node.typ as usize) else {
+        let Some(typ) = type_at(self.types, node.typ) else {
             return Ok(None);
         };
         if !self.lists(&part.typ, typ)? {

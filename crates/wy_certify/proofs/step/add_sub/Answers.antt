@@ -1,4 +1,4 @@
-use Rattle.std.proofs.Common.{rules, ◌≡◌, ◌++◌, ◌∷◌, [], List, sym, ap, ◌∙◌, true, false}
+use Rattle.std.proofs.Common.{◌≡◌, ◌++◌, ◌∷◌, [], List, sym, ap, ◌∙◌, true, false}
 use Rattle.std.proofs.lemmas.List.{append-nil}
 use Rattle.std.proofs.lemmas.Result.{on_ok_weaker}
 use Rattle.wy_types.specs.declared.types.TypeRef.{TypeRef}
@@ -18,7 +18,7 @@ returns c =
     let old = steps_of c.args.out.now in
     let e = c.args.effect.now in
     let differ : c.args.typ ≡ c.args.expected.now → ⊥ = λ h. (let s : true ≡ false = sym (c.same.ensures.1 h) ∙ c.if-same.false in absurd (cc)) in
-    let asked : c.in_ok-asked.asked ≡ c.args.expected.now = search rules in
-    let copied : c.in_ok-copy.field-0 ≡ e = search rules in
+    let asked : c.in_ok-asked.asked ≡ c.args.expected.now = c.in_ok-asked.ensures in
+    let copied : c.in_ok-copy.field-0 ≡ e = c.in_ok-copy.ensures in
     let one = sub_other c.args.place c.args.typ c.args.expected.now e differ in
     on_ok_weaker c.push.result (λ h. added c.args.out.now c.push.new.self _ h ∙ ap (λ (v : List (Step TypeRef)). old ++ v) (ap (λ (t : TypeRef). sub_step c.args.place c.args.typ t c.in_ok-copy.field-0 ∷ []) asked ∙ ap (λ (f : List _). sub_step c.args.place c.args.typ c.args.expected.now f ∷ []) copied ∙ sym one)) c.push.ensures.ok

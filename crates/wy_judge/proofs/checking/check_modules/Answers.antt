@@ -7,6 +7,7 @@ use Rattle.wy_judge.specs.Checking.{module_turn}
 use Rattle.wy_judge.proofs.Programs.{scope_read, one_more_goes_on, all_go_on}
 use Rattle.wy_judge.proofs.Checks.{checked_goes_on, first_refusal}
 use Rattle.wy_judge.proofs.ListsPut.{one_more_list, no_more_list, all_lists_put}
+use Rattle.wy_judge.proofs.Results.{handed_on}
 use Rattle.wy_judge.proofs.checking.check_modules.Goals as goal
 use Rattle.wy_judge.proofs.checking.check_modules.Goals.{then-is_its_turn+in_ok-checked, else-is_its_turn}
 
@@ -19,7 +20,7 @@ returns-in_err-checked-clause-first c =
     let r = c.in_err-checked.field-0.0 in
     let there = scope_read c.args.core.now c.as_slice-scopes.result.now k x c.as_slice-scopes.ensures c.loop-number-test.true c.index-scopes-number.is in
     let its = ap (λ (v : Scope). is_its_turn turn (turn_of v.kind)) c.index-scopes-number.is ∙ (sym c.is_its_turn.ensures ∙ c.if-is_its_turn.true) in
-    let e : c.from_residual.result ≡ Err r = search rules in
+    let e : c.from_residual.result ≡ Err r = handed_on c.from_residual.result r c.from_residual.ensures.1 in
     rw e (first_refusal p turn k (scope_of x) r there its c.loop-number.invariant.before c.in_err-checked.ensures.refusal)
 
 pub loop-number-preserved : goal.loop-number-preserved

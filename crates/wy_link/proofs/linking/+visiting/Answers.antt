@@ -2,6 +2,7 @@ use Rattle.std.proofs.Common.{◌≡◌, ◌-◌, ◌++◌, Err, length, refl, r
 use Rattle.std.specs.Prelude.{Result, codes, slice_get}
 use Rattle.wy_types.specs.Program.{program_of}
 use Rattle.wy_types.specs.Ground.{names_of, visit, visit_name}
+use Rattle.wy_judge.proofs.Results.{handed_on}
 use Rattle.wy_link.specs.declared.linking.LinkRefusal.{LinkRefusal}
 use Rattle.wy_link.specs.Linking.{ComesTo, CanSettle, visited}
 use Rattle.wy_link.proofs.Rooms.{next_visited, next_room, module_room_of}
@@ -12,7 +13,7 @@ pub visit-returns-in_err-visit_name : goal.visit-returns-in_err-visit_name
 visit-returns-in_err-visit_name t c =
     let p = program_of c.args.core.now in
     let whole = visit p c.args.scopes c.args.outer.now c.args.prefix.now c.args.outer.now (visited c.args.started.now c.args.own.now) in
-    let e : c.from_residual.result ≡ Err c.in_err-visit_name.field-0.0 = search rules in
+    let e : c.from_residual.result ≡ Err c.in_err-visit_name.field-0.0 = handed_on c.from_residual.result c.in_err-visit_name.field-0.0 c.from_residual.ensures.1 in
     let P : Result (Unit {0}) LinkRefusal → Type 0 = λ r. ComesTo whole c.visit_name.new.started c.visit_name.new.own r in
     subst P (sym e)
     (name_refused p (c.args.scopes - 1) c.args.outer.now c.args.prefix.now (visited c.loop-name.started c.loop-name.own) whole c.loop-name.name-index c.name-item.result c.loop-name-test.true c.name-item.is
@@ -25,7 +26,7 @@ visit_name-returns-in_err-visit_module-in-Instance t c =
     let m = c.in-Instance.module in
     let whole = visit_name p (visit p c.args.scopes) c.args.outer.now c.args.prefix.now n n.origin (visited c.args.started.now c.args.own.now) in
     let refusal = c.in_err-visit_module-in-Instance.field-0.0 in
-    let e : c.from_residual-in_err-visit_module-in-Instance.result ≡ Err refusal = search rules in
+    let e : c.from_residual-in_err-visit_module-in-Instance.result ≡ Err refusal = handed_on c.from_residual-in_err-visit_module-in-Instance.result refusal c.from_residual-in_err-visit_module-in-Instance.ensures.1 in
     let P : Result (Unit {0}) LinkRefusal → Type 0 = λ r. ComesTo whole c.visit_module.new.started c.args.own.now r in
     subst P (sym e)
     (instance_refused p c.args.scopes c.args.outer.now c.args.prefix.now n m c.in-Instance.arguments c.as_slice.result.now c.args.started.now c.args.own.now c.in_ok-inner-in-Instance.inner
@@ -51,7 +52,7 @@ visit_name-returns-in_err-visit_module-in-Import t c =
     let m = c.in-Import.module in
     let whole = visit_name p (visit p c.args.scopes) c.args.outer.now c.args.prefix.now n n.origin (visited c.args.started.now c.args.own.now) in
     let refusal = c.in_err-visit_module-in-Import.field-0.0 in
-    let e : c.from_residual-in_err-visit_module-in-Import.result ≡ Err refusal = search rules in
+    let e : c.from_residual-in_err-visit_module-in-Import.result ≡ Err refusal = handed_on c.from_residual-in_err-visit_module-in-Import.result refusal c.from_residual-in_err-visit_module-in-Import.ensures.1 in
     let P : Result (Unit {0}) LinkRefusal → Type 0 = λ r. ComesTo whole c.visit_module-in-Import.new.started c.args.own.now r in
     subst P (sym e)
     (import_refused p c.args.scopes c.args.outer.now c.args.prefix.now n m c.in-Import.arguments c.as_slice-in-Import.result.now c.args.started.now c.args.own.now c.in_ok-inner-in-Import.inner

@@ -1,4 +1,4 @@
-use Rattle.std.proofs.Common.{◌≡◌, ◌<◌, List, length, refl, sym, ap, ◌∙◌, subst, rules, Some, true}
+use Rattle.std.proofs.Common.{◌≡◌, ◌<◌, List, length, refl, sym, ap, ◌∙◌, subst, Some, true}
 use Rattle.std.specs.Prelude.{slice_get, nat_eq}
 use Rattle.std.proofs.lemmas.Option.{slice_get_read}
 use Rattle.wy_types.specs.declared.types.TypeRef.{TypeRef}
@@ -37,7 +37,7 @@ returns-clause-hold c =
     let part : CertScope = c.args.part.now in
     let below : k < length scopes = subst (λ (l : List declared.Scope). k < length l) (sym c.as_slice.ensures) c.requires.there in
     let there = ap (λ (l : List declared.Scope). slice_get l k) (sym c.as_slice.ensures) ∙ slice_get_read scopes _ k x refl below c.index-as_slice-number.is in
-    let yes : c.has_vals.result ≡ true = search rules in
+    let yes : c.has_vals.result ≡ true = c.if-not-has_vals.false in
     let counted : nat_eq (length part.locals) (length (scope_vals (scope_of x))) ≡ true = ap (λ n. nat_eq n (length (scope_vals (scope_of x)))) (sym c.len.ensures) ∙ sym c.has_vals.ensures ∙ yes in
     let named : named_types (types_of part) part.locals ≡ Some c.in-Some.locals =
     ap (λ (ts : List TypeRef). named_types ts part.locals) (sym c.requires.types) ∙ ap (named_types c.args.types.now) (sym c.as_slice-2.ensures) ∙ sym c.in_ok-locals.ensures ∙ c.in-Some.is in
@@ -56,7 +56,7 @@ returns-clause-first c =
     let part : CertScope = c.args.part.now in
     let below : k < length scopes = subst (λ (l : List declared.Scope). k < length l) (sym c.as_slice.ensures) c.requires.there in
     let there = ap (λ (l : List declared.Scope). slice_get l k) (sym c.as_slice.ensures) ∙ slice_get_read scopes _ k x refl below c.index-as_slice-number.is in
-    let yes : c.has_vals.result ≡ true = search rules in
+    let yes : c.has_vals.result ≡ true = c.if-not-has_vals.false in
     let counted : nat_eq (length part.locals) (length (scope_vals (scope_of x))) ≡ true = ap (λ n. nat_eq n (length (scope_vals (scope_of x)))) (sym c.len.ensures) ∙ sym c.has_vals.ensures ∙ yes in
     let named : named_types (types_of part) part.locals ≡ Some c.in-Some.locals =
     ap (λ (ts : List TypeRef). named_types ts part.locals) (sym c.requires.types) ∙ ap (named_types c.args.types.now) (sym c.as_slice-2.ensures) ∙ sym c.in_ok-locals.ensures ∙ c.in-Some.is in

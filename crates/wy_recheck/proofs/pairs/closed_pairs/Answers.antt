@@ -1,4 +1,4 @@
-use Rattle.std.proofs.Common.{◌≡◌, List, rules}
+use Rattle.std.proofs.Common.{◌≡◌, List}
 use Rattle.std.specs.Prelude.{Err}
 use Rattle.wy_types.specs.declared.types.TypeRef.{TypeRef}
 use Rattle.wy_types.specs.Program.{program_of}
@@ -7,6 +7,7 @@ use Rattle.wy_cert.specs.declared.certificate.CertScope.{CertScope}
 use Rattle.wy_proving.specs.Certified.{Pair, typed_pairs}
 use Rattle.wy_recheck.specs.PairSet.{StandsFor}
 use Rattle.wy_recheck.proofs.ListsHold.{pairs_kept, pairs_hold, pairs_fail}
+use Rattle.wy_recheck.proofs.NodesFailing.{handed_on}
 use Rattle.wy_recheck.proofs.pairs.closed_pairs.Goals as goal
 
 pub returns-in_err-test-clause-first : goal.returns-in_err-test-clause-first
@@ -19,7 +20,7 @@ returns-in_err-test-clause-first g c =
     let listed = c.as_slice-pairs.ensures in
     let pairs : List Pair = typed_pairs types qs in
     let stands : StandsFor c.in_ok-listed.listed pairs = c.in_ok-listed.ensures in
-    let e : c.from_residual-in_err-test.result ≡ Err c.in_err-test.field-0.0 = search rules in
+    let e : c.from_residual-in_err-test.result ≡ Err c.in_err-test.field-0.0 = handed_on c.from_residual-in_err-test.result c.in_err-test.field-0.0 c.from_residual-in_err-test.ensures.1 in
     rw e (λ s. pairs_fail p c.args.number s part types same qs listed c.in_err-test.field-0.0 (c.in_err-test.ensures.first pairs stands))
 
 pub returns-clause-set : goal.returns-clause-set

@@ -1,4 +1,4 @@
-use Rattle.std.proofs.Common.{◌≡◌, ℕ, Some, [], rules}
+use Rattle.std.proofs.Common.{◌≡◌, ℕ, Some, []}
 use Rattle.std.specs.Prelude.{slice_get, Err}
 use Rattle.wy_types.specs.Program.{Scope, program_of}
 use Rattle.wy_cert.specs.declared.certificate.CertScope.{CertScope}
@@ -11,6 +11,7 @@ use Rattle.wy_recheck.specs.Standing.{FailsFirst}
 use Rattle.wy_recheck.specs.Rechecked.{StopsIn}
 use Rattle.wy_recheck.proofs.Told.{given_holds, given_fails, told_holds, told_fails}
 use Rattle.wy_recheck.proofs.ScopesTold.{stops}
+use Rattle.wy_recheck.proofs.NodesFailing.{handed_on}
 use Rattle.wy_recheck.proofs.rechecking.prove_rules.Goals as goal
 
 pub returns-in_err-told-clause-stopped : goal.returns-in_err-told-clause-stopped
@@ -18,7 +19,7 @@ returns-in_err-told-clause-stopped c =
     let p = program_of c.args.core.now in
     let k = c.args.number in
     let part : CertScope = c.args.part.now in
-    let e : c.from_residual.result ≡ Err c.in_err-told.field-0.0 = search rules in
+    let e : c.from_residual.result ≡ Err c.in_err-told.field-0.0 = handed_on c.from_residual.result c.in_err-told.field-0.0 c.from_residual.ensures.1 in
     rw e (λ s at.
     given_fails Lines c.standing_lines.result c.told.result c.in_err-told.field-0.0 (λ f. (v : Scope) → slice_get p.scopes k ≡ Some v → FailsFirst (FailsAt p k v part Lines) f) (StopsIn p k s part) c.told.ensures c.in_err-told.was c.standing_lines.ensures.first
     (λ f h. stops p k s part Lines (c.requires.before s at) f (h s at)))

@@ -2,6 +2,7 @@ use Rattle.std.proofs.Common.{◌≡◌, ◌+◌, ◌<◌, ◌≤◌, ◌++◌, 
 use Rattle.std.proofs.lemmas.List.{append-nil}
 use Rattle.std.proofs.lemmas.Result.{on_ok_weaker, IfOk-weaker}
 use Rattle.wy_effects.specs.EffSet.{IsSet, union}
+use Rattle.wy_text.specs.declared.fault.Place.{Place}
 use Rattle.wy_types.specs.declared.types.TypeRef.{TypeRef}
 use Rattle.wy_types.specs.declared.types.TypeRef.TheVariants.{Bool, Unit as Nothing, Own}
 use Rattle.wy_types.specs.Code.{Expr, Value, Plain}
@@ -15,7 +16,7 @@ use Rattle.wy_proving.specs.Steps.{Step, step}
 use Rattle.wy_certify.specs.Step.{steps_of, sub_steps}
 use Rattle.wy_certify.specs.Written.{this_typ, local_typ, var_typ, field_typs, method_at, params_of, effect_of, result_of, operand_typ, result_typ, expr_steps, expr_typ, expr_effect, own_steps, own_typ, own_effect, at_steps, second_effect, second_steps, call_effect, call_steps, all_steps, all_effect, run_steps, run_typ, run_effect, run_at_steps, stmt_steps, stmt_effect, front_steps, back_steps}
 use Rattle.wy_certify.specs.Writer.{context_of}
-use Rattle.wy_certify.proofs.Adding.{four_parts}
+use Rattle.wy_certify.proofs.Adding.{four_parts, node_behind, sub_behind}
 use Rattle.wy_certify.proofs.Blocks.{block_typ, block_effect, all_block_steps, val_steps, do_steps, val_effect, do_effect}
 use Rattle.wy_certify.proofs.Parts.{number_steps, text_steps, truth_steps, nothing_steps, this_steps, number_gives, text_gives, truth_gives, nothing_gives, this_gives, at_value, at_expr, at_block, unary_steps, unary_typ, unary_effect, binary_steps, binary_typ, binary_effect, text_call_steps, text_call_typ, text_call_effect, call_as_steps, call_typ, called_effect, new_steps, new_typ, new_effect, ascribe_steps, ascribe_typ, ascribe_effect, assign_steps, assign_typ, assign_effect, plain_steps, plain_typ, plain_effect, if_steps, if_typ, if_effect}
 use Rattle.wy_certify.proofs.Turns.{counted, steps_turn, effect_turn, steps_end, effect_end, steps_untyped, effect_untyped, front_start, front_turn, effects_turn, front_end, effects_end}
@@ -78,7 +79,7 @@ write_expr-returns-in-This-clause-steps t c =
     let w = context_of c.args.self.now in
     let whole = ap (expr_steps w) (ap expr_of c.in-This.is) ∙ this_steps w c.in-This.place in
     let typ : c.object_type.result ≡ this_typ w = c.object_type.ensures in
-    on_ok_weaker c.leaf-in-This.result (λ h. cc) c.leaf-in-This.ensures.steps
+    on_ok_weaker c.leaf-in-This.result (λ h. h ∙ ap (λ (k : TypeRef). steps_of c.args.out.now ++ step by.This c.in-This.place 0 (Some k) [] ∷ []) typ ∙ ap (λ (l : List (Step TypeRef)). steps_of c.args.out.now ++ l) (sym whole)) c.leaf-in-This.ensures.steps
 
 pub write_expr-returns-in-This-clause-given : goal.write_expr-returns-in-This-clause-given
 write_expr-returns-in-This-clause-given t c =
@@ -129,7 +130,13 @@ write_expr-returns-in_ok-first-in-Binary-clause-steps t c =
     let place : c.expr_mark.result ≡ expr_mark (expr_of c.deref-in-Binary-2.result.now) = c.expr_mark.ensures in
     let whole = ap (expr_steps w) form ∙ binary_steps w q op x y in
     let group = append_assoc (steps_of c.args.out.now) (expr_steps w x) (second_steps w q op (expr_typ w x) (expr_effect w x) (expr_mark x) y) in
-    on_ok_weaker c.write_second.result (λ h. cc) c.write_second.ensures.steps
+    on_ok_weaker c.write_second.result (λ h.
+    h ∙ ap (λ (z : Expr). steps_of c.write_expr.new.out ++ second_steps w q op c.in_ok-first-in-Binary.first.typ c.in_ok-first-in-Binary.first.effect c.expr_mark.result z) at3 ∙
+    ap (λ (m : Place). steps_of c.write_expr.new.out ++ second_steps w q op c.in_ok-first-in-Binary.first.typ c.in_ok-first-in-Binary.first.effect m y) (place ∙ ap expr_mark at2) ∙
+    ap (λ (e : List ℕ). steps_of c.write_expr.new.out ++ second_steps w q op c.in_ok-first-in-Binary.first.typ e (expr_mark x) y) (effect ∙ ap (expr_effect w) at) ∙
+    ap (λ (k : TypeRef). steps_of c.write_expr.new.out ++ second_steps w q op k (expr_effect w x) (expr_mark x) y) (typ ∙ ap (expr_typ w) at) ∙
+    ap (λ (l : List (Step TypeRef)). l ++ second_steps w q op (expr_typ w x) (expr_effect w x) (expr_mark x) y) (part ∙ ap (λ (z : Expr). steps_of c.args.out.now ++ expr_steps w z) at) ∙
+    group ∙ ap (λ (l : List (Step TypeRef)). steps_of c.args.out.now ++ l) (sym whole)) c.write_second.ensures.steps
 
 pub write_expr-returns-in_ok-first-in-Binary-clause-given : goal.write_expr-returns-in_ok-first-in-Binary-clause-given
 write_expr-returns-in_ok-first-in-Binary-clause-given t c =
@@ -140,13 +147,15 @@ write_expr-returns-in_ok-first-in-Binary-clause-given t c =
     let op = c.in-Binary.operator in
     let form = ap expr_of c.in-Binary.is in
     let at = ap expr_of c.deref-in-Binary.ensures in
-    let at2 = ap expr_of c.deref-in-Binary-2.ensures in
     let at3 = ap expr_of c.deref-in-Binary-3.ensures in
     let typ : c.in_ok-first-in-Binary.first.typ ≡ expr_typ w (expr_of c.deref-in-Binary.result.now) = c.in_ok-first-in-Binary.ensures.given.0 in
     let effect : c.in_ok-first-in-Binary.first.effect ≡ expr_effect w (expr_of c.deref-in-Binary.result.now) = c.in_ok-first-in-Binary.ensures.given.1 in
     let whole = ap (expr_typ w) form ∙ binary_typ w q op x y in
     let joined = ap (expr_effect w) form ∙ binary_effect w q op x y in
-    IfOk-weaker c.write_second.result _ _ (λ m h. (let a = h.0 in let b = h.1 in (cc, cc))) c.write_second.ensures.given
+    IfOk-weaker c.write_second.result _ _ (λ m h. (
+      h.0 ∙ ap (result_typ w op) (typ ∙ ap (expr_typ w) at) ∙ sym whole,
+      h.1 ∙ ap (second_effect w c.in_ok-first-in-Binary.first.effect) at3 ∙ ap (λ (e : List ℕ). second_effect w e y) (effect ∙ ap (expr_effect w) at) ∙ sym joined,
+    )) c.write_second.ensures.given
 
 pub write_expr-returns-in_ok-receiver-in-Call-clause-steps : goal.write_expr-returns-in_ok-receiver-in-Call-clause-steps
 write_expr-returns-in_ok-receiver-in-Call-clause-steps t c =
@@ -162,7 +171,11 @@ write_expr-returns-in_ok-receiver-in-Call-clause-steps t c =
     let part : steps_of c.write_expr-in-Call.new.out ≡ steps_of c.args.out.now ++ expr_steps w (expr_of c.deref-in-Call.result.now) = c.in_ok-receiver-in-Call.ensures.steps in
     let whole = ap (expr_steps w) form ∙ call_as_steps w q x name xs in
     let group = append_assoc (steps_of c.args.out.now) (expr_steps w x) (call_steps w q (expr_typ w x) (expr_effect w x) name xs) in
-    on_ok_weaker c.write_call.result (λ h. cc) c.write_call.ensures.steps
+    on_ok_weaker c.write_call.result (λ h.
+    h ∙ ap (λ (e : List ℕ). steps_of c.write_expr-in-Call.new.out ++ call_steps w q c.in_ok-receiver-in-Call.receiver.typ e name xs) (effect ∙ ap (expr_effect w) at) ∙
+    ap (λ (k : TypeRef). steps_of c.write_expr-in-Call.new.out ++ call_steps w q k (expr_effect w x) name xs) (typ ∙ ap (expr_typ w) at) ∙
+    ap (λ (l : List (Step TypeRef)). l ++ call_steps w q (expr_typ w x) (expr_effect w x) name xs) (part ∙ ap (λ (z : Expr). steps_of c.args.out.now ++ expr_steps w z) at) ∙
+    group ∙ ap (λ (l : List (Step TypeRef)). steps_of c.args.out.now ++ l) (sym whole)) c.write_call.ensures.steps
 
 pub write_expr-returns-in_ok-receiver-in-Call-clause-given : goal.write_expr-returns-in_ok-receiver-in-Call-clause-given
 write_expr-returns-in_ok-receiver-in-Call-clause-given t c =
@@ -177,7 +190,11 @@ write_expr-returns-in_ok-receiver-in-Call-clause-given t c =
     let effect : c.in_ok-receiver-in-Call.receiver.effect ≡ expr_effect w (expr_of c.deref-in-Call.result.now) = c.in_ok-receiver-in-Call.ensures.given.1 in
     let whole = ap (expr_typ w) form ∙ call_typ w q x name xs in
     let joined = ap (expr_effect w) form ∙ called_effect w q x name xs in
-    IfOk-weaker c.write_call.result _ _ (λ m h. (let a = h.0 in let b = h.1 in (cc, cc))) c.write_call.ensures.given
+    IfOk-weaker c.write_call.result _ _ (λ m h. (
+      h.0 ∙ ap (λ (k : TypeRef). result_of w (method_at w k name)) (typ ∙ ap (expr_typ w) at) ∙ sym whole,
+      h.1 ∙ ap (λ (e : List ℕ). call_effect w c.in_ok-receiver-in-Call.receiver.typ e name xs) (effect ∙ ap (expr_effect w) at) ∙
+          ap (λ (k : TypeRef). call_effect w k (expr_effect w x) name xs) (typ ∙ ap (expr_typ w) at) ∙ sym joined,
+    )) c.write_call.ensures.given
 
 pub write_operand-returns-clause-steps : goal.write_operand-returns-clause-steps
 write_operand-returns-clause-steps t c =
@@ -189,8 +206,7 @@ write_operand-returns-clause-steps t c =
     let effect : c.in_ok-part.part.effect ≡ expr_effect w x = c.in_ok-part.ensures.given.1 in
     let place : c.expr_mark.result ≡ expr_mark x = c.expr_mark.ensures in
     let whole = at_expr w x u in
-    let group = append_assoc (steps_of c.args.out.now) (expr_steps w x) (sub_steps (expr_mark x) (expr_typ w x) u (expr_effect w x)) in
-    on_ok_weaker c.subsumed.result (λ h. cc) c.subsumed.ensures.steps
+    on_ok_weaker c.subsumed.result (λ h. sub_behind (steps_of c.args.out.now) (expr_steps w x) u h part place typ effect whole) c.subsumed.ensures.steps
 
 pub write_at-returns-clause-steps : goal.write_at-returns-clause-steps
 write_at-returns-clause-steps t c =
@@ -202,8 +218,7 @@ write_at-returns-clause-steps t c =
     let effect : c.in_ok-part.part.effect ≡ own_effect w x u = c.in_ok-part.ensures.given.1 in
     let place : c.mark.result ≡ mark x = c.mark.ensures in
     let whole = at_value w x u in
-    let group = append_assoc (steps_of c.args.out.now) (own_steps w x u) (sub_steps (mark x) (own_typ w x u) u (own_effect w x u)) in
-    on_ok_weaker c.subsumed.result (λ h. cc) c.subsumed.ensures.steps
+    on_ok_weaker c.subsumed.result (λ h. sub_behind (steps_of c.args.out.now) (own_steps w x u) u h part place typ effect whole) c.subsumed.ensures.steps
 
 pub write_block_at-returns-clause-steps : goal.write_block_at-returns-clause-steps
 write_block_at-returns-clause-steps t c =
@@ -215,8 +230,7 @@ write_block_at-returns-clause-steps t c =
     let effect : c.in_ok-part.part.effect ≡ run_effect w b u = c.in_ok-part.ensures.given.1 in
     let place : c.block_mark.result ≡ block_mark b = c.block_mark.ensures in
     let whole = at_block w b u in
-    let group = append_assoc (steps_of c.args.out.now) (run_steps w b u) (sub_steps (block_mark b) (run_typ w b u) u (run_effect w b u)) in
-    on_ok_weaker c.subsumed.result (λ h. cc) c.subsumed.ensures.steps
+    on_ok_weaker c.subsumed.result (λ h. sub_behind (steps_of c.args.out.now) (run_steps w b u) u h part place typ effect whole) c.subsumed.ensures.steps
 
 pub write_unary-returns-clause-steps : goal.write_unary-returns-clause-steps
 write_unary-returns-clause-steps t c =
@@ -227,8 +241,7 @@ write_unary-returns-clause-steps t c =
     let effect : c.in_ok-effect.effect ≡ expr_effect w x = c.in_ok-effect.ensures.effect in
     let none : c.empty.result ≡ [] = c.empty.ensures in
     let whole = unary_steps w c.args.place c.args.operator x u c.unary_row-row.result.result c.unary_row-row.ensures in
-    let group = append_assoc (steps_of c.args.out.now) (at_steps w (Plain x) u) (step by.Op c.args.place 1 (Some c.unary_row-row.result.result) (union (expr_effect w x) []) ∷ []) in
-    on_ok_weaker c.operation.result (λ h. cc) c.operation.ensures.steps
+    on_ok_weaker c.operation.result (λ h. node_behind by.Op c.args.place (steps_of c.args.out.now) (at_steps w (Plain x) u) h part refl refl (ap (λ (e : List ℕ). union e c.empty.result) effect ∙ ap (union (expr_effect w x)) none) whole) c.operation.ensures.steps
 
 pub write_unary-returns-clause-given : goal.write_unary-returns-clause-given
 write_unary-returns-clause-given t c =
@@ -238,7 +251,7 @@ write_unary-returns-clause-given t c =
     let none : c.empty.result ≡ [] = c.empty.ensures in
     let typ = unary_typ w c.args.place c.args.operator x c.unary_row-row.result.operand c.unary_row-row.result.result c.unary_row-row.ensures in
     let whole = unary_effect w c.args.place c.args.operator x in
-    IfOk-weaker c.operation.result _ _ (λ m h. (h.0 ∙ sym typ, (let e = h.1 in cc))) c.operation.ensures.given
+    IfOk-weaker c.operation.result _ _ (λ m h. (h.0 ∙ sym typ, h.1 ∙ ap (λ (e : List ℕ). union e c.empty.result) effect ∙ ap (union (expr_effect w x)) none ∙ sym whole)) c.operation.ensures.given
 
 pub write_second-returns-clause-steps : goal.write_second-returns-clause-steps
 unfolding second_steps second_effect
@@ -257,9 +270,11 @@ write_second-returns-clause-steps t c =
     let own : List (Step TypeRef) = step by.Op c.args.place 2 (Some (result_typ w c.args.operator k)) (union e (union (expr_effect w y) [])) ∷ [] in
     let a = sub_steps c.args.first_mark k u e in
     let b = at_steps w (Plain y) u in
-    let group = append_assoc (steps_of c.args.out.now ++ a) b own in
-    let group2 = append_assoc (steps_of c.args.out.now) a (b ++ own) in
-    on_ok_weaker c.two_operands.result (λ h. cc) c.two_operands.ensures.steps
+    let parts : steps_of c.write_operand.new.out ≡ steps_of c.args.out.now ++ (a ++ b) =
+    part ∙ ap (λ (k : TypeRef). steps_of c.subsumed.new.out ++ at_steps w (Plain y) k) operand ∙
+    ap (λ (l : List (Step TypeRef)). l ++ b) (sub ∙ ap (λ (v : TypeRef). steps_of c.args.out.now ++ sub_steps c.args.first_mark k v e) operand) ∙ append_assoc (steps_of c.args.out.now) a b in
+    on_ok_weaker c.two_operands.result (λ h.
+    node_behind by.Op c.args.place (steps_of c.args.out.now) (a ++ b) h parts refl result (ap (λ (f : List ℕ). union f (union c.in_ok-second.second [])) first ∙ ap (λ (f : List ℕ). union e (union f [])) second) (sym (append_assoc a b own))) c.two_operands.ensures.steps
 
 pub write_second-returns-clause-given : goal.write_second-returns-clause-given
 unfolding second_effect
@@ -269,7 +284,7 @@ write_second-returns-clause-given t c =
     let result : c.binary_row-row.result.result ≡ result_typ w c.args.operator c.args.first.typ = c.binary_row-row.ensures.result w in
     let first : c.in_ok-effect.effect ≡ c.args.first.effect = c.in_ok-effect.ensures.effect in
     let second : c.in_ok-second.second ≡ expr_effect w y = c.in_ok-second.ensures.effect in
-    IfOk-weaker c.two_operands.result _ _ (λ m h. (h.0 ∙ result, (let e = h.1 in cc))) c.two_operands.ensures.given
+    IfOk-weaker c.two_operands.result _ _ (λ m h. (h.0 ∙ result, h.1 ∙ ap (λ (f : List ℕ). union f (union c.in_ok-second.second [])) first ∙ ap (λ (f : List ℕ). union c.args.first.effect (union f [])) second)) c.two_operands.ensures.given
 
 pub write_text_call-returns-clause-steps : goal.write_text_call-returns-clause-steps
 write_text_call-returns-clause-steps t c =
@@ -283,8 +298,8 @@ write_text_call-returns-clause-steps t c =
     let long : c.len.result ≡ length c.args.values.now.items = search rules in
     let number : c.len.result ≡ value_count xs = long ∙ sym (counted c.args.values.now.items) in
     let whole = text_call_steps w c.args.place c.args.operator xs in
-    let group = append_assoc (steps_of c.args.out.now) (all_steps w xs ts) (step by.Op c.args.place (value_count xs) (Some (text_result c.args.operator)) (all_effect w xs ts) ∷ []) in
-    on_ok_weaker c.given.result (λ h. cc) c.given.ensures.steps
+    on_ok_weaker c.given.result (λ h.
+    node_behind by.Op c.args.place (steps_of c.args.out.now) (all_steps w xs ts) h (part ∙ ap (λ (us : List TypeRef). steps_of c.args.out.now ++ all_steps w xs us) types) number result (effect ∙ ap (all_effect w xs) types) whole) c.given.ensures.steps
 
 pub write_text_call-returns-clause-given : goal.write_text_call-returns-clause-given
 write_text_call-returns-clause-given t c =
@@ -311,8 +326,9 @@ write_call-returns-clause-steps t c =
     let effect : c.in_ok-effect.effect ≡ union c.args.receiver.effect (union c.in_ok-arguments.arguments c.in_ok-method.method.effect) = c.in_ok-effect.ensures in
     let long : c.len.result ≡ length c.args.values.now.items = search rules in
     let number : c.len.result ≡ value_count xs = long ∙ sym (counted c.args.values.now.items) in
-    let group = append_assoc (steps_of c.args.out.now) (all_steps w xs ts) (step by.Call c.args.place (value_count xs + 1) (Some (result_of w o)) (union c.args.receiver.effect (union (all_effect w xs ts) (effect_of w o))) ∷ []) in
-    on_ok_weaker c.given.result (λ h. cc) c.given.ensures.steps
+    on_ok_weaker c.given.result (λ h.
+    node_behind by.Call c.args.place (steps_of c.args.out.now) (all_steps w xs ts) h (part ∙ ap (λ (us : List TypeRef). steps_of c.args.out.now ++ all_steps w xs us) (types ∙ params)) (ap (λ n. n + 1) number) result
+    (effect ∙ ap (λ (e : List ℕ). union c.args.receiver.effect (union e c.in_ok-method.method.effect)) (arguments ∙ ap (all_effect w xs) (types ∙ params)) ∙ ap (λ (e : List ℕ). union c.args.receiver.effect (union (all_effect w xs ts) e)) declared) refl) c.given.ensures.steps
 
 pub write_call-returns-clause-given : goal.write_call-returns-clause-given
 unfolding call_effect
@@ -326,7 +342,7 @@ write_call-returns-clause-given t c =
     let types : c.as_slice.result.now ≡ c.in_ok-method.method.params = c.as_slice.ensures in
     let arguments : c.in_ok-arguments.arguments ≡ all_effect w xs c.as_slice.result.now = c.in_ok-arguments.ensures.effect in
     let effect : c.in_ok-effect.effect ≡ union c.args.receiver.effect (union c.in_ok-arguments.arguments c.in_ok-method.method.effect) = c.in_ok-effect.ensures in
-    IfOk-weaker c.given.result _ _ (λ m h. (h.0 ∙ result, (let e = h.1 in cc))) c.given.ensures.given
+    IfOk-weaker c.given.result _ _ (λ m h. (h.0 ∙ result, h.1 ∙ effect ∙ ap (λ (e : List ℕ). union c.args.receiver.effect (union e c.in_ok-method.method.effect)) (arguments ∙ ap (all_effect w xs) (types ∙ params)) ∙ ap (λ (e : List ℕ). union c.args.receiver.effect (union (all_effect w xs (params_of w o)) e)) declared)) c.given.ensures.given
 
 pub write_new-returns-clause-steps : goal.write_new-returns-clause-steps
 write_new-returns-clause-steps t c =
@@ -339,8 +355,8 @@ write_new-returns-clause-steps t c =
     let long : c.len.result ≡ length c.args.values.now.items = search rules in
     let number : c.len.result ≡ value_count xs = long ∙ sym (counted c.args.values.now.items) in
     let whole = new_steps w c.args.place c.args.literal xs in
-    let group = append_assoc (steps_of c.args.out.now) (all_steps w xs ts) (step by.New c.args.place (value_count xs) (Some (Own c.args.literal)) (all_effect w xs ts) ∷ []) in
-    on_ok_weaker c.given.result (λ h. cc) c.given.ensures.steps
+    on_ok_weaker c.given.result (λ h.
+    node_behind by.New c.args.place (steps_of c.args.out.now) (all_steps w xs ts) h (part ∙ ap (λ (us : List TypeRef). steps_of c.args.out.now ++ all_steps w xs us) types) number refl (effect ∙ ap (all_effect w xs) types) whole) c.given.ensures.steps
 
 pub write_new-returns-clause-given : goal.write_new-returns-clause-given
 write_new-returns-clause-given t c =
@@ -359,8 +375,7 @@ write_ascription-returns-clause-steps t c =
     let part : steps_of c.write_at.new.out ≡ steps_of c.args.out.now ++ at_steps w x u = c.in_ok-effect.ensures.steps in
     let effect : c.in_ok-effect.effect ≡ own_effect w x u = c.in_ok-effect.ensures.effect in
     let whole = ascribe_steps w c.args.place x u in
-    let group = append_assoc (steps_of c.args.out.now) (at_steps w x u) (step by.Asc c.args.place 1 (Some u) (own_effect w x u) ∷ []) in
-    on_ok_weaker c.given.result (λ h. cc) c.given.ensures.steps
+    on_ok_weaker c.given.result (λ h. node_behind by.Asc c.args.place (steps_of c.args.out.now) (at_steps w x u) h part refl typ effect whole) c.given.ensures.steps
 
 pub write_ascription-returns-clause-given : goal.write_ascription-returns-clause-given
 write_ascription-returns-clause-given t c =
@@ -380,8 +395,8 @@ write_assignment-returns-clause-steps t c =
     let part : steps_of c.write_at.new.out ≡ steps_of c.args.out.now ++ at_steps w x c.in_ok-typ.typ = c.in_ok-effect.ensures.steps in
     let effect : c.in_ok-effect.effect ≡ own_effect w x c.in_ok-typ.typ = c.in_ok-effect.ensures.effect in
     let whole = assign_steps w c.args.place c.args.binding x in
-    let group = append_assoc (steps_of c.args.out.now) (at_steps w x u) (step by.Set c.args.place 1 (Some Nothing) (own_effect w x u) ∷ []) in
-    on_ok_weaker c.given.result (λ h. cc) c.given.ensures.steps
+    on_ok_weaker c.given.result (λ h.
+    node_behind by.Set c.args.place (steps_of c.args.out.now) (at_steps w x u) h (part ∙ ap (λ (k : TypeRef). steps_of c.args.out.now ++ at_steps w x k) typ) refl refl (effect ∙ ap (own_effect w x) typ) whole) c.given.ensures.steps
 
 pub write_assignment-returns-clause-given : goal.write_assignment-returns-clause-given
 write_assignment-returns-clause-given t c =

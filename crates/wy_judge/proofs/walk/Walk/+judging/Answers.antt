@@ -26,7 +26,7 @@ use Rattle.wy_judge.proofs.ArmsOfObjects.{new_values, new_types, new_count, new_
 use Rattle.wy_judge.proofs.ArmOfCalls.{callable, called_to}
 use Rattle.wy_judge.proofs.BlockWalks.{stepping_start, stepping_ready, stepping_more, stepping_fails, stepping_end, block_fits, block_fails, block_probes, block_probe_fails}
 use Rattle.wy_judge.proofs.Naming.{name_known}
-use Rattle.wy_judge.proofs.Results.{fault_weaker, inferred_weaker, fit_weaker, passed_weaker}
+use Rattle.wy_judge.proofs.Results.{handed_on, fault_weaker, inferred_weaker, fit_weaker, passed_weaker}
 use Rattle.wy_judge.proofs.Statements.{do_ready, do_states, val_ready, typed_in_range, typed_done, typed_misfits, typed_failing, untyped_done, untyped_failing, choice_states}
 use Rattle.wy_judge.proofs.Telling.{least_as, infers_as, inferred_as, arguments_as, fits_as, probes_as, all_fit_as, states_as}
 use Rattle.wy_judge.proofs.Turns.{values_go_on}
@@ -65,7 +65,7 @@ infer-returns-in-Some-clause-outcome t c =
 
 pub infer_unary-returns-in_err-operand-clause-outcome : goal.infer_unary-returns-in_err-operand-clause-outcome
 infer_unary-returns-in_err-operand-clause-outcome t c =
-    let e : c.from_residual.result ≡ Err c.in_err-operand.field-0.0 = search rules in
+    let e : c.from_residual.result ≡ Err c.in_err-operand.field-0.0 = handed_on c.from_residual.result c.in_err-operand.field-0.0 c.from_residual.ensures.1 in
     rw e (fault_weaker _ _ _ (λ f g. unary_to _ _ _ c.requires.walk.context _ _ _ c.args.place c.args.operator (expr_of c.args.x.now) (inferred.Fails f) g) c.in_err-operand.ensures.outcome)
 
 pub infer_unary-returns-in-Some-clause-outcome : goal.infer_unary-returns-in-Some-clause-outcome
@@ -84,7 +84,7 @@ infer-infer-requires t c =
 pub infer-returns-in_err-first-in-Binary-clause-outcome : goal.infer-returns-in_err-first-in-Binary-clause-outcome
 infer-returns-in_err-first-in-Binary-clause-outcome t c =
     let form = ap expr_of c.in-Binary.is in
-    let e : c.from_residual-in_err-first-in-Binary.result ≡ Err c.in_err-first-in-Binary.field-0.0 = search rules in
+    let e : c.from_residual-in_err-first-in-Binary.result ≡ Err c.in_err-first-in-Binary.field-0.0 = handed_on c.from_residual-in_err-first-in-Binary.result c.in_err-first-in-Binary.field-0.0 c.from_residual-in_err-first-in-Binary.ensures.1 in
     rw e (fault_weaker _ _ _ (λ f g. infers_as form (binary_fails _ _ _ c.requires.walk.context _ _ _ c.in-Binary.place c.in-Binary.operator (expr_of c.in-Binary.x.value) (expr_of c.in-Binary.y.value) f (infers_as (ap expr_of (sym c.deref-in-Binary.ensures)) g))) c.in_err-first-in-Binary.ensures.outcome)
 
 pub infer-infer_second-requires : goal.infer-infer_second-requires
@@ -103,7 +103,7 @@ infer-returns-in_ok-first-in-Binary-clause-outcome t c =
 
 pub infer_second-returns-in_err-second-clause-outcome : goal.infer_second-returns-in_err-second-clause-outcome
 infer_second-returns-in_err-second-clause-outcome t c =
-    let e : c.from_residual.result ≡ Err c.in_err-second.field-0.0 = search rules in
+    let e : c.from_residual.result ≡ Err c.in_err-second.field-0.0 = handed_on c.from_residual.result c.in_err-second.field-0.0 c.from_residual.ensures.1 in
     let u = inferred.Least c.args.first.typ c.args.first.effect in
     rw e (fault_weaker _ _ (λ f. SecondTo _ _ _ _ _ _ c.args.place c.args.operator u (expr_of c.args.y.now) (inferred.Fails f)) (λ f g. (inferred.Fails f, g, (true, tt, refl))) c.in_err-second.ensures.outcome)
 
@@ -119,7 +119,7 @@ infer_text_call-fit_all-requires t c =
 pub infer_text_call-returns-in_err-effect-clause-outcome : goal.infer_text_call-returns-in_err-effect-clause-outcome
 infer_text_call-returns-in_err-effect-clause-outcome t c =
     let types = c.as_slice.ensures ∙ c.in_ok-types.ensures in
-    let e : c.from_residual-in_err-effect.result ≡ Err c.in_err-effect.field-0.0 = search rules in
+    let e : c.from_residual-in_err-effect.result ≡ Err c.in_err-effect.field-0.0 = handed_on c.from_residual-in_err-effect.result c.in_err-effect.field-0.0 c.from_residual-in_err-effect.ensures.1 in
     rw e (fault_weaker _ _ _ (λ f g. text_to _ _ _ c.requires.walk.context _ _ _ c.args.place c.args.operator c.args.values.now.items (fits.Fails f) (all_fit_as (sym types) g)) c.in_err-effect.ensures.outcome)
 
 pub infer_text_call-returns-in-Have-clause-outcome : goal.infer_text_call-returns-in-Have-clause-outcome
@@ -152,7 +152,7 @@ infer_arguments-returns-in-Found-clause-outcome t c =
 
 pub probe_arguments-returns-in_err-probe_all-clause-outcome : goal.probe_arguments-returns-in_err-probe_all-clause-outcome
 probe_arguments-returns-in_err-probe_all-clause-outcome t c =
-    let e : c.from_residual.result ≡ Err c.in_err-probe_all.field-0.0 = search rules in
+    let e : c.from_residual.result ≡ Err c.in_err-probe_all.field-0.0 = handed_on c.from_residual.result c.in_err-probe_all.field-0.0 c.from_residual.ensures.1 in
     rw e (fault_weaker _ _ (λ f. ArgumentsTo _ _ _ _ _ _ c.args.place (Without c.args.premise) c.args.values.now.items (inferred.Fails f)) (λ f g. (Some f, g, refl)) c.in_err-probe_all.ensures.outcome)
 
 pub probe_arguments-returns-clause-outcome : goal.probe_arguments-returns-clause-outcome
@@ -160,7 +160,7 @@ probe_arguments-returns-clause-outcome t c = rw c.fails.ensures (None, c.in_ok-p
 
 pub fit_arguments-returns-in_err-arguments-clause-outcome : goal.fit_arguments-returns-in_err-arguments-clause-outcome
 fit_arguments-returns-in_err-arguments-clause-outcome t c =
-    let e : c.from_residual.result ≡ Err c.in_err-arguments.field-0.0 = search rules in
+    let e : c.from_residual.result ≡ Err c.in_err-arguments.field-0.0 = handed_on c.from_residual.result c.in_err-arguments.field-0.0 c.from_residual.ensures.1 in
     rw e (fault_weaker _ _ (λ f. ArgumentsTo _ _ _ _ _ _ c.args.place (Found c.args.effect c.args.method) c.args.values.now.items (inferred.Fails f)) (λ f g. (fits.Fails f, all_fit_as (sym c.as_slice.ensures) g, refl)) c.in_err-arguments.ensures.outcome)
 
 pub fit_arguments-returns-in-Have-clause-outcome : goal.fit_arguments-returns-in-Have-clause-outcome
@@ -180,7 +180,7 @@ infer_new-fit_all-requires t c =
 pub infer_new-returns-in_err-effect-clause-outcome : goal.infer_new-returns-in_err-effect-clause-outcome
 infer_new-returns-in_err-effect-clause-outcome t c =
     let types = c.as_slice.ensures ∙ c.in_ok-types.ensures in
-    let e : c.from_residual-in_err-effect.result ≡ Err c.in_err-effect.field-0.0 = search rules in
+    let e : c.from_residual-in_err-effect.result ≡ Err c.in_err-effect.field-0.0 = handed_on c.from_residual-in_err-effect.result c.in_err-effect.field-0.0 c.from_residual-in_err-effect.ensures.1 in
     rw e (fault_weaker _ _ _ (λ f g. new_to _ _ _ c.requires.walk.context _ _ _ c.args.place c.args.literal c.args.values.now.items (fits.Fails f) c.requires.ready (all_fit_as (sym types) g)) c.in_err-effect.ensures.outcome)
 
 pub infer_new-returns-in-Have-clause-outcome : goal.infer_new-returns-in-Have-clause-outcome
@@ -199,7 +199,7 @@ infer_ascription-fit-requires t c =
 
 pub infer_ascription-returns-in_err-effect-clause-outcome : goal.infer_ascription-returns-in_err-effect-clause-outcome
 infer_ascription-returns-in_err-effect-clause-outcome t c =
-    let e : c.from_residual.result ≡ Err c.in_err-effect.field-0.0 = search rules in
+    let e : c.from_residual.result ≡ Err c.in_err-effect.field-0.0 = handed_on c.from_residual.result c.in_err-effect.field-0.0 c.from_residual.ensures.1 in
     rw e (fault_weaker _ _ _ (λ f g. ascribed_to _ _ _ c.requires.walk.context _ _ _ c.args.place (value_of c.args.value.now) c.args.typ.now (fit.Fails f) c.requires.ready g) c.in_err-effect.ensures.outcome)
 
 pub infer_ascription-returns-in_ok-copy-in-Has-clause-outcome : goal.infer_ascription-returns-in_ok-copy-in-Has-clause-outcome
@@ -216,7 +216,7 @@ infer_assignment-fit-requires t c =
 
 pub infer_assignment-returns-in_err-effect-in-Some-clause-outcome : goal.infer_assignment-returns-in_err-effect-in-Some-clause-outcome
 infer_assignment-returns-in_err-effect-in-Some-clause-outcome t c =
-    let e : c.from_residual.result ≡ Err c.in_err-effect-in-Some.field-0.0 = search rules in
+    let e : c.from_residual.result ≡ Err c.in_err-effect-in-Some.field-0.0 = handed_on c.from_residual.result c.in_err-effect-in-Some.field-0.0 c.from_residual.ensures.1 in
     rw e (fault_weaker _ _ _ (λ f g. assigned_to _ _ _ c.requires.walk.context _ _ _ c.args.place c.args.binding (value_of c.args.value.now) c.in-Some.field.now (fit.Fails f) (sym c.in-Some.ensures) g) c.in_err-effect-in-Some.ensures.outcome)
 
 pub infer_assignment-returns-in-Has-clause-outcome : goal.infer_assignment-returns-in-Has-clause-outcome
@@ -229,7 +229,7 @@ infer_assignment-returns-in-Misfit-clause-outcome t c =
 
 pub infer_assignment-returns-in_err-probe-in-None-clause-outcome : goal.infer_assignment-returns-in_err-probe-in-None-clause-outcome
 infer_assignment-returns-in_err-probe-in-None-clause-outcome t c =
-    let e : c.from_residual-in_err-probe-in-None.result ≡ Err c.in_err-probe-in-None.field-0.0 = search rules in
+    let e : c.from_residual-in_err-probe-in-None.result ≡ Err c.in_err-probe-in-None.field-0.0 = handed_on c.from_residual-in_err-probe-in-None.result c.in_err-probe-in-None.field-0.0 c.from_residual-in_err-probe-in-None.ensures.1 in
     rw e (fault_weaker _ _ _ (λ f g. unassigned_to _ _ _ c.requires.walk.context _ _ _ c.args.place c.args.binding (value_of c.args.value.now) (Some f) (sym c.in-None.ensures) g) c.in_err-probe-in-None.ensures.outcome)
 
 pub infer_assignment-returns-in_ok-probe-in-None-clause-outcome : goal.infer_assignment-returns-in_ok-probe-in-None-clause-outcome
@@ -295,7 +295,7 @@ pub infer-returns-in_err-receiver-in-Call-clause-outcome : goal.infer-returns-in
 infer-returns-in_err-receiver-in-Call-clause-outcome t c =
     let form = ap expr_of c.in-Call.is ∙ expr_call c.in-Call.place c.in-Call.receiver c.in-Call.name c.in-Call.values in
     let x = expr_of c.in-Call.receiver.value in
-    let e : c.from_residual-in_err-receiver-in-Call.result ≡ Err c.in_err-receiver-in-Call.field-0.0 = search rules in
+    let e : c.from_residual-in_err-receiver-in-Call.result ≡ Err c.in_err-receiver-in-Call.field-0.0 = handed_on c.from_residual-in_err-receiver-in-Call.result c.in_err-receiver-in-Call.field-0.0 c.from_residual-in_err-receiver-in-Call.ensures.1 in
     rw e (fault_weaker _ _ _ (λ f g. infers_as form (call_fails _ _ _ c.requires.walk.context _ _ _ c.in-Call.place x c.in-Call.name (values_of c.in-Call.values.items) f (infers_as (ap expr_of (sym c.deref-in-Call.ensures)) g))) c.in_err-receiver-in-Call.ensures.outcome)
 
 pub infer-infer_call-requires : goal.infer-infer_call-requires
@@ -341,7 +341,7 @@ infer_call-returns-clause-outcome t c =
 pub fit-returns-in_err-least-in-Plain-clause-outcome : goal.fit-returns-in_err-least-in-Plain-clause-outcome
 fit-returns-in_err-least-in-Plain-clause-outcome t c =
     let form = ap value_of c.in-Plain.is in
-    let e : c.from_residual.result ≡ Err c.in_err-least-in-Plain.field-0.0 = search rules in
+    let e : c.from_residual.result ≡ Err c.in_err-least-in-Plain.field-0.0 = handed_on c.from_residual.result c.in_err-least-in-Plain.field-0.0 c.from_residual.ensures.1 in
     rw e (fault_weaker _ _ _ (λ f g. fits_as form (plain_fits _ _ _ c.requires.walk.context _ _ _ (expr_of c.in-Plain.expr) (inferred.Fails f) c.args.typ.now (fit.Fails f) g (true, tt, refl))) c.in_err-least-in-Plain.ensures.outcome)
 
 pub fit-fitted-requires-clause-least : goal.fit-fitted-requires-clause-least
@@ -376,7 +376,7 @@ fit-returns-in_err-least-in-If-clause-outcome t c =
     let cond = expr_of c.in-If.test.value in
     let first = block_of c.in-If.first in
     let second = block_of c.in-If.second in
-    let e : c.from_residual-in_err-least-in-If.result ≡ Err c.in_err-least-in-If.field-0.0 = search rules in
+    let e : c.from_residual-in_err-least-in-If.result ≡ Err c.in_err-least-in-If.field-0.0 = handed_on c.from_residual-in_err-least-in-If.result c.in_err-least-in-If.field-0.0 c.from_residual-in_err-least-in-If.ensures.1 in
     rw e (fault_weaker _ _ _ (λ f g. fits_as form (if_fails_at_test _ _ _ c.requires.walk.context _ q cond first second _ _ c.args.typ.now f (infers_as (ap expr_of (sym c.deref.ensures)) g))) c.in_err-least-in-If.ensures.outcome)
 
 pub fit-fitted-requires-in-If-clause-least : goal.fit-fitted-requires-in-If-clause-least
@@ -407,7 +407,7 @@ fit-returns-in_err-first-in-If-clause-outcome t c =
     let first = block_of c.in-If.first in
     let second = block_of c.in-If.second in
     let tested = infers_as (ap expr_of (sym c.deref.ensures)) c.in_ok-least-in-If.ensures.outcome in
-    let e : c.from_residual-in_err-first-in-If.result ≡ Err c.in_err-first-in-If.field-0.0 = search rules in
+    let e : c.from_residual-in_err-first-in-If.result ≡ Err c.in_err-first-in-If.field-0.0 = handed_on c.from_residual-in_err-first-in-If.result c.in_err-first-in-If.field-0.0 c.from_residual-in_err-first-in-If.ensures.1 in
     rw e (fault_weaker _ _ _ (λ f g. fits_as form (if_fails_at_first _ _ _ c.requires.walk.context _ q cond first second _ _ _ c.args.typ.now c.in_ok-least-in-If.least.typ c.in_ok-least-in-If.least.effect f tested g)) c.in_err-first-in-If.ensures.outcome)
 
 pub fit-fit_block-requires-in-If : goal.fit-fit_block-requires-in-If
@@ -435,7 +435,7 @@ fit-returns-in_err-second-in-If-clause-outcome t c =
     let e1 = fit_of c.in_ok-test-in-If.test in
     let m1 = fit_of c.in_ok-first-in-If.first in
     let d = fitted_in _ _ _ c.infer-in-If.new.known.pairs.about c.infer-in-If.ensures.asks l Bool e1 c.in_ok-test-in-If.ensures.outcome in
-    let e : c.from_residual-in_err-second-in-If.result ≡ Err c.in_err-second-in-If.field-0.0 = search rules in
+    let e : c.from_residual-in_err-second-in-If.result ≡ Err c.in_err-second-in-If.field-0.0 = handed_on c.from_residual-in_err-second-in-If.result c.in_err-second-in-If.field-0.0 c.from_residual-in_err-second-in-If.ensures.1 in
     rw e (fault_weaker _ _ _ (λ f g. fits_as form (subst (FitsTo _ _ _ _ _ _ (If q cond first second) c.args.typ.now) (second_fails_last q c.in_ok-test-in-If.test c.in_ok-first-in-If.first f) (if_fits _ _ _ c.requires.walk.context _ q cond first second _ _ _ _ l c.args.typ.now e1 m1 (fit.Fails f) tested d c.in_ok-first-in-If.ensures.outcome g))) c.in_err-second-in-If.ensures.outcome)
 
 pub fit-returns-in_ok-second-in-If-clause-outcome : goal.fit-returns-in_ok-second-in-If-clause-outcome
@@ -456,7 +456,7 @@ fit-returns-in_ok-second-in-If-clause-outcome t c =
 pub probe-returns-in_err-infer-in-Plain-clause-outcome : goal.probe-returns-in_err-infer-in-Plain-clause-outcome
 probe-returns-in_err-infer-in-Plain-clause-outcome t c =
     let form = ap value_of c.in-Plain.is in
-    let e : c.from_residual.result ≡ Err c.in_err-infer-in-Plain.field-0.0 = search rules in
+    let e : c.from_residual.result ≡ Err c.in_err-infer-in-Plain.field-0.0 = handed_on c.from_residual.result c.in_err-infer-in-Plain.field-0.0 c.from_residual.ensures.1 in
     rw e (fault_weaker _ _ _ (λ f g. probes_as form (plain_probes _ _ _ c.requires.walk.context _ _ _ (expr_of c.in-Plain.expr) (inferred.Fails f) g)) c.in_err-infer-in-Plain.ensures.outcome)
 
 pub probe-returns-in_ok-infer-in-Plain-clause-outcome : goal.probe-returns-in_ok-infer-in-Plain-clause-outcome
@@ -478,7 +478,7 @@ probe-returns-in_err-infer-in-If-clause-outcome t c =
     let first = block_of c.in-If.first in
     let second = block_of c.in-If.second in
     let form = ap value_of c.in-If.is ∙ value_if c.in-If.field-0 c.in-If.test c.in-If.first c.in-If.second in
-    let e : c.from_residual-in_err-infer-in-If.result ≡ Err c.in_err-infer-in-If.field-0.0 = search rules in
+    let e : c.from_residual-in_err-infer-in-If.result ≡ Err c.in_err-infer-in-If.field-0.0 = handed_on c.from_residual-in_err-infer-in-If.result c.in_err-infer-in-If.field-0.0 c.from_residual-in_err-infer-in-If.ensures.1 in
     rw e (fault_weaker _ _ _ (λ f g. probes_as form (if_probe_fails_at_test _ _ _ c.requires.walk.context _ c.in-If.field-0 test first second _ _ f (infers_as (ap expr_of (sym c.deref.ensures)) g))) c.in_err-infer-in-If.ensures.outcome)
 
 pub probe-probe_block-requires : goal.probe-probe_block-requires
@@ -498,7 +498,7 @@ probe-returns-in_err-probe_block-in-If-clause-outcome t c =
     let second = block_of c.in-If.second in
     let form = ap value_of c.in-If.is ∙ value_if c.in-If.field-0 c.in-If.test c.in-If.first c.in-If.second in
     let tested = infers_as (ap expr_of (sym c.deref.ensures)) c.in_ok-infer-in-If.ensures.outcome in
-    let e : c.from_residual-in_err-probe_block-in-If.result ≡ Err c.in_err-probe_block-in-If.field-0.0 = search rules in
+    let e : c.from_residual-in_err-probe_block-in-If.result ≡ Err c.in_err-probe_block-in-If.field-0.0 = handed_on c.from_residual-in_err-probe_block-in-If.result c.in_err-probe_block-in-If.field-0.0 c.from_residual-in_err-probe_block-in-If.ensures.1 in
     rw e (fault_weaker _ _ _ (λ f g. probes_as form (if_probe_fails_at_first _ _ _ c.requires.walk.context _ c.in-If.field-0 test first second _ _ _ c.in_ok-infer-in-If.field-0.typ c.in_ok-infer-in-If.field-0.effect f tested g)) c.in_err-probe_block-in-If.ensures.outcome)
 
 pub probe-probe_block-requires-in-If : goal.probe-probe_block-requires-in-If
@@ -545,7 +545,7 @@ fit_all-returns-in_err-next-clause-outcome t c =
     let lt : i < length xs = search rules in
     let there : slice_get xs i ≡ Some c.index.result.now = slice_get_read xs _ i c.index.result.now refl lt c.index.ensures in
     let typed : slice_get ts i ≡ Some c.index-types-i.result = slice_get_read ts _ i c.index-types-i.result refl (subst (λ n. i < n) c.requires.as_many lt) c.index-types-i.is in
-    let e : c.from_residual.result ≡ Err c.in_err-next.field-0.0 = search rules in
+    let e : c.from_residual.result ≡ Err c.in_err-next.field-0.0 = handed_on c.from_residual.result c.in_err-next.field-0.0 c.from_residual.ensures.1 in
     rw e (fault_weaker _ _ _ (λ f g. fitting_fails _ _ _ c.requires.walk.context _ xs ts _ _ _ i (fits_of c.loop-i.sofar) c.index.result.now c.index-types-i.result f c.loop-i.invariant.walked there typed g) c.in_err-next.ensures.outcome)
 
 pub fit_all-loop-i-preserved : goal.fit_all-loop-i-preserved
@@ -585,7 +585,7 @@ probe_all-returns-in_err-probe-clause-outcome t c =
     let i = c.loop-i.i in
     let lt : i < length xs = search rules in
     let there : slice_get xs i ≡ Some c.index.result.now = slice_get_read xs _ i c.index.result.now refl lt c.index.ensures in
-    let e : c.from_residual.result ≡ Err c.in_err-probe.field-0.0 = search rules in
+    let e : c.from_residual.result ≡ Err c.in_err-probe.field-0.0 = handed_on c.from_residual.result c.in_err-probe.field-0.0 c.from_residual.ensures.1 in
     rw e (fault_weaker _ _ _ (λ f g. probing_fails _ _ _ c.requires.walk.context _ xs _ _ _ i c.index.result.now f c.loop-i.invariant.walked there g) c.in_err-probe.ensures.outcome)
 
 pub probe_all-loop-i-preserved : goal.probe_all-loop-i-preserved
@@ -609,7 +609,7 @@ step-fit-requires t c =
 
 pub step-returns-in_err-effect-in-Do-clause-outcome : goal.step-returns-in_err-effect-in-Do-clause-outcome
 step-returns-in_err-effect-in-Do-clause-outcome t c =
-    let e : c.from_residual.result ≡ Err c.in_err-effect-in-Do.field-0.0 = search rules in
+    let e : c.from_residual.result ≡ Err c.in_err-effect-in-Do.field-0.0 = handed_on c.from_residual.result c.in_err-effect-in-Do.field-0.0 c.from_residual.ensures.1 in
     rw e (fault_weaker _ _ _ (λ f g. states_as c.in-Do.is (do_states _ _ _ c.requires.walk.context _ _ _ c.in-Do.value (fit.Fails f) g)) c.in_err-effect-in-Do.ensures.outcome)
 
 pub step-returns-in-Has-clause-outcome : goal.step-returns-in-Has-clause-outcome
@@ -626,7 +626,7 @@ step_typed-fit-requires t c =
 
 pub step_typed-returns-in_err-effect-clause-outcome : goal.step_typed-returns-in_err-effect-clause-outcome
 step_typed-returns-in_err-effect-clause-outcome t c =
-    let e : c.from_residual.result ≡ Err c.in_err-effect.field-0.0 = search rules in
+    let e : c.from_residual.result ≡ Err c.in_err-effect.field-0.0 = handed_on c.from_residual.result c.in_err-effect.field-0.0 c.from_residual.ensures.1 in
     rw e (fault_weaker _ _ _ (λ f g. typed_failing _ _ _ c.requires.walk.context _ c.args.place c.args.val c.args.typ.now c.args.value.now _ _ f g) c.in_err-effect.ensures.outcome)
 
 pub step_typed-returns-in_ok-put-in-Has-clause-outcome : goal.step_typed-returns-in_ok-put-in-Has-clause-outcome
@@ -649,7 +649,7 @@ step_untyped-probe-requires t c =
 
 pub step_untyped-returns-in_err-least-in-Plain-clause-outcome : goal.step_untyped-returns-in_err-least-in-Plain-clause-outcome
 step_untyped-returns-in_err-least-in-Plain-clause-outcome t c =
-    let e : c.from_residual.result ≡ Err c.in_err-least-in-Plain.field-0.0 = search rules in
+    let e : c.from_residual.result ≡ Err c.in_err-least-in-Plain.field-0.0 = handed_on c.from_residual.result c.in_err-least-in-Plain.field-0.0 c.from_residual.ensures.1 in
     rw e (fault_weaker _ _ _ (λ f g. untyped_failing _ _ _ c.requires.walk.context _ c.args.place c.args.val c.args.value.now _ _ (expr_of c.in-Plain.expr) f (ap value_of c.in-Plain.is) g) c.in_err-least-in-Plain.ensures.outcome)
 
 pub step_untyped-returns-in_ok-put-in-Plain-clause-outcome : goal.step_untyped-returns-in_ok-put-in-Plain-clause-outcome
@@ -659,7 +659,7 @@ step_untyped-returns-in_ok-put-in-Plain-clause-outcome t c =
 pub step_untyped-returns-in_err-probe-in-If-clause-outcome : goal.step_untyped-returns-in_err-probe-in-If-clause-outcome
 step_untyped-returns-in_err-probe-in-If-clause-outcome t c =
     let form = ap value_of c.in-If.is ∙ value_if c.in-If.field-0 c.in-If.field-1 c.in-If.field-2 c.in-If.field-3 in
-    let e : c.from_residual-in_err-probe-in-If.result ≡ Err c.in_err-probe-in-If.field-0.0 = search rules in
+    let e : c.from_residual-in_err-probe-in-If.result ≡ Err c.in_err-probe-in-If.field-0.0 = handed_on c.from_residual-in_err-probe-in-If.result c.in_err-probe-in-If.field-0.0 c.from_residual-in_err-probe-in-If.ensures.1 in
     rw e (fault_weaker _ _ _ (λ f g. choice_states _ _ _ c.requires.walk.context _ c.args.place c.args.val c.args.value.now _ _ c.in-If.field-0 (expr_of c.in-If.field-1.value) (block_of c.in-If.field-2) (block_of c.in-If.field-3) (Some f) form g) c.in_err-probe-in-If.ensures.outcome)
 
 pub step_untyped-returns-in_ok-probe-in-If-clause-outcome : goal.step_untyped-returns-in_ok-probe-in-If-clause-outcome
@@ -691,7 +691,7 @@ steps-returns-in_err-next-clause-outcome t c =
     let sofar = c.loop-i.sofar in
     let lt : i < length xs = search rules in
     let there : slice_get xs i ≡ Some c.index.result.now = slice_get_read xs _ i c.index.result.now refl lt c.index.ensures in
-    let e : c.from_residual.result ≡ Err c.in_err-next.field-0.0 = search rules in
+    let e : c.from_residual.result ≡ Err c.in_err-next.field-0.0 = handed_on c.from_residual.result c.in_err-next.field-0.0 c.from_residual.ensures.1 in
     rw e (fault_weaker _ _ _ (λ f g. stepping_fails _ _ _ c.requires.walk.context _ xs last _ _ _ i sofar c.index.result.now f c.loop-i.invariant.walked there g) c.in_err-next.ensures.outcome)
 
 pub steps-loop-i-preserved : goal.steps-loop-i-preserved
@@ -716,14 +716,14 @@ pub fit_block-returns-in_err-before-clause-outcome : goal.fit_block-returns-in_e
 fit_block-returns-in_err-before-clause-outcome t c =
     let xs = c.args.block.now.statements.items in
     let last = value_of c.args.block.now.last.value in
-    let e : c.from_residual.result ≡ Err c.in_err-before.field-0.0 = search rules in
+    let e : c.from_residual.result ≡ Err c.in_err-before.field-0.0 = handed_on c.from_residual.result c.in_err-before.field-0.0 c.from_residual.ensures.1 in
     rw e (fault_weaker _ _ _ (λ f g. block_fails _ _ _ c.requires.walk.context _ xs last _ _ c.args.typ.now f g) c.in_err-before.ensures.outcome)
 
 pub fit_block-returns-in_err-last-clause-outcome : goal.fit_block-returns-in_err-last-clause-outcome
 fit_block-returns-in_err-last-clause-outcome t c =
     let xs = c.args.block.now.statements.items in
     let last = value_of c.args.block.now.last.value in
-    let e : c.from_residual-in_err-last.result ≡ Err c.in_err-last.field-0.0 = search rules in
+    let e : c.from_residual-in_err-last.result ≡ Err c.in_err-last.field-0.0 = handed_on c.from_residual-in_err-last.result c.in_err-last.field-0.0 c.from_residual-in_err-last.ensures.1 in
     rw e (fault_weaker _ _ _ (λ f g. block_fits _ _ _ c.requires.walk.context _ xs last _ _ _ c.in_ok-before.before c.args.typ.now (fit.Fails f) c.in_ok-before.ensures.outcome (fits_as (ap value_of (sym c.deref.ensures)) g)) c.in_err-last.ensures.outcome)
 
 pub fit_block-returns-in_ok-united-in-Has-clause-outcome : goal.fit_block-returns-in_ok-united-in-Has-clause-outcome
@@ -742,7 +742,7 @@ pub probe_block-returns-in_err-steps-clause-outcome : goal.probe_block-returns-i
 probe_block-returns-in_err-steps-clause-outcome t c =
     let xs = c.args.block.now.statements.items in
     let last = value_of c.args.block.now.last.value in
-    let e : c.from_residual.result ≡ Err c.in_err-steps.field-0.0 = search rules in
+    let e : c.from_residual.result ≡ Err c.in_err-steps.field-0.0 = handed_on c.from_residual.result c.in_err-steps.field-0.0 c.from_residual.ensures.1 in
     rw e (fault_weaker _ _ _ (λ f g. block_probe_fails _ _ _ c.requires.walk.context _ xs last _ _ f g) c.in_err-steps.ensures.outcome)
 
 pub probe_block-returns-clause-outcome : goal.probe_block-returns-clause-outcome
@@ -766,3 +766,231 @@ infer-returns-in_ok-copy-in-Some-type_of_binding-clause-outcome t c =
     let copied = c.in_ok-copy-in-Some-type_of_binding.field-0 in
     let is = ap (λ z. type_of_binding s z o c.in-Name.binding) (sym c.deref.ensures.value) ∙ sym c.in-Some-type_of_binding.ensures ∙ ap Some (sym c.in_ok-copy-in-Some-type_of_binding.ensures) in
     least_as form c.least-in-Some-type_of_binding.ensures (name_to _ _ _ c.requires.walk.context _ _ c.in-Name.field-0 c.in-Name.binding copied (subst (ExprReady _ _ _ _ _) form c.requires.ready) is)
+
+------------------------------------------------------------
+-- The table of pairs is about the same at each end
+
+pub infer-returns-in-Int-clause-asks : goal.infer-returns-in-Int-clause-asks
+infer-returns-in-Int-clause-asks t c = c.requires.asks
+
+pub infer-returns-in-Text-clause-asks : goal.infer-returns-in-Text-clause-asks
+infer-returns-in-Text-clause-asks t c = c.requires.asks
+
+pub infer-returns-in-Bool-clause-asks : goal.infer-returns-in-Bool-clause-asks
+infer-returns-in-Bool-clause-asks t c = c.requires.asks
+
+pub infer-returns-in-Unit-clause-asks : goal.infer-returns-in-Unit-clause-asks
+infer-returns-in-Unit-clause-asks t c = c.requires.asks
+
+pub infer-returns-in-Some-clause-asks : goal.infer-returns-in-Some-clause-asks
+infer-returns-in-Some-clause-asks t c = c.requires.asks
+
+pub infer_unary-returns-in_err-operand-clause-asks : goal.infer_unary-returns-in_err-operand-clause-asks
+infer_unary-returns-in_err-operand-clause-asks t c = c.infer.ensures.asks
+
+pub infer_unary-returns-in-Some-clause-asks : goal.infer_unary-returns-in-Some-clause-asks
+infer_unary-returns-in-Some-clause-asks t c = c.infer.ensures.asks
+
+pub infer_unary-returns-clause-asks : goal.infer_unary-returns-clause-asks
+infer_unary-returns-clause-asks t c = c.infer.ensures.asks
+
+pub infer-returns-in_err-first-in-Binary-clause-asks : goal.infer-returns-in_err-first-in-Binary-clause-asks
+infer-returns-in_err-first-in-Binary-clause-asks t c = c.infer.ensures.asks
+
+pub infer-returns-in_ok-first-in-Binary-clause-asks : goal.infer-returns-in_ok-first-in-Binary-clause-asks
+infer-returns-in_ok-first-in-Binary-clause-asks t c = c.infer_second.ensures.asks
+
+pub infer_second-returns-in_err-second-clause-asks : goal.infer_second-returns-in_err-second-clause-asks
+infer_second-returns-in_err-second-clause-asks t c = c.infer.ensures.asks
+
+pub infer_second-returns-clause-asks : goal.infer_second-returns-clause-asks
+infer_second-returns-clause-asks t c = c.infer.ensures.asks
+
+pub infer_text_call-returns-in_err-effect-clause-asks : goal.infer_text_call-returns-in_err-effect-clause-asks
+infer_text_call-returns-in_err-effect-clause-asks t c = c.fit_all.ensures.asks
+
+pub infer_text_call-returns-in-Have-clause-asks : goal.infer_text_call-returns-in-Have-clause-asks
+infer_text_call-returns-in-Have-clause-asks t c = c.fit_all.ensures.asks
+
+pub infer_text_call-returns-clause-asks : goal.infer_text_call-returns-clause-asks
+infer_text_call-returns-clause-asks t c = c.fit_all.ensures.asks
+
+pub infer_arguments-returns-in-Without-clause-asks : goal.infer_arguments-returns-in-Without-clause-asks
+infer_arguments-returns-in-Without-clause-asks t c = c.probe_arguments.ensures.asks
+
+pub infer_arguments-returns-in-Found-clause-asks : goal.infer_arguments-returns-in-Found-clause-asks
+infer_arguments-returns-in-Found-clause-asks t c = c.fit_arguments.ensures.asks
+
+pub probe_arguments-returns-in_err-probe_all-clause-asks : goal.probe_arguments-returns-in_err-probe_all-clause-asks
+probe_arguments-returns-in_err-probe_all-clause-asks t c = c.probe_all.ensures.asks
+
+pub probe_arguments-returns-clause-asks : goal.probe_arguments-returns-clause-asks
+probe_arguments-returns-clause-asks t c = c.probe_all.ensures.asks
+
+pub fit_arguments-returns-in_err-arguments-clause-asks : goal.fit_arguments-returns-in_err-arguments-clause-asks
+fit_arguments-returns-in_err-arguments-clause-asks t c = c.fit_all.ensures.asks
+
+pub fit_arguments-returns-in-Have-clause-asks : goal.fit_arguments-returns-in-Have-clause-asks
+fit_arguments-returns-in-Have-clause-asks t c = c.fit_all.ensures.asks
+
+pub fit_arguments-returns-in-Misfit-clause-asks : goal.fit_arguments-returns-in-Misfit-clause-asks
+fit_arguments-returns-in-Misfit-clause-asks t c = c.fit_all.ensures.asks
+
+pub infer_new-returns-in_err-effect-clause-asks : goal.infer_new-returns-in_err-effect-clause-asks
+infer_new-returns-in_err-effect-clause-asks t c = c.fit_all.ensures.asks
+
+pub infer_new-returns-in-Have-clause-asks : goal.infer_new-returns-in-Have-clause-asks
+infer_new-returns-in-Have-clause-asks t c = c.fit_all.ensures.asks
+
+pub infer_new-returns-clause-asks : goal.infer_new-returns-clause-asks
+infer_new-returns-clause-asks t c = c.fit_all.ensures.asks
+
+pub infer_ascription-returns-in_err-effect-clause-asks : goal.infer_ascription-returns-in_err-effect-clause-asks
+infer_ascription-returns-in_err-effect-clause-asks t c = c.fit.ensures.asks
+
+pub infer_ascription-returns-in_ok-copy-in-Has-clause-asks : goal.infer_ascription-returns-in_ok-copy-in-Has-clause-asks
+infer_ascription-returns-in_ok-copy-in-Has-clause-asks t c = c.fit.ensures.asks
+
+pub infer_ascription-returns-in-Misfit-clause-asks : goal.infer_ascription-returns-in-Misfit-clause-asks
+infer_ascription-returns-in-Misfit-clause-asks t c = c.fit.ensures.asks
+
+pub infer_assignment-returns-in_err-effect-in-Some-clause-asks : goal.infer_assignment-returns-in_err-effect-in-Some-clause-asks
+infer_assignment-returns-in_err-effect-in-Some-clause-asks t c = c.fit.ensures.asks
+
+pub infer_assignment-returns-in-Has-clause-asks : goal.infer_assignment-returns-in-Has-clause-asks
+infer_assignment-returns-in-Has-clause-asks t c = c.fit.ensures.asks
+
+pub infer_assignment-returns-in-Misfit-clause-asks : goal.infer_assignment-returns-in-Misfit-clause-asks
+infer_assignment-returns-in-Misfit-clause-asks t c = c.fit.ensures.asks
+
+pub infer_assignment-returns-in_err-probe-in-None-clause-asks : goal.infer_assignment-returns-in_err-probe-in-None-clause-asks
+infer_assignment-returns-in_err-probe-in-None-clause-asks t c = c.probe.ensures.asks
+
+pub infer_assignment-returns-in_ok-probe-in-None-clause-asks : goal.infer_assignment-returns-in_ok-probe-in-None-clause-asks
+infer_assignment-returns-in_ok-probe-in-None-clause-asks t c = c.probe.ensures.asks
+
+pub infer-returns-in-Unary-clause-asks : goal.infer-returns-in-Unary-clause-asks
+infer-returns-in-Unary-clause-asks t c = c.infer_unary.ensures.asks
+
+pub infer-returns-in-TextCall-clause-asks : goal.infer-returns-in-TextCall-clause-asks
+infer-returns-in-TextCall-clause-asks t c = c.infer_text_call.ensures.asks
+
+pub infer-returns-in-New-clause-asks : goal.infer-returns-in-New-clause-asks
+infer-returns-in-New-clause-asks t c = c.infer_new.ensures.asks
+
+pub infer-returns-in-Ascribe-clause-asks : goal.infer-returns-in-Ascribe-clause-asks
+infer-returns-in-Ascribe-clause-asks t c = c.infer_ascription.ensures.asks
+
+pub infer-returns-in-Assign-clause-asks : goal.infer-returns-in-Assign-clause-asks
+infer-returns-in-Assign-clause-asks t c = c.infer_assignment.ensures.asks
+
+pub infer-returns-in_err-receiver-in-Call-clause-asks : goal.infer-returns-in_err-receiver-in-Call-clause-asks
+infer-returns-in_err-receiver-in-Call-clause-asks t c = c.infer-in-Call.ensures.asks
+
+pub infer-returns-in_ok-receiver-in-Call-clause-asks : goal.infer-returns-in_ok-receiver-in-Call-clause-asks
+infer-returns-in_ok-receiver-in-Call-clause-asks t c = c.infer_call.ensures.asks
+
+pub infer_call-returns-clause-asks : goal.infer_call-returns-clause-asks
+infer_call-returns-clause-asks t c = c.infer_arguments.ensures.asks
+
+pub fit-returns-in_err-least-in-Plain-clause-asks : goal.fit-returns-in_err-least-in-Plain-clause-asks
+fit-returns-in_err-least-in-Plain-clause-asks t c = c.infer.ensures.asks
+
+pub fit-returns-in_ok-fitted-in-Plain-clause-asks : goal.fit-returns-in_ok-fitted-in-Plain-clause-asks
+fit-returns-in_ok-fitted-in-Plain-clause-asks t c = c.fitted.ensures.same ∙ c.infer.ensures.asks
+
+pub fit-returns-in_err-least-in-If-clause-asks : goal.fit-returns-in_err-least-in-If-clause-asks
+fit-returns-in_err-least-in-If-clause-asks t c = c.infer-in-If.ensures.asks
+
+pub fit-returns-in_err-first-in-If-clause-asks : goal.fit-returns-in_err-first-in-If-clause-asks
+fit-returns-in_err-first-in-If-clause-asks t c = c.fit_block.ensures.asks
+
+pub fit-returns-in_err-second-in-If-clause-asks : goal.fit-returns-in_err-second-in-If-clause-asks
+fit-returns-in_err-second-in-If-clause-asks t c = c.fit_block-in-If.ensures.asks
+
+pub fit-returns-in_ok-second-in-If-clause-asks : goal.fit-returns-in_ok-second-in-If-clause-asks
+fit-returns-in_ok-second-in-If-clause-asks t c = c.fit_block-in-If.ensures.asks
+
+pub probe-returns-in_err-infer-in-Plain-clause-asks : goal.probe-returns-in_err-infer-in-Plain-clause-asks
+probe-returns-in_err-infer-in-Plain-clause-asks t c = c.infer.ensures.asks
+
+pub probe-returns-in_ok-infer-in-Plain-clause-asks : goal.probe-returns-in_ok-infer-in-Plain-clause-asks
+probe-returns-in_ok-infer-in-Plain-clause-asks t c = c.infer.ensures.asks
+
+pub probe-returns-in_err-infer-in-If-clause-asks : goal.probe-returns-in_err-infer-in-If-clause-asks
+probe-returns-in_err-infer-in-If-clause-asks t c = c.infer-in-If.ensures.asks
+
+pub probe-returns-in_err-probe_block-in-If-clause-asks : goal.probe-returns-in_err-probe_block-in-If-clause-asks
+probe-returns-in_err-probe_block-in-If-clause-asks t c = c.probe_block.ensures.asks
+
+pub probe-returns-in_ok-probe_block-in-If-clause-asks : goal.probe-returns-in_ok-probe_block-in-If-clause-asks
+probe-returns-in_ok-probe_block-in-If-clause-asks t c = c.probe_block-in-If.ensures.asks
+
+pub fit_all-returns-in_err-next-clause-asks : goal.fit_all-returns-in_err-next-clause-asks
+fit_all-returns-in_err-next-clause-asks t c = c.fit.ensures.asks
+
+pub fit_all-returns-clause-asks : goal.fit_all-returns-clause-asks
+fit_all-returns-clause-asks t c = c.loop-i.invariant.asks
+
+pub probe_all-returns-in_err-probe-clause-asks : goal.probe_all-returns-in_err-probe-clause-asks
+probe_all-returns-in_err-probe-clause-asks t c = c.probe.ensures.asks
+
+pub probe_all-returns-clause-asks : goal.probe_all-returns-clause-asks
+probe_all-returns-clause-asks t c = c.loop-i.invariant.asks
+
+pub step-returns-in_err-effect-in-Do-clause-asks : goal.step-returns-in_err-effect-in-Do-clause-asks
+step-returns-in_err-effect-in-Do-clause-asks t c = c.fit.ensures.asks
+
+pub step-returns-in-Has-clause-asks : goal.step-returns-in-Has-clause-asks
+step-returns-in-Has-clause-asks t c = c.fit.ensures.asks
+
+pub step-returns-in-Misfit-clause-asks : goal.step-returns-in-Misfit-clause-asks
+step-returns-in-Misfit-clause-asks t c = c.fit.ensures.asks
+
+pub step_typed-returns-in_err-effect-clause-asks : goal.step_typed-returns-in_err-effect-clause-asks
+step_typed-returns-in_err-effect-clause-asks t c = c.fit.ensures.asks
+
+pub step_typed-returns-in_ok-put-in-Has-clause-asks : goal.step_typed-returns-in_ok-put-in-Has-clause-asks
+step_typed-returns-in_ok-put-in-Has-clause-asks t c = c.fit.ensures.asks
+
+pub step_typed-returns-in-Misfit-clause-asks : goal.step_typed-returns-in-Misfit-clause-asks
+step_typed-returns-in-Misfit-clause-asks t c = c.fit.ensures.asks
+
+pub step_untyped-returns-in_err-least-in-Plain-clause-asks : goal.step_untyped-returns-in_err-least-in-Plain-clause-asks
+step_untyped-returns-in_err-least-in-Plain-clause-asks t c = c.infer.ensures.asks
+
+pub step_untyped-returns-in_ok-put-in-Plain-clause-asks : goal.step_untyped-returns-in_ok-put-in-Plain-clause-asks
+step_untyped-returns-in_ok-put-in-Plain-clause-asks t c = c.infer.ensures.asks
+
+pub step_untyped-returns-in_err-probe-in-If-clause-asks : goal.step_untyped-returns-in_err-probe-in-If-clause-asks
+step_untyped-returns-in_err-probe-in-If-clause-asks t c = c.probe.ensures.asks
+
+pub step_untyped-returns-in_ok-probe-in-If-clause-asks : goal.step_untyped-returns-in_ok-probe-in-If-clause-asks
+step_untyped-returns-in_ok-probe-in-If-clause-asks t c = c.probe.ensures.asks
+
+pub steps-returns-in_err-next-clause-asks : goal.steps-returns-in_err-next-clause-asks
+steps-returns-in_err-next-clause-asks t c = c.step.ensures.asks
+
+pub steps-returns-clause-asks : goal.steps-returns-clause-asks
+steps-returns-clause-asks t c = c.loop-i.invariant.asks
+
+pub fit_block-returns-in_err-before-clause-asks : goal.fit_block-returns-in_err-before-clause-asks
+fit_block-returns-in_err-before-clause-asks t c = c.steps.ensures.asks
+
+pub fit_block-returns-in_err-last-clause-asks : goal.fit_block-returns-in_err-last-clause-asks
+fit_block-returns-in_err-last-clause-asks t c = c.fit.ensures.asks
+
+pub fit_block-returns-in_ok-united-in-Has-clause-asks : goal.fit_block-returns-in_ok-united-in-Has-clause-asks
+fit_block-returns-in_ok-united-in-Has-clause-asks t c = c.fit.ensures.asks
+
+pub fit_block-returns-in-Misfit-clause-asks : goal.fit_block-returns-in-Misfit-clause-asks
+fit_block-returns-in-Misfit-clause-asks t c = c.fit.ensures.asks
+
+pub probe_block-returns-in_err-steps-clause-asks : goal.probe_block-returns-in_err-steps-clause-asks
+probe_block-returns-in_err-steps-clause-asks t c = c.steps.ensures.asks
+
+pub probe_block-returns-clause-asks : goal.probe_block-returns-clause-asks
+probe_block-returns-clause-asks t c = c.probe.ensures.asks
+
+pub infer-returns-in_ok-copy-in-Some-type_of_binding-clause-asks : goal.infer-returns-in_ok-copy-in-Some-type_of_binding-clause-asks
+infer-returns-in_ok-copy-in-Some-type_of_binding-clause-asks t c = c.requires.asks

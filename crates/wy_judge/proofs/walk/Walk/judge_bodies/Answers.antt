@@ -4,7 +4,7 @@ use Rattle.std.proofs.lemmas.Option.{slice_get_read}
 use Rattle.wy_types.specs.Program.{program_of, scope_of, body_of}
 use Rattle.wy_judge.proofs.BodyWalks.{bodies_walked_start, bodies_walked_more, bodies_walked_fail, bodies_walked_end, next_ready}
 use Rattle.wy_judge.proofs.ScopeParts.{body_in}
-use Rattle.wy_judge.proofs.Results.{fault_weaker}
+use Rattle.wy_judge.proofs.Results.{handed_on, fault_weaker}
 use Rattle.wy_judge.specs.Walking.{BodyTo, BodiesTo}
 use Rattle.wy_judge.proofs.walk.Walk.judge_bodies.Goals as goal
 
@@ -62,7 +62,7 @@ returns-in_err-judge_body-clause-outcome c =
     let lt : i < length bodies = search rules in
     let there : slice_get bodies i ≡ Some x = slice_get_read bodies _ i x refl lt c.index-bodies-i.is in
     let r = c.in_err-judge_body.field-0.0 in
-    let e : c.from_residual.result ≡ Err r = search rules in
+    let e : c.from_residual.result ≡ Err r = handed_on c.from_residual.result r c.from_residual.ensures.1 in
     rw e (fault_weaker r (λ f. BodyTo p k s mid new (body_of x) (Some f)) (λ f. BodiesTo p k s old new (Some f)) (λ f b. bodies_walked_fail p k s h bodies same old mid i x there c.loop-i.invariant.walked new f b) c.in_err-judge_body.ensures.outcome)
 
 pub loop-i-preserved : goal.loop-i-preserved

@@ -1,4 +1,4 @@
-use Rattle.std.proofs.Common.{◌≡◌, Err, Some, rules}
+use Rattle.std.proofs.Common.{◌≡◌, Err, Some}
 use Rattle.wy_types.specs.Program.{program_of, scope_of, body_of}
 use Rattle.wy_judge.specs.Fit as fit
 use Rattle.wy_judge.specs.Judging.{BlockFitsTo}
@@ -6,7 +6,7 @@ use Rattle.wy_judge.specs.Lacks.{IsBodyFaultOf}
 use Rattle.wy_judge.specs.Results.{fit_of}
 use Rattle.wy_judge.specs.Walking.{BodyTo}
 use Rattle.wy_judge.proofs.Contexts.{result_in_range}
-use Rattle.wy_judge.proofs.Results.{fault_weaker, passed_weaker}
+use Rattle.wy_judge.proofs.Results.{handed_on, fault_weaker, passed_weaker}
 use Rattle.wy_judge.proofs.ScopeParts.{body_by_block, body_fails, owner_there}
 use Rattle.wy_judge.proofs.walk.Walk.judge_body.Goals as goal
 
@@ -29,7 +29,7 @@ returns-in_err-block-clause-outcome c =
     let x = body_of c.args.body.now in
     let new = c.fit_block.new.known.vals.items in
     let r = c.in_err-block.field-0.0 in
-    let e : c.from_residual.result ≡ Err r = search rules in
+    let e : c.from_residual.result ≡ Err r = handed_on c.from_residual.result r c.from_residual.ensures.1 in
     rw e (fault_weaker r (λ f. BlockFitsTo p k s (Some x.owner) old new x.block x.signature.result (fit.Fails f)) (λ f. BodyTo p k s old new x (Some f)) (λ f h. body_fails p k s c.requires.walk.context x old new f h) c.in_err-block.ensures.outcome)
 
 pub returns-clause-outcome : goal.returns-clause-outcome

@@ -1,4 +1,4 @@
-use Rattle.std.proofs.Common.{◌≡◌, [], Err, Some, None, length, sym, ap, subst, ◌∙◌, rules}
+use Rattle.std.proofs.Common.{◌≡◌, [], Err, Some, None, length, sym, ap, subst, ◌∙◌}
 use Rattle.wy_types.specs.Program.{program_of, scope_of, start_of}
 use Rattle.wy_types.specs.View.{values_of, block_of}
 use Rattle.wy_types.specs.declared.types.TypeRef.TheVariants.{Unit as Nothing}
@@ -9,7 +9,7 @@ use Rattle.wy_judge.specs.Results.{fit_of, fits_of}
 use Rattle.wy_judge.specs.Judging.{TypesInRange, AllFitTo, BlockFitsTo}
 use Rattle.wy_judge.specs.Lacks.{IsBodyFaultOf}
 use Rattle.wy_judge.specs.Tables.{ValuesReady, BlockReady}
-use Rattle.wy_judge.proofs.Results.{fault_weaker, passed_weaker}
+use Rattle.wy_judge.proofs.Results.{handed_on, fault_weaker, passed_weaker}
 use Rattle.wy_judge.specs.Walking.{StartsTo}
 use Rattle.wy_judge.proofs.ArmsOfObjects.{new_types}
 use Rattle.wy_judge.proofs.ScopeParts.{init_as_body, starts_by_fields, starts_by_block, starts_fail_in_fields, starts_fail_in_block}
@@ -61,7 +61,7 @@ returns-in_err-initialisers-in-Init-clause-outcome c =
     let new = c.fit_all.new.known.vals.items in
     let types = c.as_slice.ensures ∙ c.in_ok-types-in-Init.ensures in
     let r = c.in_err-initialisers-in-Init.field-0.0 in
-    let e : c.from_residual-in_err-initialisers-in-Init.result ≡ Err r = search rules in
+    let e : c.from_residual-in_err-initialisers-in-Init.result ≡ Err r = handed_on c.from_residual-in_err-initialisers-in-Init.result r c.from_residual-in_err-initialisers-in-Init.ensures.1 in
     let xs = c.in-Init.values.items in
     let o = c.args.self.now.owner in
     rw e (fault_weaker r (λ f. AllFitTo p k s o old new xs c.as_slice.result.now (fits.Fails f)) (λ f. StartsTo p k s [] new (Some f))
@@ -77,7 +77,7 @@ returns-in_err-at_unit-in-Run-clause-outcome c =
     let new = c.fit_block.new.known.vals.items in
     let b = block_of c.in-Run.block in
     let r = c.in_err-at_unit-in-Run.field-0.0 in
-    let e : c.from_residual-in_err-at_unit-in-Run.result ≡ Err r = search rules in
+    let e : c.from_residual-in_err-at_unit-in-Run.result ≡ Err r = handed_on c.from_residual-in_err-at_unit-in-Run.result r c.from_residual-in_err-at_unit-in-Run.ensures.1 in
     let o = c.args.self.now.owner in
     rw e (fault_weaker r (λ f. BlockFitsTo p k s o old new b Nothing (fit.Fails f)) (λ f. StartsTo p k s [] new (Some f))
     (λ f h. starts_fail_in_block p k s c.requires.walk.context b old new f (ap start_of c.in-Run.is) c.requires.empty (subst (λ w. BlockFitsTo p k s w old new b Nothing (fit.Fails f)) c.requires.owner h))

@@ -1,4 +1,4 @@
-use Rattle.std.proofs.Common.{◌≡◌, List, true, false, subst, rules}
+use Rattle.std.proofs.Common.{◌≡◌, List, true, false, subst}
 use Rattle.wy_text.specs.Members.{In}
 use Rattle.wy_text.proofs.Lists.{In-read, each_more}
 use Rattle.wy_subtype.specs.declared.unfolding.UnfoldedPair.{UnfoldedPair}
@@ -14,7 +14,7 @@ returns-then-not-branch c =
     let mode = c.args.self.now.mode in
     let asked : List UnfoldedPair = c.args.asked.now in
     let x : UnfoldedPair = c.pair-item.result in
-    let f : c.in_ok-has.field-0 ≡ false = search rules in
+    let f : c.in_ok-has.field-0 ≡ false = c.if-not-branch.true in
     tells_not keys (λ pairs. (u : UnfoldedPair) → In u asked → In {X = Pair} (looked_up mode (sides u)) pairs)
     (λ pairs st all. not_told keys (λ ps. In {X = Pair} (looked_up mode (sides x)) ps) c.in_ok-has.field-0 f c.in_ok-has.ensures pairs st (all x (In-read asked c.loop-pair.pair-index x x c.loop-pair-test.true c.pair-item.is)))
 
@@ -23,5 +23,5 @@ loop-pair-preserved c = λ pairs st.
     let asked : List UnfoldedPair = c.args.asked.now in
     let x : UnfoldedPair = c.pair-item.result in
     let P : UnfoldedPair → Type 0 = λ v. In {X = Pair} (looked_up c.args.self.now.mode (sides v)) pairs in
-    let t : c.in_ok-has.field-0 ≡ true = search rules in
+    let t : c.in_ok-has.field-0 ≡ true = c.if-not-branch.false in
     each_more P asked c.loop-pair.pair-index x c.loop-pair-test.true (c.loop-pair.invariant pairs st) (subst P c.pair-item.is ((c.in_ok-has.ensures pairs st).0 t))

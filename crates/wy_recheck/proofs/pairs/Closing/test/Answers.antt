@@ -1,4 +1,4 @@
-use Rattle.std.proofs.Common.{◌≡◌, List, true, false, get_or, refl, arith, rules}
+use Rattle.std.proofs.Common.{◌≡◌, List, true, false, get_or, refl, arith}
 use Rattle.wy_text.proofs.Lists.{each_more, each_all}
 use Rattle.wy_types.specs.Program.{program_of}
 use Rattle.wy_cert.specs.declared.certificate.CertPair.{CertPair}
@@ -22,7 +22,7 @@ returns-then-not-branch-clause-first g c = λ listed st.
     let qs : List CertPair = c.args.pairs.now in
     let d : CertPair = record { left = 0; right = 0 } in
     let x : CertPair = get_or qs c.loop-i.i d in
-    let f : c.in_ok-stands.field-0 ≡ false = search rules in
+    let f : c.in_ok-stands.field-0 ≡ false = c.if-not-branch.true in
     first_without (λ q. PairStandsIn p k mode types q listed) qs c.loop-i.i d x c.loop-i-test.true refl (c.loop-i.invariant.stand listed st)
     (not_told c.args.self.now.listed.now (PairStandsIn p k mode types x) c.in_ok-stands.field-0 f c.in_ok-stands.ensures.stands listed st)
 
@@ -36,7 +36,7 @@ loop-i-preserved g c = record {
       let qs : List CertPair = c.args.pairs.now in
       let d : CertPair = record { left = 0; right = 0 } in
       let P : CertPair → Type 0 = λ q. PairStandsIn p c.args.self.now.scope c.args.self.now.mode c.args.self.now.types.now q listed in
-      let t : c.in_ok-stands.field-0 ≡ true = search rules in
+      let t : c.in_ok-stands.field-0 ≡ true = c.if-not-branch.false in
       each_more P qs c.loop-i.i d c.loop-i-test.true (c.loop-i.invariant.stand listed st) ((c.in_ok-stands.ensures.stands listed st).0 t);
   steps = omega (arith, c.stands.ensures.steps, c.loop-i.invariant.steps);
 }

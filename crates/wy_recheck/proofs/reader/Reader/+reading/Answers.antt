@@ -10,7 +10,7 @@ use Rattle.wy_recheck.specs.declared.reader.Several.{Several}
 use Rattle.wy_recheck.specs.declared.forms.Waiting.{Waiting}
 use Rattle.wy_recheck.specs.Standing.{FailsFirst}
 use Rattle.wy_recheck.specs.Nodes.{expr_read, value_read, values_read, block_read, second_read, text_read, call_read, new_read, closing, left, IsRead, IsStatement}
-use Rattle.wy_recheck.proofs.NodesFailing.{first_weaker}
+use Rattle.wy_recheck.proofs.NodesFailing.{first_weaker, handed_on}
 use Rattle.wy_recheck.proofs.NodesJoined.{read_as, fails_as, behind_read, part_fails_first, later_fails, then_read, then_fails, behind_parts, parts_fail_first, values_counted, before, before_none, before_more}
 use Rattle.wy_recheck.proofs.NodesInOrder.{value_stands, value_fails, no_value, do_stands, do_fails, val_statement, val_fails, statement_stands, statement_fails, no_statement, closing_fails}
 use Rattle.wy_recheck.proofs.reader.Reader.+reading.Goals as goal
@@ -42,7 +42,7 @@ read_expr-returns-in-Unary t c =
 
 pub read_unary-returns-in_err-operand : goal.read_unary-returns-in_err-operand
 read_unary-returns-in_err-operand t c =
-    let e : c.from_residual.result ≡ Err c.in_err-operand.field-0.0 = search rules in
+    let e : c.from_residual.result ≡ Err c.in_err-operand.field-0.0 = handed_on c.from_residual.result c.in_err-operand.field-0.0 c.from_residual.ensures.1 in
     rw e (part_fails_first c.args.self.now.nodes.now _ _ _ refl _ c.in_err-operand.ensures)
 
 pub read_unary-returns : goal.read_unary-returns
@@ -54,7 +54,7 @@ read_expr-returns-in_err-first-in-Binary t c =
     let r = c.args.self.now in
     let at = c.args.at.now in
     let form = ap (λ x. expr_read r at (expr_of x)) c.in-Binary.is in
-    let e : c.from_residual.result ≡ Err c.in_err-first-in-Binary.field-0.0 = search rules in
+    let e : c.from_residual.result ≡ Err c.in_err-first-in-Binary.field-0.0 = handed_on c.from_residual.result c.in_err-first-in-Binary.field-0.0 c.from_residual.ensures.1 in
     rw e (part_fails_first r.nodes.now _ _ _ form _ (fails_as _ _ (ap (λ x. expr_read r at (expr_of x)) (sym c.deref-in-Binary.ensures)) _ c.in_err-first-in-Binary.ensures))
 
 pub read_expr-returns-in_ok-first-in-Binary : goal.read_expr-returns-in_ok-first-in-Binary
@@ -70,7 +70,7 @@ read_expr-returns-in_ok-first-in-Binary t c =
 
 pub read_second-returns-in_err-second : goal.read_second-returns-in_err-second
 read_second-returns-in_err-second t c =
-    let e : c.from_residual.result ≡ Err c.in_err-second.field-0.0 = search rules in
+    let e : c.from_residual.result ≡ Err c.in_err-second.field-0.0 = handed_on c.from_residual.result c.in_err-second.field-0.0 c.from_residual.ensures.1 in
     rw e (then_fails c.args.self.now.nodes.now _ _ _ c.in_err-second.ensures)
 
 pub read_second-returns : goal.read_second-returns
@@ -83,7 +83,7 @@ read_expr-returns-in-TextCall t c =
 
 pub read_text_call-returns-in_err-operands : goal.read_text_call-returns-in_err-operands
 read_text_call-returns-in_err-operands t c =
-    let e : c.from_residual.result ≡ Err c.in_err-operands.field-0.0 = search rules in
+    let e : c.from_residual.result ≡ Err c.in_err-operands.field-0.0 = handed_on c.from_residual.result c.in_err-operands.field-0.0 c.from_residual.ensures.1 in
     rw e (parts_fail_first c.args.self.now.nodes.now _ _ _ refl _ c.in_err-operands.ensures)
 
 pub read_text_call-returns : goal.read_text_call-returns
@@ -102,7 +102,7 @@ read_expr-returns-in_err-receiver-in-Call t c =
     let r = c.args.self.now in
     let at = c.args.at.now in
     let form = ap (expr_read r at) (ap expr_of c.in-Call.is ∙ expr_call c.in-Call.place c.in-Call.x c.in-Call.name c.in-Call.values) in
-    let e : c.from_residual-in_err-receiver-in-Call.result ≡ Err c.in_err-receiver-in-Call.field-0.0 = search rules in
+    let e : c.from_residual-in_err-receiver-in-Call.result ≡ Err c.in_err-receiver-in-Call.field-0.0 = handed_on c.from_residual-in_err-receiver-in-Call.result c.in_err-receiver-in-Call.field-0.0 c.from_residual-in_err-receiver-in-Call.ensures.1 in
     rw e (part_fails_first r.nodes.now _ _ _ form _ (fails_as _ _ (ap (λ x. expr_read r at (expr_of x)) (sym c.deref-in-Call.ensures)) _ c.in_err-receiver-in-Call.ensures))
 
 pub read_expr-returns-in_ok-receiver-in-Call : goal.read_expr-returns-in_ok-receiver-in-Call
@@ -115,7 +115,7 @@ read_expr-returns-in_ok-receiver-in-Call t c =
 
 pub read_arguments-returns-in_err-arguments : goal.read_arguments-returns-in_err-arguments
 read_arguments-returns-in_err-arguments t c =
-    let e : c.from_residual.result ≡ Err c.in_err-arguments.field-0.0 = search rules in
+    let e : c.from_residual.result ≡ Err c.in_err-arguments.field-0.0 = handed_on c.from_residual.result c.in_err-arguments.field-0.0 c.from_residual.ensures.1 in
     rw e (parts_fail_first c.args.self.now.nodes.now _ _ _ refl _ c.in_err-arguments.ensures)
 
 pub read_arguments-returns : goal.read_arguments-returns
@@ -135,7 +135,7 @@ read_expr-returns-in-New t c =
 
 pub read_new-returns-in_err-initialisers : goal.read_new-returns-in_err-initialisers
 read_new-returns-in_err-initialisers t c =
-    let e : c.from_residual.result ≡ Err c.in_err-initialisers.field-0.0 = search rules in
+    let e : c.from_residual.result ≡ Err c.in_err-initialisers.field-0.0 = handed_on c.from_residual.result c.in_err-initialisers.field-0.0 c.from_residual.ensures.1 in
     rw e (parts_fail_first c.args.self.now.nodes.now _ _ _ refl _ c.in_err-initialisers.ensures)
 
 pub read_new-returns : goal.read_new-returns
@@ -156,7 +156,7 @@ read_expr-returns-in-Ascribe t c =
 
 pub read_ascription-returns-in_err-value : goal.read_ascription-returns-in_err-value
 read_ascription-returns-in_err-value t c =
-    let e : c.from_residual.result ≡ Err c.in_err-value.field-0.0 = search rules in
+    let e : c.from_residual.result ≡ Err c.in_err-value.field-0.0 = handed_on c.from_residual.result c.in_err-value.field-0.0 c.from_residual.ensures.1 in
     rw e (part_fails_first c.args.self.now.nodes.now _ _ _ refl _ c.in_err-value.ensures)
 
 pub read_ascription-returns : goal.read_ascription-returns
@@ -170,7 +170,7 @@ read_expr-returns-in-Assign t c =
 
 pub read_assignment-returns-in_err-value : goal.read_assignment-returns-in_err-value
 read_assignment-returns-in_err-value t c =
-    let e : c.from_residual.result ≡ Err c.in_err-value.field-0.0 = search rules in
+    let e : c.from_residual.result ≡ Err c.in_err-value.field-0.0 = handed_on c.from_residual.result c.in_err-value.field-0.0 c.from_residual.ensures.1 in
     rw e (part_fails_first c.args.self.now.nodes.now _ _ _ refl _ c.in_err-value.ensures)
 
 pub read_assignment-returns : goal.read_assignment-returns
@@ -191,7 +191,7 @@ read_value-returns-in_err-test-in-If t c =
     let r = c.args.self.now in
     let at = c.args.at.now in
     let form = ap (value_read r at) (ap value_of c.in-If.is ∙ value_if c.in-If.place c.in-If.condition c.in-If.first c.in-If.second) in
-    let e : c.from_residual.result ≡ Err c.in_err-test-in-If.field-0.0 = search rules in
+    let e : c.from_residual.result ≡ Err c.in_err-test-in-If.field-0.0 = handed_on c.from_residual.result c.in_err-test-in-If.field-0.0 c.from_residual.ensures.1 in
     rw e (part_fails_first r.nodes.now _ _ _ form _ (fails_as _ _ (ap (λ x. expr_read r at (expr_of x)) (sym c.deref.ensures)) _ c.in_err-test-in-If.ensures))
 
 pub read_value-returns-in_err-first-in-If : goal.read_value-returns-in_err-first-in-If
@@ -201,7 +201,7 @@ read_value-returns-in_err-first-in-If t c =
     let form = ap (value_read r at) (ap value_of c.in-If.is ∙ value_if c.in-If.place c.in-If.condition c.in-If.first c.in-If.second) in
     let first = ap (λ x. expr_read r at (expr_of x)) (sym c.deref.ensures) ∙ c.in_ok-test-in-If.ensures in
     let middle = c.read_expr-in-If.new.at in
-    let e : c.from_residual-in_err-first-in-If.result ≡ Err c.in_err-first-in-If.field-0.0 = search rules in
+    let e : c.from_residual-in_err-first-in-If.result ≡ Err c.in_err-first-in-If.field-0.0 = handed_on c.from_residual-in_err-first-in-If.result c.in_err-first-in-If.field-0.0 c.from_residual-in_err-first-in-If.ensures.1 in
     rw e (later_fails r.nodes.now _ _ _ form c.in_ok-test-in-If.test middle first _ (then_fails r.nodes.now _ _ _ c.in_err-first-in-If.ensures))
 
 pub read_value-returns-in_err-second-in-If : goal.read_value-returns-in_err-second-in-If
@@ -211,7 +211,7 @@ read_value-returns-in_err-second-in-If t c =
     let form = ap (value_read r at) (ap value_of c.in-If.is ∙ value_if c.in-If.place c.in-If.condition c.in-If.first c.in-If.second) in
     let first = ap (λ x. expr_read r at (expr_of x)) (sym c.deref.ensures) ∙ c.in_ok-test-in-If.ensures in
     let middle = c.read_expr-in-If.new.at in
-    let e : c.from_residual-in_err-second-in-If.result ≡ Err c.in_err-second-in-If.field-0.0 = search rules in
+    let e : c.from_residual-in_err-second-in-If.result ≡ Err c.in_err-second-in-If.field-0.0 = handed_on c.from_residual-in_err-second-in-If.result c.in_err-second-in-If.field-0.0 c.from_residual-in_err-second-in-If.ensures.1 in
     rw e (later_fails r.nodes.now _ _ _ form c.in_ok-test-in-If.test middle first _ (later_fails r.nodes.now _ _ _ refl c.in_ok-first-in-If.first c.read_block.new.at c.in_ok-first-in-If.ensures _ (then_fails r.nodes.now _ _ _ c.in_err-second-in-If.ensures)))
 
 pub read_value-returns-in_ok-second-in-If : goal.read_value-returns-in_ok-second-in-If
@@ -242,7 +242,7 @@ read_values-returns-in_err-next t c =
     let f = c.loop-i.sofar.effect in
     let x : v.Value = c.index.result.now in
     let lt : i < length xs = search rules in
-    let e : c.from_residual.result ≡ Err c.in_err-next.field-0.0 = search rules in
+    let e : c.from_residual.result ≡ Err c.in_err-next.field-0.0 = handed_on c.from_residual.result c.in_err-next.field-0.0 c.from_residual.ensures.1 in
     rw e (first_weaker (λ j. value_read r c.loop-i.at (value_of x) ≡ part_fails j) (λ j. values_read r at (values_of xs) ≡ parts_fail j)
     (λ j g. c.loop-i.invariant ∙ value_fails r xs i x c.loop-i.at lt c.index.ensures ts f j g) c.in_err-next.field-0.0 c.in_err-next.ensures)
 
@@ -280,7 +280,7 @@ pub read_statement-returns-in_err-value-in-Val : goal.read_statement-returns-in_
 read_statement-returns-in_err-value-in-Val t c =
     let r = c.args.self.now in
     let at = c.args.at.now in
-    let e : c.from_residual.result ≡ Err c.in_err-value-in-Val.field-0.0 = search rules in
+    let e : c.from_residual.result ≡ Err c.in_err-value-in-Val.field-0.0 = handed_on c.from_residual.result c.in_err-value-in-Val.field-0.0 c.from_residual.ensures.1 in
     rw e (subst (λ (s : Stmt). FailsFirst (λ i. (rest : Block) → block_read r at (stmt_block s rest) ≡ part_fails i) c.in_err-value-in-Val.field-0.0) (sym c.in-Val.is)
     (val_fails r c.in-Val.x at c.in_err-value-in-Val.field-0.0 c.in_err-value-in-Val.ensures c.in-Val.place c.in-Val.number c.in-Val.written))
 
@@ -295,7 +295,7 @@ pub read_statement-returns-in_err-value-in-Do : goal.read_statement-returns-in_e
 read_statement-returns-in_err-value-in-Do t c =
     let r = c.args.self.now in
     let at = c.args.at.now in
-    let e : c.from_residual-in_err-value-in-Do.result ≡ Err c.in_err-value-in-Do.field-0.0 = search rules in
+    let e : c.from_residual-in_err-value-in-Do.result ≡ Err c.in_err-value-in-Do.field-0.0 = handed_on c.from_residual-in_err-value-in-Do.result c.in_err-value-in-Do.field-0.0 c.from_residual-in_err-value-in-Do.ensures.1 in
     rw e (subst (λ (s : Stmt). FailsFirst (λ i. (rest : Block) → block_read r at (stmt_block s rest) ≡ part_fails i) c.in_err-value-in-Do.field-0.0) (sym c.in-Do.is)
     (do_fails r c.in-Do.x at c.in_err-value-in-Do.field-0.0 c.in_err-value-in-Do.ensures))
 
@@ -324,7 +324,7 @@ read_statements-returns-in_err-next t c =
     let ws = c.loop-i.waiting in
     let x : Stmt = c.index.result.now in
     let lt : i < length xs = search rules in
-    let e : c.from_residual.result ≡ Err c.in_err-next.field-0.0 = search rules in
+    let e : c.from_residual.result ≡ Err c.in_err-next.field-0.0 = handed_on c.from_residual.result c.in_err-next.field-0.0 c.from_residual.ensures.1 in
     rw e (first_weaker (λ j. (rest : Block) → block_read r c.loop-i.at (stmt_block x rest) ≡ part_fails j) (λ j. (rest : Block) → block_read r at (stmts_block xs rest) ≡ part_fails j)
     (λ j g rest. c.loop-i.invariant rest ∙ statement_fails r xs i x lt c.index.ensures c.loop-i.at ws j g rest) c.in_err-next.field-0.0 c.in_err-next.ensures)
 
@@ -355,7 +355,7 @@ pub read_block-returns-in_err-waiting : goal.read_block-returns-in_err-waiting
 read_block-returns-in_err-waiting t c =
     let r = c.args.self.now in
     let at = c.args.at.now in
-    let e : c.from_residual.result ≡ Err c.in_err-waiting.field-0.0 = search rules in
+    let e : c.from_residual.result ≡ Err c.in_err-waiting.field-0.0 = handed_on c.from_residual.result c.in_err-waiting.field-0.0 c.from_residual.ensures.1 in
     rw e (first_weaker _ (λ i. block_read r at (block_of c.args.block.now) ≡ part_fails i) (λ i g. g (Last (value_of c.args.block.now.last.value))) c.in_err-waiting.field-0.0 c.in_err-waiting.ensures)
 
 pub read_block-returns-in_err-last : goal.read_block-returns-in_err-last
@@ -366,7 +366,7 @@ read_block-returns-in_err-last t c =
     let middle = c.read_statements.new.at in
     let ws = c.in_ok-waiting.waiting in
     let there = ap (λ x. value_read r middle (value_of x)) (sym c.deref.ensures) in
-    let e : c.from_residual-in_err-last.result ≡ Err c.in_err-last.field-0.0 = search rules in
+    let e : c.from_residual-in_err-last.result ≡ Err c.in_err-last.field-0.0 = handed_on c.from_residual-in_err-last.result c.in_err-last.field-0.0 c.from_residual-in_err-last.ensures.1 in
     rw e (first_weaker _ (λ i. block_read r at (block_of c.args.block.now) ≡ part_fails i) (λ i g. c.in_ok-waiting.ensures last ∙ ap (closing r ws) (there ∙ g) ∙ closing_fails r ws i) c.in_err-last.field-0.0 c.in_err-last.ensures)
 
 pub read_block-returns : goal.read_block-returns

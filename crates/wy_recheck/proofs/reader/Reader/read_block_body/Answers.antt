@@ -1,12 +1,13 @@
-use Rattle.std.proofs.Common.{◌≡◌, Err, refl, subst, rules, Bool}
+use Rattle.std.proofs.Common.{◌≡◌, Err, refl, subst, Bool}
 use Rattle.wy_recheck.specs.Nodes.{body_node_read, BodiesAreRead}
 use Rattle.wy_recheck.proofs.NodesOfBodies.{behind_block, block_fails_first}
+use Rattle.wy_recheck.proofs.NodesFailing.{handed_on}
 use Rattle.wy_recheck.proofs.reader.Reader.read_block_body.Goals as goal
 
 pub returns-in_err-read : goal.returns-in_err-read
 returns-in_err-read c =
     let r = c.args.self.now in
-    let e : c.from_residual.result ≡ Err c.in_err-read.field-0.0 = search rules in
+    let e : c.from_residual.result ≡ Err c.in_err-read.field-0.0 = handed_on c.from_residual.result c.in_err-read.field-0.0 c.from_residual.ensures.1 in
     rw e (block_fails_first r.nodes.now _ _ _ refl _ c.in_err-read.ensures)
 
 pub returns : goal.returns

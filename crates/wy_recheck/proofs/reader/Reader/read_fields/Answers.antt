@@ -10,11 +10,12 @@ use Rattle.wy_proving.specs.Reading.{same_types}
 use Rattle.wy_recheck.specs.Nodes.{reading_of, lists_of, body_node_read, BodiesAreRead}
 use Rattle.wy_recheck.proofs.NodesJoined.{values_counted}
 use Rattle.wy_recheck.proofs.NodesOfBodies.{behind_values, values_fail_first}
+use Rattle.wy_recheck.proofs.NodesFailing.{handed_on}
 use Rattle.wy_recheck.proofs.reader.Reader.read_fields.Goals as goal
 
 pub returns-in_err-read : goal.returns-in_err-read
 returns-in_err-read c =
-    let e : c.from_residual-in_err-read.result ≡ Err c.in_err-read.field-0.0 = search rules in
+    let e : c.from_residual-in_err-read.result ≡ Err c.in_err-read.field-0.0 = handed_on c.from_residual-in_err-read.result c.in_err-read.field-0.0 c.from_residual-in_err-read.ensures.1 in
     rw e (values_fail_first c.args.self.now.nodes.now _ _ _ refl _ c.in_err-read.ensures)
 
 pub returns : goal.returns

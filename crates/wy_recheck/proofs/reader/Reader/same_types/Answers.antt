@@ -1,4 +1,4 @@
-use Rattle.std.proofs.Common.{◌≡◌, ◌<◌, ◌≤◌, ◌+◌, drop, length, sym, ap, ◌∙◌, true, arith, rules}
+use Rattle.std.proofs.Common.{◌≡◌, ◌<◌, ◌≤◌, ◌+◌, drop, length, sym, ap, ◌∙◌, true, arith}
 use Rattle.wy_rules.specs.Canonical.{both, same_type}
 use Rattle.wy_proving.specs.Reading.{same_types}
 use Rattle.wy_recheck.specs.Nodes.{reading_of, lists_of}
@@ -26,7 +26,7 @@ loop-i-preserved c =
     let zs = c.args.right.now in
     let below : i < length zs = omega (arith, c.loop-i-test.true, c.if-left-right.false) in
     let rest = same_types (reading_of r) same_type (lists_of r) (drop (i + 1) xs) (drop (i + 1) zs) in
-    let yes : c.same.result ≡ true = search rules in
+    let yes : c.same.result ≡ true = c.if-not-same.false in
     c.loop-i.invariant ∙ next_same (reading_of r) same_type (lists_of r) xs zs i c.index-left-i.result c.index-right-i.result c.loop-i-test.true below c.index-left-i.is c.index-right-i.is ∙ ap (λ b. both b rest) (sym c.same.ensures ∙ yes)
 
 pub returns : goal.returns
