@@ -79,5 +79,7 @@ pub fn run_observing<D: Device, W: Observer>(
             return end;
         }
     }
+    // Let go here by one call: at the end each of its texts would be proved dropped by itself.
+    drop(end);
     RunEnd::Spent
 }
