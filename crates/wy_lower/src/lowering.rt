@@ -163,8 +163,7 @@ fn add_scope(
         arguments,
         start,
         literals,
-    })?;
-    Ok(())
+    })
 }
 
 /// Adds the code of all scopes and of their bodies.
