@@ -97,23 +97,6 @@ fn line_of(ruling: Option<&Ruling<'_>>) -> u32
     }
 }
 
-/// That an instance of this name is denied an atom by this ruling.
-fn denied(
-    alloc: Global,
-    atoms: &[AtomName],
-    ruling: Option<&Ruling<'_>>,
-    name: &Text,
-    atom: Atom,
-) -> Result<Judgement, Memory>
-    ensures { IfOk result (λ j. j ≡ Judgement.Denied (line_of (option_copied ruling.entry)) name.now (slice_index_or atoms.now atom.0 judging.nameless)) }
-{
-    Ok(Judgement::Denied {
-        line: line_of(ruling),
-        instance: name.copy()?,
-        atom: name_of(alloc, atoms, atom)?,
-    })
-}
-
 /// Judges one instance.
 fn judge_instance(
     alloc: Global,
@@ -127,7 +110,11 @@ fn judge_instance(
     let numbers = whole.atoms()?;
     match first_denied(alloc, atoms, ruling, numbers.as_slice()) {
         None => Ok(Judgement::Allowed),
-        Some(atom) => denied(alloc, atoms, ruling, &instance.name, atom),
+        Some(atom) => Ok(Judgement::Denied {
+            line: line_of(ruling),
+            instance: instance.name.copy()?,
+            atom: name_of(alloc, atoms, atom)?,
+        }),
     }
 }
 

@@ -11,14 +11,6 @@ use wy_meaning::Used;
 use wy_text::fault::AtomName;
 use wy_text::text::{Memory, Text, from_vec};
 
-/// Adds one piece.
-fn push(text: &mut Vec<u8>, piece: &[u8]) -> Result<(), Memory>
-    ensures { OnOk result (text.new.items ≡ text.old.items ++ piece.now) }
-{
-    text.extend_from_slice(piece)?;
-    Ok(())
-}
-
 /// Adds the line of an instance.
 fn push_line(
     text: &mut Vec<u8>,
@@ -28,11 +20,12 @@ fn push_line(
 ) -> Result<(), Memory>
     ensures { OnOk result (text.new.items ≡ text.old.items ++ used_line name.now (named_atoms atoms.now set.now)) }
 {
-    push(text, b"used of ")?;
-    push(text, name.as_bytes())?;
-    push(text, b": ")?;
+    text.extend_from_slice(b"used of ")?;
+    text.extend_from_slice(name.as_bytes())?;
+    text.extend_from_slice(b": ")?;
     push_set(text, atoms, set)?;
-    push(text, b"\n")
+    text.extend_from_slice(b"\n")?;
+    Ok(())
 }
 
 /// The lines of what was used of each instance of this authority and of `main`, in the report's order (docs/LANGUAGE.md,
