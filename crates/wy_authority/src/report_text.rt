@@ -28,22 +28,21 @@ pub fn whole_set(alloc: Global, bodies: &[BodyRow]) -> Result<EffSet, Memory>
     Ok(whole)
 }
 
-/// Adds three pieces, one behind the other.
-fn push_three(text: &mut Vec<u8>, first: &[u8], second: &[u8], third: &[u8]) -> Result<(), Memory>
-    ensures { OnOk result (text.new.items ≡ text.old.items ++ (first.now ++ (second.now ++ third.now))) }
-{
-    text.extend_from_slice(first)?;
-    text.extend_from_slice(second)?;
-    text.extend_from_slice(third)?;
-    Ok(())
-}
-
 /// Adds one piece.
 fn push(text: &mut Vec<u8>, piece: &[u8]) -> Result<(), Memory>
     ensures { OnOk result (text.new.items ≡ text.old.items ++ piece.now) }
 {
     text.extend_from_slice(piece)?;
     Ok(())
+}
+
+/// Adds three pieces, one behind the other.
+fn push_three(text: &mut Vec<u8>, first: &[u8], second: &[u8], third: &[u8]) -> Result<(), Memory>
+    ensures { OnOk result (text.new.items ≡ text.old.items ++ (first.now ++ (second.now ++ third.now))) }
+{
+    push(text, first)?;
+    push(text, second)?;
+    push(text, third)
 }
 
 fn push_atom(text: &mut Vec<u8>, atoms: &[AtomName], atom: Atom) -> Result<(), Memory>
@@ -60,7 +59,7 @@ fn push_others(text: &mut Vec<u8>, atoms: &[AtomName], others: &[Atom]) -> Resul
     ensures { OnOk result (text.new.items ≡ text.old.items ++ atoms_after (named_atoms atoms.now (map (λ a. a.0) others.now))) }
 {
     for atom in others {
-        text.extend_from_slice(b", ")?;
+        push(text, b", ")?;
         push_atom(text, atoms, *atom)?;
     }
     Ok(())

@@ -158,8 +158,9 @@ pub fn file_names<R: Files + AllocGlobal + Clone + Drop>(
 ) -> io::Result<BTreeSet<String>>
     ensures { IfOk result HoldsFileNames }
 {
+    let entries = fs::read_dir(rt, folder)?;
     let mut names = BTreeSet::new(rt.alloc());
-    for entry in fs::read_dir(rt, folder)? {
+    for entry in entries {
         put_entry(rt, &mut names, entry)?;
     }
     Ok(names)

@@ -50,3 +50,10 @@ pub mapped_item : {X Y : Type 0} (f : X → Y) (xs : List X) (i : ℕ) (x : X) (
 mapped_item f [] i x y e lt at = absurd (omega arith)
 mapped_item f (z ∷ zs) zero x y e lt at = (let h : f z ≡ y = cc in sym h ∙ ap f (sym at))
 mapped_item f (z ∷ zs) (suc i) x y e lt at = mapped_item f zs i x y e (omega arith) at
+
+-- one item more that is the default
+pub default_more : {X : Type 0} (xs : List X) (d : X) (i : ℕ) → get_or xs i d ≡ d → get_or (xs ++ d ∷ []) i d ≡ d
+default_more [] d zero e = refl
+default_more [] d (suc i) e = refl
+default_more (x ∷ xs) d zero e = e
+default_more (x ∷ xs) d (suc i) e = default_more xs d i e

@@ -37,10 +37,10 @@ code_with g m t b s i x = record { grants = g; methods = m; texts = t; bodies = 
 
 pub lowered_is : (p q : Program) (starts st : Starts) (g : List Grant) (m t : List (List ℕ)) (b : List Body) (s : List c.Scope) (i : List Instance) (x : Instance) → q ≡ p → st ≡ starts →
     g ≡ grants_code (scope_names (slice_get p.scopes (last_scope p.scopes))) → m ≡ method_table q → t ≡ text_table q → b ≡ scopes_bodies q st q.scopes → s ≡ scopes_code q st 0 q.scopes →
-    i ≡ map instance_code starts.instances → x ≡ main_code starts.main.name starts.main.scope →
+    x ≡ main_code starts.main.name starts.main.scope → i ≡ map instance_code starts.instances →
     record { grants = g; methods = m; texts = t; bodies = b; scopes = s; instances = i; main = x } ≡ lowered p starts
 unfolding lowered code_with
-lowered_is p q starts st g m t b s i x same order eg em et eb es ei ex =
+lowered_is p q starts st g m t b s i x same order eg em et eb es ex ei =
     let grants = grants_code (scope_names (slice_get p.scopes (last_scope p.scopes))) in
     let bodies = eb ∙ ap₂ (λ (y : Program) z. scopes_bodies y z y.scopes) same order in
     let scopes = es ∙ ap₂ (λ (y : Program) z. scopes_code y z 0 y.scopes) same order in

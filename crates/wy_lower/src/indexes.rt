@@ -62,15 +62,15 @@ pub(crate) fn number_in(table: &IndexSet<Text>, text: &Text) -> Result<u32, Memo
     word(place_in(table, text))
 }
 
-/// The texts of a table, in order.
-pub(crate) fn texts_of(alloc: Global, table: &IndexSet<Text>) -> Result<Items<Text>, Memory>
-    ensures { IfOk result (λ l. l ≡ table.now.keys) }
+/// Adds the texts of a table, in order.
+pub(crate) fn add_texts(table: &IndexSet<Text>, texts: &mut Items<Text>) -> Result<(), Memory>
+    requires { texts.old ≡ [] }
+    ensures { OnOk result (texts.new ≡ table.now.keys) }
 {
-    let mut texts = Items::new(alloc);
     for text in table.as_slice() {
         texts.push(text.copy()?)?;
     }
-    Ok(texts)
+    Ok(())
 }
 
 // ----------------------------------------------------------------------------
@@ -195,6 +195,16 @@ impl Model for Captures {
 }
 
 impl Captures {
+    /// No variables. It takes no memory.
+    pub(crate) fn none(alloc: Global) -> Captures
+        ensures { result ≡ [] }
+    {
+        Captures {
+            variables: Vec::new(alloc),
+            places: IndexMap::new(alloc),
+        }
+    }
+
     /// These variables.
     pub(crate) fn new(alloc: Global, captured: &[Variable]) -> Result<Captures, Memory>
         ensures { IfOk result (λ c. c ≡ captured.now) }

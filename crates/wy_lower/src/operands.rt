@@ -38,13 +38,13 @@ fn operands(expr: &Expr) -> Result<usize, Memory>
         Expr::Unit(_) => Ok(1),
         Expr::This(_) => Ok(1),
         Expr::Name(_, _) => Ok(1),
-        Expr::Unary(_, _, x) => Ok(operands(x)?),
+        Expr::Unary(_, _, x) => operands(x),
         Expr::Binary(_, operator, x, y) => {
             let first = operands(x)?;
             let second = operands(y)?;
-            Ok(two_operands(*operator, first, second)?)
+            two_operands(*operator, first, second)
         }
-        Expr::TextCall(_, _, values) => Ok(values_operands(values)?),
+        Expr::TextCall(_, _, values) => values_operands(values),
         Expr::Call(_, receiver, _, values) => {
             let first = operands(receiver)?;
             let others = values_operands(values)?;
@@ -54,8 +54,8 @@ fn operands(expr: &Expr) -> Result<usize, Memory>
             let initial = values_operands(values)?;
             Ok(greater(1, initial))
         }
-        Expr::Ascribe(_, value, _) => Ok(value_operands(value)?),
-        Expr::Assign(_, _, value) => Ok(value_operands(value)?),
+        Expr::Ascribe(_, value, _) => value_operands(value),
+        Expr::Assign(_, _, value) => value_operands(value),
     }
 }
 
@@ -65,7 +65,7 @@ fn value_operands(value: &Value) -> Result<usize, Memory>
     ensures { IfOk result (λ n. n ≡ value_operands (value_of value.now)) }
 {
     match value {
-        Value::Plain(expr) => Ok(operands(expr)?),
+        Value::Plain(expr) => operands(expr),
         Value::If(_, test, first, second) => {
             let tested = operands(test)?;
             let first = block_operands(first)?;
@@ -107,8 +107,8 @@ fn statement_operands(statement: &Stmt) -> Result<usize, Memory>
     ensures { IfOk result (λ n. n ≡ statement_operands statement.now) }
 {
     match statement {
-        Stmt::Val(_, _, _, value) => Ok(value_operands(value)?),
-        Stmt::Do(value) => Ok(value_operands(value)?),
+        Stmt::Val(_, _, _, value) => value_operands(value),
+        Stmt::Do(value) => value_operands(value),
     }
 }
 

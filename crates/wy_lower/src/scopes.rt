@@ -60,27 +60,31 @@ fn note_makers(makers: &mut Vec<Option<usize>>, makes: &[u32], number: usize)
     }
 }
 
-/// No maker for each of so many literals.
-fn no_makers(alloc: Global, literals: usize) -> Result<Vec<Option<usize>>, Memory>
-    ensures long { IfOk result (λ m. length m.items ≡ literals) }
-    ensures none { IfOk result (λ m. (l : ℕ) → get_or m.items l None ≡ None) }
+/// Adds no maker for each of so many literals.
+fn add_no_makers(makers: &mut Vec<Option<usize>>, literals: usize) -> Result<(), Memory>
+    requires { makers.old.items ≡ [] }
+    ensures long { OnOk result (length makers.new.items ≡ literals) }
+    ensures none { OnOk result ((l : ℕ) → get_or makers.new.items l None ≡ None) }
 {
-    let mut makers = Vec::new(alloc);
     for literal in 0..literals {
         makers.push(None)?;
     }
-    Ok(makers)
+    Ok(())
 }
 
-/// What each literal captures.
-fn captures_of(alloc: Global, literals: &[Literal]) -> Result<Vec<Captures>, Memory>
-    ensures { IfOk result (λ c. c.items ≡ map (λ (l : Literal). l.captures) literals.now) }
+/// Adds what each literal captures.
+fn add_captures(
+    alloc: Global,
+    captures: &mut Vec<Captures>,
+    literals: &[Literal],
+) -> Result<(), Memory>
+    requires { captures.old.items ≡ [] }
+    ensures { OnOk result (captures.new.items ≡ map (λ (l : Literal). l.captures) literals.now) }
 {
-    let mut captures = Vec::new(alloc);
     for literal in literals {
         captures.push(Captures::new(alloc, literal.captures.as_slice())?)?;
     }
-    Ok(captures)
+    Ok(())
 }
 
 /// The `val`s of an `init` or `run`. The texts that it writes out and the names of the methods that it calls are put into their
@@ -116,25 +120,54 @@ fn body_vals(
     Vals::new(alloc, found.vals)
 }
 
-/// The `val`s of each method. The literals that they make have these makers, and the texts that they write out and the names
+/// Adds the `val`s of each method. The literals that they make have these makers, and the texts that they write out and the names
 /// of the methods that they call are put into their tables.
-fn bodies_of(
+fn add_bodies(
     alloc: Global,
     names: &mut Names,
     makers: &mut Vec<Option<usize>>,
+    all: &mut Vec<Vals>,
     bodies: &[Body],
-) -> Result<Vec<Vals>, Memory>
+) -> Result<(), Memory>
+    requires { all.old.items ≡ [] }
     ensures texts { OnOk result (names.new.texts.keys ≡ each_once_after names.old.texts.keys (texts_in (bodies_parts (map body_of bodies.now)))) }
     ensures methods { OnOk result (names.new.methods.keys ≡ each_once_after names.old.methods.keys (calls_in (bodies_parts (map body_of bodies.now)))) }
-    ensures vals { IfOk result (λ v. v.items ≡ bodies_vals (map body_of bodies.now)) }
+    ensures vals { OnOk result (all.new.items ≡ bodies_vals (map body_of bodies.now)) }
     ensures long { length makers.new.items ≡ length makers.old.items }
     ensures makers { OnOk result ((l : ℕ) → l < length makers.old.items → get_or makers.old.items l None ≡ None → get_or makers.new.items l None ≡ maker_of l (map body_of bodies.now)) }
 {
-    let mut all = Vec::new(alloc);
     for k in 0..bodies.len() {
         all.push(body_vals(alloc, names, makers, &bodies[k], k)?)?;
     }
-    Ok(all)
+    Ok(())
+}
+
+/// Adds what is known of a scope, and gives the `val`s of its `init` or `run`. The texts that it writes out and the names of the
+/// methods that it calls are put into their tables.
+fn fill_scope(
+    alloc: Global,
+    names: &mut Names,
+    scope: &Scope,
+    captures: &mut Vec<Captures>,
+    makers: &mut Vec<Option<usize>>,
+    bodies: &mut Vec<Vals>,
+) -> Result<Vals, Memory>
+    requires captures { captures.old.items ≡ [] }
+    requires makers { makers.old.items ≡ [] }
+    requires bodies { bodies.old.items ≡ [] }
+    ensures texts { OnOk result (names.new.texts.keys ≡ each_once_after names.old.texts.keys (texts_in (scope_parts (scope_of scope.now)))) }
+    ensures methods { OnOk result (names.new.methods.keys ≡ each_once_after names.old.methods.keys (calls_in (scope_parts (scope_of scope.now)))) }
+    ensures start { IfOk result (λ v. v ≡ start_vals (scope_of scope.now).start) }
+    ensures bodies { OnOk result (bodies.new.items ≡ bodies_vals (scope_of scope.now).bodies) }
+    ensures captures { OnOk result (captures.new.items ≡ map (λ (l : Literal). l.captures) (scope_of scope.now).literals) }
+    ensures long { OnOk result (length makers.new.items ≡ length (scope_of scope.now).literals) }
+    ensures makers { OnOk result ((l : ℕ) → l < length (scope_of scope.now).literals → get_or makers.new.items l None ≡ maker_of l (scope_of scope.now).bodies) }
+{
+    add_captures(alloc, captures, scope.literals.as_slice())?;
+    add_no_makers(makers, scope.literals.len())?;
+    let start = start_vals(alloc, names, &scope.start)?;
+    add_bodies(alloc, names, makers, bodies, scope.bodies.as_slice())?;
+    Ok(start)
 }
 
 /// What is known of a scope. The texts that it writes out and the names of the methods that it calls are put into their
@@ -144,34 +177,34 @@ fn tables_of(alloc: Global, names: &mut Names, scope: &Scope) -> Result<Tables, 
     ensures methods { OnOk result (names.new.methods.keys ≡ each_once_after names.old.methods.keys (calls_in (scope_parts (scope_of scope.now)))) }
     ensures tables { IfOk result (λ t. IsTabled (scope_of scope.now) t) }
 {
-    let captures = captures_of(alloc, scope.literals.as_slice())?;
-    let mut makers = no_makers(alloc, scope.literals.len())?;
-    let start = start_vals(alloc, names, &scope.start)?;
-    let bodies = bodies_of(alloc, names, &mut makers, scope.bodies.as_slice())?;
-    let nothing = Captures::new(alloc, &[])?;
+    let mut captures = Vec::new(alloc);
+    let mut makers = Vec::new(alloc);
+    let mut bodies = Vec::new(alloc);
+    let start = fill_scope(alloc, names, scope, &mut captures, &mut makers, &mut bodies)?;
     Ok(Tables {
         start,
         bodies,
         captures,
         makers,
-        nothing,
+        nothing: Captures::none(alloc),
     })
 }
 
-/// What is known of each scope. The texts that they write out and the names of the methods that they call are put into
+/// Adds what is known of each scope. The texts that they write out and the names of the methods that they call are put into
 /// their tables.
 pub(crate) fn tables_of_scopes(
     alloc: Global,
     names: &mut Names,
     scopes: &[Scope],
-) -> Result<Vec<Tables>, Memory>
+    all: &mut Vec<Tables>,
+) -> Result<(), Memory>
+    requires { all.old.items ≡ [] }
     ensures texts { OnOk result (names.new.texts.keys ≡ each_once_after names.old.texts.keys (texts_in (scopes_parts (map scope_of scopes.now)))) }
     ensures methods { OnOk result (names.new.methods.keys ≡ each_once_after names.old.methods.keys (calls_in (scopes_parts (map scope_of scopes.now)))) }
-    ensures tables { IfOk result (λ t. AreTabled (map scope_of scopes.now) t.items) }
+    ensures tables { OnOk result (AreTabled (map scope_of scopes.now) all.new.items) }
 {
-    let mut all = Vec::new(alloc);
     for scope in scopes {
         all.push(tables_of(alloc, names, scope)?)?;
     }
-    Ok(all)
+    Ok(())
 }

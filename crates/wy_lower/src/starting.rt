@@ -1,6 +1,6 @@
 //! The start list of a program as the code has it: what the program's own names stand for, its grants and its instances.
 
-ghost use Rattle.std.specs.Prelude.{◌≡◌, ◌++◌, ◌∷◌, [], List, ℕ, map, bytes_eq, Some, IfOk, OnOk};
+ghost use Rattle.std.specs.Prelude.{◌≡◌, ◌++◌, ◌∷◌, [], List, ℕ, codes, map, bytes_eq, Some, IfOk, OnOk};
 ghost use Rattle.std.specs.List.{position_from};
 ghost use Rattle.indexmap.specs.IndexMap.{get};
 ghost use Rattle.wy_types.specs.declared.linked.Instance as linked;
@@ -44,16 +44,38 @@ fn short(number: usize) -> Result<u16, Memory>
     }
 }
 
-/// The number of the instance of a name.
-fn instance_number(
+/// The grant of a number.
+fn granted(number: usize) -> Result<Actual, Memory>
+    ensures { IfOk result (λ a. a ≡ Actual.Grant number) }
+{
+    Ok(Actual::Grant(short(number)?))
+}
+
+/// The instance of a name.
+fn instance_named(
     instances: &Linked,
     numbers: &IndexMap<Text, usize>,
     name: &Text,
-) -> Result<u16, Memory>
+) -> Result<Actual, Memory>
     requires { (x : List ℕ) → get bytes_eq numbers.now x ≡ position_from (λ (s : linked.Instance). bytes_eq s.name x) 0 instances.now }
-    ensures { IfOk result (λ n. n ≡ numbered_from 0 name.now (map started_of instances.now)) }
+    ensures { IfOk result (λ a. a ≡ Actual.Instance (numbered_from 0 name.now (map started_of instances.now))) }
 {
-    short(numbers.get(name).copied().unwrap_or(instances.len()))
+    let number = numbers.get(name).copied().unwrap_or(instances.len());
+    Ok(Actual::Instance(short(number)?))
+}
+
+/// The instance of a pure module of this name.
+fn pure_named(
+    alloc: Global,
+    instances: &Linked,
+    numbers: &IndexMap<Text, usize>,
+    name: &Text,
+) -> Result<Actual, Memory>
+    requires { (x : List ℕ) → get bytes_eq numbers.now x ≡ position_from (λ (s : linked.Instance). bytes_eq s.name x) 0 instances.now }
+    ensures { IfOk result (λ a. a ≡ Actual.Instance (numbered_from 0 (codes "pure " ++ name.now) (map started_of instances.now))) }
+{
+    let name = from_bytes(alloc, b"pure ")?.joined(name)?;
+    instance_named(instances, numbers, &name)
 }
 
 /// What an own name of the program stands for.
@@ -68,51 +90,51 @@ fn main_actual(
     ensures { IfOk result (λ a. a ≡ main_actual (map started_of instances.now) number own.now.name own.now.origin) }
 {
     match &own.origin {
-        Origin::Parameter { bare: _ } => Ok(Actual::Grant(short(number)?)),
-        Origin::Grant => Ok(Actual::Grant(short(number)?)),
-        Origin::Use { module: _ } => {
-            let name = from_bytes(alloc, b"pure ")?.joined(&own.name)?;
-            Ok(Actual::Instance(instance_number(instances, numbers, &name)?))
-        }
+        Origin::Parameter { bare: _ } => granted(number),
+        Origin::Grant => granted(number),
+        Origin::Use { module: _ } => pure_named(alloc, instances, numbers, &own.name),
         Origin::Instance {
             module: _,
             arguments: _,
-        } => Ok(Actual::Instance(instance_number(instances, numbers, &own.name)?)),
+        } => instance_named(instances, numbers, &own.name),
         Origin::Import {
             module: _,
             arguments: _,
             bound: _,
-        } => Ok(Actual::Instance(instance_number(instances, numbers, &own.name)?)),
+        } => instance_named(instances, numbers, &own.name),
     }
 }
 
-/// What the own names of the program stand for, whose instances have these numbers.
+/// Adds what the own names of the program stand for, whose instances have these numbers.
 fn actuals_with(
     alloc: Global,
     instances: &Linked,
     numbers: &IndexMap<Text, usize>,
     names: &[OwnName],
-) -> Result<Vec<Actual>, Memory>
-    requires { (x : List ℕ) → get bytes_eq numbers.now x ≡ position_from (λ (s : linked.Instance). bytes_eq s.name x) 0 instances.now }
-    ensures { IfOk result (λ a. a.items ≡ main_actuals (map started_of instances.now) 0 names.now) }
+    actuals: &mut Vec<Actual>,
+) -> Result<(), Memory>
+    requires numbers { (x : List ℕ) → get bytes_eq numbers.now x ≡ position_from (λ (s : linked.Instance). bytes_eq s.name x) 0 instances.now }
+    requires actuals { actuals.old.items ≡ [] }
+    ensures { OnOk result (actuals.new.items ≡ main_actuals (map started_of instances.now) 0 names.now) }
 {
-    let mut actuals = Vec::new(alloc);
     for k in 0..names.len() {
         actuals.push(main_actual(alloc, instances, numbers, k, &names[k])?)?;
     }
-    Ok(actuals)
+    Ok(())
 }
 
-/// What the own names of the program stand for.
+/// Adds what the own names of the program stand for.
 pub(crate) fn main_actuals(
     alloc: Global,
     instances: &Linked,
     names: &[OwnName],
-) -> Result<Vec<Actual>, Memory>
-    ensures { IfOk result (λ a. a.items ≡ main_actuals (map started_of instances.now) 0 names.now) }
+    actuals: &mut Vec<Actual>,
+) -> Result<(), Memory>
+    requires { actuals.old.items ≡ [] }
+    ensures { OnOk result (actuals.new.items ≡ main_actuals (map started_of instances.now) 0 names.now) }
 {
     let numbers = instance_numbers(alloc, instances)?;
-    actuals_with(alloc, instances, &numbers, names)
+    actuals_with(alloc, instances, &numbers, names, actuals)
 }
 
 // ----------------------------------------------------------------------------
@@ -157,15 +179,15 @@ fn add_grant(grants: &mut Items<Grant>, own: &OwnName) -> Result<(), Memory>
     Ok(())
 }
 
-/// The grants among the program's own names.
-pub(crate) fn grants_code(alloc: Global, names: &[OwnName]) -> Result<Items<Grant>, Memory>
-    ensures { IfOk result (λ g. g ≡ grants_code names.now) }
+/// Adds the grants among the program's own names.
+pub(crate) fn put_grants(names: &[OwnName], grants: &mut Items<Grant>) -> Result<(), Memory>
+    requires { grants.old ≡ [] }
+    ensures { OnOk result (grants.new ≡ grants_code names.now) }
 {
-    let mut grants = Items::new(alloc);
     for own in names {
-        add_grant(&mut grants, own)?;
+        add_grant(grants, own)?;
     }
-    Ok(grants)
+    Ok(())
 }
 
 // ----------------------------------------------------------------------------
@@ -194,32 +216,37 @@ fn arguments_of(alloc: Global, actuals: &[Actual]) -> Result<Items<Argument>, Me
 /// An instance of a scope.
 pub(crate) fn instance_code(
     alloc: Global,
-    name: Text,
+    name: &[u8],
     scope: usize,
     actuals: &[Actual],
 ) -> Result<Instance, Memory>
-    ensures { IfOk result (λ i. i ≡ instance_code (record { name = name; scope = scope; actuals = actuals.now })) }
+    ensures { IfOk result (λ i. i ≡ instance_code (record { name = name.now; scope = scope; actuals = actuals.now })) }
 {
+    let scope = word(scope)?;
+    let arguments = arguments_of(alloc, actuals)?;
     Ok(Instance {
-        name,
-        scope: word(scope)?,
-        arguments: arguments_of(alloc, actuals)?,
+        name: from_bytes(alloc, name)?,
+        scope,
+        arguments,
     })
 }
 
-/// The instances, in start order.
-pub(crate) fn instances_code(alloc: Global, instances: &Linked) -> Result<Items<Instance>, Memory>
-    ensures { IfOk result (λ l. l ≡ map instance_code (map started_of instances.now)) }
+/// Adds the instances, in start order.
+pub(crate) fn add_instances(
+    alloc: Global,
+    instances: &Linked,
+    all: &mut Items<Instance>,
+) -> Result<(), Memory>
+    requires { all.old ≡ [] }
+    ensures { OnOk result (all.new ≡ map instance_code (map started_of instances.now)) }
 {
-    let mut all = Items::new(alloc);
     for instance in instances.as_slice() {
-        let name = instance.name.copy()?;
         all.push(instance_code(
             alloc,
-            name,
+            instance.name.as_bytes(),
             usize::from(instance.scope),
             instance.arguments.as_slice(),
         )?)?;
     }
-    Ok(all)
+    Ok(())
 }

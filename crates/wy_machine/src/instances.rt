@@ -49,11 +49,14 @@ fn fields_of(code: &Code, instance: &Instance) -> u32
 fn first_object(
     alloc: Global,
     code: &Code,
-    number: u32,
+    number: usize,
     instance: &Instance,
 ) -> Result<Object, Memory>
     ensures { IfOk result (λ object. object ≡ object_at_first code.now number instance.now) }
 {
+    let Ok(number) = u32::try_from(number) else {
+        return Err(Memory);
+    };
     let mut values = words_handed(alloc, instance.arguments.as_slice())?;
     let len = values.len() + fields_of(code, instance) as usize;
     values.resize(len, Word::new(WordKind::Unit))?;
@@ -66,10 +69,7 @@ pub fn first_objects(alloc: Global, code: &Code) -> Result<Vec<Object>, Memory>
 {
     let mut objects = Vec::new(alloc);
     for (number, instance) in code.instances.as_slice().iter().enumerate() {
-        match u32::try_from(number) {
-            Ok(number) => objects.push(first_object(alloc, code, number, instance)?)?,
-            Err(_) => return Err(Memory),
-        }
+        objects.push(first_object(alloc, code, number, instance)?)?;
     }
     Ok(objects)
 }

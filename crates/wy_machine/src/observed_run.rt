@@ -12,6 +12,7 @@ ghost use Rattle.wy_machine.specs.Steps.{starting, outcome, IsNotStuck, IsStep};
 use crate::devices::Devices;
 use crate::machine::Machine;
 use crate::observing::Observer;
+use crate::outcome::went_on;
 use crate::run_end::RunEnd;
 use crate::starting::begin;
 use crate::step::step;
@@ -44,12 +45,10 @@ fn start_or_end<W: Observer>(
     ensures limits { machine.new.stack.limits ≡ machine.old.stack.limits }
     ensures first { machine.new.store.first ≡ machine.old.store.first }
 {
-    match start(code, machine) {
-        Ok(()) => observer.entered(code, machine.stack.instance(), machine.stack.body(), end),
-        Err(stop) => {
-            *end = stop;
-            false
-        }
+    if went_on(start(code, machine), end) {
+        observer.entered(code, machine.stack.instance(), machine.stack.body(), end)
+    } else {
+        false
     }
 }
 
@@ -79,5 +78,7 @@ pub fn run_observing<D: Device, W: Observer>(
             return end;
         }
     }
+    // Let go here by one call: at the end each of its texts would be proved dropped by itself.
+    drop(end);
     RunEnd::Spent
 }

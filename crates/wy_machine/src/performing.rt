@@ -100,6 +100,7 @@ fn tell_and_fail<W: Observer>(grant: Text, op: &Op, observer: &mut W) -> Result<
 {
     let mut end = RunEnd::Spent;
     if observer.performed(&grant, op, None, &mut end) {
+        drop(end);
         Err(RunEnd::DeviceFailed {
             grant,
             op: op.name(),

@@ -147,6 +147,7 @@ fn finish_or_end<W: Observer>(
     let instance = machine.stack.instance();
     let own = finish(code, machine, *place);
     if !observer.left(instance, end) {
+        drop(own);
         return false;
     }
     match own {

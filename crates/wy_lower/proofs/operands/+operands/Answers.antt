@@ -1,5 +1,6 @@
 use Rattle.std.proofs.Common.{rules, ◌≡◌, ◌<◌, ◌≤◌, ◌+◌, ℕ, suc, max, length, refl, sym, ap, ap₂, ◌∙◌, arith}
 use Rattle.std.proofs.lemmas.Option.{slice_get_read}
+use Rattle.std.proofs.lemmas.Result.{IfOk-weaker}
 use Rattle.wy_types.specs.View.{expr_of, value_of, values_of}
 use Rattle.wy_types.proofs.Rows.{expr_text_call, expr_call, expr_new, value_if}
 use Rattle.wy_lower.specs.Operands.{two_operands, operands, value_operands, values_operands}
@@ -31,22 +32,23 @@ pub operands-returns-in-Name : goal.operands-returns-in-Name
 unfolding operands
 operands-returns-in-Name t c = sym (ap (λ e. operands (expr_of e)) c.in-Name.is)
 
-pub operands-returns-in_ok-operands-in-Unary : goal.operands-returns-in_ok-operands-in-Unary
+pub operands-returns-in-Unary : goal.operands-returns-in-Unary
 unfolding operands
-operands-returns-in_ok-operands-in-Unary t c = c.in_ok-operands-in-Unary.ensures ∙ ap (λ e. operands (expr_of e)) c.deref.ensures ∙ sym (ap (λ e. operands (expr_of e)) c.in-Unary.is)
+operands-returns-in-Unary t c =
+    IfOk-weaker c.operands.result _ _ (λ n h. h ∙ ap (λ e. operands (expr_of e)) c.deref.ensures ∙ sym (ap (λ e. operands (expr_of e)) c.in-Unary.is)) c.operands.ensures
 
-pub operands-returns-in_ok-two_operands-in-Binary : goal.operands-returns-in_ok-two_operands-in-Binary
+pub operands-returns-in_ok-second-in-Binary : goal.operands-returns-in_ok-second-in-Binary
 unfolding operands
-operands-returns-in_ok-two_operands-in-Binary t c =
+operands-returns-in_ok-second-in-Binary t c =
     let first = c.in_ok-first-in-Binary.ensures ∙ ap (λ e. operands (expr_of e)) c.deref-in-Binary.ensures in
     let second = c.in_ok-second-in-Binary.ensures ∙ ap (λ e. operands (expr_of e)) c.deref-in-Binary-2.ensures in
-    c.in_ok-two_operands-in-Binary.ensures ∙ ap₂ (two_operands c.in-Binary.operator) first second ∙ sym (ap (λ e. operands (expr_of e)) c.in-Binary.is)
+    IfOk-weaker c.two_operands.result _ _ (λ n h. h ∙ ap₂ (two_operands c.in-Binary.operator) first second ∙ sym (ap (λ e. operands (expr_of e)) c.in-Binary.is)) c.two_operands.ensures
 
-pub operands-returns-in_ok-values_operands-in-TextCall : goal.operands-returns-in_ok-values_operands-in-TextCall
+pub operands-returns-in-TextCall : goal.operands-returns-in-TextCall
 unfolding operands
-operands-returns-in_ok-values_operands-in-TextCall t c =
+operands-returns-in-TextCall t c =
     let form = ap expr_of c.in-TextCall.is ∙ expr_text_call c.in-TextCall.field-0 c.in-TextCall.field-1 c.in-TextCall.values in
-    c.in_ok-values_operands-in-TextCall.ensures ∙ sym (ap operands form)
+    IfOk-weaker c.values_operands.result _ _ (λ n h. h ∙ sym (ap operands form)) c.values_operands.ensures
 
 pub operands-returns-in_ok-sum-in-Call : goal.operands-returns-in_ok-sum-in-Call
 unfolding operands
@@ -64,17 +66,19 @@ operands-returns-in_ok-initial-in-New t c =
     let form = ap expr_of c.in-New.is ∙ expr_new c.in-New.field-0 c.in-New.field-1 c.in-New.values in
     c.greater-in-New.ensures ∙ ap (max 1) c.in_ok-initial-in-New.ensures ∙ sym (ap operands form)
 
-pub operands-returns-in_ok-value_operands-in-Ascribe : goal.operands-returns-in_ok-value_operands-in-Ascribe
+pub operands-returns-in-Ascribe : goal.operands-returns-in-Ascribe
 unfolding operands
-operands-returns-in_ok-value_operands-in-Ascribe t c = c.in_ok-value_operands-in-Ascribe.ensures ∙ ap (λ e. value_operands (value_of e)) c.deref-in-Ascribe.ensures ∙ sym (ap (λ e. operands (expr_of e)) c.in-Ascribe.is)
+operands-returns-in-Ascribe t c =
+    IfOk-weaker c.value_operands.result _ _ (λ n h. h ∙ ap (λ e. value_operands (value_of e)) c.deref-in-Ascribe.ensures ∙ sym (ap (λ e. operands (expr_of e)) c.in-Ascribe.is)) c.value_operands.ensures
 
-pub operands-returns-in_ok-value_operands-in-Assign : goal.operands-returns-in_ok-value_operands-in-Assign
+pub operands-returns-in-Assign : goal.operands-returns-in-Assign
 unfolding operands
-operands-returns-in_ok-value_operands-in-Assign t c = c.in_ok-value_operands-in-Assign.ensures ∙ ap (λ e. value_operands (value_of e)) c.deref-in-Assign.ensures ∙ sym (ap (λ e. operands (expr_of e)) c.in-Assign.is)
+operands-returns-in-Assign t c =
+    IfOk-weaker c.value_operands-in-Assign.result _ _ (λ n h. h ∙ ap (λ e. value_operands (value_of e)) c.deref-in-Assign.ensures ∙ sym (ap (λ e. operands (expr_of e)) c.in-Assign.is)) c.value_operands-in-Assign.ensures
 
-pub value_operands-returns-in_ok-operands-in-Plain : goal.value_operands-returns-in_ok-operands-in-Plain
+pub value_operands-returns-in-Plain : goal.value_operands-returns-in-Plain
 unfolding value_operands
-value_operands-returns-in_ok-operands-in-Plain t c = c.in_ok-operands-in-Plain.ensures ∙ sym (ap (λ e. value_operands (value_of e)) c.in-Plain.is)
+value_operands-returns-in-Plain t c = IfOk-weaker c.operands.result _ _ (λ n h. h ∙ sym (ap (λ e. value_operands (value_of e)) c.in-Plain.is)) c.operands.ensures
 
 pub value_operands-returns-in_ok-second-in-If : goal.value_operands-returns-in_ok-second-in-If
 unfolding value_operands

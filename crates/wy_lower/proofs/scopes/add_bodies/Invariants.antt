@@ -2,7 +2,7 @@ use Rattle.std.proofs.Common.{◌≡◌, ◌<◌, ℕ, length, map, take, drop, 
 use Rattle.wy_types.specs.Program.{body_of}
 use Rattle.wy_lower.specs.Parts.{each_once_after, texts_in, calls_in, bodies_parts}
 use Rattle.wy_lower.specs.EmitScopes.{maker_of, bodies_vals}
-use Rattle.wy_lower.proofs.scopes.bodies_of.Given as goal
+use Rattle.wy_lower.proofs.scopes.add_bodies.Given as goal
 
 abbrev pub invariant-loop-k : goal.invariant-loop-k
 invariant-loop-k l = record {

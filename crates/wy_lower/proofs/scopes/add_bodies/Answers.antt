@@ -9,7 +9,7 @@ use Rattle.wy_lower.proofs.EmitLists.{split_at, taken_more}
 use Rattle.wy_lower.proofs.EmitPlaces.{once_append}
 use Rattle.wy_lower.proofs.EmitParts.{texts_append, calls_append}
 use Rattle.wy_lower.proofs.EmitMakers.{noted_is, maker_more}
-use Rattle.wy_lower.proofs.scopes.bodies_of.Goals as goal
+use Rattle.wy_lower.proofs.scopes.add_bodies.Goals as goal
 
 pub loop-k-preserved : goal.loop-k-preserved
 loop-k-preserved c =

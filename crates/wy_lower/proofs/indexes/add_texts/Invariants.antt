@@ -1,5 +1,5 @@
 use Rattle.std.proofs.Common.{◌≡◌, take}
-use Rattle.wy_lower.proofs.indexes.texts_of.Given as goal
+use Rattle.wy_lower.proofs.indexes.add_texts.Given as goal
 
 abbrev pub invariant-loop-text : goal.invariant-loop-text
 invariant-loop-text l = l.texts ≡ take l.text-index l.table.keys

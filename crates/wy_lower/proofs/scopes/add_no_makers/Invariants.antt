@@ -1,5 +1,5 @@
 use Rattle.std.proofs.Common.{◌≡◌, ℕ, length, get_or, None}
-use Rattle.wy_lower.proofs.scopes.no_makers.Given as goal
+use Rattle.wy_lower.proofs.scopes.add_no_makers.Given as goal
 
 abbrev pub invariant-loop-literal : goal.invariant-loop-literal
 invariant-loop-literal l = record {
