@@ -113,27 +113,6 @@ pub(crate) fn read_types(
     Ok(out)
 }
 
-/// A list of the same types.
-pub fn copy_types(alloc: Global, types: &[TypeRef]) -> Result<TypeList, Memory>
-    ensures { IfOk result (λ l. l ≡ types.now) }
-{
-    read_types(alloc, types, Reading::Same)
-}
-
-/// The types with each atom replaced by the set at its number in `by`.
-pub fn substitute_types(alloc: Global, types: &[TypeRef], by: &[EffSet]) -> Result<TypeList, Memory>
-    ensures { IfOk result (λ l. l ≡ map (substituted by.now) types.now) }
-{
-    read_types(alloc, types, Reading::Replaced(by))
-}
-
-/// The types with every declared type at the bound.
-pub fn annotate_types(alloc: Global, types: &[TypeRef], bound: &EffSet) -> Result<TypeList, Memory>
-    ensures { IfOk result (λ l. l ≡ map (annotated bound.now) types.now) }
-{
-    read_types(alloc, types, Reading::Bound(bound))
-}
-
 /// The types with every declared type bare.
 pub fn erase_types(alloc: Global, types: &[TypeRef]) -> Result<TypeList, Memory>
     ensures { IfOk result (λ l. l ≡ map erased types.now) }
