@@ -7,7 +7,7 @@ import sys
 
 from support import TOP, ToolTest
 
-COPIED = ("README.md", "CHANGELOG.md", "LICENSE", "VERSION", "crates.txt", "docs", "editors", "examples", "bench", "dist", "tools")
+COPIED = ("README.md", "CHANGELOG.md", "LICENSE", "VERSION", "crates.txt", "docs", "editors", "examples", "bench", "dist", "tools", "tests")
 SOURCES = ("wy_text/src/fault.rt", "wy_text/src/limit.rt", "wy_engine/src/last_line.rt", "wy_calls/src/examples_table.rt")
 # Answers each call as the program does that it is compared with: by the report beside the files, or not at all; each policy allows
 # all, but one that allows `main` nothing; and a certificate, which is the first file's text, proves all but where it has a word `lag`.
@@ -73,5 +73,5 @@ class Checks(ToolTest):
         self.write("crates.txt", self.read("crates.txt") + "wy_other:\n")
         status, said = self.check("check_pages")
         self.assertEqual(status, 1)
-        for wanted in ("a link to none.md", "tools/none is not there", "no row for wy_other"):
+        for wanted in ("a link to none.md", "tools/none is not there", "does not name wy_other"):
             self.assertIn(wanted, said)
