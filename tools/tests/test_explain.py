@@ -26,7 +26,7 @@ class Explain(ToolTest):
         self.assertEqual((ran.returncode, ran.stdout, ran.stderr), (0, "accepted\n", ""))
 
     def test_limits_and_other_last_lines_have_their_paragraphs(self):
-        self.assertIn("file words", self.tool("explain", "check", *["x.wy"] * 65).stderr)
+        self.assertIn("file arguments", self.tool("explain", "check", *["x.wy"] * 65).stderr)
         self.assertIn("is not there", self.tool("explain", "check", "none.wy").stderr)
         self.assertIn("no command line", self.tool("explain", "nothing").stderr)
         self.write("x.wy", HELLO)
