@@ -26,8 +26,8 @@ class Explain(ToolTest):
         self.assertEqual((ran.returncode, ran.stdout, ran.stderr), (0, "accepted\n", ""))
 
     def test_limits_and_other_last_lines_have_their_paragraphs(self):
-        self.assertIn("file words", self.tool("explain", "check", *["x.wy"] * 65).stderr)
-        self.assertIn("is not there", self.tool("explain", "check", "none.wy").stderr)
-        self.assertIn("no command line", self.tool("explain", "nothing").stderr)
+        self.assertIn("file arguments", self.tool("explain", "check", *["x.wy"] * 65).stderr)
+        self.assertIn("does not exist", self.tool("explain", "check", "none.wy").stderr)
+        self.assertIn("command line is invalid", self.tool("explain", "nothing").stderr)
         self.write("x.wy", HELLO)
-        self.assertIn("is no certificate", self.tool("explain", "recheck", "x.wy", "x.wy").stderr)
+        self.assertIn("is not a certificate", self.tool("explain", "recheck", "x.wy", "x.wy").stderr)
