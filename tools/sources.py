@@ -16,6 +16,19 @@ PRIMITIVE = {
     "Random": ("Draw",),
     "FullFolder": ("Read", "Write", "Append", "List", "Remove"),
 }
+PRIMITIVE_METHODS = {
+    "Console": ("read(): {In} String", "write(t: String): {Out} Unit"),
+    "Folder": (
+        "read(n: String): {Read} String",
+        "has(n: String): {Read} Bool",
+        "write(n: String, t: String): {Write} Unit",
+        "append(n: String, t: String): {Append} Unit",
+        "names(): {List} String",
+    ),
+    "Clock": ("now(): {Tick} Int",),
+    "Random": ("word(): {Draw} Int",),
+    "FullFolder": ("remove(n: String): {Remove} Unit",),
+}
 # Spaces and comments, texts, numbers and symbols.
 OTHER = re.compile(r'[ \t\r]+|//.*|"(?:[^"\\]|\\.)*"?|\d+|==|!=|<=|>=|\+\+|&&|\|\||.')
 
@@ -83,8 +96,12 @@ class Item:
     def find(self, name):
         return next((it for it in self.names if it.name == name), None)
 
+    def members(self):
+        """Returns the names of the effect members of a type, or of the definitions of a module."""
+        return [it[1].text for it in self.lines if it[0].text == "effect" and len(it) > 1]
+
     def text(self):
-        return f"{self.kind} {self.name}".strip()
+        return "the program" if self.kind == "program" else f"{self.kind} {self.name}"
 
 
 def text_of(name):
