@@ -637,17 +637,21 @@ def notes_at(call, file, line, column):
     return of_line(call, file, line) if OF_ARGUMENTS.fullmatch(heading) else []
 
 
-def told_of(words, status, last):
-    """Returns the lines that explain the last line of a call: an excerpt, notes, and the paragraph of docs/MESSAGES.md."""
-    call = Call(words, status, last)
-    shown, notes = [], []
+def notes_of(call):
+    """Returns an excerpt of the file that a last line names, and what the files say of it."""
     if call.place:
         file, line, column = call.place[1], int(call.place[2]), int(call.place[3])
         shown = excerpt(file, line, column)
-        notes = notes_at(call, file, line, column) if shown else []
-    elif call.heading == "usage":
-        notes = of_usage(call)
-    elif call.heading in ("denied", "bad policy", "unproved"):
-        shown, notes = {"denied": of_denied, "bad policy": of_bad_policy, "unproved": of_unproved}[call.heading](call)
+        return shown, notes_at(call, file, line, column) if shown else []
+    if call.heading == "usage":
+        return [], of_usage(call)
+    of = {"denied": of_denied, "bad policy": of_bad_policy, "unproved": of_unproved}.get(call.heading)
+    return of(call) if of else ([], [])
+
+
+def told_of(words, status, last):
+    """Returns the lines that explain the last line of a call: an excerpt, notes, and the paragraph of docs/MESSAGES.md."""
+    call = Call(words, status, last)
+    shown, notes = notes_of(call)
     said = paragraph(call.heading)
     return [*shown, *notes, *(["", said] if said else [])]
