@@ -5,7 +5,7 @@ import re
 import struct
 
 from project import page
-from sources import PRIMITIVE, PRIMITIVE_METHODS, RESERVED, bytes_before, closing, end_of_name, items_of, joined, split, text_of, words_of_line
+from sources import PRIMITIVE, PRIMITIVE_METHODS, RESERVED, closing, end_of_name, items_of, joined, split, text_of, words_of_line
 
 COMMANDS = {
     "check": "FILE...: accepts the program, or names the first place that breaks a rule",
@@ -117,8 +117,8 @@ def shown_text(text):
 
 def parts_at(line, column):
     """Returns what a line has before the byte of a column, and from it on."""
-    at = next((it for it in range(len(line)) if bytes_before(line, it) >= column - 1), len(line))
-    return line[:at], line[at:]
+    before = line.encode("utf-8", "surrogateescape")[: column - 1].decode("utf-8", "surrogateescape")
+    return before, line[len(before) :]
 
 
 def place_of(it):
@@ -128,6 +128,8 @@ def place_of(it):
 # ----------------------------------------------------------------------------
 # Syntax
 
+# (the patterns of causes are not for longer lines)
+LONGEST_HINTED = 2000
 NAMING = re.compile(r"(?:\b(?:def|val|var|type|module|instance|import|grant|effect|use)|[(,])\s*$")
 ORDER = (
     "in a module the order is `use`, `instance` and `import`, `effect`, `init`, then fields and methods; "
@@ -221,6 +223,10 @@ def in_line(word, before, rest, is_plain):
         return "`new` stands alone on the right of `=` or on a line of its own: name the object by a `val` first"
     if word == ":" and re.search(r"\b(if|else|then|program)\b", before):
         return "no colon stands here: a block begins with the next, deeper line"
+    if word in (")", "]", "}") and before.count(word) >= before.count({")": "(", "]": "[", "}": "{"}[word]):
+        return f"this `{word}` closes nothing that is open"
+    if (word[0].isidentifier() or word[0] in '"0123456789') and re.search(r'[\w)"]\s*$', before):
+        return "an operator, a comma or the end of the line is missing before it"
     return None
 
 
@@ -242,6 +248,8 @@ def at_begin(word, previous, is_dedent, kind):
         return "the line before needs a value, or a block of deeper lines"
     if word in MISSING:
         return MISSING[word]
+    if not kind:
+        return "a file has types, modules and a program, which begin with `type`, `module`, `resource module`, `plain module` or `program`"
     if word in ("def", "val", "var", "new") and re.match(r"\s*(effect|def)\b", previous) and not is_dedent:
         return None
     if is_dedent:
@@ -258,6 +266,8 @@ def hint(text, line, column, kind):
     what = "the end of the file" if is_end else f"`{word}`" if word and not rest.startswith("//") else "the end of the line"
     said = f"{what} cannot follow what comes before it"
     previous = line_before(lines, line)
+    if max(len(before), len(previous)) > LONGEST_HINTED:
+        return [said]
     if before.strip() == "":
         is_dedent = len(before) < len(previous) - len(previous.lstrip(" "))
         cause = at_begin(word, previous, is_dedent, kind) or (in_line(word, "", rest, is_plain) if word else None)

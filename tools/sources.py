@@ -113,8 +113,8 @@ def text_of(name):
         return None
 
 
-def bytes_before(line, at):
-    return len(line[:at].encode("utf-8", "surrogateescape"))
+def byte_length(text):
+    return len(text.encode("utf-8", "surrogateescape"))
 
 
 def end_of_name(line, at):
@@ -125,7 +125,7 @@ def end_of_name(line, at):
 
 def words_of_line(line, number):
     """Returns the words of one line, without comments."""
-    words, at = [], 0
+    words, at, column = [], 0, 1
     while at < len(line):
         if line[at].isidentifier():
             end = end_of_name(line, at)
@@ -133,8 +133,8 @@ def words_of_line(line, number):
             end = OTHER.match(line, at).end()
         text = line[at:end]
         if text.strip() and not text.startswith("//"):
-            words.append(Word(text, number, bytes_before(line, at) + 1, at))
-        at = end
+            words.append(Word(text, number, column, at))
+        at, column = end, column + byte_length(text)
     return words
 
 
