@@ -60,7 +60,7 @@ class Package(ToolTest):
         self.write("x.wy", HELLO.replace("{console.Out}", "{}"))
         ran = self.tool_here("usr/share/wyvern/tools/explain", "check", "x.wy")
         self.assertEqual(ran.returncode, 4)
-        self.assertIn("declared set", ran.stderr)
+        self.assertIn("which does not allow console.Out", ran.stderr)
 
     def test_a_foreign_program(self):
         self.put(self.write("other", "#!/bin/sh\necho foreign\n"))

@@ -22,7 +22,7 @@ class RunApproved(ToolTest):
         self.write("approved", "authority of main: -\n  run: -\n")
         ran = self.tool("run_approved", "approved", "hello.wy")
         self.assertEqual((ran.returncode, ran.stdout), (71, ""))
-        self.assertIn("+ main run: console.Out", ran.stderr)
+        self.assertIn("+ main: console.Out   (run)", ran.stderr)
 
     def test_a_refusal_has_the_name_that_was_given(self):
         self.write("hello.wy", HELLO.replace("{console.Out}", "{}"))
