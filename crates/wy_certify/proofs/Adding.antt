@@ -1,5 +1,5 @@
 -- Steps that are added to a list of the code's own.
-use Rattle.std.proofs.Common.{◌≡◌, List, [], ◌∷◌, ◌++◌, map, ℕ, Bool as Truth, true, false, Some, refl, sym, ap, ◌∙◌, append_assoc}
+use Rattle.std.proofs.Common.{◌≡◌, List, [], ◌∷◌, ◌++◌, map, ℕ, Bool as Truth, true, false, Some, refl, sym, ap, ◌∙◌}
 use Rattle.std.proofs.lemmas.List.{map-append}
 use Rattle.wy_text.specs.declared.fault.Place.{Place}
 use Rattle.wy_types.specs.declared.types.TypeRef.{TypeRef}
@@ -15,11 +15,6 @@ pub added : (xs ys : List own.Step) (x : own.Step) → ys ≡ xs ++ x ∷ [] →
 unfolding steps_of
 added xs ys x e = ap (map step_of) e ∙ map-append step_of xs (x ∷ [])
 
--- there is no step yet
-pub no_steps : steps_of [] ≡ []
-unfolding steps_of
-no_steps = refl
-
 -- no T-Sub where the type is the one that is asked for
 pub sub_same : (q : Place) (k t : TypeRef) (e : List ℕ) → k ≡ t → sub_steps q k t e ≡ []
 unfolding sub_steps
@@ -34,25 +29,18 @@ pub sub_other : (q : Place) (k t : TypeRef) (e : List ℕ) → (k ≡ t → ⊥)
 unfolding sub_steps
 sub_other q k t e differ = other q k t e (same_type k t) differ refl
 
--- four parts, one after the other
-pub four_parts : (old a b d e l m n o : List (Step TypeRef)) → l ≡ old ++ a → m ≡ l ++ b → n ≡ m ++ d → o ≡ n ++ e → o ≡ old ++ (a ++ (b ++ (d ++ e)))
-four_parts old a b d e l m n o f g h i =
-    let grouped : (((old ++ a) ++ b) ++ d) ++ e ≡ old ++ (a ++ (b ++ (d ++ e))) = simp append_assoc in
-    i ∙ ap (λ (v : List (Step TypeRef)). v ++ e) (h ∙ ap (λ (v : List (Step TypeRef)). v ++ d) (g ∙ ap (λ (v : List (Step TypeRef)). v ++ b) f)) ∙ grouped
-
 ------------------------------------------------------------
 -- What comes behind a part, said in other words
 
 -- a node
-pub node_behind : (rule : Rule) (q : Place) (old part : List (Step TypeRef)) {l new whole : List (Step TypeRef)} {n m : ℕ} {t u : TypeRef} {e f : List ℕ} →
-    new ≡ l ++ step rule q n (Some t) e ∷ [] → l ≡ old ++ part → n ≡ m → t ≡ u → e ≡ f → whole ≡ part ++ step rule q m (Some u) f ∷ [] → new ≡ old ++ whole
-node_behind rule q old part {l} {n = n} {m} {t} {u} {e} {f} h at number typ effect is =
-    h ∙ ap (λ v. l ++ step rule q v (Some t) e ∷ []) number ∙ ap (λ v. l ++ step rule q m (Some v) e ∷ []) typ ∙ ap (λ v. l ++ step rule q m (Some u) v ∷ []) effect ∙
-    ap (λ v. v ++ step rule q m (Some u) f ∷ []) at ∙ append_assoc old part (step rule q m (Some u) f ∷ []) ∙ ap (λ v. old ++ v) (sym is)
+pub node_as : (rule : Rule) (q : Place) {part other whole : List (Step TypeRef)} {n m : ℕ} {t u : TypeRef} {e f : List ℕ} →
+    part ≡ other → n ≡ m → t ≡ u → e ≡ f → whole ≡ other ++ step rule q m (Some u) f ∷ [] → part ++ step rule q n (Some t) e ∷ [] ≡ whole
+node_as rule q {part} {other} {n = n} {m} {t} {u} {e} {f} at number typ effect is =
+    ap (λ v. part ++ step rule q v (Some t) e ∷ []) number ∙ ap (λ v. part ++ step rule q m (Some v) e ∷ []) typ ∙ ap (λ v. part ++ step rule q m (Some u) v ∷ []) effect ∙
+    ap (λ v. v ++ step rule q m (Some u) f ∷ []) at ∙ sym is
 
 -- a T-Sub, or none
-pub sub_behind : (old part : List (Step TypeRef)) (u : TypeRef) {l new whole : List (Step TypeRef)} {q r : Place} {k t : TypeRef} {e f : List ℕ} →
-    new ≡ l ++ sub_steps q k u e → l ≡ old ++ part → q ≡ r → k ≡ t → e ≡ f → whole ≡ part ++ sub_steps r t u f → new ≡ old ++ whole
-sub_behind old part u {l} {q = q} {r} {k} {t} {e} {f} h at place typ effect is =
-    h ∙ ap (λ v. l ++ sub_steps v k u e) place ∙ ap (λ v. l ++ sub_steps r v u e) typ ∙ ap (λ v. l ++ sub_steps r t u v) effect ∙
-    ap (λ v. v ++ sub_steps r t u f) at ∙ append_assoc old part (sub_steps r t u f) ∙ ap (λ v. old ++ v) (sym is)
+pub sub_as : (part : List (Step TypeRef)) (u : TypeRef) {whole : List (Step TypeRef)} {q r : Place} {k t : TypeRef} {e f : List ℕ} →
+    q ≡ r → k ≡ t → e ≡ f → whole ≡ part ++ sub_steps r t u f → part ++ sub_steps q k u e ≡ whole
+sub_as part u {q = q} {r} {k} {t} {e} {f} place typ effect is =
+    ap (λ v. part ++ sub_steps v k u e) place ∙ ap (λ v. part ++ sub_steps r v u e) typ ∙ ap (λ v. part ++ sub_steps r t u v) effect ∙ sym is

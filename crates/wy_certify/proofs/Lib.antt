@@ -5,6 +5,7 @@ pub mod Bodies
 pub mod Certificates
 mod ExamplesClosed
 mod ExamplesNumbers
+pub mod Gathering
 pub mod ListsWhole
 pub mod Numbers
 pub mod PairsGrowing

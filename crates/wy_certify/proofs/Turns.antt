@@ -1,9 +1,9 @@
 -- Turns of the loops over values and over statements.
-use Rattle.std.proofs.Common.{◌≡◌, ℕ, ◌+◌, ◌<◌, ◌≤◌, List, [], ◌∷◌, ◌++◌, map, length, get_or, take, drop, refl, sym, ap, subst, ◌∙◌, append_assoc, arith, Some}
+use Rattle.std.proofs.Common.{◌≡◌, ℕ, ◌+◌, ◌<◌, ◌≤◌, List, [], ◌∷◌, ◌++◌, map, length, get_or, take, drop, refl, sym, ap, ◌∙◌, append_assoc, arith, Some}
 use Rattle.std.specs.Prelude.{slice_get}
 use Rattle.std.proofs.lemmas.Option.{slice_get_read}
 use Rattle.wy_subtype.proofs.Places.{slice_get-mapped}
-use Rattle.std.proofs.lemmas.List.{length-map, append-nil, drop_more, drop_all, take_more, take_all, map-append}
+use Rattle.std.proofs.lemmas.List.{append-nil, drop_more, drop_all, take_more, take_all, map-append}
 use Rattle.wy_effects.specs.EffSet.{IsSet, union}
 use Rattle.wy_effects.proofs.Numbers.{union-turn, union-none}
 use Rattle.wy_types.specs.declared.types.TypeRef.{TypeRef}
@@ -114,9 +114,6 @@ module _ (c : Context) where
         n ∙ ap (λ (l : List (List ℕ)). l ++ e ∷ []) h ∙ ap (λ (f : List ℕ). map (stmt_effect c) (take i xs) ++ f ∷ []) is' ∙
         sym (ap (map (stmt_effect c)) (take_at xs i x lt is) ∙ map-append (stmt_effect c) (take i xs) (x ∷ []))
 
-    pub front_end : length xs ≤ i → (old mid : List (Step TypeRef)) → mid ≡ old ++ front_steps c (take i xs) → mid ≡ old ++ front_steps c xs
-    front_end short old mid h = h ∙ ap (λ (l : List st.Stmt). old ++ front_steps c l) (take_all i xs short)
-
     pub effects_end : length xs ≤ i → (es : List (List ℕ)) → es ≡ map (stmt_effect c) (take i xs) → es ≡ map (stmt_effect c) xs
     effects_end short es h = h ∙ ap (map (stmt_effect c)) (take_all i xs short)
 
@@ -146,11 +143,9 @@ module _ (c : Context) where
         sym (ap (λ (l : List st.Stmt). old ++ back_steps c l t f) here)
 
     -- the effect of the statement of a number
-    pub effect_at : (x : st.Stmt) (es : List (List ℕ)) (e : List ℕ) → i < length xs → x ≡ get_or xs i x → es ≡ map (stmt_effect c) xs → e ≡ get_or es i e → e ≡ stmt_effect c x
-    effect_at x es e lt is all read =
+    pub effect_at : (x : st.Stmt) (es : List (List ℕ)) (e : List ℕ) → i < length xs → x ≡ get_or xs i x → es ≡ map (stmt_effect c) xs → slice_get es i ≡ Some e → e ≡ stmt_effect c x
+    effect_at x es e lt is all at =
         let there : slice_get xs i ≡ Some x = slice_get_read xs (length xs) i x refl lt is in
-        let long : i < length es = subst (λ (n : ℕ). i < n) (sym (ap length all ∙ length-map xs (stmt_effect c))) lt in
-        let at : slice_get es i ≡ Some e = slice_get_read es (length es) i e refl long read in
         let mapped : slice_get (map (stmt_effect c) xs) i ≡ Some (stmt_effect c x) = slice_get-mapped (stmt_effect c) xs i x there in
         let same : slice_get es i ≡ slice_get (map (stmt_effect c) xs) i = ap (λ (l : List (List ℕ)). slice_get l i) all in
         let both : Some e ≡ Some (stmt_effect c x) = sym at ∙ same ∙ mapped in

@@ -1,6 +1,7 @@
 pub mod Asking
 pub mod Certificates
 pub mod Closed
+pub mod Gathered
 pub mod Numbering
 pub mod Pair
 pub mod Parts

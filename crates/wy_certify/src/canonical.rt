@@ -1,15 +1,17 @@
 //! The steps of the canonical derivation of a scope: of its start, and of its bodies in their order.
 
-ghost use Rattle.std.specs.Prelude.{◌≡◌, ◌++◌, ◌∷◌, [], IfOk, OnOk, None, Some, map, slice_get};
+ghost use Rattle.std.specs.Prelude.{◌≡◌, ◌∷◌, [], IfOk, None, Some, map, slice_get};
 ghost use Rattle.wy_types.specs.Program.{Scope as ProgramScope, program_of, scope_of, body_of};
 ghost use Rattle.wy_cert.specs.declared.certificate.Rule.TheVariants.{Body as BodyRule};
 ghost use Rattle.wy_proving.specs.Steps.{step};
-ghost use Rattle.wy_certify.specs.Step.{step_of, steps_of};
+ghost use Rattle.wy_certify.specs.Step.{step_of};
+ghost use Rattle.wy_certify.specs.Gathered.{Adds};
 ghost use Rattle.wy_certify.specs.Written.{start_written, body_written, bodies_written};
 ghost use Rattle.wy_certify.specs.Writer.{context_of};
 ghost use Rattle.wy_proving.specs.Written.{written_steps};
 
-use crate::step::{Step, add_step};
+use crate::output::Output;
+use crate::step::Step;
 use crate::writer::Writer;
 use std::alloc::Global;
 use wy_cert::Rule;
@@ -21,52 +23,52 @@ use wy_types::resolved::{Body, Core, Scope, Start};
 use wy_types::types::TypeRef;
 
 /// T-Body, which gives no type and has no effect of its own.
-fn add_body(alloc: Global, out: &mut Items<Step>, place: Place, parts: usize) -> Result<(), Memory>
-    ensures { OnOk result (steps_of out.new ≡ steps_of out.old ++ step BodyRule place parts None [] ∷ []) }
+fn add_body(out: &mut Output, place: Place, parts: usize)
+    ensures { Adds (step BodyRule place parts None [] ∷ []) out.old out.new }
 {
-    add_step(out, Rule::Body, place, parts, None, EffSet::empty(alloc))
+    let none = EffSet::empty(out.alloc());
+    out.add_untyped(Rule::Body, place, parts, none)
 }
 
 impl<'a> Writer<'a> {
     /// What the scope does at its start.
-    fn write_start(&self, out: &mut Items<Step>) -> Result<(), Memory>
+    fn write_start(&self, out: &mut Output)
         requires { self.now.owner ≡ None }
-        ensures { OnOk result (steps_of out.new ≡ steps_of out.old ++ start_written (context_of self.now)) }
+        ensures { Adds (start_written (context_of self.now)) out.old out.new }
     {
         let scope = self.scope;
         match &scope.start {
             Start::Init(values) => {
-                let types = self.field_types(0)?;
-                self.write_values(out, values, types.as_slice())?;
-                add_body(self.alloc, out, scope.start_place, values.len())
+                let types = out.take_types(self.field_types(0));
+                self.write_values(out, values, types.as_slice());
+                add_body(out, scope.start_place, values.len())
             }
             Start::Run(block) => {
-                self.write_block_at(out, block, &TypeRef::Unit)?;
-                add_body(self.alloc, out, scope.start_place, 1)
+                self.write_block_at(out, block, &TypeRef::Unit);
+                add_body(out, scope.start_place, 1)
             }
         }
     }
 
     /// A body of the scope.
-    fn write_body(&self, out: &mut Items<Step>, body: &Body) -> Result<(), Memory>
-        ensures { OnOk result (steps_of out.new ≡ steps_of out.old ++ body_written (context_of self.now) (body_of body.now)) }
+    fn write_body(&self, out: &mut Output, body: &Body)
+        ensures { Adds (body_written (context_of self.now) (body_of body.now)) out.old out.new }
     {
         let writer = Writer {
             owner: Some(body.owner),
             ..*self
         };
-        writer.write_block_at(out, &body.block, &body.signature.result)?;
-        add_body(self.alloc, out, body.place, 1)
+        writer.write_block_at(out, &body.block, &body.signature.result);
+        add_body(out, body.place, 1)
     }
 
     /// Bodies of the scope, in their order.
-    fn write_bodies(&self, out: &mut Items<Step>, bodies: &[Body]) -> Result<(), Memory>
-        ensures { OnOk result (steps_of out.new ≡ steps_of out.old ++ bodies_written (context_of self.now) (map body_of bodies.now)) }
+    fn write_bodies(&self, out: &mut Output, bodies: &[Body])
+        ensures { Adds (bodies_written (context_of self.now) (map body_of bodies.now)) out.old out.new }
     {
         for i in 0..bodies.len() {
-            self.write_body(out, &bodies[i])?;
+            self.write_body(out, &bodies[i]);
         }
-        Ok(())
     }
 }
 
@@ -88,10 +90,10 @@ fn scope_steps(
         locals,
         owner: None,
     };
-    let mut out = Items::new(alloc);
-    writer.write_start(&mut out)?;
-    writer.write_bodies(&mut out, scope.bodies.as_slice())?;
-    Ok(out)
+    let mut out = Output::new(alloc);
+    writer.write_start(&mut out);
+    writer.write_bodies(&mut out, scope.bodies.as_slice());
+    out.into_steps()
 }
 
 /// The steps of the canonical derivation of the scope of a number, where there is one, over these types of its `val`s, parts

@@ -1,19 +1,36 @@
 //! Where a writer of steps stands, and what it looks up there. Where a look-up finds nothing, as in no scope with derivations, it
 //! gives `()`'s type or no types.
 
-ghost use Rattle.std.specs.Prelude.{◌≡◌, IfOk};
+ghost use Rattle.std.specs.Prelude.{◌≡◌, [], IfOk};
+ghost use Rattle.wy_types.specs.declared.types.TypeRef.TheVariants.{Unit as Nothing};
+ghost use Rattle.wy_certify.specs.Gathered.{Writes};
 ghost use Rattle.wy_certify.specs.Written.{this_typ, name_typ, local_typ, var_typ, field_typs, method_at, params_of, effect_of, result_of};
-ghost use Rattle.wy_certify.specs.Writer.{context_of};
+ghost use Rattle.wy_certify.specs.Writer.{IsMethod, context_of};
 
+use crate::output::Output;
 use std::alloc::Global;
 use wy_effects::set::EffSet;
 use wy_premises::{declared_type, field_types, var_field};
 use wy_text::list::Items;
-use wy_text::text::{Memory, Text};
+use wy_text::text::{Memory, Text, from_vec};
 use wy_types::code::{Binding, Variable};
 use wy_types::methods::find_method;
 use wy_types::resolved::{Core, Scope};
 use wy_types::types::{Method, TypeList, TypeRef};
+
+/// A method without a name, parameters and effect that gives `()`. It takes no memory.
+fn no_method(alloc: Global) -> Method
+    ensures params { result.params ≡ [] }
+    ensures effect { result.effect ≡ [] }
+    ensures result { result.result ≡ Nothing }
+{
+    Method {
+        name: from_vec(Vec::new(alloc)),
+        params: Items::new(alloc),
+        effect: EffSet::empty(alloc),
+        result: TypeRef::Unit,
+    }
+}
 
 /// The scope whose steps are written, the types of its `val`s, and the current object.
 #[derive(Drop)]
@@ -85,19 +102,27 @@ impl<'a> Writer<'a> {
 
     /// The method of a name that a type has, or one without parameters and effect that gives `()`.
     #[tactic(auto, unfolding(crate::specs::Writer::context_of, crate::specs::Written::method_at, crate::specs::Written::params_of, crate::specs::Written::effect_of, crate::specs::Written::result_of))]
-    pub fn method_of(&self, typ: &TypeRef, name: &Text) -> Result<Method, Memory>
+    fn method_of(&self, typ: &TypeRef, name: &Text) -> Result<Method, Memory>
         ensures params { IfOk result (λ m. m.params ≡ params_of (context_of self.now) (method_at (context_of self.now) typ.now name.now)) }
         ensures effect { IfOk result (λ m. m.effect ≡ effect_of (context_of self.now) (method_at (context_of self.now) typ.now name.now)) }
         ensures result { IfOk result (λ m. m.result ≡ result_of (context_of self.now) (method_at (context_of self.now) typ.now name.now)) }
     {
         match find_method(self.alloc, self.core, self.number, typ, name)? {
             Some(method) => Ok(method),
-            None => Ok(Method {
-                name: name.copy()?,
-                params: Items::new(self.alloc),
-                effect: EffSet::empty(self.alloc),
-                result: TypeRef::Unit,
-            }),
+            None => Ok(no_method(self.alloc)),
+        }
+    }
+
+    /// .. for steps that are gathered, which remember that memory was wanting for it.
+    pub fn method_for(&self, out: &mut Output, typ: &TypeRef, name: &Text) -> Method
+        ensures { Writes [] (IsMethod (context_of self.now) typ.now name.now result) out.old out.new }
+    {
+        match self.method_of(typ, name) {
+            Ok(method) => method,
+            Err(Memory) => {
+                out.lose();
+                no_method(self.alloc)
+            }
         }
     }
 
