@@ -47,7 +47,8 @@ class Checks(ToolTest):
         self.change("crates/wy_text/src/limit.rt", '"slots"', '"drawers"')
         status, said = self.check("check_messages", "--program", "/bin/true")
         self.assertEqual(status, 1)
-        for wanted in ("no entry: T-Call premise 4", "no entry: limit: drawers", "what no last line names: limit: slots"):
+        again = "Unexpected: '', and not 'x.wy:6:10: syntax: Unexpected'"
+        for wanted in ("no entry: T-Call premise 4", "no entry: limit: drawers", "what no last line names: limit: slots", again):
             self.assertIn(wanted, said)
         self.assertNotIn("no entry: T-Call premise 3", said)
 

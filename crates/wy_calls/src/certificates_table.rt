@@ -1,4 +1,4 @@
-//! Certificates of a logger and of other bytes, and what each call says.
+//! Calls with the certificate of a logger, and what comes of each.
 
 /// The words of a call, the number of the status, what is written to `out`, and the last line.
 pub type Said = (&'static [&'static str], u8, &'static str, &'static str);
@@ -26,11 +26,8 @@ pub const UNSAID: &str = r#"program
     lg.log("a")
 "#;
 
-/// A program with a name that is not there.
-pub const UNKNOWN: &str = "module m: N\nprogram\n  run: {}\n    ()\n";
-
 /// Calls with the certificate of `log.wy` and `logs.wy` as `c`.
-pub static SAID: [Said; 12] = [
+pub static SAID: [Said; 6] = [
     (&["recheck", "c", "log.wy", "logs.wy"], 0, "proved\n", ""),
     (
         &["recheck", "c", "log.wy", "unsaid.wy"],
@@ -61,66 +58,5 @@ pub static SAID: [Said; 12] = [
         3,
         "",
         "bad.wy:1:5: syntax: Unexpected\n",
-    ),
-    (&["recheck", "no", "bad.wy", "no.wy"], 2, "", "no: unread\n"),
-    (
-        &["recheck", "c", "bad.wy", "no.wy"],
-        2,
-        "",
-        "no.wy: unread\n",
-    ),
-    (
-        &["certify", "log.wy", "unsaid.wy"],
-        4,
-        "",
-        "unsaid.wy:4:3: refused: T-Body premise 2 lacks lg.Log\n",
-    ),
-    (
-        &["certify", "log.wy"],
-        4,
-        "",
-        "log.wy:1:1: refused: N-NoProgram premise 1\n",
-    ),
-    (
-        &["certify", "log.wy", "bad.wy"],
-        3,
-        "",
-        "bad.wy:1:5: syntax: Unexpected\n",
-    ),
-    (&["certify", "bad.wy", "no.wy"], 2, "", "no.wy: unread\n"),
-];
-
-/// Calls with bytes as `c` that are no certificate, of which seven can stand: what is wrong with the texts comes before, but not
-/// what the typing rules refuse.
-pub static WORTHLESS: [Said; 5] = [
-    (
-        &["recheck", "c", "log.wy", "bad.wy"],
-        3,
-        "",
-        "bad.wy:1:5: syntax: Unexpected\n",
-    ),
-    (
-        &["recheck", "c", "unknown.wy"],
-        4,
-        "",
-        "unknown.wy:1:11: refused: N-Unknown premise 1\n",
-    ),
-    (
-        &["recheck", "c", "log.wy"],
-        4,
-        "",
-        "log.wy:1:1: refused: N-NoProgram premise 1\n",
-    ),
-    (
-        &["recheck", "c", "greedy.wy"],
-        14,
-        "",
-        "c: bad certificate at 7\n",
-    ),
-    (
-        &["recheck", "c", "log.wy", "logs.wy"],
-        14,
-        "",
-        "c: bad certificate at 7\n",
     ),
 ];

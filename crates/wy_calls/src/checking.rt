@@ -1,7 +1,6 @@
-use crate::checking_table::{ACCEPTED, BODIES, HEAD, REFUSED};
+use crate::checking_table::{ACCEPTED, REFUSED, REPORTED};
 use crate::limits::push_numbered;
-use crate::support::{judged_so, outcome_of, wrong_row};
-use crate::{lines_table, members_table};
+use crate::support::{judged_so, wrong_row};
 use std::alloc::Global;
 use std::test::Fail;
 
@@ -11,23 +10,11 @@ fn ends_so(alloc: Global, text: &str, number: u8, out: &str, report: &str) -> Re
     judged_so(alloc, "check", text, number, out, report)
 }
 
-/// Whether the text, behind what stands before it, is refused at the place by this rule and premise.
-fn is_refused(
-    alloc: Global,
-    head: &str,
-    text: &str,
-    place: &str,
-    fault: &str,
-) -> Result<bool, Fail> {
-    let whole = format!(in alloc; "{head}{text}")?;
-    let last = format!(in alloc; "b.wy:{place}: refused: {fault}\n")?;
-    ends_so(alloc, whole.as_str(), 4, "", last.as_str())
-}
-
-/// Fails with the number of the first text that is not refused so.
-fn all_are_refused(alloc: Global, head: &str, cases: &[(&str, &str, &str)]) -> Result<(), Fail> {
+/// Fails with the number of the first text that is not refused at its place by its rule and premise.
+fn all_are_refused(alloc: Global, cases: &[(&str, &str, &str)]) -> Result<(), Fail> {
     for (at, (text, place, fault)) in cases.iter().enumerate() {
-        if !is_refused(alloc, head, text, place, fault)? {
+        let last = format!(in alloc; "b.wy:{place}: refused: {fault}\n")?;
+        if !ends_so(alloc, text, 4, "", last.as_str())? {
             return Err(wrong_row(at));
         }
     }
@@ -57,24 +44,14 @@ fn what_the_rules_accept_is_accepted(rt: HostRuntime) -> Result<(), Fail> {
 
 #[test]
 fn each_rule_names_its_premise_and_place(rt: HostRuntime) -> Result<(), Fail> {
-    all_are_refused(rt.alloc(), HEAD, &BODIES)?;
-    all_are_refused(rt.alloc(), "", &REFUSED)
+    all_are_refused(rt.alloc(), &REFUSED)
 }
 
 #[test]
-fn lines_are_judged_by_their_rules(rt: HostRuntime) -> Result<(), Fail> {
-    let alloc = rt.alloc();
-    let accepted = &lines_table::ACCEPTED;
-    all_end_so(alloc, accepted, 0, "accepted\n", "")?;
-    all_are_refused(alloc, "", &lines_table::REFUSED)
-}
-
-#[test]
-fn members_keep_to_their_bounds(rt: HostRuntime) -> Result<(), Fail> {
-    let alloc = rt.alloc();
-    let accepted = &members_table::ACCEPTED;
-    all_end_so(alloc, accepted, 0, "accepted\n", "")?;
-    all_are_refused(alloc, "", &members_table::REFUSED)
+fn bounds_of_members_change_no_authority(rt: HostRuntime) -> Result<(), Fail> {
+    let (text, report) = REPORTED;
+    assert!(rt; judged_so(rt.alloc(), "authority", text, 0, report, "")?);
+    Ok(())
 }
 
 /// Adds a module that has two instances of the one below.
@@ -126,15 +103,5 @@ fn a_scope_reaches_no_more_types_than_the_limit(rt: HostRuntime) -> Result<(), F
     assert!(rt; ends_so(alloc, ring(alloc, 1023)?.as_str(), 0, "accepted\n", "")?);
     let last = "limit: reached types 1024\n";
     assert!(rt; ends_so(alloc, ring(alloc, 1024)?.as_str(), 5, "", last)?);
-    Ok(())
-}
-
-#[test]
-fn a_fault_names_its_file(rt: HostRuntime) -> Result<(), Fail> {
-    let program: (&str, &[u8]) = ("a.wy", b"program\n  run: {}\n    ()\n");
-    let module: (&str, &[u8]) = ("b.wy", b"type N\nmodule m: N\n  var f: Int = 1\n");
-    let words = ["check", "a.wy", "b.wy"];
-    let done = outcome_of(rt.alloc(), &words, &[program, module])?;
-    assert!(rt; done.says(4, "", "b.wy:3:7: refused: M-Pure premise 1\n"));
     Ok(())
 }

@@ -3,12 +3,6 @@
 #![tactic(auto)]
 
 #[cfg(test)]
-mod authority;
-#[cfg(test)]
-mod authority_table;
-#[cfg(test)]
-mod canonical_table;
-#[cfg(test)]
 mod certificates;
 #[cfg(test)]
 mod certificates_table;
@@ -29,13 +23,7 @@ mod hostile;
 #[cfg(test)]
 mod limits;
 #[cfg(test)]
-mod lines_table;
-#[cfg(test)]
-mod members_table;
-#[cfg(test)]
 mod names;
-#[cfg(test)]
-mod names_table;
 #[cfg(test)]
 mod observing;
 #[cfg(test)]
@@ -66,8 +54,6 @@ mod samples_table;
 mod support;
 #[cfg(test)]
 mod syntax;
-#[cfg(test)]
-mod syntax_table;
 #[cfg(test)]
 mod three_files;
 #[cfg(test)]

@@ -1,5 +1,4 @@
 use crate::limits::push_same;
-use crate::names_table::{FIRST, REFUSED};
 use crate::support::{outcome_of, wrong_row};
 use std::alloc::{AllocError, Global};
 use std::test::Fail;
@@ -16,44 +15,6 @@ fn ends_so(
     Ok(outcome_of(alloc, words, files)?.says(number, "", report))
 }
 
-/// Fails with the number of the first text whose names are not refused by the rule at the place.
-fn all_are_refused(alloc: Global, cases: &[(&str, u32, u32, &str)]) -> Result<(), Fail> {
-    for (at, (text, line, column, rule)) in cases.iter().enumerate() {
-        let last = format!(in alloc; "b.wy:{line}:{column}: refused: N-{rule} premise 1\n")?;
-        let files: [(&str, &[u8]); 1] = [("b.wy", text.as_bytes())];
-        if !ends_so(alloc, &["run", "b.wy"], &files, 4, last.as_str())? {
-            return Err(wrong_row(at));
-        }
-    }
-    Ok(())
-}
-
-#[test]
-fn each_refusal_of_names_comes_at_its_place(rt: HostRuntime) -> Result<(), Fail> {
-    all_are_refused(rt.alloc(), &REFUSED)
-}
-
-#[test]
-fn of_several_refusals_of_names_the_least_comes(rt: HostRuntime) -> Result<(), Fail> {
-    all_are_refused(rt.alloc(), &FIRST)
-}
-
-/// Fails with the number of the first text that is not formatted.
-fn all_are_formatted(alloc: Global, cases: &[(&str, u32, u32, &str)]) -> Result<(), Fail> {
-    for (at, (text, _, _, _)) in cases.iter().enumerate() {
-        let done = outcome_of(alloc, &["format", "b.wy"], &[("b.wy", text.as_bytes())])?;
-        if done.number != 0 || !done.report.bytes().is_empty() {
-            return Err(wrong_row(at));
-        }
-    }
-    Ok(())
-}
-
-#[test]
-fn a_file_is_formatted_whatever_its_names(rt: HostRuntime) -> Result<(), Fail> {
-    all_are_formatted(rt.alloc(), &FIRST)
-}
-
 const EMPTY: &[u8] = b"program\n  run: {}\n    ()\n";
 
 const LOG: &[u8] =
@@ -63,7 +24,7 @@ const MAIN: &[u8] =
     b"program\n  grant disk: Folder\n  instance lg = logger(disk)\n  run: {lg.Log}\n    lg.log(\"a\")\n";
 
 /// Words, the number of the status, and the report.
-static ORDERS: [(&[&str], u8, &str); 8] = [
+static ORDERS: [(&[&str], u8, &str); 3] = [
     (
         &["run", "a.wy", "a.wy"],
         4,
@@ -79,43 +40,11 @@ static ORDERS: [(&[&str], u8, &str); 8] = [
         4,
         "log.wy:1:1: refused: N-NoProgram premise 1\n",
     ),
-    (
-        &["run", "main.wy"],
-        4,
-        "main.wy:3:17: refused: N-Unknown premise 1\n",
-    ),
-    (
-        &["authority", "log.wy"],
-        4,
-        "log.wy:1:1: refused: N-NoProgram premise 1\n",
-    ),
-    (
-        &["run", "late.wy", "early.wy"],
-        4,
-        "late.wy:3:7: refused: N-Unknown premise 1\n",
-    ),
-    (
-        &["run", "early.wy", "late.wy"],
-        4,
-        "early.wy:1:11: refused: N-Unknown premise 1\n",
-    ),
-    (
-        &["run", "early.wy", "bad.wy"],
-        3,
-        "bad.wy:1:5: syntax: Unexpected\n",
-    ),
 ];
 
 /// Fails with the number of the first case that ends otherwise.
 fn all_end_so(alloc: Global, cases: &[(&[&str], u8, &str)]) -> Result<(), Fail> {
-    let files: [(&str, &[u8]); 6] = [
-        ("a.wy", EMPTY),
-        ("log.wy", LOG),
-        ("main.wy", MAIN),
-        ("late.wy", b"type N\nmodule m: N\n  use u\n"),
-        ("early.wy", b"module k: X\n"),
-        ("bad.wy", b"type\n"),
-    ];
+    let files: [(&str, &[u8]); 3] = [("a.wy", EMPTY), ("log.wy", LOG), ("main.wy", MAIN)];
     for (at, (words, number, report)) in cases.iter().enumerate() {
         if !ends_so(alloc, words, &files, *number, report)? {
             return Err(wrong_row(at));

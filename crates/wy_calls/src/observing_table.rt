@@ -2,21 +2,7 @@
 
 use crate::devices::{BLANK, Part, Row};
 use crate::primitive_table::ORDERED;
-use crate::programs_table::ESCAPING;
-use crate::running_table::{DEEP, HELLO};
 use crate::three_files_table::WHOLE;
-
-const WRITER: &str = "authority of main: console.Out\n  run: console.Out\n";
-
-/// A program of one write.
-const ONE_WRITE: Row = Row {
-    words: &["observe", "b.wy"],
-    files: HELLO,
-    out: "used of main: console.Out\n",
-    report: WRITER,
-    console: "deed console.write(\"hello\\n\") = ()\n",
-    ..BLANK
-};
 
 /// The program of three files, with a used module and an object.
 const THREE_FILES: Row = Row {
@@ -53,10 +39,8 @@ const TRAPPED: Row = Row {
     ..BLANK
 };
 
-/// Runs that come to each of their ends: of one body, of three files, of code that is called through others, and of code that keeps
-/// what it is handed; spent before and behind an operation, too deep, and trapped.
-pub static OBSERVED: [Row; 9] = [
-    ONE_WRITE,
+/// Runs that come to their ends: of three files, of code that is called through others, and trapped and not.
+pub static OBSERVED: [Row; 4] = [
     THREE_FILES,
     Row {
         words: &["observe", "ord.wy"],
@@ -64,35 +48,6 @@ pub static OBSERVED: [Row; 9] = [
         console: "deed console.write(\"1\") = ()\ndeed console.write(\"7\") = ()\n",
         clock: "deed clock.now() = 7\n",
         ..ORDERED
-    },
-    Row {
-        words: &["observe", "fac.wy"],
-        out: "used of m: disk.Append\nused of main: disk.Append\n",
-        ..ESCAPING
-    },
-    Row {
-        words: &["observe", "--steps", "0", "b.wy"],
-        number: 8,
-        out: "used of main: -\n",
-        last: "spent: 0\n",
-        console: "",
-        ..ONE_WRITE
-    },
-    Row {
-        words: &["observe", "--steps", "3", "b.wy"],
-        number: 8,
-        last: "spent: 3\n",
-        ..ONE_WRITE
-    },
-    Row {
-        words: &["observe", "--depth", "1", "deep.wy"],
-        files: DEEP,
-        number: 7,
-        out: "used of l: -\nused of main: console.Out\n",
-        report: "authority of l: -\n  init: -\n  go: -\nauthority of main: console.Out\n  run: console.Out\n",
-        last: "too deep: 1\n",
-        console: "deed console.write(\"s\") = ()\n",
-        ..BLANK
     },
     TRAPPED,
     Row {

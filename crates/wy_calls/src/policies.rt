@@ -1,5 +1,5 @@
 use crate::outside::cut_at;
-use crate::policies_table::{JUDGED, Judged, STOPPED};
+use crate::policies_table::{JUDGED, Judged};
 use crate::support::{Outcome, outcome_of, wrong_row};
 use crate::three_files_table::{MAIN, PARTS, TYPES};
 use std::alloc::{AllocError, Global};
@@ -7,18 +7,14 @@ use std::test::Fail;
 
 const EMPTY: &str = "program\n  run: {}\n    ()\n";
 
-const GREEDY: &str = "program\n  grant console: Console\n  run: {}\n    console.write(\"a\")\n";
-
 /// Calls with these words, and a shelf that has the policy as `p.pol` and the texts.
 fn policed(alloc: Global, words: &[&str], policy: &[u8]) -> Result<Outcome, Fail> {
-    let files: [(&str, &[u8]); 7] = [
+    let files: [(&str, &[u8]); 5] = [
         ("p.pol", policy),
         ("types.wy", TYPES.as_bytes()),
         ("parts.wy", PARTS.as_bytes()),
         ("main.wy", MAIN.as_bytes()),
         ("empty.wy", EMPTY.as_bytes()),
-        ("greedy.wy", GREEDY.as_bytes()),
-        ("bad.wy", b"type\n"),
     ];
     outcome_of(alloc, words, &files)
 }
@@ -54,29 +50,6 @@ fn all_are_judged(alloc: Global, cases: &[Judged]) -> Result<(), Fail> {
 #[test]
 fn a_program_is_judged_by_its_policy(rt: HostRuntime) -> Result<(), Fail> {
     all_are_judged(rt.alloc(), &JUDGED)
-}
-
-#[test]
-fn texts_are_judged_before_their_policy(rt: HostRuntime) -> Result<(), Fail> {
-    all_are_judged(rt.alloc(), &STOPPED)
-}
-
-#[test]
-fn a_file_that_is_not_read_is_named_the_policy_too(rt: HostRuntime) -> Result<(), Fail> {
-    let alloc = rt.alloc();
-    let first = policed(alloc, &["policy", "no.pol", "no.wy"], b"")?;
-    assert!(rt; first.says(2, "", "no.pol: unread\n"));
-    assert!(rt;
-        is_judged(
-            alloc,
-            b"?",
-            &["empty.wy", "no.wy"],
-            2,
-            "",
-            "no.wy: unread\n"
-        )?
-    );
-    Ok(())
 }
 
 /// Bytes: a front, and so many times a line.

@@ -1,17 +1,10 @@
 use crate::devices::all_come_so;
-use crate::primitive_table::{
-    CLOCKS, CONSOLES, FOLDERS, FULL_FOLDERS, NAMES, ORDERS, RANDOM_SOURCES,
-};
+use crate::primitive_table::{CLOCKS, CONSOLES, FULL_FOLDERS, NAMES, ORDERS, RANDOM_SOURCES};
 use std::test::Fail;
 
 #[test]
-fn a_console_gives_its_lines(rt: HostRuntime) -> Result<(), Fail> {
+fn a_line_that_is_not_read_ends_the_run(rt: HostRuntime) -> Result<(), Fail> {
     all_come_so(rt.alloc(), &CONSOLES)
-}
-
-#[test]
-fn a_folder_keeps_what_it_is_told(rt: HostRuntime) -> Result<(), Fail> {
-    all_come_so(rt.alloc(), &FOLDERS)
 }
 
 #[test]

@@ -1,6 +1,7 @@
 use crate::devices::{BLANK, Part, Row};
 
-const READS: Row = Row {
+/// A console whose second read fails, behind a first that gave its line.
+pub static CONSOLES: [Row; 1] = [Row {
     words: &["run", "c.wy"],
     files: &[(
         "c.wy",
@@ -13,103 +14,18 @@ const READS: Row = Row {
 "#,
     )],
     input: "a\nb",
+    failing: Some((Part::Console, 3)),
+    number: 9,
     report: "authority of main: console.In, console.Out
   run: console.In, console.Out
 ",
-    ..BLANK
-};
-
-/// A console gives its lines, and then empty texts.
-pub static CONSOLES: [Row; 2] = [
-    Row {
-        console: r#"deed console.read() = "a\n"
-deed console.write("a\n") = ()
-deed console.read() = "b"
-deed console.write("b") = ()
-deed console.read() = ""
-deed console.write("") = ()
-"#,
-        ..READS
-    },
-    Row {
-        failing: Some((Part::Console, 3)),
-        number: 9,
-        last: "console.read: failed\n",
-        console: r#"deed console.read() = "a\n"
+    last: "console.read: failed\n",
+    console: r#"deed console.read() = "a\n"
 deed console.write("a\n") = ()
 deed console.read() = failed
 "#,
-        ..READS
-    },
-];
-
-const KEEPS: Row = Row {
-    words: &["run", "f.wy"],
-    files: &[(
-        "f.wy",
-        r#"program
-  grant disk: Folder
-  grant console: Console
-  run: {disk.Read, disk.Write, disk.Append, disk.List, console.Out}
-    disk.write("b", "1")
-    disk.append("a", "2")
-    disk.append("b", "3")
-    console.write(disk.names())
-    console.write(if disk.has("c") then "yes" else "no")
-    console.write(disk.read("b"))
-    disk.write("b", disk.read("c"))
-"#,
-    )],
-    report: "authority of main: disk.Read, disk.Write, disk.Append, disk.List, console.Out
-  run: disk.Read, disk.Write, disk.Append, disk.List, console.Out
-",
     ..BLANK
-};
-
-/// A folder has the files of its grant: their names are in byte order, and a text that is not there is empty.
-pub static FOLDERS: [Row; 2] = [
-    Row {
-        before: &[("disk", "0.x-_", "9"), ("other", "c", "8")],
-        console: r#"deed console.write("0.x-_\na\nb\n") = ()
-deed console.write("no") = ()
-deed console.write("13") = ()
-"#,
-        folder: r#"deed disk.write("b", "1") = ()
-deed disk.append("a", "2") = ()
-deed disk.append("b", "3") = ()
-deed disk.names() = "0.x-_\na\nb\n"
-deed disk.has("c") = false
-deed disk.read("b") = "13"
-deed disk.read("c") = ""
-deed disk.write("b", "") = ()
-"#,
-        after: &[
-            ("disk", "0.x-_", "9"),
-            ("disk", "a", "2"),
-            ("disk", "b", ""),
-            ("other", "c", "8"),
-        ],
-        ..KEEPS
-    },
-    Row {
-        before: &[("disk", "c", "8"), ("disk", "b", "7")],
-        console: r#"deed console.write("a\nb\nc\n") = ()
-deed console.write("yes") = ()
-deed console.write("13") = ()
-"#,
-        folder: r#"deed disk.write("b", "1") = ()
-deed disk.append("a", "2") = ()
-deed disk.append("b", "3") = ()
-deed disk.names() = "a\nb\nc\n"
-deed disk.has("c") = true
-deed disk.read("b") = "13"
-deed disk.read("c") = "8"
-deed disk.write("b", "8") = ()
-"#,
-        after: &[("disk", "a", "2"), ("disk", "b", "8"), ("disk", "c", "8")],
-        ..KEEPS
-    },
-];
+}];
 
 const REMOVES: Row = Row {
     words: &["run", "full.wy"],
@@ -127,9 +43,8 @@ const REMOVES: Row = Row {
     ..BLANK
 };
 
-/// A full folder can remove what it keeps, and removing what is not there does nothing; removing is an effect of its own,
-/// and no folder but a full one has it.
-pub static FULL_FOLDERS: [Row; 7] = [
+/// A full folder can remove what it keeps, and removing what is not there does nothing; removing is an effect of its own.
+pub static FULL_FOLDERS: [Row; 3] = [
     Row {
         folder: r#"deed disk.write("x", "1") = ()
 deed disk.remove("x") = ()
@@ -154,32 +69,6 @@ deed disk.remove("x") = failed
             "full.wy",
             r#"program
   grant disk: FullFolder
-  run: {disk.Read, disk.Append, disk.List, disk.Remove}
-    disk.append("a", disk.read("b"))
-    disk.remove("b")
-    disk.append("names", disk.names())
-    if disk.has("b") then disk.append("names", "b") else ()
-"#,
-        )],
-        before: &[("disk", "b", "2"), ("other", "b", "3")],
-        report: "authority of main: disk.Read, disk.Append, disk.List, disk.Remove
-  run: disk.Read, disk.Append, disk.List, disk.Remove
-",
-        folder: r#"deed disk.read("b") = "2"
-deed disk.append("a", "2") = ()
-deed disk.remove("b") = ()
-deed disk.names() = "a\n"
-deed disk.append("names", "a\n") = ()
-deed disk.has("b") = false
-"#,
-        after: &[("disk", "a", "2"), ("disk", "b", ""), ("other", "b", "3")],
-        ..REMOVES
-    },
-    Row {
-        files: &[(
-            "full.wy",
-            r#"program
-  grant disk: FullFolder
   run: {disk.Write}
     disk.write("x", "1")
     disk.remove("x")
@@ -191,161 +80,25 @@ deed disk.has("b") = false
         last: "full.wy:3:3: refused: T-Body premise 2 lacks disk.Remove\n",
         ..REMOVES
     },
-    Row {
-        files: &[(
-            "full.wy",
-            r#"program
-  grant disk: Folder
-  run: {disk.Write}
-    disk.remove("x")
-"#,
-        )],
-        number: 4,
-        report: "",
-        last: "full.wy:4:10: refused: T-Call premise 2\n",
-        ..REMOVES
-    },
-    Row {
-        files: &[(
-            "full.wy",
-            r#"program
-  grant disk: Folder
-  run: {disk.Remove}
-    disk.write("x", "1")
-"#,
-        )],
-        number: 4,
-        report: "",
-        last: "full.wy:3:14: refused: N-MemberUnknown premise 1\n",
-        ..REMOVES
-    },
-    Row {
-        files: &[(
-            "full.wy",
-            r#"program
-  grant disk: FullFolder
-  run: {disk.Remove}
-    disk.remove("a/b")
-"#,
-        )],
-        number: 6,
-        report: "authority of main: disk.Remove\n  run: disk.Remove\n",
-        last: "full.wy:4:10: trap: BadName\n",
-        ..REMOVES
-    },
 ];
 
-const BAD_NAME: Row = Row {
+/// A name that leads out of its folder traps before the folder is asked.
+pub static NAMES: [Row; 1] = [Row {
     words: &["run", "n.wy"],
-    number: 6,
-    ..BLANK
-};
-
-/// A name that is none traps before the folder is asked; the longest name is one.
-pub static NAMES: [Row; 7] = [
-    Row {
-        files: &[(
-            "n.wy",
-            r#"program
+    files: &[(
+        "n.wy",
+        r#"program
   grant disk: Folder
   run: {disk.Read}
     val t = disk.read("../x")
     ()
 "#,
-        )],
-        report: "authority of main: disk.Read\n  run: disk.Read\n",
-        last: "n.wy:4:18: trap: BadName\n",
-        ..BAD_NAME
-    },
-    Row {
-        files: &[(
-            "n.wy",
-            r#"program
-  grant disk: Folder
-  run: {disk.Read}
-    val t = disk.has("A")
-    ()
-"#,
-        )],
-        report: "authority of main: disk.Read\n  run: disk.Read\n",
-        last: "n.wy:4:18: trap: BadName\n",
-        ..BAD_NAME
-    },
-    Row {
-        files: &[(
-            "n.wy",
-            r#"program
-  grant disk: Folder
-  run: {disk.Write}
-    disk.write("", "t")
-"#,
-        )],
-        report: "authority of main: disk.Write\n  run: disk.Write\n",
-        last: "n.wy:4:10: trap: BadName\n",
-        ..BAD_NAME
-    },
-    Row {
-        files: &[(
-            "n.wy",
-            r#"program
-  grant disk: Folder
-  run: {disk.Append}
-    disk.append(".a", "t")
-"#,
-        )],
-        report: "authority of main: disk.Append\n  run: disk.Append\n",
-        last: "n.wy:4:10: trap: BadName\n",
-        ..BAD_NAME
-    },
-    Row {
-        files: &[(
-            "n.wy",
-            r#"program
-  grant disk: Folder
-  run: {disk.Append}
-    disk.append("a", "1")
-    disk.append("a b", "2")
-"#,
-        )],
-        report: "authority of main: disk.Append\n  run: disk.Append\n",
-        last: "n.wy:5:10: trap: BadName\n",
-        folder: "deed disk.append(\"a\", \"1\") = ()\n",
-        after: &[("disk", "a", "1")],
-        ..BAD_NAME
-    },
-    Row {
-        files: &[(
-            "n.wy",
-            r#"program
-  grant disk: Folder
-  run: {disk.Write}
-    disk.write("aaaaaaaaaaaaaaaaaaaaaaaaaaaaaaaaaaaaaaaaaaaaaaaaaaaaaaaaaaaaaaaaa", "t")
-"#,
-        )],
-        report: "authority of main: disk.Write\n  run: disk.Write\n",
-        last: "n.wy:4:10: trap: BadName\n",
-        ..BAD_NAME
-    },
-    Row {
-        words: &["run", "n.wy"],
-        files: &[(
-            "n.wy",
-            r#"program
-  grant disk: Folder
-  run: {disk.Write}
-    disk.write("aaaaaaaaaaaaaaaaaaaaaaaaaaaaaaaaaaaaaaaaaaaaaaaaaaaaaaaaaaaaaaaa", "t")
-"#,
-        )],
-        report: "authority of main: disk.Write\n  run: disk.Write\n",
-        folder: "deed disk.write(\"aaaaaaaaaaaaaaaaaaaaaaaaaaaaaaaaaaaaaaaaaaaaaaaaaaaaaaaaaaaaaaaa\", \"t\") = ()\n",
-        after: &[(
-            "disk",
-            "aaaaaaaaaaaaaaaaaaaaaaaaaaaaaaaaaaaaaaaaaaaaaaaaaaaaaaaaaaaaaaaa",
-            "t",
-        )],
-        ..BLANK
-    },
-];
+    )],
+    number: 6,
+    report: "authority of main: disk.Read\n  run: disk.Read\n",
+    last: "n.wy:4:18: trap: BadName\n",
+    ..BLANK
+}];
 
 pub const ORDERED: Row = Row {
     words: &["run", "ord.wy"],
@@ -429,19 +182,9 @@ const TWO_CLOCKS: Row = Row {
     ..BLANK
 };
 
-const STAMP: &str = r#"type Stamp
-  effect E
-  def since(): {E} Int
-resource module stamp(c: Clock): Stamp
-  effect E = {c.Tick}
-  init: {c.Tick}
-  val start: Int = c.now()
-  def since(): {E} Int = c.now() - start
-"#;
-
 /// A clock gives its start and a second for each earlier call, up to the greatest Int, to all grants and instances that ask
-/// it; and where a clock is asked for, another object may stand.
-pub static CLOCKS: [Row; 7] = [
+/// it.
+pub static CLOCKS: [Row; 5] = [
     Row {
         console: "deed console.write(\"1\") = ()\n",
         clock: "deed a.now() = 1000\ndeed b.now() = 1001\n",
@@ -469,7 +212,18 @@ pub static CLOCKS: [Row; 7] = [
     Row {
         words: &["run", "stamp.wy", "s.wy"],
         files: &[
-            ("stamp.wy", STAMP),
+            (
+                "stamp.wy",
+                r#"type Stamp
+  effect E
+  def since(): {E} Int
+resource module stamp(c: Clock): Stamp
+  effect E = {c.Tick}
+  init: {c.Tick}
+  val start: Int = c.now()
+  def since(): {E} Int = c.now() - start
+"#,
+            ),
             (
                 "s.wy",
                 r#"program
@@ -490,51 +244,6 @@ authority of main: clock.Tick, console.Out
 ",
         console: "deed console.write(\"1\") = ()\n",
         clock: "deed clock.now() = 40\ndeed clock.now() = 41\n",
-        ..BLANK
-    },
-    Row {
-        words: &["run", "stamp.wy", "s.wy"],
-        files: &[
-            ("stamp.wy", STAMP),
-            (
-                "s.wy",
-                r#"module fixed: Clock
-  effect Tick = {}
-  def now(): {Tick} Int = 7
-program
-  grant console: Console
-  use fixed
-  instance s = stamp(fixed)
-  run: {s.E, console.Out}
-    console.write(text_show(s.since()))
-"#,
-            ),
-        ],
-        report: "authority of pure fixed: -
-  init: -
-  now: -
-authority of s: -
-  init: -
-  since: -
-authority of main: console.Out
-  run: console.Out
-",
-        console: "deed console.write(\"0\") = ()\n",
-        ..BLANK
-    },
-    Row {
-        words: &["run", "c.wy"],
-        files: &[(
-            "c.wy",
-            r#"program
-  grant clock: Clock
-  run: {}
-    val t = clock.now()
-    ()
-"#,
-        )],
-        number: 4,
-        last: "c.wy:3:3: refused: T-Body premise 2 lacks clock.Tick\n",
         ..BLANK
     },
 ];
@@ -584,7 +293,7 @@ const QUOTIENT: Row = Row {
 };
 
 /// A random source gives any Int, at no cost of depth; what its numbers trap, traps after both were drawn.
-pub static RANDOM_SOURCES: [Row; 7] = [
+pub static RANDOM_SOURCES: [Row; 6] = [
     DRAWS,
     Row {
         words: &["run", "--depth", "0", "d.wy"],
@@ -618,20 +327,5 @@ deed console.write("0") = ()
         last: "q.wy:4:25: trap: Overflow\n",
         random: "deed dice.word() = -9223372036854775808\ndeed dice.word() = -1\n",
         ..QUOTIENT
-    },
-    Row {
-        words: &["run", "d.wy"],
-        files: &[(
-            "d.wy",
-            r#"program
-  grant dice: Random
-  run: {}
-    val n = dice.word()
-    ()
-"#,
-        )],
-        number: 4,
-        last: "d.wy:3:3: refused: T-Body premise 2 lacks dice.Draw\n",
-        ..BLANK
     },
 ];

@@ -66,13 +66,8 @@ authority of main: disk.Append
 };
 
 /// Programs that log.
-pub static LOGGERS: [Row; 5] = [
+pub static LOGGERS: [Row; 4] = [
     LOGGER,
-    Row {
-        before: &[("disk", "log", "z"), ("disk", "a", "y"), ("d", "log", "x")],
-        after: &[("disk", "log", "za"), ("disk", "a", "y"), ("d", "log", "x")],
-        ..LOGGER
-    },
     Row {
         words: &["run", "--steps", "10", "log.wy", "main.wy"],
         ..LOGGER

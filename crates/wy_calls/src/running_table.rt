@@ -21,7 +21,7 @@ pub const DEEP: &[(&str, &str)] = &[(
 )];
 
 /// Programs that run, with the console alone.
-pub static RUNS: [Row; 14] = [
+pub static RUNS: [Row; 13] = [
     (
         &["run", "a.wy"],
         EMPTY,
@@ -116,16 +116,6 @@ pub static RUNS: [Row; 14] = [
         2,
     ),
     (
-        &["run", "c.wy"],
-        &[(
-            "c.wy",
-            "type T\nprogram\n  grant c: Console\n  run: {c.Out} = c.write(\"a\")\n",
-        )],
-        0,
-        "authority of main: c.Out\n  run: c.Out\n",
-        1,
-    ),
-    (
         &["run", "pick.wy"],
         &[(
             "pick.wy",
@@ -138,7 +128,7 @@ pub static RUNS: [Row; 14] = [
 ];
 
 /// Programs that are refused, of which nothing is run or reported but the last line.
-pub static REFUSED: [Row; 5] = [
+pub static REFUSED: [Row; 3] = [
     (
         &["run", "two.wy"],
         &[(
@@ -157,26 +147,6 @@ pub static REFUSED: [Row; 5] = [
         )],
         4,
         "f.wy:2:6: refused: T-Body premise 1\n",
-        0,
-    ),
-    (
-        &["run", "c.wy"],
-        &[(
-            "c.wy",
-            "program\n  grant c: Console\n  run: {c.In}\n    c.write(\"a\")\n",
-        )],
-        4,
-        "c.wy:3:3: refused: T-Body premise 2 lacks c.Out\n",
-        0,
-    ),
-    (
-        &["run", "c.wy"],
-        &[(
-            "c.wy",
-            "program\n  grant c: Console\n  run: {c.Out}\n    c.read()\n    c.write(\"a\")\n",
-        )],
-        4,
-        "c.wy:4:7: refused: T-Seq premise 1\n",
         0,
     ),
     (

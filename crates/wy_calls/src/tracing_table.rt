@@ -1,7 +1,6 @@
 use crate::devices::{BLANK, Part, Row};
 use crate::primitive_table::ORDERED;
-use crate::programs_table::ESCAPING;
-use crate::running_table::{DEEP, HELLO};
+use crate::running_table::HELLO;
 use crate::three_files_table::WHOLE;
 
 const WRITER: &str = "authority of main: console.Out\n  run: console.Out\n";
@@ -70,25 +69,10 @@ leave
     ..WHOLE
 };
 
-/// Runs with a line for each event: of one body, of three files with a used module and an object, with the receiver before the
-/// argument, of code that keeps what it is handed, and of runs that come to no end of their own.
-pub static TRACES: [Row; 10] = [
+/// Runs with a line for each event: of one body, of a write that fails, of three files with a used module and an object, and with
+/// the receiver before the argument.
+pub static TRACES: [Row; 4] = [
     ONE_WRITE,
-    Row {
-        words: &["trace", "--steps", "0", "b.wy"],
-        number: 8,
-        out: "enter main run\n",
-        last: "spent: 0\n",
-        console: "",
-        ..ONE_WRITE
-    },
-    Row {
-        words: &["trace", "--steps", "3", "b.wy"],
-        number: 8,
-        out: "enter main run\ndeed console.write(\"hello\\n\") = ()\n",
-        last: "spent: 3\n",
-        ..ONE_WRITE
-    },
     Row {
         failing: Some((Part::Console, 3)),
         number: 9,
@@ -122,118 +106,6 @@ leave
         console: "deed console.write(\"1\") = ()\ndeed console.write(\"7\") = ()\n",
         clock: "deed clock.now() = 7\n",
         ..ORDERED
-    },
-    Row {
-        words: &["trace", "--depth", "1", "deep.wy"],
-        files: DEEP,
-        number: 7,
-        out: r#"enter l init
-leave
-enter main run
-deed console.write("s") = ()
-enter l go
-"#,
-        report: "authority of l: -\n  init: -\n  go: -\nauthority of main: console.Out\n  run: console.Out\n",
-        last: "too deep: 1\n",
-        console: "deed console.write(\"s\") = ()\n",
-        ..BLANK
-    },
-    Row {
-        words: &["trace", "o.wy"],
-        files: &[(
-            "o.wy",
-            r#"program
-  grant console: Console
-  run: {console.Out}
-    console.write("s")
-    val q = 1 / 0
-    console.write("t")
-"#,
-        )],
-        number: 6,
-        out: "enter main run\ndeed console.write(\"s\") = ()\n",
-        report: WRITER,
-        last: "o.wy:5:15: trap: ZeroDivisor\n",
-        console: "deed console.write(\"s\") = ()\n",
-        ..BLANK
-    },
-    Row {
-        words: &["trace", "fac.wy"],
-        out: r#"enter m init
-leave
-enter main run
-enter m make
-leave
-enter m new1.put
-deed disk.append("i", "z") = ()
-leave
-leave
-"#,
-        ..ESCAPING
-    },
-    Row {
-        words: &["trace", "plug.wy"],
-        files: &[(
-            "plug.wy",
-            r#"type Handler
-  effect Fire
-  def fire(t: String): {Fire} Unit
-type Plug
-  effect Use
-  def keep(h: Handler[Fire = {Use}]): {Use} Unit
-  def go(): {Use} Unit
-resource module app(disk: Folder): Handler
-  effect Fire = {disk.Append}
-  def fire(t: String): {Fire} Unit = disk.append("f", t)
-plain module plug(first: Handler): Plug
-  var h: Handler = first
-  def keep(n: Handler): Unit
-    h = n
-  def go(): Unit = h.fire("go")
-program
-  grant disk: Folder
-  instance a = app(disk)
-  import p = plug(a) at {a.Fire, disk.Append}
-  run: {a.Fire, disk.Append}
-    p.go()
-    val n = new
-      def fire(t: String): {disk.Append} Unit = disk.append("g", t)
-    p.keep(n)
-    p.go()
-"#,
-        )],
-        out: r#"enter a init
-leave
-enter p init
-leave
-enter main run
-enter p go
-enter a fire
-deed disk.append("f", "go") = ()
-leave
-leave
-enter p keep
-leave
-enter p go
-enter main new1.fire
-deed disk.append("g", "go") = ()
-leave
-leave
-leave
-"#,
-        report: r#"authority of a: disk.Append
-  init: -
-  fire: disk.Append
-authority of p: disk.Append
-  init: disk.Append
-  keep: disk.Append
-  go: disk.Append
-authority of main: disk.Append
-  run: disk.Append
-  new1.fire: disk.Append
-"#,
-        folder: "deed disk.append(\"f\", \"go\") = ()\ndeed disk.append(\"g\", \"go\") = ()\n",
-        ..BLANK
     },
 ];
 

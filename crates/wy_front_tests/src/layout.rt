@@ -111,71 +111,16 @@ fn said(alloc: Global, bytes: &[u8]) -> Result<String, Fail> {
     Ok(format!(in alloc; "{name} {file}:{line}:{column}")?)
 }
 
-/// Files, each with what is said of it.
-static REFUSED: [(&[u8], &str); 51] = [
-    (b"program\xff", "NotUtf8 7:1:8"),
-    (b"\xff\n\t", "NotUtf8 7:1:1"),
-    (b"a // \xc3\n", "NotUtf8 7:1:6"),
-    (b"a\n\xe2\x82", "NotUtf8 7:2:1"),
-    (b"\"\xff\"", "NotUtf8 7:1:2"),
-    (b"\"a\xff", "NotUtf8 7:1:3"),
-    (b"  \xff", "NotUtf8 7:1:3"),
-    (b"a # \xff", "BadCharacter 7:1:3"),
-    (b"program\n\trun: {}\n", "TabIndent 7:2:1"),
-    (b"  \t", "TabIndent 7:1:3"),
-    (b" \t// x\n", "TabIndent 7:1:2"),
-    (b"a\n    \t\tb", "TabIndent 7:2:5"),
-    (
-        b"program\n    run: {}\n        ()\n  ()\n",
-        "BadDedent 7:4:3",
-    ),
-    (b"  a\n b\n", "BadDedent 7:2:2"),
-    (b"a\n  b\n #\n", "BadDedent 7:3:2"),
-    (b"a\n  b\n c #\n", "BadDedent 7:3:2"),
-    (b"#", "BadCharacter 7:1:1"),
-    (b"a #", "BadCharacter 7:1:3"),
-    (b"a\n  b #\n c\n", "BadCharacter 7:2:5"),
-    (b"a\rb\n", "BadCharacter 7:1:2"),
-    (b"a\r", "BadCharacter 7:1:2"),
-    (b"a\r\r\n", "BadCharacter 7:1:2"),
-    (b"\"a\rb\"", "BadCharacter 7:1:3"),
-    (b"\"\x01\"", "BadCharacter 7:1:2"),
-    (b"\"\x7f\"", "BadCharacter 7:1:2"),
-    (b"\"\\\x01\"", "BadCharacter 7:1:3"),
-    (b"\"\\x\x01\"", "BadCharacter 7:1:4"),
-    (b"a & b", "BadCharacter 7:1:3"),
-    (b"a |", "BadCharacter 7:1:3"),
-    (b"\xef\xbb\xbfa", "BadCharacter 7:1:1"),
-    (b"a\x00", "BadCharacter 7:1:2"),
-    (b"\xcc\x81", "BadCharacter 7:1:1"),
-    (b"a\xe2\x80\x94b", "BadCharacter 7:1:2"),
-    (b"ab\xc3\xa9\xe2\x80\x94", "BadCharacter 7:1:5"),
-    (
-        b"program\n  grant console: Console\n  run: {console.Out}\n    console.write(\"a\n",
-        "OpenText 7:4:21",
-    ),
-    (b"\"", "OpenText 7:1:2"),
-    (b"a \"b\r\nc\"", "OpenText 7:1:5"),
-    (b"\"\\", "OpenText 7:1:3"),
-    (b"\"\\\n", "OpenText 7:1:3"),
-    (b"\"\\x4\n", "OpenText 7:1:5"),
-    (b"\"\\q\"", "BadEscape 7:1:3"),
-    (b"\"\\x\"", "BadEscape 7:1:4"),
-    (b"\"\\x4g\"", "BadEscape 7:1:5"),
-    (b"\"\\\t\"", "BadEscape 7:1:3"),
-    (b"\"\\x\t\"", "BadEscape 7:1:4"),
-    (b"\"\\\xc3\xa9\"", "BadEscape 7:1:3"),
+/// Texts and numbers, each with the number of tokens.
+static COUNTED: [(&[u8], &str); 2] = [
     (b"\"\t\\n\\t\\\\\\\"\\x0a\\xFf\"", "3"),
-    (b"9223372036854775809", "NumberTooLarge 7:1:1"),
-    (b"a 00099999999999999999999", "NumberTooLarge 7:1:3"),
     (b"9223372036854775808 007 0", "5"),
-    (b"a\n  \"b\n c\n", "OpenText 7:2:5"),
 ];
 
 #[test]
-fn files_are_refused_at_these_places(rt: HostRuntime) -> Result<(), Fail> {
+fn a_text_and_a_number_are_one_token_each(rt: HostRuntime) -> Result<(), Fail> {
     let alloc = rt.alloc();
-    for (bytes, wanted) in &REFUSED {
+    for (bytes, wanted) in &COUNTED {
         let found = said(alloc, bytes)?;
         assert_eq!(rt; found.as_str(), *wanted);
     }

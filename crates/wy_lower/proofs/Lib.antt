@@ -4,6 +4,7 @@ pub mod Allowed
 pub mod Beginning
 pub mod Bodies
 pub mod Calls
+pub mod Capped
 pub mod Codes
 pub mod Counting
 pub mod EmitBodies

@@ -1,5 +1,5 @@
 -- What is collected of bodies before their code is made.
-use Rattle.std.specs.Prelude.{◌≡◌, ℕ, List, [], ◌∷◌, ◌++◌}
+use Rattle.std.specs.Prelude.{◌≡◌, ℕ, false, List, [], ◌∷◌, ◌++◌}
 use Rattle.wy_types.specs.declared.code.Stmt.{Stmt, Val, Do}
 use Rattle.wy_types.specs.Code.{Expr, New}
 use Rattle.wy_types.specs.Core.{value_vals}
@@ -25,9 +25,10 @@ abbrev pub statement_vals : Stmt → List ℕ
 statement_vals (Val place n typ x) = n ∷ value_vals (value_of x)
 statement_vals (Do x) = value_vals (value_of x)
 
--- these expressions, with these `val`s, were collected
+-- these expressions, with these `val`s, were collected, if memory sufficed
 pub record Gathers (before after : Names) (old new : Found) (es : List Expr) (ns : List ℕ) : Type 0 where
-  pub texts : after.texts.keys ≡ each_once_after before.texts.keys (texts_in es)
-  pub methods : after.methods.keys ≡ each_once_after before.methods.keys (calls_in es)
-  pub makes : new.makes.items ≡ old.makes.items ++ makes_in es
-  pub vals : new.vals.items ≡ old.vals.items ++ ns
+  pub enough : after.wanting ≡ false → before.wanting ≡ false
+  pub texts : after.wanting ≡ false → after.texts.keys ≡ each_once_after before.texts.keys (texts_in es)
+  pub methods : after.wanting ≡ false → after.methods.keys ≡ each_once_after before.methods.keys (calls_in es)
+  pub makes : after.wanting ≡ false → new.makes.items ≡ old.makes.items ++ makes_in es
+  pub vals : after.wanting ≡ false → new.vals.items ≡ old.vals.items ++ ns

@@ -12,6 +12,7 @@ use Rattle.wy_code.specs.declared.instruction.Placed.{Placed}
 use Rattle.wy_lower.specs.declared.names.Inside as names
 use Rattle.wy_lower.specs.declared.expressions.Sides.{Sides}
 use Rattle.wy_lower.specs.declared.expressions.Sides.TheVariants.{Both, And, Or}
+use Rattle.wy_lower.specs.Collected.{Collected}
 use Rattle.wy_lower.specs.Inside.{Inside, val_slot}
 use Rattle.wy_lower.specs.Listing.{one, sides, value_mark, value_listing}
 use Rattle.wy_lower.specs.Operands.{value_operands}
@@ -30,9 +31,21 @@ inside_of i = record {
   methods = i.methods.now.keys;
 }
 
--- the instructions after a call are those before it, and then the code of a form at the address after those
-pub record Emits (old new : List Placed) (code : ℕ → List Placed) : Type 0 where
-  pub by : new ≡ old ++ code (length old)
+-- the instructions after a call are those before it, and then the code of a form at the address after those, if memory sufficed
+pub record Emits (old new : Collected Placed) (code : ℕ → List Placed) : Type 0 where
+  pub enough : new.wanting ≡ false → old.wanting ≡ false
+  pub by : new.wanting ≡ false → new.list ≡ old.list ++ code (length old.list)
+
+-- the instructions after a call are these, if memory sufficed
+pub record Becomes (old new : Collected Placed) (list : List Placed) : Type 0 where
+  pub enough : new.wanting ≡ false → old.wanting ≡ false
+  pub is : new.wanting ≡ false → new.list ≡ list
+
+-- what is found is this, and no instruction is added, if memory sufficed
+pub record Finds {X : Type 0} (old new : Collected Placed) (found wanted : X) : Type 0 where
+  pub enough : new.wanting ≡ false → old.wanting ≡ false
+  pub same : new.wanting ≡ false → new.list ≡ old.list
+  pub is : new.wanting ≡ false → found ≡ wanted
 
 -- the code of a statement that stands before others
 abbrev pub statement_listing : Inside → ℕ → Stmt → List Placed

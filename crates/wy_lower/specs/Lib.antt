@@ -1,3 +1,5 @@
+pub mod Capped
+pub mod Collected
 pub mod Correct
 pub mod Counts
 pub mod EmitBodies

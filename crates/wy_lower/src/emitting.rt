@@ -1,25 +1,27 @@
 //! The code of the bodies of a scope: of its `init` or `run`, and then of its methods.
 
-ghost use Rattle.std.specs.Prelude.{◌≡◌, ◌<◌, ◌++◌, ◌∷◌, [], Some, slice_get, length, IfOk, OnOk};
+ghost use Rattle.std.specs.Prelude.{◌≡◌, ◌<◌, ◌++◌, ◌∷◌, [], ℕ, Some, false, slice_get, length, IfOk, OnOk};
 ghost use Rattle.wy_types.specs.Program as plain;
 ghost use Rattle.wy_types.specs.Core.{literal_captures};
 ghost use Rattle.wy_types.specs.Program.{start_of, body_of, scope_of};
 ghost use Rattle.wy_meaning.specs.Eval.{body_text};
+ghost use Rattle.wy_lower.specs.Capped.{capped};
 ghost use Rattle.wy_lower.specs.Lowering.{is_program, inside_start, inside_body, body_with, start_name, start_listing, start_code, body_code, bodies_code};
 ghost use Rattle.wy_lower.specs.Operands.{start_operands};
-ghost use Rattle.wy_lower.specs.Emits.{inside_of, Emits};
+ghost use Rattle.wy_lower.specs.Emits.{inside_of, Becomes};
 ghost use Rattle.wy_lower.specs.EmitScopes.{IsTabled};
 ghost use Rattle.wy_lower.specs.EmitBodies.{IsWhole, whole_program, whole_starts};
 
-use crate::expressions::{emit_block, emit_fields, put};
-use crate::indexes::{Captures, sum, word};
+use crate::expressions::{emit_block, emit_fields};
+use crate::indexes::{Captures, sum};
+use crate::instructions::{Instructions, put};
 use crate::names::Inside;
 use crate::operands::{block_operands, fields_operands};
 use crate::scopes::Tables;
 use indexmap::IndexSet;
 use std::alloc::Global;
 use wy_code::code;
-use wy_code::instruction::{Instruction, Placed};
+use wy_code::instruction::Instruction;
 use wy_text::list::Items;
 use wy_text::text::{Memory, Text, from_bytes, from_vec};
 use wy_types::linked::{Actual, Linked};
@@ -113,34 +115,27 @@ pub(crate) fn inside_body<'a>(
 // ----------------------------------------------------------------------------
 // Bodies
 
-/// Instructions as the code has them.
-fn listed(alloc: Global, out: &Vec<Placed>) -> Result<Items<Placed>, Memory>
-    ensures { IfOk result (λ l. l ≡ out.now.items) }
-{
-    let mut instructions = Items::new(alloc);
-    for placed in out {
-        instructions.push(*placed)?;
-    }
-    Ok(instructions)
-}
-
 /// A body of these instructions.
 fn body_with(
     alloc: Global,
     name: Text,
     inside: &Inside,
     operands: usize,
-    out: &Vec<Placed>,
+    out: &mut Instructions,
 ) -> Result<code::Body, Memory>
-    ensures { IfOk result (λ b. b ≡ body_with name (inside_of inside.now) operands out.now.items) }
+    ensures { (n : ℕ) → operands ≡ capped n → IfOk result (λ b. (out.old.wanting ≡ false) × (b ≡ body_with name (inside_of inside.now) n out.old.list)) }
 {
-    let own = sum(sum(1, inside.parameters)?, inside.vals.len())?;
+    let own = sum(sum(1, inside.parameters), inside.vals.len());
+    let parameters = out.number(inside.parameters);
+    let vals = out.number(inside.vals.len());
+    let slots = out.number(sum(own, operands));
+    let instructions = out.listed(alloc)?;
     Ok(code::Body {
         name,
-        parameters: word(inside.parameters)?,
-        vals: word(inside.vals.len())?,
-        slots: word(sum(own, operands)?)?,
-        instructions: listed(alloc, out)?,
+        parameters,
+        vals,
+        slots,
+        instructions,
     })
 }
 
@@ -153,8 +148,8 @@ fn start_name(alloc: Global, start: &Start) -> Result<Text, Memory>
     }
 }
 
-fn start_operands(start: &Start) -> Result<usize, Memory>
-    ensures { IfOk result (λ n. n ≡ start_operands (start_of start.now)) }
+fn start_operands(start: &Start) -> usize
+    ensures { result ≡ capped (start_operands (start_of start.now)) }
 {
     match start {
         Start::Init(values) => fields_operands(values),
@@ -162,9 +157,9 @@ fn start_operands(start: &Start) -> Result<usize, Memory>
     }
 }
 
-fn emit_start(out: &mut Vec<Placed>, inside: &Inside, start: &Start) -> Result<(), Memory>
-    requires { out.old.items ≡ [] }
-    ensures { OnOk result (out.new.items ≡ start_listing (inside_of inside.now) (start_of start.now)) }
+fn emit_start(out: &mut Instructions, inside: &Inside, start: &Start)
+    requires { out.old.list ≡ [] }
+    ensures { Becomes out.old out.new (start_listing (inside_of inside.now) (start_of start.now)) }
 {
     match start {
         Start::Init(values) => emit_fields(out, inside, values),
@@ -184,12 +179,11 @@ fn start_code(
     ensures { IfOk result (λ b. b ≡ start_code (whole_program whole.now) (whole_starts whole.now) (scope_of scope.now)) }
 {
     let inside = inside_start(whole, scope, tables);
-    let mut out = Vec::new(alloc);
-    emit_start(&mut out, &inside, &scope.start)?;
-    put(&mut out, scope.start_place, Instruction::Finish)?;
+    let mut out = Instructions::new(alloc);
+    emit_start(&mut out, &inside, &scope.start);
+    put(&mut out, scope.start_place, Instruction::Finish);
     let name = start_name(alloc, &scope.start)?;
-    let operands = start_operands(&scope.start)?;
-    body_with(alloc, name, &inside, operands, &out)
+    body_with(alloc, name, &inside, start_operands(&scope.start), &mut out)
 }
 
 /// What a method is called in events.
@@ -218,12 +212,11 @@ fn body_code(
 {
     let inside = inside_body(whole, scope, tables, number);
     let body = &scope.bodies.as_slice()[number];
-    let mut out = Vec::new(alloc);
-    emit_block(&mut out, &inside, &body.block)?;
-    put(&mut out, body.place, Instruction::Return)?;
+    let mut out = Instructions::new(alloc);
+    emit_block(&mut out, &inside, &body.block);
+    put(&mut out, body.place, Instruction::Return);
     let name = body_text(alloc, body.owner, &body.signature.name)?;
-    let operands = block_operands(&body.block)?;
-    body_with(alloc, name, &inside, operands, &out)
+    body_with(alloc, name, &inside, block_operands(&body.block), &mut out)
 }
 
 /// Adds the code of the bodies of a scope.

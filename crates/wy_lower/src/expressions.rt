@@ -1,35 +1,24 @@
 //! The instructions of expressions and blocks: the parts in evaluation order, and then the form's own (docs/LANGUAGE.md,
 //! "Code of programs"). Jumps over a side are written when the side stands.
 
-ghost use Rattle.std.specs.Prelude.{◌≡◌, ◌+◌, ◌<◌, ◌++◌, ◌∷◌, length, slice_set, OnOk, IfOk};
+ghost use Rattle.std.specs.Prelude.{◌≡◌, ◌+◌, ◌++◌, ◌∷◌, length, slice_set};
 ghost use Rattle.wy_types.specs.View.{expr_of, value_of, values_of, block_of};
 ghost use Rattle.wy_code.specs.declared.instruction.Constant.TheVariants as constant;
 ghost use Rattle.wy_code.specs.declared.instruction.Instruction.TheVariants.{Push, Set, Jump, JumpFalse, Call};
 ghost use Rattle.wy_lower.specs.Inside.{name_code, assigned_value};
 ghost use Rattle.wy_lower.specs.Parts.{number_in};
 ghost use Rattle.wy_lower.specs.Listing.{placed, one, unary_code, text_code, mark_of, value_mark, listing, value_listing, values_listing, block_listing, fields_listing};
-ghost use Rattle.wy_lower.specs.Emits.{inside_of, Emits, statement_listing, evaluation, right_listing};
+ghost use Rattle.wy_lower.specs.Emits.{inside_of, Becomes, Emits, statement_listing, evaluation, right_listing};
 
-use crate::indexes::{number_in, word};
+use crate::indexes::place_in;
+use crate::instructions::{Instructions, put};
 use crate::names::{Inside, assigned_value, field_value, name_code, val_slot};
-use wy_code::instruction::{Constant, Instruction, Operator, Placed};
+use wy_code::instruction::{Constant, Instruction, Operator};
 use wy_text::fault::Place;
-use wy_text::text::{Memory, Text};
+use wy_text::text::Text;
 use wy_types::code::{
     BinaryOperator, Binding, Block, Expr, Stmt, TextOperator, UnaryOperator, Value,
 };
-
-/// Adds an instruction at a mark.
-pub(crate) fn put(
-    out: &mut Vec<Placed>,
-    place: Place,
-    instruction: Instruction,
-) -> Result<(), Memory>
-    ensures { OnOk result (Emits out.old.items out.new.items (λ _. one place instruction)) }
-{
-    out.push(Placed { instruction, place })?;
-    Ok(())
-}
 
 // ----------------------------------------------------------------------------
 // Operators
@@ -124,99 +113,71 @@ fn value_mark(value: &Value) -> Place
 // Sides
 
 /// Begins the first of two sides. The jump to the second is written when that begins.
-fn begin_first(out: &mut Vec<Placed>, place: Place) -> Result<usize, Memory>
-    ensures at { IfOk result (λ n. n ≡ length out.old.items) }
-    ensures added { OnOk result (out.new.items ≡ out.old.items ++ one place (JumpFalse 0)) }
+fn begin_first(out: &mut Instructions, place: Place) -> usize
+    ensures at { result ≡ length out.old.list }
+    ensures added { Emits out.old out.new (λ _. one place (JumpFalse 0)) }
 {
     let at = out.len();
-    put(out, place, Instruction::JumpFalse(0))?;
-    Ok(at)
+    put(out, place, Instruction::JumpFalse(0));
+    at
 }
 
 /// Ends the first side and begins the second, to which the jump at `test` leads.
-fn begin_second(out: &mut Vec<Placed>, place: Place, test: usize) -> Result<usize, Memory>
-    requires { test < length out.old.items }
-    ensures at { IfOk result (λ n. n ≡ length out.old.items) }
-    ensures added { OnOk result (out.new.items ≡ slice_set (out.old.items ++ one place (Jump 0)) test (placed place (JumpFalse (length out.old.items + 1)))) }
+fn begin_second(out: &mut Instructions, place: Place, test: usize) -> usize
+    ensures at { result ≡ length out.old.list }
+    ensures added { Becomes out.old out.new (slice_set (out.old.list ++ one place (Jump 0)) test (placed place (JumpFalse (length out.old.list + 1)))) }
 {
     let at = out.len();
-    put(out, place, Instruction::Jump(0))?;
-    let otherwise = word(out.len())?;
-    out[test] = Placed {
-        instruction: Instruction::JumpFalse(otherwise),
-        place,
-    };
-    Ok(at)
+    put(out, place, Instruction::Jump(0));
+    let next = out.len();
+    let otherwise = out.number(next);
+    out.replace(test, place, Instruction::JumpFalse(otherwise));
+    at
 }
 
 /// Ends the second side, over which the jump at `first` leads.
-fn end_sides(out: &mut Vec<Placed>, place: Place, first: usize) -> Result<(), Memory>
-    requires { first < length out.old.items }
-    ensures { OnOk result (out.new.items ≡ slice_set out.old.items first (placed place (Jump (length out.old.items)))) }
+fn end_sides(out: &mut Instructions, place: Place, first: usize)
+    ensures { Becomes out.old out.new (slice_set out.old.list first (placed place (Jump (length out.old.list)))) }
 {
-    let end = word(out.len())?;
-    out[first] = Placed {
-        instruction: Instruction::Jump(end),
-        place,
-    };
-    Ok(())
+    let next = out.len();
+    let end = out.number(next);
+    out.replace(first, place, Instruction::Jump(end))
 }
 
 // ----------------------------------------------------------------------------
 // What a form adds after its parts
 
 /// Pushes a text that is written out.
-fn put_quoted(
-    out: &mut Vec<Placed>,
-    inside: &Inside,
-    place: Place,
-    text: &Text,
-) -> Result<(), Memory>
-    ensures { OnOk result (Emits out.old.items out.new.items (λ _. one place (Push (constant.Text (number_in (inside_of inside.now).texts text.now))))) }
+fn put_quoted(out: &mut Instructions, inside: &Inside, place: Place, text: &Text)
+    ensures { Emits out.old out.new (λ _. one place (Push (constant.Text (number_in (inside_of inside.now).texts text.now)))) }
 {
-    let number = number_in(inside.texts, text)?;
+    let number = out.number(place_in(inside.texts, text));
     put(out, place, Instruction::Push(Constant::Text(number)))
 }
 
 /// Pushes what a name stands for.
-fn put_name(
-    out: &mut Vec<Placed>,
-    inside: &Inside,
-    place: Place,
-    binding: Binding,
-) -> Result<(), Memory>
-    ensures { OnOk result (Emits out.old.items out.new.items (λ _. one place (name_code (inside_of inside.now) binding))) }
+fn put_name(out: &mut Instructions, inside: &Inside, place: Place, binding: Binding)
+    ensures { Emits out.old out.new (λ _. one place (name_code (inside_of inside.now) binding)) }
 {
-    let code = name_code(inside, binding)?;
+    let code = name_code(out, inside, binding);
     put(out, place, code)
 }
 
 /// Calls the method of a name with so many arguments.
-fn put_call(
-    out: &mut Vec<Placed>,
-    inside: &Inside,
-    place: Place,
-    name: &Text,
-    arguments: usize,
-) -> Result<(), Memory>
-    ensures { OnOk result (Emits out.old.items out.new.items (λ _. one place (Call (number_in (inside_of inside.now).methods name.now) arguments))) }
+fn put_call(out: &mut Instructions, inside: &Inside, place: Place, name: &Text, arguments: usize)
+    ensures { Emits out.old out.new (λ _. one place (Call (number_in (inside_of inside.now).methods name.now) arguments)) }
 {
-    let method = number_in(inside.methods, name)?;
-    let count = word(arguments)?;
+    let method = out.number(place_in(inside.methods, name));
+    let count = out.number(arguments);
     put(out, place, Instruction::Call(method, count))
 }
 
 /// Sets what an assignment sets, whose own value is `()`.
-fn put_assigned(
-    out: &mut Vec<Placed>,
-    inside: &Inside,
-    place: Place,
-    binding: Binding,
-) -> Result<(), Memory>
-    ensures { OnOk result (Emits out.old.items out.new.items (λ _. placed place (Set (assigned_value (inside_of inside.now) binding)) ∷ one place (Push constant.Unit))) }
+fn put_assigned(out: &mut Instructions, inside: &Inside, place: Place, binding: Binding)
+    ensures { Emits out.old out.new (λ _. placed place (Set (assigned_value (inside_of inside.now) binding)) ∷ one place (Push constant.Unit)) }
 {
-    let assigned = assigned_value(inside, binding)?;
-    put(out, place, Instruction::Set(assigned))?;
+    let assigned = out.number(assigned_value(inside, binding));
+    put(out, place, Instruction::Set(assigned));
     put(out, place, Instruction::Push(Constant::Unit))
 }
 
@@ -225,8 +186,8 @@ fn put_assigned(
 
 /// The code of an expression.
 #[cycle(emission)]
-pub(crate) fn emit_expr(out: &mut Vec<Placed>, inside: &Inside, expr: &Expr) -> Result<(), Memory>
-    ensures { OnOk result (Emits out.old.items out.new.items (λ at. listing (inside_of inside.now) at (expr_of expr.now))) }
+pub(crate) fn emit_expr(out: &mut Instructions, inside: &Inside, expr: &Expr)
+    ensures { Emits out.old out.new (λ at. listing (inside_of inside.now) at (expr_of expr.now)) }
 {
     match expr {
         Expr::Int(place, number) => put(out, *place, Instruction::Push(Constant::Int(*number))),
@@ -236,29 +197,29 @@ pub(crate) fn emit_expr(out: &mut Vec<Placed>, inside: &Inside, expr: &Expr) -> 
         Expr::This(place) => put(out, *place, Instruction::Load(0)),
         Expr::Name(place, binding) => put_name(out, inside, *place, *binding),
         Expr::Unary(place, operator, x) => {
-            emit_expr(out, inside, x)?;
+            emit_expr(out, inside, x);
             put(out, *place, Instruction::Op(unary_code(*operator)))
         }
         Expr::Binary(place, operator, x, y) => {
-            emit_expr(out, inside, x)?;
+            emit_expr(out, inside, x);
             emit_right(out, inside, *place, *operator, y)
         }
         Expr::TextCall(place, operator, values) => {
-            emit_values(out, inside, values)?;
+            emit_values(out, inside, values);
             put(out, *place, Instruction::Op(text_code(*operator)))
         }
         Expr::Call(place, receiver, name, arguments) => {
-            emit_expr(out, inside, receiver)?;
-            emit_values(out, inside, arguments)?;
+            emit_expr(out, inside, receiver);
+            emit_values(out, inside, arguments);
             put_call(out, inside, *place, name, arguments.len())
         }
         Expr::New(place, literal, values) => {
-            emit_values(out, inside, values)?;
+            emit_values(out, inside, values);
             put(out, *place, Instruction::New(*literal))
         }
         Expr::Ascribe(_, value, _) => emit_value(out, inside, value),
         Expr::Assign(place, binding, value) => {
-            emit_value(out, inside, value)?;
+            emit_value(out, inside, value);
             put_assigned(out, inside, *place, *binding)
         }
     }
@@ -267,31 +228,31 @@ pub(crate) fn emit_expr(out: &mut Vec<Placed>, inside: &Inside, expr: &Expr) -> 
 /// The code of a binary operator with its right side, after its left one.
 #[cycle(emission)]
 fn emit_right(
-    out: &mut Vec<Placed>,
+    out: &mut Instructions,
     inside: &Inside,
     place: Place,
     operator: BinaryOperator,
     right: &Expr,
-) -> Result<(), Memory>
-    ensures { OnOk result (Emits out.old.items out.new.items (λ at. right_listing place (evaluation operator) at (λ at. listing (inside_of inside.now) at (expr_of right.now)))) }
+)
+    ensures { Emits out.old out.new (λ at. right_listing place (evaluation operator) at (λ at. listing (inside_of inside.now) at (expr_of right.now))) }
 {
     match evaluation(operator) {
         Sides::Both(operation) => {
-            emit_expr(out, inside, right)?;
+            emit_expr(out, inside, right);
             put(out, place, Instruction::Op(operation))
         }
         Sides::And => {
-            let test = begin_first(out, place)?;
-            emit_expr(out, inside, right)?;
-            let first = begin_second(out, place, test)?;
-            put(out, place, Instruction::Push(Constant::Truth(false)))?;
+            let test = begin_first(out, place);
+            emit_expr(out, inside, right);
+            let first = begin_second(out, place, test);
+            put(out, place, Instruction::Push(Constant::Truth(false)));
             end_sides(out, place, first)
         }
         Sides::Or => {
-            let test = begin_first(out, place)?;
-            put(out, place, Instruction::Push(Constant::Truth(true)))?;
-            let first = begin_second(out, place, test)?;
-            emit_expr(out, inside, right)?;
+            let test = begin_first(out, place);
+            put(out, place, Instruction::Push(Constant::Truth(true)));
+            let first = begin_second(out, place, test);
+            emit_expr(out, inside, right);
             end_sides(out, place, first)
         }
     }
@@ -299,21 +260,17 @@ fn emit_right(
 
 /// The code of a value.
 #[cycle(emission)]
-pub(crate) fn emit_value(
-    out: &mut Vec<Placed>,
-    inside: &Inside,
-    value: &Value,
-) -> Result<(), Memory>
-    ensures { OnOk result (Emits out.old.items out.new.items (λ at. value_listing (inside_of inside.now) at (value_of value.now))) }
+pub(crate) fn emit_value(out: &mut Instructions, inside: &Inside, value: &Value)
+    ensures { Emits out.old out.new (λ at. value_listing (inside_of inside.now) at (value_of value.now)) }
 {
     match value {
         Value::Plain(expr) => emit_expr(out, inside, expr),
         Value::If(place, test, first, second) => {
-            emit_expr(out, inside, test)?;
-            let tested = begin_first(out, *place)?;
-            emit_block(out, inside, first)?;
-            let turned = begin_second(out, *place, tested)?;
-            emit_block(out, inside, second)?;
+            emit_expr(out, inside, test);
+            let tested = begin_first(out, *place);
+            emit_block(out, inside, first);
+            let turned = begin_second(out, *place, tested);
+            emit_block(out, inside, second);
             end_sides(out, *place, turned)
         }
     }
@@ -321,28 +278,27 @@ pub(crate) fn emit_value(
 
 /// The code of several values, one after the other.
 #[cycle(emission)]
-fn emit_values(out: &mut Vec<Placed>, inside: &Inside, values: &Vec<Value>) -> Result<(), Memory>
-    ensures { OnOk result (Emits out.old.items out.new.items (λ at. values_listing (inside_of inside.now) at (values_of values.now.items))) }
+fn emit_values(out: &mut Instructions, inside: &Inside, values: &Vec<Value>)
+    ensures { Emits out.old out.new (λ at. values_listing (inside_of inside.now) at (values_of values.now.items)) }
 {
     for i in 0..values.len() {
-        emit_value(out, inside, &values[i])?;
+        emit_value(out, inside, &values[i]);
     }
-    Ok(())
 }
 
 /// The code of a statement that stands before others.
 #[cycle(emission)]
-fn emit_statement(out: &mut Vec<Placed>, inside: &Inside, statement: &Stmt) -> Result<(), Memory>
-    ensures { OnOk result (Emits out.old.items out.new.items (λ at. statement_listing (inside_of inside.now) at statement.now)) }
+fn emit_statement(out: &mut Instructions, inside: &Inside, statement: &Stmt)
+    ensures { Emits out.old out.new (λ at. statement_listing (inside_of inside.now) at statement.now) }
 {
     match statement {
         Stmt::Val(place, number, _, value) => {
-            emit_value(out, inside, value)?;
-            let slot = val_slot(inside, *number)?;
+            emit_value(out, inside, value);
+            let slot = out.number(val_slot(inside, *number));
             put(out, *place, Instruction::Store(slot))
         }
         Stmt::Do(value) => {
-            emit_value(out, inside, value)?;
+            emit_value(out, inside, value);
             put(out, value_mark(value), Instruction::Drop)
         }
     }
@@ -350,32 +306,23 @@ fn emit_statement(out: &mut Vec<Placed>, inside: &Inside, statement: &Stmt) -> R
 
 /// The code of a block.
 #[cycle(emission)]
-pub(crate) fn emit_block(
-    out: &mut Vec<Placed>,
-    inside: &Inside,
-    block: &Block,
-) -> Result<(), Memory>
-    ensures { OnOk result (Emits out.old.items out.new.items (λ at. block_listing (inside_of inside.now) at (block_of block.now))) }
+pub(crate) fn emit_block(out: &mut Instructions, inside: &Inside, block: &Block)
+    ensures { Emits out.old out.new (λ at. block_listing (inside_of inside.now) at (block_of block.now)) }
 {
     for i in 0..block.statements.len() {
-        emit_statement(out, inside, &block.statements[i])?;
+        emit_statement(out, inside, &block.statements[i]);
     }
     emit_value(out, inside, &block.last)
 }
 
 /// The code of the initialisers of fields, each of which is set as soon as its value is there.
-pub(crate) fn emit_fields(
-    out: &mut Vec<Placed>,
-    inside: &Inside,
-    values: &Vec<Value>,
-) -> Result<(), Memory>
-    ensures { OnOk result (Emits out.old.items out.new.items (λ at. fields_listing (inside_of inside.now) at 0 (values_of values.now.items))) }
+pub(crate) fn emit_fields(out: &mut Instructions, inside: &Inside, values: &Vec<Value>)
+    ensures { Emits out.old out.new (λ at. fields_listing (inside_of inside.now) at 0 (values_of values.now.items)) }
 {
     for i in 0..values.len() {
         let value = &values[i];
-        emit_value(out, inside, value)?;
-        let field = field_value(inside, i)?;
-        put(out, value_mark(value), Instruction::Set(field))?;
+        emit_value(out, inside, value);
+        let field = out.number(field_value(inside, i));
+        put(out, value_mark(value), Instruction::Set(field));
     }
-    Ok(())
 }

@@ -4,6 +4,7 @@
 ghost use Rattle.std.specs.Prelude.{◌≡◌, ◌+◌, ◌∷◌, [], ℕ, Bool, length, nat_eq, IfOk, OnOk};
 ghost use Rattle.std.specs.List.{position_from};
 ghost use Rattle.indexmap.specs.IndexMap.{get};
+ghost use Rattle.wy_lower.specs.Capped.{capped};
 ghost use Rattle.wy_lower.specs.Parts.{each_once_after, number_in};
 ghost use Rattle.wy_lower.specs.Inside.{place_from, is_val, capture_from};
 ghost use Rattle.wy_lower.specs.EmitIndexes.{key_of, same_key};
@@ -17,7 +18,8 @@ use wy_types::code::Variable;
 
 /// A number as the code has it.
 pub(crate) fn word(number: usize) -> Result<u32, Memory>
-    ensures { IfOk result (λ n. n ≡ number) }
+    ensures exact { IfOk result (λ n. n ≡ number) }
+    ensures summed { (sum : ℕ) → number ≡ capped sum → IfOk result (λ n. n ≡ sum) }
 {
     match u32::try_from(number) {
         Ok(word) => Ok(word),
@@ -25,11 +27,11 @@ pub(crate) fn word(number: usize) -> Result<u32, Memory>
     }
 }
 
-/// The sum of two numbers.
-pub(crate) fn sum(first: usize, second: usize) -> Result<usize, Memory>
-    ensures { IfOk result (λ n. n ≡ first + second) }
+/// The sum of two numbers, or the greatest number if that is less.
+pub(crate) fn sum(first: usize, second: usize) -> usize
+    ensures { result ≡ capped (first + second) }
 {
-    first.checked_add(second).ok_or(Memory)
+    first.saturating_add(second)
 }
 
 // ----------------------------------------------------------------------------
@@ -46,7 +48,7 @@ pub(crate) fn put_text(table: &mut IndexSet<Text>, text: &Text) -> Result<(), Me
 }
 
 /// The place of a text in a table.
-fn place_in(table: &IndexSet<Text>, text: &Text) -> usize
+pub(crate) fn place_in(table: &IndexSet<Text>, text: &Text) -> usize
     ensures { result ≡ number_in table.now.keys text.now }
 {
     match table.get_index_of(text) {

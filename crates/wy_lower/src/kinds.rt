@@ -1,7 +1,8 @@
 //! The kinds of objects of a scope: with what each captures, its fields and its methods.
 
-ghost use Rattle.std.specs.Prelude.{◌≡◌, ◌<◌, ◌++◌, ◌∷◌, [], ℕ, length, get_or, nat_eq, if◌then◌else◌, IfOk, OnOk};
+ghost use Rattle.std.specs.Prelude.{◌≡◌, ◌+◌, ◌<◌, ◌++◌, ◌∷◌, [], ℕ, length, get_or, nat_eq, if◌then◌else◌, IfOk, OnOk};
 ghost use Rattle.wy_types.specs.Program.{scope_of};
+ghost use Rattle.wy_lower.specs.Capped.{capped};
 ghost use Rattle.wy_lower.specs.Parts.{number_in};
 ghost use Rattle.wy_lower.specs.Lowering.{methods_code, captures_code, literals_code};
 ghost use Rattle.wy_lower.specs.EmitScopes.{IsTabled};
@@ -49,7 +50,7 @@ fn add_body(
     methods: &mut Vec<Items<Method>>,
 ) -> Result<(), Memory>
     ensures long { OnOk result (length methods.new.items ≡ length methods.old.items) }
-    ensures added { OnOk result ((l : ℕ) → l < length methods.old.items → get_or methods.new.items l [] ≡ get_or methods.old.items l [] ++ (if nat_eq body.now.owner l then record { method = number_in whole.now.methods.keys body.now.signature.name; body = number } ∷ [] else [])) }
+    ensures added { (n : ℕ) → number ≡ capped n → OnOk result ((l : ℕ) → l < length methods.old.items → get_or methods.new.items l [] ≡ get_or methods.old.items l [] ++ (if nat_eq body.now.owner l then record { method = number_in whole.now.methods.keys body.now.signature.name; body = n } ∷ [] else [])) }
 {
     let method = number_in(&whole.methods, &body.signature.name)?;
     let number = word(number)?;
@@ -63,21 +64,21 @@ fn add_body(
     )
 }
 
-/// The methods of each kind of objects; the first method of the scope has this number among all bodies.
+/// The methods of each kind of objects; the `init` or `run` of the scope has this number among all bodies.
 fn methods_of(
     alloc: Global,
     whole: &Whole,
     scope: &Scope,
-    first: usize,
+    start: usize,
 ) -> Result<Vec<Items<Method>>, Memory>
     requires whole { IsWhole whole.now }
     ensures long { IfOk result (λ m. length m.items ≡ length scope.now.literals) }
-    ensures each { IfOk result (λ m. (l : ℕ) → l < length scope.now.literals → get_or m.items l [] ≡ methods_code (whole_program whole.now) l first (scope_of scope.now).bodies) }
+    ensures each { IfOk result (λ m. (l : ℕ) → l < length scope.now.literals → get_or m.items l [] ≡ methods_code (whole_program whole.now) l (start + 1) (scope_of scope.now).bodies) }
 {
     let mut methods = no_methods(alloc, scope.literals.len())?;
     let bodies = scope.bodies.as_slice();
     for k in 0..bodies.len() {
-        add_body(whole, &bodies[k], sum(first, k)?, &mut methods)?;
+        add_body(whole, &bodies[k], sum(start, k + 1), &mut methods)?;
     }
     Ok(methods)
 }
@@ -165,7 +166,7 @@ pub(crate) fn literals_code(
     requires tables { IsTabled (scope_of scope.now) tables.now }
     ensures { IfOk result (λ l. l ≡ literals_code (whole_program whole.now) (whole_starts whole.now) (scope_of scope.now) first 0 (scope_of scope.now).literals) }
 {
-    let methods = methods_of(alloc, whole, scope, sum(first, 1)?)?;
+    let methods = methods_of(alloc, whole, scope, first)?;
     let mut all = Items::new(alloc);
     let literals = scope.literals.as_slice();
     for k in 0..literals.len() {

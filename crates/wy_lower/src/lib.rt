@@ -7,6 +7,7 @@ mod entries;
 mod expressions;
 mod gathering;
 mod indexes;
+mod instructions;
 mod kinds;
 pub mod laws;
 mod limits;

@@ -16,7 +16,7 @@ use crate::entries::put_entries;
 use crate::gathering::Names;
 use crate::indexes::{add_texts, word};
 use crate::kinds::literals_code;
-use crate::limits::{body_count, some_slots_above};
+use crate::limits::{has_too_many_bodies, some_slots_above};
 use crate::scopes::{Tables, tables_of_scopes};
 use crate::starting::{add_instances, instance_code, main_actuals, put_grants};
 use indexmap::IndexSet;
@@ -115,10 +115,11 @@ fn whole_of<'a>(alloc: Global, core: &'a Core, linked: &'a Linked) -> Result<Who
     let mut names = Names {
         texts: IndexSet::new(alloc),
         methods: IndexSet::new(alloc),
+        wanting: false,
     };
     let mut tables = Vec::new(alloc);
     fill_tables(alloc, core, linked, &mut actuals, &mut names, &mut tables)?;
-    let Names { texts, methods } = names;
+    let Names { texts, methods, .. } = names;
     Ok(Whole {
         core,
         linked,
@@ -297,8 +298,7 @@ pub fn lower(alloc: Global, core: &Core, linked: &Linked) -> Result<Code, LowerR
     ensures within { IfOk result (λ _. lowering_limit (program_of core.now) (starts_of (program_of core.now) (map started_of linked.now)) ≡ None) }
     ensures refused { IfErr result (IsLowerRefusal (program_of core.now) (starts_of (program_of core.now) (map started_of linked.now))) }
 {
-    let count = body_count(core.scopes.as_slice())?;
-    if count as u64 > LimitName::Bodies.number() {
+    if has_too_many_bodies(core.scopes.as_slice()) {
         return Err(LowerRefusal::Limit(LimitName::Bodies));
     }
     let whole = whole_of(alloc, core, linked)?;

@@ -3,10 +3,12 @@
 ghost use Rattle.std.specs.Prelude.{◌≡◌, IfOk};
 ghost use Rattle.std.specs.Option.{option_copied};
 ghost use Rattle.wy_types.specs.declared.code.Binding.TheVariants as to;
+ghost use Rattle.wy_lower.specs.Capped.{capped};
 ghost use Rattle.wy_lower.specs.Inside.{is_own, val_slot, slot_of, own_values, capture_value, field_value, handed_constant, name_code, assigned_value, source_of, capture_sources};
-ghost use Rattle.wy_lower.specs.Emits.{inside_of};
+ghost use Rattle.wy_lower.specs.Emits.{inside_of, Finds};
 
 use crate::indexes::{Captures, Vals, sum, word};
+use crate::instructions::Instructions;
 use indexmap::IndexSet;
 use std::alloc::Global;
 use wy_code::code::Source;
@@ -43,19 +45,18 @@ fn is_own(inside: &Inside, variable: Variable) -> bool
 }
 
 /// The slot of the `val` of a number.
-pub(crate) fn val_slot(inside: &Inside, number: u32) -> Result<u32, Memory>
-    ensures { IfOk result (λ n. n ≡ val_slot (inside_of inside.now) number) }
+pub(crate) fn val_slot(inside: &Inside, number: u32) -> usize
+    ensures { result ≡ capped (val_slot (inside_of inside.now) number) }
 {
-    let before = sum(1, inside.parameters)?;
-    word(sum(before, inside.vals.place(number))?)
+    sum(sum(1, inside.parameters), inside.vals.place(number))
 }
 
 /// The slot of a variable of the body itself.
-fn slot_of(inside: &Inside, variable: Variable) -> Result<u32, Memory>
-    ensures { IfOk result (λ n. n ≡ slot_of (inside_of inside.now) variable) }
+fn slot_of(inside: &Inside, variable: Variable) -> usize
+    ensures { result ≡ capped (slot_of (inside_of inside.now) variable) }
 {
     match variable {
-        Variable::Parameter { body: _, index } => word(sum(1, usize::from(index))?),
+        Variable::Parameter { body: _, index } => sum(1, usize::from(index)),
         Variable::Local(number) => val_slot(inside, number),
     }
 }
@@ -68,18 +69,17 @@ fn own_values(inside: &Inside) -> usize
 }
 
 /// The value of the current object that it captured for a variable.
-fn capture_value(inside: &Inside, variable: Variable) -> Result<u32, Memory>
-    ensures { IfOk result (λ n. n ≡ capture_value (inside_of inside.now) variable) }
+fn capture_value(inside: &Inside, variable: Variable) -> usize
+    ensures { result ≡ capped (capture_value (inside_of inside.now) variable) }
 {
-    word(sum(own_values(inside), inside.captures.place(variable))?)
+    sum(own_values(inside), inside.captures.place(variable))
 }
 
 /// The value of the current object that a field is.
-pub(crate) fn field_value(inside: &Inside, field: usize) -> Result<u32, Memory>
-    ensures { IfOk result (λ n. n ≡ field_value (inside_of inside.now) field) }
+pub(crate) fn field_value(inside: &Inside, field: usize) -> usize
+    ensures { result ≡ capped (field_value (inside_of inside.now) field) }
 {
-    let before = sum(own_values(inside), inside.captures.len())?;
-    word(sum(before, field)?)
+    sum(sum(own_values(inside), inside.captures.len()), field)
 }
 
 /// What an own name of the program stands for, as a constant.
@@ -94,14 +94,21 @@ fn handed_constant(actual: Option<&Actual>) -> Constant
 }
 
 /// What pushes the value of a variable.
-fn variable_code(inside: &Inside, variable: Variable) -> Result<Instruction, Memory>
-    ensures { IfOk result (λ c. c ≡ name_code (inside_of inside.now) (to.Variable variable)) }
+fn variable_code(out: &mut Instructions, inside: &Inside, variable: Variable) -> Instruction
+    ensures { Finds out.old out.new result (name_code (inside_of inside.now) (to.Variable variable)) }
 {
     if is_own(inside, variable) {
-        Ok(Instruction::Load(slot_of(inside, variable)?))
+        Instruction::Load(out.number(slot_of(inside, variable)))
     } else {
-        Ok(Instruction::Get(capture_value(inside, variable)?))
+        Instruction::Get(out.number(capture_value(inside, variable)))
     }
+}
+
+/// What pushes the value of a field.
+fn field_code(out: &mut Instructions, inside: &Inside, field: usize) -> Instruction
+    ensures { Finds out.old out.new result (name_code (inside_of inside.now) (to.Field field)) }
+{
+    Instruction::Get(out.number(field_value(inside, field)))
 }
 
 /// What pushes the value of an own name.
@@ -116,24 +123,24 @@ fn own_code(inside: &Inside, own: u32) -> Instruction
 }
 
 /// What pushes the value of a name.
-pub(crate) fn name_code(inside: &Inside, binding: Binding) -> Result<Instruction, Memory>
-    ensures { IfOk result (λ c. c ≡ name_code (inside_of inside.now) binding) }
+pub(crate) fn name_code(out: &mut Instructions, inside: &Inside, binding: Binding) -> Instruction
+    ensures { Finds out.old out.new result (name_code (inside_of inside.now) binding) }
 {
     match binding {
-        Binding::Variable(variable) => variable_code(inside, variable),
-        Binding::Field(field) => Ok(Instruction::Get(field_value(inside, usize::from(field))?)),
-        Binding::Own(own) => Ok(own_code(inside, own)),
+        Binding::Variable(variable) => variable_code(out, inside, variable),
+        Binding::Field(field) => field_code(out, inside, usize::from(field)),
+        Binding::Own(own) => own_code(inside, own),
     }
 }
 
 /// The value of the current object that an assignment sets.
-pub(crate) fn assigned_value(inside: &Inside, binding: Binding) -> Result<u32, Memory>
-    ensures { IfOk result (λ n. n ≡ assigned_value (inside_of inside.now) binding) }
+pub(crate) fn assigned_value(inside: &Inside, binding: Binding) -> usize
+    ensures { result ≡ capped (assigned_value (inside_of inside.now) binding) }
 {
     match binding {
         Binding::Variable(variable) => capture_value(inside, variable),
         Binding::Field(field) => field_value(inside, usize::from(field)),
-        Binding::Own(own) => Ok(own),
+        Binding::Own(own) => own as usize,
     }
 }
 
@@ -142,9 +149,9 @@ fn source_of(inside: &Inside, variable: Variable) -> Result<Source, Memory>
     ensures { IfOk result (λ s. s ≡ source_of (inside_of inside.now) variable) }
 {
     if is_own(inside, variable) {
-        Ok(Source::Slot(slot_of(inside, variable)?))
+        Ok(Source::Slot(word(slot_of(inside, variable))?))
     } else {
-        Ok(Source::Value(capture_value(inside, variable)?))
+        Ok(Source::Value(word(capture_value(inside, variable))?))
     }
 }
 

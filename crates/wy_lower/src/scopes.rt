@@ -1,6 +1,6 @@
 //! What is known of a scope before its code is made: its `val`s, what its literals capture, and where each literal is made.
 
-ghost use Rattle.std.specs.Prelude.{◌≡◌, ◌<◌, [], ℕ, None, Some, length, map, get_or, nat_eq, if◌then◌else◌, IfOk, OnOk};
+ghost use Rattle.std.specs.Prelude.{◌≡◌, ◌<◌, [], ℕ, false, None, Some, length, map, get_or, nat_eq, if◌then◌else◌, IfOk, OnOk};
 ghost use Rattle.wy_types.specs.declared.resolved.Literal.{Literal};
 ghost use Rattle.wy_types.specs.Core.{block_vals, start_vals};
 ghost use Rattle.wy_types.specs.Program.{body_of, scope_of, start_of};
@@ -87,6 +87,17 @@ fn add_captures(
     Ok(())
 }
 
+/// The `val`s that were collected, if memory sufficed for all that was.
+fn vals_found(alloc: Global, names: &Names, vals: Vec<u32>) -> Result<Vals, Memory>
+    ensures enough { OnOk result (names.now.wanting ≡ false) }
+    ensures vals { IfOk result (λ v. v ≡ vals.items) }
+{
+    if names.wanting {
+        return Err(Memory);
+    }
+    Vals::new(alloc, vals)
+}
+
 /// The `val`s of an `init` or `run`. The texts that it writes out and the names of the methods that it calls are put into their
 /// tables.
 fn start_vals(alloc: Global, names: &mut Names, start: &Start) -> Result<Vals, Memory>
@@ -95,8 +106,8 @@ fn start_vals(alloc: Global, names: &mut Names, start: &Start) -> Result<Vals, M
     ensures vals { IfOk result (λ v. v ≡ start_vals (start_of start.now)) }
 {
     let mut found = nothing_found(alloc);
-    gather_start(names, &mut found, start)?;
-    Vals::new(alloc, found.vals)
+    gather_start(names, &mut found, start);
+    vals_found(alloc, names, found.vals)
 }
 
 /// The `val`s of the method of a number, which is noted as the maker of literals. The texts that it writes out and the names of
@@ -115,9 +126,9 @@ fn body_vals(
     ensures makers { OnOk result ((l : ℕ) → l < length makers.old.items → get_or makers.new.items l None ≡ maker_noted number (makes_in (block_parts (block_of body.now.block))) l (get_or makers.old.items l None)) }
 {
     let mut found = nothing_found(alloc);
-    gather_block(names, &mut found, &body.block)?;
+    gather_block(names, &mut found, &body.block);
     note_makers(makers, &found.makes, number);
-    Vals::new(alloc, found.vals)
+    vals_found(alloc, names, found.vals)
 }
 
 /// Adds the `val`s of each method. The literals that they make have these makers, and the texts that they write out and the names

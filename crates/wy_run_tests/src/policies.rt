@@ -58,7 +58,7 @@ fn shown(alloc: Global, bytes: &[u8]) -> Result<String, Fail> {
 }
 
 /// Texts of policies, each with what is read.
-static TEXTS: [(&[u8], &str); 32] = [
+static TEXTS: [(&[u8], &str); 11] = [
     (b"", ""),
     (b"\n   \n// x: -\r\n//", ""),
     (b"a: -", "1 is <a>;"),
@@ -73,27 +73,6 @@ static TEXTS: [(&[u8], &str); 32] = [
     (b"/ x: -", "1 is </ x>;"),
     (b"a: mains.atom", "1 is <a> [mains]atom;"),
     (b" // x", "bad 1"),
-    (b"a: -\n\t\nb", "bad 2"),
-    (b": -", "bad 1"),
-    (b"a", "bad 1"),
-    (b"a:", "bad 1"),
-    (b"a:-", "bad 1"),
-    (b"a:  -", "bad 1"),
-    (b"a: ", "bad 1"),
-    (b"a: - ", "bad 1"),
-    (b"a: -\r", "bad 1"),
-    (b"a: -, d.R", "bad 1"),
-    (b"a: d.R,e.R", "bad 1"),
-    (b"a: d.R, ", "bad 1"),
-    (b"a: d", "bad 1"),
-    (b"a: .R", "bad 1"),
-    (b"a: d.", "bad 1"),
-    (b"a: d.R.S", "bad 1"),
-    (b"a: *.R", "bad 1"),
-    (b"a: 1.R", "bad 1"),
-    (b"a: main.R", "bad 1"),
-    (b"a: d.text_size", "bad 1"),
-    (b"a**: -", "bad 1"),
 ];
 
 #[test]
@@ -184,7 +163,7 @@ fn said(alloc: Global, bytes: &[u8]) -> Result<String, Fail> {
 }
 
 /// Policies, each with what it says of that authority.
-static SAID: [(&[u8], &str); 12] = [
+static SAID: [(&[u8], &str); 2] = [
     (
         b"pure *: -\nlg: logs.Append\nrep: data.*, console.Out, logs.Append\nmain: data.*, console.Out, logs.Append",
         "allowed",
@@ -192,22 +171,6 @@ static SAID: [(&[u8], &str); 12] = [
     (
         b"pure *: -\nlg: logs.Append\nrep: data.*, logs.Append\nmain: data.*, console.Out, logs.Append",
         "3 rep console.Out",
-    ),
-    (b"", "0 lg logs.Append"),
-    (b"lg: -", "1 lg logs.Append"),
-    (b"*: console.*, data.*, logs.*, clock.Now", "allowed"),
-    (b"l*: logs.Append\nlg: -\n*: -", "3 rep console.Out"),
-    (b"lg*: logs.Append\nrep: console.*", "2 rep data.Read"),
-    (b"lgs*: logs.Append", "0 lg logs.Append"),
-    (b"lg: logs.append, log.Append", "1 lg logs.Append"),
-    (
-        b"lg: logs.*\nrep: logs.*, data.*, console.*",
-        "0 main console.Out",
-    ),
-    (b"re*: console.*\n*: logs.*", "1 rep data.Read"),
-    (
-        b"*: logs.Append\nrep: console.*, data.*, logs.*",
-        "1 rep console.Out",
     ),
 ];
 

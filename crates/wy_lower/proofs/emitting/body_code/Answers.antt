@@ -1,4 +1,4 @@
-use Rattle.std.proofs.Common.{get_or, ap, ◌∙◌}
+use Rattle.std.proofs.Common.{get_or, refl, ap, ◌∙◌}
 use Rattle.std.proofs.lemmas.Result.{IfOk-weaker}
 use Rattle.wy_types.specs.Program.{body_of, scope_of}
 use Rattle.wy_lower.specs.EmitBodies.{whole_program, whole_starts}
@@ -13,5 +13,5 @@ returns c =
     let x = c.index-as_slice-number.result in
     let at = c.index-as_slice-number.is ∙ ap (λ l. get_or l k x) c.as_slice.ensures in
     IfOk-weaker c.body_with.result _ _ (λ y h b e.
-    body_is (whole_program c.args.whole.now) (whole_starts c.args.whole.now) (scope_of s) k y _ b (body_of x) _ _ _ _ _ h (c.inside_body-inside.ensures b e) (mapped_item body_of s.bodies k x b e c.requires.there at)
-    c.in_ok-name.ensures c.in_ok-operands.ensures c.new-out.ensures.items c.in_ok-emit_block.ensures c.in_ok-put.ensures) c.body_with.ensures
+    body_is (whole_program c.args.whole.now) (whole_starts c.args.whole.now) (scope_of s) k y _ b (body_of x) _ _ _ _ _ h.1 h.0 (c.inside_body-inside.ensures b e) (mapped_item body_of s.bodies k x b e c.requires.there at)
+    c.in_ok-name.ensures refl (ap (λ o. o.list) c.new-out.ensures) c.emit_block.ensures c.put.ensures) (c.body_with.ensures _ c.block_operands.ensures)

@@ -10,7 +10,7 @@ loop-i-preserved c =
     let i = c.loop-i.i in
     let x = c.index-value.result.now in
     let lt : i < length xs = search rules in
-    fields_more _ _ _ _ _ xs i x _ _ _ lt (read_item xs i x (slice_get_read xs _ i x refl lt c.index-value.ensures)) c.in_ok-field.ensures c.value_mark.ensures c.loop-i.invariant c.in_ok-emit_value.ensures c.in_ok-put.ensures
+    fields_more _ _ _ _ _ _ xs i x _ _ _ lt (read_item xs i x (slice_get_read xs _ i x refl lt c.index-value.ensures)) c.value_mark.ensures c.loop-i.invariant c.emit_value.ensures (c.number-field.ensures.summed _ c.field_value.ensures) c.put.ensures
 
 pub returns : goal.returns
 returns c =

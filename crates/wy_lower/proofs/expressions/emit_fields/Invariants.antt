@@ -7,6 +7,6 @@ use Rattle.wy_lower.proofs.expressions.emit_fields.Given as goal
 
 abbrev pub invariant-loop-i : goal.invariant-loop-i
 invariant-loop-i l =
-    Leaves l.initial.out.items l.out.items
+    Leaves l.initial.out l.out
     (λ at. fields_listing (inside_of l.inside) at l.i (values_of (drop l.i l.values.items)))
     (λ at. fields_listing (inside_of l.inside) at 0 (values_of l.values.items))

@@ -1,4 +1,4 @@
-use Rattle.std.proofs.Common.{◌≡◌, ◌<◌, ◌+◌, List, [], ◌∷◌, ◌++◌, length, drop, get_or, refl, sym, ap, ◌∙◌, arith, append_assoc}
+use Rattle.std.proofs.Common.{◌<◌, ◌+◌, List, [], ◌∷◌, ◌++◌, length, drop, get_or, refl, sym, ap, ◌∙◌, arith, append_assoc}
 use Rattle.std.proofs.lemmas.Option.{slice_get_read}
 use Rattle.wy_code.specs.declared.code.Literal.{Literal}
 use Rattle.wy_code.specs.declared.code.Method.{Method}
@@ -21,7 +21,7 @@ loop-k-preserved c =
     let ms = c.in_ok-methods.methods.items in
     let own = c.index.result.now in
     let less : k < length ms = omega (arith, c.in_ok-methods.ensures.long, lt) in
-    let is = read_item ms k own (slice_get_read ms _ k own refl less c.index.ensures) ∙ read_any ms k own [] less ∙ c.in_ok-methods.ensures.each k lt ∙ ap (λ n. methods_code p k n s.bodies) c.in_ok-sum.ensures in
+    let is = read_item ms k own (slice_get_read ms _ k own refl less c.index.ensures) ∙ read_any ms k own [] less ∙ c.in_ok-methods.ensures.each k lt in
     let made = λ (m : List Method). let l : Literal = record { captures = captures_code p starts s k x.captures; fields = length x.fields; methods = m } in l in
     let rest = literals_code p starts s c.args.first (k + 1) (drop (k + 1) xs) in
     ap (λ l. l ++ rest) (c.in_ok-add_literal.ensures ∙ ap (λ m. c.loop-k.all ++ made m ∷ []) is)

@@ -20,16 +20,17 @@ loop-k-preserved c =
     let item = there_is bs k below in
     let same = mapped_item body_of sb k r item.0 item.1 lt at in
     let rest = drop (k + 1) bs in
-    let first = c.args.first in
+    let first = c.args.start + 1 in
     let step : first + k + 1 ≡ first + (k + 1) = omega arith in
+    let number : c.args.start + (k + 1) ≡ first + k = omega arith in
     let name = ap (λ ks. number_in ks r.signature.name) c.requires.whole.methods in
     record {
       long = c.in_ok-add_body.ensures.long ∙ c.loop-k.invariant.long;
       each = λ m less.
           let old = get_or c.loop-k.methods.items m [] in
           let here : m < length c.loop-k.methods.items = omega (arith, c.loop-k.invariant.long, less) in
-          ap (λ l. l ++ methods_code p m (first + (k + 1)) rest) (c.in_ok-add_body.ensures.added m here)
-          ∙ methods_more p m (first + k) (first + (k + 1)) (body_of r) rest old _ _ step name c.in_ok-sum.ensures
+          ap (λ l. l ++ methods_code p m (first + (k + 1)) rest) (c.in_ok-add_body.ensures.added _ c.sum.ensures m here)
+          ∙ methods_more p m (first + k) (first + (k + 1)) (body_of r) rest old _ _ step name number
           ∙ ap (λ y. old ++ methods_code p m (first + k) (y ∷ rest)) (sym same)
           ∙ ap (λ l. old ++ methods_code p m (first + k) l) (sym (split_at bs k item.0 below (read_item bs k item.0 item.1)))
           ∙ c.loop-k.invariant.each m less;

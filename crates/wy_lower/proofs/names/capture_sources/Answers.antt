@@ -12,7 +12,7 @@ loop-number-preserved c =
     let sources = c.loop-number.sources in
     let rest = own_sources (k + 1) (n - (k + 1)) in
     let lt : k < n = omega (arith, c.own_values-number-end.ensures) in
-    ap (λ l. l ++ rest) (c.in_ok-push.ensures.ok ∙ ap (λ m. sources ++ Value m ∷ []) c.in_ok-word.ensures)
+    ap (λ l. l ++ rest) (c.in_ok-push.ensures.ok ∙ ap (λ m. sources ++ Value m ∷ []) c.in_ok-word.ensures.exact)
     ∙ append_assoc sources (Value k ∷ []) rest
     ∙ ap (λ l. sources ++ l) (sym (own_more k n lt))
     ∙ c.loop-number.invariant

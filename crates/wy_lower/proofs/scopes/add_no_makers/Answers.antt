@@ -1,4 +1,4 @@
-use Rattle.std.proofs.Common.{◌≡◌, ◌+◌, ◌∷◌, [], length, get_or, None, ap, ◌∙◌, arith, length-append}
+use Rattle.std.proofs.Common.{◌∷◌, [], length, get_or, None, ap, ◌∙◌, arith, length-append}
 use Rattle.wy_lower.proofs.EmitLists.{default_more}
 use Rattle.wy_lower.proofs.scopes.add_no_makers.Goals as goal
 
