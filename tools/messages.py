@@ -7,7 +7,8 @@ from causes import hint
 from certificates import RULES, scopes_of
 from policies import bad_row
 from project import page
-from sources import PRIMITIVE, PRIMITIVE_METHODS, RESERVED, closing, items_of, joined, parts_at, shown_text, split, text_of, word_at, words_of_line
+from sources import PRIMITIVE, PRIMITIVE_METHODS, RESERVED, closing, items_of, joined, parts_at, shown_text, split, text_of
+from sources import word_at, words_of_line
 
 COMMANDS = {
     "check": "FILE...: accepts the program, or names the first place that breaks a rule",
@@ -24,6 +25,8 @@ COMMANDS = {
 PLACE = re.compile(r"(.+):(\d+):(\d+): (?:syntax: (\w+)|refused: (\S+ premise \d).*|trap: (\w+))")
 BY_STATUS = {1: "usage", 2: "unread", 7: "too deep", 8: "spent", 9: "failed", 10: "unwritten", 11: "no memory"}
 BY_STATUS.update({14: "bad certificate", 15: "unproved", 16: "denied", 17: "bad policy"})
+# (how like a name has to be, for a misspelt one)
+NEAR = 0.65
 # (line rules, and I-Import, which speak of arguments)
 OF_ARGUMENTS = re.compile(r"(?:M-Inst premise [2345]|M-Import premise 2|I-Import premise [123])")
 
@@ -143,6 +146,34 @@ def of_twice(call, file, line, column):
     word = word_at(parts_at((text_of(file) or "").split("\n")[line - 1], column)[1])
     places = declarations(call, word, file, line)
     return [f"`{word}` is declared here:", *(f"  {it}" for it in places)] if len(places) > 1 else []
+
+
+def of_unknown(call, file, line, column):
+    """Names what is declared and looks most like a word that is not."""
+    word = word_at(parts_at((text_of(file) or "").split("\n")[line - 1], column)[1])
+    item = call.item_at(file, line)
+    known = [it.name for it in call.items() if it.name] + list(PRIMITIVE)
+    if call.heading == "T-Call premise 2":
+        known = [method.name for it in call.items() for method in it.methods]
+        known += [it.partition("(")[0] for each in PRIMITIVE_METHODS.values() for it in each]
+    elif call.heading == "N-MemberUnknown premise 1":
+        known = [member for it in call.items() for member in it.members()] + [it for each in PRIMITIVE.values() for it in each]
+    elif item:
+        known += [it.name for it in item.names] + item.members() + values_of(item)
+    near = difflib.get_close_matches(word, [it for it in known if it != word], 1, NEAR)
+    return [f"the nearest name is `{near[0]}`"] if near else []
+
+
+def values_of(item):
+    """Returns the names of the `val`s, `var`s and parameters that are declared in an item."""
+    names = []
+    for words in item.lines:
+        said = [it.text for it in words]
+        for number, name in enumerate(said[1:], 1):
+            before, after = said[number - 1], said[number + 1 : number + 2]
+            if before in ("val", "var") or (before in ("(", ",") and after == [":"]):
+                names.append(name)
+    return names
 
 
 def type_of(call, scope, name):
@@ -406,6 +437,8 @@ def notes_at(call, file, line, column):
     if heading == "Unexpected":
         item = call.item_at(file, line)
         return hint(text_of(file) or "", line, column, item.kind if item else "")
+    if heading in ("N-Unknown premise 1", "N-MemberUnknown premise 1", "T-Call premise 2"):
+        return of_unknown(call, file, line, column)
     if heading == "N-Twice premise 1":
         return of_twice(call, file, line, column)
     if heading == "T-Body premise 2":

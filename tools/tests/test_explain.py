@@ -122,6 +122,18 @@ class Explain(ToolTest):
         self.assertIn("  x.wy:14:12: instance out = screen(console)\n  x.wy:15:10: import out = plug(out) at {out.Put}\n", said)
         self.assertIn("Clock is a primitive type", self.explain("type Clock\ntype Clock\n" + OBJECTS).stderr)
 
+    def test_the_nearest_name_of_a_misspelt_one(self):
+        for right, wrong, near in (
+            ("console.write(line)", "consol.write(line)", "console"),
+            ("console.write(line)", "console.write(lime)", "line"),
+            ("screen(console)\n  import", "scren(console)\n  import", "screen"),
+            ("): Plug\n", "): Plugg\n", "Plug"),
+            ("effect Put = {console.Out}", "effect Put = {console.Ouf}", "Out"),
+            ("plug.go()", "plug.goo()", "go"),
+        ):
+            self.assertIn(f"\nthe nearest name is `{near}`\n", self.explain(OBJECTS.replace(right, wrong)).stderr, wrong)
+        self.assertNotIn("the nearest name", self.explain(OBJECTS.replace("console.write(line)", "console.write(xyz)")).stderr)
+
     def test_arguments_have_numbers(self):
         said = self.explain(OBJECTS.replace("plug(out) at", "plug(console) at")).stderr
         self.assertIn("plain module plug takes 1 argument, and the line gives 1:\n  1. console (Console, a grant) for out: Sink\n", said)
