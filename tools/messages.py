@@ -2,10 +2,13 @@
 
 import difflib
 import re
-import struct
 
+from causes import hint
+from certificates import RULES, scopes_of
+from policies import bad_row
 from project import page
-from sources import PRIMITIVE, PRIMITIVE_METHODS, RESERVED, closing, end_of_name, items_of, joined, split, text_of, words_of_line
+from sources import PRIMITIVE, PRIMITIVE_METHODS, RESERVED, closing, items_of, joined, parts_at, shown_text, split, text_of
+from sources import word_at, words_of_line
 
 COMMANDS = {
     "check": "FILE...: accepts the program, or names the first place that breaks a rule",
@@ -22,7 +25,8 @@ COMMANDS = {
 PLACE = re.compile(r"(.+):(\d+):(\d+): (?:syntax: (\w+)|refused: (\S+ premise \d).*|trap: (\w+))")
 BY_STATUS = {1: "usage", 2: "unread", 7: "too deep", 8: "spent", 9: "failed", 10: "unwritten", 11: "no memory"}
 BY_STATUS.update({14: "bad certificate", 15: "unproved", 16: "denied", 17: "bad policy"})
-RULES = "T-Lit T-Var T-This T-Call T-New T-If T-Seq T-Val T-Set T-Op T-Asc T-Body T-Sub".split()
+# (how like a name has to be, for a misspelt one)
+NEAR = 0.65
 # (line rules, and I-Import, which speak of arguments)
 OF_ARGUMENTS = re.compile(r"(?:M-Inst premise [2345]|M-Import premise 2|I-Import premise [123])")
 
@@ -111,192 +115,8 @@ def excerpt(file, line, column=None):
     return [*shown, "      | " + re.sub(r"[^\t]", " ", parts_at(lines[line - 1], column)[0]) + "^"]
 
 
-def shown_text(text):
-    return text.encode("utf-8", "surrogateescape").decode("utf-8", "replace")
-
-
-def parts_at(line, column):
-    """Returns what a line has before the byte of a column, and from it on."""
-    before = line.encode("utf-8", "surrogateescape")[: column - 1].decode("utf-8", "surrogateescape")
-    return before, line[len(before) :]
-
-
 def place_of(it):
     return f"{it.file}:{it.line}:{it.column}"
-
-
-# ----------------------------------------------------------------------------
-# Syntax
-
-# (the patterns of causes are not for longer lines)
-LONGEST_HINTED = 2000
-NAMING = re.compile(r"(?:\b(?:def|val|var|type|module|instance|import|grant|effect|use)|[(,])\s*$")
-ORDER = (
-    "in a module the order is `use`, `instance` and `import`, `effect`, `init`, then fields and methods; "
-    "in a program it is `grant`, `use`, `instance` and `import`, `run`"
-)
-MISSING = {
-    "while": "there are no loops: a method calls itself (docs/TOUR.md, \"Loops\")",
-    "for": "there are no loops: a method calls itself (docs/TOUR.md, \"Loops\")",
-    "return": "there is no `return`: the last line of a block is its value",
-    "null": "there is no `null`: each field has an initialiser",
-    "let": "a name for a value is `val NAME = ..`",
-    "const": "a name for a value is `val NAME = ..`",
-    "fun": "a method is `def NAME(..): {..} TYPE`",
-    "fn": "a method is `def NAME(..): {..} TYPE`",
-    "class": "there are no classes: there are types, modules, and object literals by `new`",
-    "and": "and is `&&`, or is `||`, not is `!`",
-    "or": "and is `&&`, or is `||`, not is `!`",
-    "not": "and is `&&`, or is `||`, not is `!`",
-}
-
-
-def word_at(rest):
-    """Returns the word that a text begins with."""
-    if rest and rest[0].isidentifier():
-        return rest[: end_of_name(rest, 0)]
-    found = re.match(r'"|\d+|==|!=|<=|>=|\+\+|&&|\|\||\S', rest)
-    return found[0] if found else ""
-
-
-def line_before(lines, number):
-    """Returns the last line before a number that has words."""
-    return next((it for it in reversed(lines[: number - 1]) if it.strip() and not it.strip().startswith("//")), "")
-
-
-def in_line(word, before, rest, is_plain):
-    """Returns the likely cause of a word in the middle of a line, or None."""
-    last = re.search(r"(\w+)\s*$", before)
-    if re.search(r"\bval \w+\s*=\s*\(?$", before) and word == "if":
-        return "a `val` that is given an `if` needs its type: `val x: Int = if ..`"
-    if re.search(r"\belse\s+$", before) and word == "if":
-        return "there is no `else if` over blocks: put the `if` on a line of its own under `else`, one indent deeper"
-    if word in RESERVED and NAMING.search(before) and not (word in ("Int", "Bool", "String", "Unit", "if", "this", "true", "false", "new")):
-        return f"`{word}` is a reserved word, and cannot be a name"
-    if word in ("Int", "Bool", "String", "Unit") and re.search(r"\bmodule \w+\(.*:\s*$", before):
-        return "a module takes objects, not numbers or texts: give these to its methods"
-    if word == "=" and re.search(r"[-+*/%]$", before):
-        return f"there is no `{before[-1]}=`: write `x = x {before[-1]} ..`"
-    if word in "=" and re.search(r"\b(then|else)\s+\w+\s*$", before):
-        return "an assignment cannot follow `then` or `else`: use an `if` with blocks, or `x = (if c then a else b : T)`"
-    if re.search(r"\bdef \w+\(.*\):\s*$", before):
-        if word != "{":
-            return "outside a plain module a method needs its set of effects: `def f(): {} Unit`"
-        return "in a plain module a method has no set of effects" if is_plain else None
-    if word in ("{", "[") and is_plain:
-        return "in a plain module no effects are written"
-    if word == "=" and re.search(r"\b(var|val) \w+\s*$", before):
-        return "a field needs its type: `var n: Int = 0`"
-    if word == "{" and re.search(r"\bdef \w+\(.*\)\s*$", before):
-        return "a colon is missing before the set: `def f(): {} Unit`"
-    if re.search(r"\bdef \w+\(.*\):\s*(\{.*\}\s*)?\w+(\[.*\])?\s+$", before):
-        return "`=` is missing before the body, or the body belongs to the next, deeper line"
-    if re.search(r"\bdef \w+\s*$", before) and word != "(":
-        return "a method has parentheses, also without parameters: `def f(): {} Unit`"
-    if re.search(r"\b(run|init)\s*$", before):
-        return "a colon and a set belong here: `run: {..}`"
-    if re.search(r"\b(run|init):\s*$", before):
-        return "the set of effects is missing: `run: {}` may do nothing"
-    if word in ("<", "<=", ">", ">=", "==", "!=") and re.search(r"(==|!=|<=|>=|<|>)", before):
-        return "comparisons do not follow one another: write `a < b && b < c`"
-    if word == "." and re.search(r"-\s*\d+$", before):
-        return "a call on a negative number needs parentheses"
-    if word == "=" and rest.startswith("=>"):
-        return "there are no lambdas: an object literal with one method does it (docs/TOUR.md, \"Callbacks\")"
-    if word == "<" and re.search(r":\s*\w+$", before):
-        return "there are no generic types: write a type for each thing that it is of"
-    if word == "[" or word == "]":
-        return "there are no lists and no indexes: they are objects with methods (docs/TOUR.md, \"Lists\")"
-    if word in ("at", ":") and re.match(r"\s*(resource|plain|instance|import)\b", before) and "(" not in before:
-        return "parentheses belong here, also without arguments or parameters"
-    if word in MISSING or (last and last[1] in MISSING):
-        return MISSING[word if word in MISSING else last[1]]
-    if word == "if":
-        return "an `if` inside an expression stands in parentheses with its type: `(if c then 1 else 2 : Int)`"
-    if word == ")" and re.search(r"\(\s*if\b.*\belse\b", before):
-        return "an `if` in parentheses needs its type: `(if c then 1 else 2 : Int)`"
-    if word in (",", ")") and re.search(r"\btext_\w+\(", before):
-        return "this `text_` word takes another number of arguments (docs/LANGUAGE.md, \"Operators\")"
-    if word == "(" and last and last[1] not in RESERVED:
-        return f"a method of the same module is called on `this`: `this.{last[1]}(..)`"
-    if word == "new":
-        return "`new` stands alone on the right of `=` or on a line of its own: name the object by a `val` first"
-    if word == ":" and re.search(r"\b(if|else|then|program)\b", before):
-        return "no colon stands here: a block begins with the next, deeper line"
-    if word in (")", "]", "}") and before.count(word) >= before.count({")": "(", "]": "[", "}": "{"}[word]):
-        return f"this `{word}` closes nothing that is open"
-    if (word[0].isidentifier() or word[0] in '"0123456789') and re.search(r'[\w)"]\s*$', before):
-        return "an operator, a comma or the end of the line is missing before it"
-    return None
-
-
-def at_begin(word, previous, is_dedent, kind):
-    """Returns the likely cause of a word that begins its line, or stands at the end of the file, or None."""
-    if word in ("use", "instance", "import", "effect", "init") and kind == "plain module":
-        return "a plain module has fields and methods alone: it writes no effects, and uses no other module"
-    if word in ("effect", "init") and kind == "program":
-        return f"a program has no `{word}` line"
-    if word in ("use", "instance", "import", "effect", "init", "grant"):
-        return f"`{word}` comes too late here: {ORDER}"
-    if word in ("def", "var") and kind == "program":
-        return f"a `{word}` belongs to a module or to an object literal (`new`)"
-    if word == "else":
-        return "this `else` belongs to no `if`: it is as wide as its `if`, whose first block is deeper"
-    if re.match(r"\s*val\b", previous):
-        return "a block cannot end in a `val`: end it with a value, or with `()`"
-    if re.search(r"(=|\brun:\s*\{.*\})\s*$", previous) or re.match(r"\s*(else|if\b.*)$", previous):
-        return "the line before needs a value, or a block of deeper lines"
-    if word in MISSING:
-        return MISSING[word]
-    if not kind:
-        return "a file has types, modules and a program, which begin with `type`, `module`, `resource module`, `plain module` or `program`"
-    if word in ("def", "val", "var", "new") and re.match(r"\s*(effect|def)\b", previous) and not is_dedent:
-        return None
-    if is_dedent:
-        return "what is above this line is not complete: an `if` with blocks needs an `else` (`()` does nothing), and a program its `run`"
-    return None
-
-
-def hint(text, line, column, kind):
-    """Says which word `Unexpected` names, and the likely cause, in an item of a kind."""
-    lines, is_plain = text.split("\n"), kind == "plain module"
-    before, rest = parts_at(lines[line - 1], column) if line <= len(lines) else ("", "")
-    word = word_at(rest)
-    is_end = not before.strip() and not "\n".join([rest, *lines[line:]]).strip()
-    what = "the end of the file" if is_end else f"`{word}`" if word and not rest.startswith("//") else "the end of the line"
-    said = f"{what} cannot follow what comes before it"
-    previous = line_before(lines, line)
-    if max(len(before), len(previous)) > LONGEST_HINTED:
-        return [said]
-    if before.strip() == "":
-        is_dedent = len(before) < len(previous) - len(previous.lstrip(" "))
-        cause = at_begin(word, previous, is_dedent, kind) or (in_line(word, "", rest, is_plain) if word else None)
-    elif not word or rest.startswith("//"):
-        cause = at_line_end(before)
-    else:
-        cause = in_line(word, before, rest, is_plain)
-    return [said, *([f"likely: {cause}"] if cause else [])]
-
-
-def at_line_end(before):
-    """Returns what is likely missing at the end of a line, or None."""
-    if re.match(r"\s*def \w+\(.*\):\s*\w+$", before):
-        return "outside a plain module a method needs its set of effects: `def f(): {} Unit`"
-    if re.match(r"\s*(resource |plain )?module\b", before) and not re.search(r"\)?\s*:\s*\w+\s*$", before):
-        return "a module names the type that it is sealed at: `module m: Type`, `resource module m(..): Type`"
-    if re.match(r"\s*import\b.*\)\s*$", before):
-        return "an `import` has a bound: `import x = m(..) at {..}`"
-    if re.search(r"\b(run|init):\s*$", before):
-        return "the set of effects is missing: `run: {}` may do nothing"
-    if before.rstrip().endswith("="):
-        return "the value after `=` is missing"
-    if re.search(r"\.\s*\w+$", before):
-        return "a call has parentheses, also without arguments; there are no fields that others see"
-    if before.count("(") > before.count(")"):
-        return "a parenthesis is open: an expression stands on one line"
-    if re.search(r"\bif\b", before) and re.search(r"\bthen\b", before):
-        return "an `if` with `then` needs an `else` on the same line"
-    return None
 
 
 # ----------------------------------------------------------------------------
@@ -328,6 +148,34 @@ def of_twice(call, file, line, column):
     return [f"`{word}` is declared here:", *(f"  {it}" for it in places)] if len(places) > 1 else []
 
 
+def of_unknown(call, file, line, column):
+    """Names what is declared and looks most like a word that is not."""
+    word = word_at(parts_at((text_of(file) or "").split("\n")[line - 1], column)[1])
+    item = call.item_at(file, line)
+    known = [it.name for it in call.items() if it.name] + list(PRIMITIVE)
+    if call.heading == "T-Call premise 2":
+        known = [method.name for it in call.items() for method in it.methods]
+        known += [it.partition("(")[0] for each in PRIMITIVE_METHODS.values() for it in each]
+    elif call.heading == "N-MemberUnknown premise 1":
+        known = [member for it in call.items() for member in it.members()] + [it for each in PRIMITIVE.values() for it in each]
+    elif item:
+        known += [it.name for it in item.names] + item.members() + values_of(item)
+    near = difflib.get_close_matches(word, [it for it in known if it != word], 1, NEAR)
+    return [f"the nearest name is `{near[0]}`"] if near else []
+
+
+def values_of(item):
+    """Returns the names of the `val`s, `var`s and parameters that are declared in an item."""
+    names = []
+    for words in item.lines:
+        said = [it.text for it in words]
+        for number, name in enumerate(said[1:], 1):
+            before, after = said[number - 1], said[number + 1 : number + 2]
+            if before in ("val", "var") or (before in ("(", ",") and after == [":"]):
+                names.append(name)
+    return names
+
+
 def type_of(call, scope, name):
     """Says what a name of a scope is."""
     it = scope.find(name)
@@ -337,7 +185,9 @@ def type_of(call, scope, name):
         return f"{it.of}, a {it.kind}"
     module = call.module(it.of)
     sealed = module.sealed if module else "?"
-    return f"{sealed} at {it.bound}, an import of {it.of}" if it.kind == "import" else f"{sealed}, {it.kind} of {it.of}".replace("use of", "used module")
+    if it.kind == "import":
+        return f"{sealed} at {it.bound}, an import of {it.of}"
+    return f"{sealed}, a used module" if it.kind == "use" else f"{sealed}, an instance of {it.of}"
 
 
 def of_line(call, file, line):
@@ -355,8 +205,44 @@ def of_line(call, file, line):
             name = made.arguments[number]
             lacking = lacking_of(call, scope, name, parameters[number : number + 1]) if call.heading == "M-Inst premise 3" else ""
             told.append(f"  {number + 1}. {name} ({type_of(call, scope, name)}) for {wanted}{lacking}")
+            if call.heading in ("M-Inst premise 4", "I-Import premise 3"):
+                told += differing(call, scope, name, parameters[number : number + 1])
         else:
             told.append(f"  {number + 1}. nothing for {wanted}")
+    return told + (of_bound(scope, made, call.last) if call.heading == "I-Import premise 1" else [])
+
+
+def of_bound(scope, made, last):
+    """Says which arguments of an `import` line may do what its bound does not allow."""
+    effect = last.rpartition(" lacks ")[2]
+    owner, found = effect.partition(".")[0], []
+    for number, name in enumerate(made.arguments, 1):
+        it = scope.find(name)
+        bound = it.bound or "" if it and it.kind == "import" else ""
+        if name == owner or effect in re.split(r"[{}, ]+", bound):
+            found.append(f"argument {number} ({name})")
+    return [f"{' and '.join(found)} may do {effect}, which the bound {made.bound} does not allow"] if found else []
+
+
+def declared_type(call, scope, name):
+    """Returns the declared type that a name of a scope has, or None."""
+    it = scope.find(name)
+    module = call.module(it.of) if it and it.kind in ("instance", "use", "import") else None
+    return call.type(module.sealed if module else it.of.partition("[")[0].partition(" at ")[0] if it else "")
+
+
+def differing(call, scope, name, parameters):
+    """Shows the methods of a parameter's type that the type of an argument has otherwise, or not at all."""
+    has = declared_type(call, scope, name)
+    wants = call.type(parameters[0].of.partition("[")[0].partition(" at ")[0]) if parameters else None
+    if not has or not wants or has.name == wants.name:
+        return []
+    own, told = {it.name: it for it in has.methods}, []
+    for method in wants.methods:
+        if method.name not in own:
+            told.append(f"     {wants.name} has {method.text()}, and {has.name} has no such method")
+        elif shape(own[method.name]) != shape(method):
+            told.append(f"     {wants.name} has {method.text()}, and {has.name} has {own[method.name].text()}")
     return told
 
 
@@ -393,6 +279,21 @@ def of_call(call, file, line, column):
     methods = [f"  {place_of(it)}: {it.text()}, of {item.text()}" for item in call.items() for it in item.methods if it.name == name]
     methods += [f"  def {it}, of {kind}" for kind, each in PRIMITIVE_METHODS.items() for it in each if it.startswith(name + "(")]
     return told + (["methods of this name:", *methods] if methods else [])
+
+
+def of_operation(call, file, line, column):
+    """Says which operand of an operation has another type."""
+    words = words_of_line((text_of(file) or "").split("\n")[line - 1], line)
+    at = next((number for number, it in enumerate(words) if it.column == column), None)
+    if at is None:
+        return []
+    name, number = words[at].text, int(call.heading[-1])
+    if name.startswith("text_"):
+        operands = split(words[at + 2 : closing(words, at + 1)])
+        return [f"operand {number} of `{name}` is {joined(operands[number - 1])}"] if number <= len(operands) else []
+    is_unary = at == 0 or not re.search(r'[\w)"]$', words[at - 1].text) or words[at - 1].text in RESERVED - {"this", "true", "false"}
+    side = "before" if number == 1 and not is_unary else "after"
+    return [f"operand {number} of `{name}` is the one {side} it"]
 
 
 def of_seal(call, file, line):
@@ -435,58 +336,6 @@ def of_set(call, file, line, column, last):
 # ----------------------------------------------------------------------------
 # Policies
 
-NAME = r"(?:[^\W\d]|_)\w*"
-ENTRY = re.compile(rf"{NAME}\.(?:\*|{NAME})")
-
-
-def bad_row(line):
-    """Says which rule of policies a line breaks (docs/LANGUAGE.md, "Policies")."""
-    if line.lstrip(" ").startswith("//"):
-        return "a comment begins at the first byte of its line: take the spaces before `//` out"
-    if "\t" in line:
-        return "a tab stands in the line: a row has single spaces"
-    pattern, colon, rest = line.partition(":")
-    if not colon:
-        return "a row is `PATTERN: SET`, and the line has no colon"
-    if "*" in pattern[:-1]:
-        return "a pattern has `*` only at its end"
-    if not pattern:
-        return "the pattern before the colon is empty: `*: -` is a row for all others"
-    if not rest.strip():
-        return "the set is missing: an empty set is `-`"
-    if not rest.startswith(" ") or rest.startswith("  "):
-        return "one space follows the colon"
-    said = rest[1:]
-    if said != said.rstrip(" "):
-        return "the line ends with a space"
-    if "//" in said:
-        return "a comment is a line of its own: it cannot follow a row"
-    return bad_set(said)
-
-
-def bad_set(said):
-    """Says why a text is not a set of a policy."""
-    if any("\udc80" <= it <= "\udcff" for it in said):
-        return "a grant or a member has bytes that are not UTF-8"
-    if said.startswith("{"):
-        return "a set has no braces here: it is `-`, or entries with `, ` between"
-    for entry in said.split(","):
-        if not entry.strip():
-            return "an entry between two commas, or behind the last one, is empty"
-        name = entry.strip(" ")
-        if name == "*":
-            return "`*` by itself is not an entry: each grant is named, as `disk.*`"
-        if name == "-":
-            return "`-` is the empty set, and stands alone"
-        if "." not in name:
-            return f"`{name}` is not an entry: one is GRANT.MEMBER or GRANT.*"
-        if not ENTRY.fullmatch(name):
-            return f"`{name}` is not an entry: GRANT and MEMBER are names, and only the member may be `*`"
-    if re.search(r" ,|,(?! )|,  ", said):
-        return "exactly one space follows each comma, and none stands before it"
-    return "the line has a character that a row cannot have"
-
-
 def of_bad_policy(call):
     found = re.fullmatch(r"(.+):(\d+): bad policy", call.last)
     lines = (text_of(found[1]) or "").split("\n") if found else []
@@ -507,54 +356,6 @@ def of_denied(call):
 
 # ----------------------------------------------------------------------------
 # Certificates
-
-
-class Reader:
-    def __init__(self, data):
-        self.data, self.at = data, len(b"WYCERT01")
-
-    def number(self):
-        self.at += 4
-        return struct.unpack_from("<I", self.data, self.at - 4)[0]
-
-    def byte(self):
-        self.at += 1
-        return self.data[self.at - 1]
-
-    def list(self, one):
-        return [one() for _ in range(self.number())]
-
-    def type(self):
-        tag = self.byte()
-        if tag == 4:
-            return tag, self.number(), self.list(lambda: self.list(self.number))
-        if tag == 5:
-            return tag, self.number(), self.list(self.number)
-        return (tag, self.number()) if tag == 6 else (tag,)
-
-    def pair(self):
-        return self.number(), self.number()
-
-    def node(self):
-        rule = self.byte()
-        file, line, column, _, _ = (self.number() for _ in range(5))
-        self.list(self.number)
-        return rule, file, line, column
-
-    def scope(self):
-        types, pairs, plain = self.list(self.type), self.list(self.pair), self.list(self.pair)
-        self.list(self.number)
-        return {"types": types, "C-Pairs": pairs, "C-Plain": plain, "nodes": self.list(self.node)}
-
-
-def scopes_of(file):
-    """Returns the scopes of a certificate, or none if it cannot be read."""
-    try:
-        with open(file, "rb") as it:
-            reader = Reader(it.read())
-        return reader.list(reader.scope)
-    except (OSError, struct.error, IndexError):
-        return []
 
 
 def type_name(call, scope, number):
@@ -636,12 +437,16 @@ def notes_at(call, file, line, column):
     if heading == "Unexpected":
         item = call.item_at(file, line)
         return hint(text_of(file) or "", line, column, item.kind if item else "")
+    if heading in ("N-Unknown premise 1", "N-MemberUnknown premise 1", "T-Call premise 2"):
+        return of_unknown(call, file, line, column)
     if heading == "N-Twice premise 1":
         return of_twice(call, file, line, column)
     if heading == "T-Body premise 2":
         return of_set(call, file, line, column, call.last)
     if heading in ("T-Call premise 3", "T-Call premise 4"):
         return of_call(call, file, line, column)
+    if heading.startswith("T-Op premise"):
+        return of_operation(call, file, line, column)
     if heading == "M-Ascribe premise 1":
         return of_seal(call, file, line)
     return of_line(call, file, line) if OF_ARGUMENTS.fullmatch(heading) else []

@@ -117,6 +117,24 @@ def byte_length(text):
     return len(text.encode("utf-8", "surrogateescape"))
 
 
+def shown_text(text):
+    return text.encode("utf-8", "surrogateescape").decode("utf-8", "replace")
+
+
+def parts_at(line, column):
+    """Returns what a line has before the byte of a column, and from it on."""
+    before = line.encode("utf-8", "surrogateescape")[: column - 1].decode("utf-8", "surrogateescape")
+    return before, line[len(before) :]
+
+
+def word_at(rest):
+    """Returns the word that a text begins with."""
+    if rest and rest[0].isidentifier():
+        return rest[: end_of_name(rest, 0)]
+    found = re.match(r'"|\d+|==|!=|<=|>=|\+\+|&&|\|\||\S', rest)
+    return found[0] if found else ""
+
+
 def end_of_name(line, at):
     while at < len(line) and ("a" + line[at]).isidentifier():
         at += 1

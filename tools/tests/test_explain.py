@@ -122,9 +122,22 @@ class Explain(ToolTest):
         self.assertIn("  x.wy:14:12: instance out = screen(console)\n  x.wy:15:10: import out = plug(out) at {out.Put}\n", said)
         self.assertIn("Clock is a primitive type", self.explain("type Clock\ntype Clock\n" + OBJECTS).stderr)
 
+    def test_the_nearest_name_of_a_misspelt_one(self):
+        for right, wrong, near in (
+            ("console.write(line)", "consol.write(line)", "console"),
+            ("console.write(line)", "console.write(lime)", "line"),
+            ("screen(console)\n  import", "scren(console)\n  import", "screen"),
+            ("): Plug\n", "): Plugg\n", "Plug"),
+            ("effect Put = {console.Out}", "effect Put = {console.Ouf}", "Out"),
+            ("plug.go()", "plug.goo()", "go"),
+        ):
+            self.assertIn(f"\nthe nearest name is `{near}`\n", self.explain(OBJECTS.replace(right, wrong)).stderr, wrong)
+        self.assertNotIn("the nearest name", self.explain(OBJECTS.replace("console.write(line)", "console.write(xyz)")).stderr)
+
     def test_arguments_have_numbers(self):
         said = self.explain(OBJECTS.replace("plug(out) at", "plug(console) at")).stderr
         self.assertIn("plain module plug takes 1 argument, and the line gives 1:\n  1. console (Console, a grant) for out: Sink\n", said)
+        self.assertIn("\nargument 1 (console) may do console.In, which the bound {out.Put} does not allow\n", said)
         said = self.explain(OBJECTS.replace("screen(console)\n  import", "screen(console, console)\n  import")).stderr
         self.assertIn("  2. console (Console, a grant) for no parameter\n", said)
         said = self.explain(OBJECTS.replace("grant console: Console", "grant console: Clock")).stderr
@@ -132,6 +145,25 @@ class Explain(ToolTest):
         said = self.explain(OBJECTS.replace("console.write(line)", "console.write(line, 1)")).stderr
         self.assertIn("the call of `write` has 2 arguments:\n  1. line\n  2. 1\nmethods of this name:\n", said)
         self.assertIn("  def write(t: String): {Out} Unit, of Console\n", said)
+
+    def test_an_argument_of_another_type(self):
+        other = "type Sinks\n  effect Put\n  def put(line: Int): {Put} Unit\n  def more(): {Put} Unit\n"
+        module = "resource module twice(out: Sinks): Plug\n  effect Go = {out.Put}\n  def go(): {Go} Unit = out.put(1)\n"
+        text = other + module + OBJECTS.replace("  import plug", "  instance two = twice(out)\n  import plug")
+        said = self.explain(text).stderr
+        self.assertIn("M-Inst premise 4", said)
+        told = ["Sinks has def put(line: Int): {Put} Unit, and Sink has def put(line: String): {Put} Unit"]
+        told.append("Sinks has def more(): {Put} Unit, and Sink has no such method")
+        self.assertIn("  1. out (Sink, an instance of screen) for out: Sinks\n     " + "\n     ".join(told) + "\n", said)
+
+    def test_the_operand_of_another_type(self):
+        for text, told in (
+            ('text_part("a", "b", 1)', "operand 2 of `text_part` is \"b\""),
+            ('1 + "a"', "operand 2 of `+` is the one after it"),
+            ('"a" + 1', "operand 1 of `+` is the one before it"),
+            ('1 == 2 && !3', "operand 1 of `!` is the one after it"),
+        ):
+            self.assertIn(f"\n{told}\n", self.explain(HELLO + f"    val x = {text}\n    ()\n").stderr, text)
 
     def test_methods_that_differ_from_the_type(self):
         said = self.explain(OBJECTS.replace("  def go(): {Go} Unit\n", "  def go(): {Go} Int\n  def no(): {Go} Int\n")).stderr
