@@ -72,9 +72,11 @@ class Words(unittest.TestCase):
         package = json.loads(text_of(*at, "package.json"))
         json.loads(text_of(*at, "language-configuration.json"))
         self.assertEqual(package["version"], text_of("VERSION").strip())
-        pattern = package["contributes"]["problemMatchers"][0]["pattern"]
-        found = re.search(pattern["regexp"], "src/a b.wy:3:17: refused: T-Body premise 2 lacks console.Out")
+        marked = [it["pattern"]["regexp"] for it in package["contributes"]["problemMatchers"]]
+        found = re.search(marked[0], "src/a b.wy:3:17: refused: T-Body premise 2 lacks console.Out")
         self.assertEqual(found.groups(), ("src/a b.wy", "3", "17", "refused: T-Body premise 2 lacks console.Out"))
+        for told in ("denied: echo console.In", "bad policy"):
+            self.assertEqual(re.search(marked[1], f"team.pol:2: {told}").groups(), ("team.pol", "2", told))
         for rule in re.findall(r'"(?:match|begin|end)": ("(?:[^"\\]|\\.)*")', text_of(*at, "syntaxes", "wyvern.tmLanguage.json")):
             re.compile(json.loads(rule))
 
