@@ -16,7 +16,7 @@ use Rattle.wy_machine.specs.Traces.{HappenedIn}
 use Rattle.wy_machine.specs.declared.run_end.RunEnd.{RunEnd}
 use Rattle.wy_machine.specs.declared.run_end.RunEnd.TheVariants as end
 use Rattle.wy_machine.specs.TrapKinds.{trap_meant}
-use Rattle.wy_meaning.specs.Laws.{IsCheap}
+use Rattle.wy_meaning.specs.Laws.{IsCheap, TakesInOrder}
 use Rattle.wy_meaning.specs.Start.{Course}
 use Rattle.wy_sound.specs.Laws.{course}
 use Rattle.wy_sound.specs.Programs.{program_starts}
@@ -27,7 +27,7 @@ use Rattle.wy_engine.specs.Running.{status_of}
 use Rattle.wy_engine.specs.Status.{IsOfEnd}
 use Rattle.wy_engine.specs.declared.status.Status.{Status}
 use Rattle.wy_engine.specs.declared.status.Status.TheVariants as status
-use Rattle.wy_engine.proofs.Deeds.{deeds_of-append, no_tapes, none_later, spliced-none, tape_of-tapes_of}
+use Rattle.wy_engine.proofs.Deeds.{deeds_of-append, none_later, tape_of-tapes_of}
 
 -- ---- the first events of a meaning
 
@@ -64,12 +64,12 @@ begins_happened program laws depth k events so = begins_to program laws depth so
 -- ---- all deeds of a meaning
 
 -- over what was answered in its first events a meaning has no deeds but theirs
-pub same_deeds : (program : Program) → RunsAsMeant program → (depth : ℕ) (events : List Event) → BeginsWith program depth events → (kind : Kind) → deeds_of kind (course program depth (tapes_of events)).events ≡ deeds_of kind events
-same_deeds program laws depth events begins kind =
+pub same_deeds : (program : Program) (depth : ℕ) → TakesInOrder depth program (program_starts program) → (events : List Event) → IsPrefix events (course program depth (tapes_of events)).events
+    → (kind : Kind) → deeds_of kind (course program depth (tapes_of events)).events ≡ deeds_of kind events
+same_deeds program depth ordered events first kind =
     let c : Course = course program depth (tapes_of events) in
-    let first : IsPrefix events c.events = subst (λ (t : Tapes). IsPrefix events (course program depth t).events) (spliced-none (tapes_of events)) (begins.first no_tapes) in
     let deeds : deeds_of kind c.events ≡ deeds_of kind events ++ deeds_of kind first.0 = ap (λ es. deeds_of kind es) first.1 ∙ deeds_of-append kind events first.0 in
-    let order = laws.ordered depth (tapes_of events) kind in
+    let order = ordered (tapes_of events) kind in
     let given : answers (deeds_of kind events) ≡ answers (deeds_of kind events ++ deeds_of kind first.0) ++ order.0 =
     sym (tape_of-tapes_of kind events) ∙ order.1 ∙ ap (λ ds. answers ds ++ order.0) deeds in
     deeds ∙ ap (λ ds. deeds_of kind events ++ ds) (none_later (deeds_of kind events) (deeds_of kind first.0) order.0 given) ∙ append-nil (deeds_of kind events)
@@ -83,13 +83,13 @@ ends_so c k r e s follows cheap is of spent = record {
 }
 
 ends_to : (program : Program) → RunsAsMeant program → (depth k : ℕ) (events : List Event) (e : ends.RunEnd) (s : Status) → RunsTo (lowered program (program_starts program)) depth k events e
-    → IsOfEnd s e → (e ≡ ends.Spent → s ≡ status.Spent) → EndsAs s k (course program depth (tapes_of events))
-ends_to program laws depth k events e s to of spent =
-    ends_so (course program depth (tapes_of events)) k _ e s (laws.follows depth k (tapes_of events)) (laws.cheap depth (tapes_of events))
-    (ap (λ (t : Tapes). (machine (lowered program (program_starts program)) depth k t).end) (sym (spliced-none (tapes_of events))) ∙ to.ends no_tapes) of spent
+    → IsOfEnd s e → (e ≡ ends.Spent → s ≡ status.Spent) → (more : Tapes) → EndsAs s k (course program depth (spliced (tapes_of events) more))
+ends_to program laws depth k events e s to of spent more =
+    ends_so (course program depth (spliced (tapes_of events) more)) k _ e s (laws.follows depth k (spliced (tapes_of events) more)) (laws.cheap depth (spliced (tapes_of events) more)) (to.ends more) of spent
 
+-- whatever would be answered further
 pub ends_as : (program : Program) → RunsAsMeant program → (depth k : ℕ) (events : List Event) (e : RunEnd) → EndsIn (lowered program (program_starts program)) depth k events e
-    → status_of e ≢ status.Memory → EndsAs (status_of e) k (course program depth (tapes_of events))
+    → status_of e ≢ status.Memory → (more : Tapes) → EndsAs (status_of e) k (course program depth (spliced (tapes_of events) more))
 ends_as program laws depth k events end.Ended to full = ends_to program laws depth k events ends.Ended status.Ended to refl (λ is. absurd (cc))
 ends_as program laws depth k events (end.Trap kind place) to full = ends_to program laws depth k events (ends.Trap (trap_meant kind) place) (status.Trap kind place) to refl (λ is. absurd (cc))
 ends_as program laws depth k events end.TooDeep to full = ends_to program laws depth k events ends.TooDeep status.TooDeep to refl (λ is. absurd (cc))
@@ -100,17 +100,6 @@ ends_as program laws depth k events end.Memory to full = absurd (full refl)
 
 -- ---- the events of a run that nothing cut short
 
--- over what was answered in its events the code has these events
-run_events : (program : Program) (depth k : ℕ) (events : List Event) (e : ends.RunEnd) → RunsTo (lowered program (program_starts program)) depth k events e
-    → (machine (lowered program (program_starts program)) depth k (tapes_of events)).events ≡ events
-run_events program depth k events e to =
-    ap (λ (t : Tapes). (machine (lowered program (program_starts program)) depth k t).events) (sym (spliced-none (tapes_of events))) ∙ to.tells no_tapes
-
-run_end : (program : Program) (depth k : ℕ) (events : List Event) (e : ends.RunEnd) → RunsTo (lowered program (program_starts program)) depth k events e
-    → (machine (lowered program (program_starts program)) depth k (tapes_of events)).end ≡ e
-run_end program depth k events e to =
-    ap (λ (t : Tapes). (machine (lowered program (program_starts program)) depth k t).end) (sym (spliced-none (tapes_of events))) ∙ to.ends no_tapes
-
 -- a run that is not spent has all events of the course that it follows
 all_of : (c : Course) (k : ℕ) (r : RanCode) (events : List Event) (e : ends.RunEnd) → Follows c k r → r.events ≡ events → r.end ≡ e → e ≢ ends.Spent → events ≡ c.events
 all_of c k r events e follows tells is unspent = by (cases_lt k c.steps)
@@ -120,12 +109,12 @@ all_of c k r events e follows tells is unspent = by (cases_lt k c.steps)
     by (inr whole) = sym tells ∙ ap (λ (s : RanCode). s.events) (follows.whole whole)
 
 all_to : (program : Program) → RunsAsMeant program → (depth k : ℕ) (events : List Event) (e : ends.RunEnd) → RunsTo (lowered program (program_starts program)) depth k events e → e ≢ ends.Spent
-    → events ≡ (course program depth (tapes_of events)).events
-all_to program laws depth k events e to unspent =
-    all_of (course program depth (tapes_of events)) k _ events e (laws.follows depth k (tapes_of events)) (run_events program depth k events e to) (run_end program depth k events e to) unspent
+    → (more : Tapes) → events ≡ (course program depth (spliced (tapes_of events) more)).events
+all_to program laws depth k events e to unspent more =
+    all_of (course program depth (spliced (tapes_of events) more)) k _ events e (laws.follows depth k (spliced (tapes_of events) more)) (to.tells more) (to.ends more) unspent
 
 pub all_events : (program : Program) → RunsAsMeant program → (depth k : ℕ) (events : List Event) (e : RunEnd) → EndsIn (lowered program (program_starts program)) depth k events e
-    → status_of e ≢ status.Memory → status_of e ≢ status.Spent → events ≡ (course program depth (tapes_of events)).events
+    → status_of e ≢ status.Memory → status_of e ≢ status.Spent → (more : Tapes) → events ≡ (course program depth (spliced (tapes_of events) more)).events
 all_events program laws depth k events end.Ended to full unspent = all_to program laws depth k events ends.Ended to (λ is. cc)
 all_events program laws depth k events (end.Trap kind place) to full unspent = all_to program laws depth k events (ends.Trap (trap_meant kind) place) to (λ is. cc)
 all_events program laws depth k events end.TooDeep to full unspent = all_to program laws depth k events ends.TooDeep to (λ is. cc)
@@ -136,23 +125,23 @@ all_events program laws depth k events end.Memory to full unspent = absurd (full
 
 -- .. and one that is spent those that its code has
 pub spent_events : (program : Program) (depth k : ℕ) (events : List Event) (e : RunEnd) → EndsIn (lowered program (program_starts program)) depth k events e → status_of e ≡ status.Spent
-    → events ≡ (machine (lowered program (program_starts program)) depth k (tapes_of events)).events
+    → (more : Tapes) → events ≡ (machine (lowered program (program_starts program)) depth k (spliced (tapes_of events) more)).events
 spent_events program depth k events end.Ended to is = absurd (cc)
 spent_events program depth k events (end.Trap kind place) to is = absurd (cc)
 spent_events program depth k events end.TooDeep to is = absurd (cc)
-spent_events program depth k events end.Spent to is = sym (run_events program depth k events ends.Spent to)
+spent_events program depth k events end.Spent to is = λ more. sym (to.tells more)
 spent_events program depth k events (end.DeviceFailed grant op) to is = absurd (cc)
 spent_events program depth k events end.SinkFailed to is = absurd to
 spent_events program depth k events end.Memory to is = absurd (cc)
 
 -- .. and so has each run that memory was not wanting for
 pub code_events : (program : Program) (depth k : ℕ) (events : List Event) (e : RunEnd) → EndsIn (lowered program (program_starts program)) depth k events e → e ≢ end.Memory
-    → events ≡ (machine (lowered program (program_starts program)) depth k (tapes_of events)).events
-code_events program depth k events end.Ended to full = sym (run_events program depth k events ends.Ended to)
-code_events program depth k events (end.Trap kind place) to full = sym (run_events program depth k events (ends.Trap (trap_meant kind) place) to)
-code_events program depth k events end.TooDeep to full = sym (run_events program depth k events ends.TooDeep to)
-code_events program depth k events end.Spent to full = sym (run_events program depth k events ends.Spent to)
-code_events program depth k events (end.DeviceFailed grant op) to full = sym (run_events program depth k events (ends.DeviceFailed grant op) to)
+    → (more : Tapes) → events ≡ (machine (lowered program (program_starts program)) depth k (spliced (tapes_of events) more)).events
+code_events program depth k events end.Ended to full = λ more. sym (to.tells more)
+code_events program depth k events (end.Trap kind place) to full = λ more. sym (to.tells more)
+code_events program depth k events end.TooDeep to full = λ more. sym (to.tells more)
+code_events program depth k events end.Spent to full = λ more. sym (to.tells more)
+code_events program depth k events (end.DeviceFailed grant op) to full = λ more. sym (to.tells more)
 code_events program depth k events end.SinkFailed to full = absurd to
 code_events program depth k events end.Memory to full = absurd (full refl)
 

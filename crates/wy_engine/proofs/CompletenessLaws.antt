@@ -9,11 +9,12 @@ use Rattle.wy_device.specs.declared.operation.Kind.{Kind}
 use Rattle.wy_device.specs.declared.operation.OpName.{OpName}
 use Rattle.wy_device.specs.RunEnds as ends
 use Rattle.wy_device.specs.RunEnds.{RunEnd}
-use Rattle.wy_device.specs.Tapes.{Tapes}
+use Rattle.wy_device.specs.Tapes.{Tapes, tapes_between}
 use Rattle.wy_code.specs.Running.{Ran, machine}
 use Rattle.wy_code.specs.Laws.{SpentTakesAll}
 use Rattle.wy_code.specs.declared.code.Code.{Code}
 use Rattle.wy_lower.specs.Lowering.{lowered}
+use Rattle.wy_machine.specs.Runs.{tapes_of}
 use Rattle.wy_meaning.specs.Start.{Course}
 use Rattle.wy_sound.specs.Laws.{course}
 use Rattle.wy_sound.specs.Programs.{program_starts}
@@ -23,15 +24,17 @@ use Rattle.wy_settings.specs.Settings.{Settings}
 use Rattle.wy_settings.specs.declared.command_line.Command.{Command}
 use Rattle.wy_settings.specs.declared.command_line.Command.TheVariants as command
 use Rattle.wy_engine.specs.Completeness.{EndsAsMeant, HasNoFault, IsWritten, RunsEnd, WritesEnd}
-use Rattle.wy_engine.specs.Headline.{Accepts, EndsAs, Headline, IsUncut, IsUnwritten, Runs, Settles, Writes, before_last_line, course_in}
+use Rattle.wy_engine.specs.Headline.{Accepts, EndsAs, Headline, IsUncut, IsUnwritten, Runs, Settles, Writes, before_last_line}
 use Rattle.wy_engine.specs.Judgement.{Asks, Did, accepted_text, allowed_text, authority_text, certified, checked, formatted, nothing, permitted, proved, ran, reported}
 use Rattle.wy_engine.specs.Passing.{Passes}
 use Rattle.wy_engine.specs.Certificates.{proved_text}
 use Rattle.wy_engine.specs.ProgramLaws.{AcceptedRunAsMeant, RunsAsMeant}
 use Rattle.wy_engine.specs.Status.{IsOfEnd, IsOfOut}
+use Rattle.wy_engine.specs.Told.{course_in}
 use Rattle.wy_engine.specs.TopCall.{IsGiven, IsSet, TopCall}
 use Rattle.wy_engine.specs.declared.status.Status.{Status}
 use Rattle.wy_engine.specs.declared.status.Status.TheVariants as status
+use Rattle.wy_engine.proofs.Deeds.{no_tapes, spliced-none, tapes_between-of}
 
 -- ---- a meaning is not spent
 
@@ -112,8 +115,11 @@ settled_run law call settings set program meant_so run tells report out devices 
     let both : Some run.asked.settings ≡ Some settings = sym run.asked.set ∙ set in
     let one : run.asked.settings ≡ settings = cc in
     let uncut : IsUncut call.status = record { full = full; written = λ is. unwritten_run call run.asked.settings.command run.printed.rest report out (run.printed.proper is) } in
+    let answered : tapes_between call.devices call.devices_after ≡ tapes_of run.events = tapes_between-of call.devices call.devices_after run.events tells run.did in
+    let given : EndsAs call.status run.asked.settings.steps (course_in call run.asked.settings program) =
+    subst (λ (t : Tapes). EndsAs call.status run.asked.settings.steps (course program run.asked.settings.depth t)) (spliced-none (tapes_of run.events) ∙ sym answered) (run.ends uncut no_tapes) in
     let so : EndsAs call.status settings.steps (course_in call settings program) =
-    subst (λ (s : Settings). EndsAs call.status s.steps (course_in call s program)) one (run.ends tells uncut) in
+    subst (λ (s : Settings). EndsAs call.status s.steps (course_in call s program)) one given in
     let c : Course = course_in call settings program in
     let within : c.steps ≤ settings.steps = elim (cases_lt settings.steps c.steps) [
       | inl more ↦ let small : settings.steps < 4 * c.nodes = (so.spent more).1 in absurd (omega arith)

@@ -21,6 +21,7 @@ mod PolicyAnswers
 mod ProgramsMeant
 mod ReadingOn
 mod RunsMade
+mod RunsTold
 mod Settling
 mod Statuses
 mod SumsMade

@@ -1,22 +1,22 @@
 -- What a call promises that ran a program, or began to.
-use Rattle.std.proofs.Common.{◌≡◌, ◌≢◌, ◌⊎◌, inl, inr, ◌≤◌, ℕ, List, [], ◌++◌, Some, refl, sym, ◌∙◌, ap, subst}
+use Rattle.std.proofs.Common.{◌≡◌, ◌≢◌, ◌⊎◌, inl, inr, ◌≤◌, ℕ, List, [], Some, refl, sym, ◌∙◌, ap, subst}
 use Rattle.wy_text.specs.Outside.{Rose, SinkState}
 use Rattle.wy_text.specs.Writing.{StopsShort, WritesUpTo}
 use Rattle.wy_device.specs.Devices.{DevicesState, device_of}
-use Rattle.wy_device.specs.Events.{DidExactly, TellsDeeds, deeds_of}
+use Rattle.wy_device.specs.Events.{DidExactly}
 use Rattle.wy_device.specs.Operation.{kind_named}
-use Rattle.wy_device.specs.Tapes.{Tapes, spliced, tapes_between}
+use Rattle.wy_device.specs.Tapes.{Tapes, spliced}
 use Rattle.wy_device.specs.declared.deed.Event.{Event}
-use Rattle.wy_device.specs.declared.operation.Kind.{Kind}
 use Rattle.wy_device.specs.declared.operation.OpName.{OpName}
 use Rattle.wy_lower.specs.Lowering.{lowered}
 use Rattle.wy_machine.specs.Runs.{EndsIn, FailsByFault, tapes_of}
 use Rattle.wy_machine.specs.declared.run_end.RunEnd.{RunEnd}
 use Rattle.wy_machine.specs.declared.run_end.RunEnd.TheVariants as end
+use Rattle.wy_rules.specs.Acceptance.{Accepted}
 use Rattle.wy_sound.specs.Laws.{course}
 use Rattle.wy_sound.specs.Programs.{program_starts}
 use Rattle.wy_types.specs.Program.{Program}
-use Rattle.wy_engine.specs.Headline.{DidFirst, EndsAs, HasEnded, HasRun, IsUncut, IsUnprinted, IsUnwritten, MissesReport, Runs, WritesRun, WritesUsed, course_in}
+use Rattle.wy_engine.specs.Headline.{EndsAs, HasEnded, HasRun, IsUncut, IsUnprinted, IsUnwritten, MissesReport, Runs, WritesRun, WritesUsed, meant_after}
 use Rattle.wy_engine.specs.Judgement.{IsNumbered, authority_text, observed_text, running, summary_text}
 use Rattle.wy_engine.specs.ProgramLaws.{RunsAsMeant}
 use Rattle.wy_engine.specs.Running.{ObservesCode, Ran, RunsCode, SumsCode, ThenWrote, TracesCode, begun, performed, skipped, status_of, stopped, summed, unbegun}
@@ -29,59 +29,39 @@ use Rattle.wy_engine.specs.declared.running.Mode.{Mode}
 use Rattle.wy_engine.specs.declared.running.Mode.TheVariants as mode
 use Rattle.wy_engine.specs.declared.status.Status.{Status}
 use Rattle.wy_engine.specs.declared.status.Status.TheVariants as status
-use Rattle.wy_engine.proofs.CodeRuns.{BeginsWith, begins_with, ends_as, same_deeds, written_code}
-use Rattle.wy_engine.proofs.Deeds.{deeds_of-append, did_none, did_same, new_deeds_are, tapes_between-of}
+use Rattle.wy_engine.proofs.CodeRuns.{BeginsWith, begins_with, ends_as, written_code}
+use Rattle.wy_engine.proofs.Deeds.{did_none}
 use Rattle.wy_engine.proofs.OneAnswer.{runs_programs}
 use Rattle.wy_engine.proofs.Statuses.{observed_run, run_of_end, then_run}
 use Rattle.wy_engine.proofs.SumsMade.{ended_by, ended_wrote, rose_wrote, sums_by, sums_none, uncut_ended, unfailed_wrote}
 use Rattle.wy_engine.proofs.TracesMade.{begins_traced, rose_traced, uncut_run, writes_events, writes_none}
 use Rattle.wy_engine.proofs.UsedMade.{Came, came_failed, came_of, came_rose, came_uncut, used_none, writes_used}
 
--- ---- deeds that were done
+-- ---- events that happened
 
--- devices did the deeds of events with which a program's meaning begins
-pub record DidEvents (program : Program) (depth : ℕ) (before after : DevicesState) : Type 0 where
-  pub events : List Event
-  pub did : DidExactly before after events
-  pub begins : BeginsWith program depth events
-
-operations_of : (program : Program) → RunsAsMeant program → (depth : ℕ) (before after : DevicesState) → DidEvents program depth before after → TellsDeeds before
-    → DidExactly before after (course program depth (tapes_between before after)).events
-operations_of program laws depth before after so tells =
-    subst (λ (t : Tapes). DidExactly before after (course program depth t).events) (sym (tapes_between-of before after so.events tells so.did))
-    (did_same before after so.events (course program depth (tapes_of so.events)).events (same_deeds program laws depth so.events so.begins) so.did)
-
-prefix_of : (call : TopCall) (program : Program) (depth : ℕ) → DidEvents program depth call.devices call.devices_after → TellsDeeds call.devices → (kind : Kind) (more : Tapes)
-    → DidFirst kind call (deeds_of kind (course program depth (spliced (tapes_between call.devices call.devices_after) more)).events)
-prefix_of call program depth so tells kind more =
-    let first = so.begins.first more in
-    subst (λ (t : Tapes). DidFirst kind call (deeds_of kind (course program depth (spliced t more)).events)) (sym (tapes_between-of call.devices call.devices_after so.events tells so.did)) (
-      deeds_of kind first.0,
-      ap (λ es. deeds_of kind es) first.1 ∙ deeds_of-append kind so.events first.0
-          ∙ ap (λ ds. ds ++ deeds_of kind first.0) (sym (new_deeds_are kind call.devices call.devices_after so.events tells so.did)),
-    )
+-- events with which a program's meaning begins, whose deeds devices did
+record DidEvents (program : Program) (depth : ℕ) (before after : DevicesState) (events : List Event) : Type 0 where
+  did : DidExactly before after events
+  begins : BeginsWith program depth events
 
 -- nothing was done
-did_nothing : (program : Program) (depth : ℕ) (before after : DevicesState) → after ≡ before → DidEvents program depth before after
+did_nothing : (program : Program) (depth : ℕ) (before after : DevicesState) → after ≡ before → DidEvents program depth before after []
 did_nothing program depth before after same = record {
-  events = [];
   did = did_none before after same;
   begins = record { first = λ more. ((course program depth (spliced (tapes_of []) more)).events, refl) };
 }
 
 -- the program's code was run
-did_code : (program : Program) → RunsAsMeant program → (depth steps : ℕ) (before after : DevicesState) (s : Status) → RunsCode (lowered program (program_starts program)) depth steps before after s → DidEvents program depth before after
+did_code : (program : Program) → RunsAsMeant program → (depth steps : ℕ) (before after : DevicesState) (s : Status) → (so : RunsCode (lowered program (program_starts program)) depth steps before after s) → DidEvents program depth before after so.runs.events
 did_code program laws depth steps before after s so = record {
-  events = so.runs.events;
   did = so.runs.did;
   begins = begins_with program laws depth steps so.runs.events so.ended so.runs.ends;
 }
 
 -- .. or traced
-did_traced : (program : Program) → RunsAsMeant program → (depth steps : ℕ) (out out' : SinkState) (before after : DevicesState) (s : Status) → TracesCode (lowered program (program_starts program)) depth steps out out' before after s
-    → DidEvents program depth before after
+did_traced : (program : Program) → RunsAsMeant program → (depth steps : ℕ) (out out' : SinkState) (before after : DevicesState) (s : Status) → (so : TracesCode (lowered program (program_starts program)) depth steps out out' before after s)
+    → DidEvents program depth before after so.runs.events
 did_traced program laws depth steps out out' before after s so = record {
-  events = so.runs.events;
   did = so.runs.did;
   begins = begins_traced program laws depth steps so.runs.events out out' so.ended so.runs.ends;
 }
@@ -103,24 +83,21 @@ not_failed end grant op is (inr other) = let q : status.DeviceFailed grant op �
 unwritten_code : (program : Program) (depth steps : ℕ) (before after : DevicesState) (s : Status) → RunsCode (lowered program (program_starts program)) depth steps before after s → s ≢ status.Unwritten
 unwritten_code program depth steps before after s so is = written_code program depth steps so.runs.events so.ended so.runs.ends (sym so.says ∙ is)
 
--- a run of code that ended so, over the answers in its events, ends as the meaning does over the answers given
-ends_given : (program : Program) → RunsAsMeant program → (depth steps : ℕ) (before after : DevicesState) (s : Status) (events : List Event) (e : RunEnd) → DidExactly before after events
-    → EndsIn (lowered program (program_starts program)) depth steps events e → s ≡ status_of e → TellsDeeds before → s ≢ status.Memory → EndsAs s steps (course program depth (tapes_between before after))
-ends_given program laws depth steps before after s events e did ends says tells full =
-    subst (λ (t : Tapes). EndsAs s steps (course program depth t)) (sym (tapes_between-of before after events tells did))
-    (subst (λ (x : Status). EndsAs x steps (course program depth (tapes_of events))) (sym says)
-    (ends_as program laws depth steps events e ends (λ is. full (says ∙ is))))
+-- a run of code that ended so ends as the meaning does, whatever would be answered further
+ends_given : (program : Program) → RunsAsMeant program → (depth steps : ℕ) (s : Status) (events : List Event) (e : RunEnd)
+    → EndsIn (lowered program (program_starts program)) depth steps events e → s ≡ status_of e → s ≢ status.Memory → (more : Tapes) → EndsAs s steps (course program depth (spliced (tapes_of events) more))
+ends_given program laws depth steps s events e ends says full more =
+    subst (λ (x : Status). EndsAs x steps (course program depth (spliced (tapes_of events) more))) (sym says) (ends_as program laws depth steps events e ends (λ is. full (says ∙ is)) more)
 
-ends_code : (program : Program) → RunsAsMeant program → (depth steps : ℕ) (before after : DevicesState) (s : Status) → RunsCode (lowered program (program_starts program)) depth steps before after s → TellsDeeds before
-    → IsUncut s → EndsAs s steps (course program depth (tapes_between before after))
-ends_code program laws depth steps before after s so tells uncut =
-    ends_given program laws depth steps before after s so.runs.events so.ended so.runs.did so.runs.ends so.says tells uncut.full
+ends_code : (program : Program) → RunsAsMeant program → (depth steps : ℕ) (before after : DevicesState) (s : Status) → (so : RunsCode (lowered program (program_starts program)) depth steps before after s)
+    → IsUncut s → (more : Tapes) → EndsAs s steps (course program depth (spliced (tapes_of so.runs.events) more))
+ends_code program laws depth steps before after s so uncut = ends_given program laws depth steps s so.runs.events so.ended so.runs.ends so.says uncut.full
 
-ends_traced : (program : Program) → RunsAsMeant program → (depth steps : ℕ) (out out' : SinkState) (before after : DevicesState) (s : Status) → TracesCode (lowered program (program_starts program)) depth steps out out' before after s
-    → TellsDeeds before → IsUncut s → EndsAs s steps (course program depth (tapes_between before after))
-ends_traced program laws depth steps out out' before after s so tells uncut =
-    ends_given program laws depth steps before after s so.runs.events so.ended so.runs.did
-    (uncut_run program depth steps so.runs.events out out' so.ended so.runs.ends (subst (λ (x : Status). IsUncut x) so.says uncut)).0 so.says tells uncut.full
+ends_traced : (program : Program) → RunsAsMeant program → (depth steps : ℕ) (out out' : SinkState) (before after : DevicesState) (s : Status) → (so : TracesCode (lowered program (program_starts program)) depth steps out out' before after s)
+    → IsUncut s → (more : Tapes) → EndsAs s steps (course program depth (spliced (tapes_of so.runs.events) more))
+ends_traced program laws depth steps out out' before after s so uncut =
+    ends_given program laws depth steps s so.runs.events so.ended
+    (uncut_run program depth steps so.runs.events out out' so.ended so.runs.ends (subst (λ (x : Status). IsUncut x) so.says uncut)).0 so.says uncut.full
 
 -- the device of an operation that failed counted a fault
 fault_of : (before after : DevicesState) (e : RunEnd) (grant : List ℕ) (op : OpName) → status_of e ≡ status.DeviceFailed grant op → FailsByFault before after e
@@ -174,24 +151,30 @@ stopped_spent : {A : Type 0} → (end : Status) → end ≡ status.Spent → (en
 stopped_spent end is (inl other) = let q : status.Spent ≡ status.Memory = sym is ∙ other in cc
 stopped_spent end is (inr other) = let q : status.Spent ≡ status.Unwritten = sym is ∙ other.0 in cc
 
-nothing_written : (way : Mode) (call : TopCall) (settings : Settings) (program : Program) → RunsAsMeant program → IsNumbered way settings.files → StopsBefore call (authority_text program) → WritesRun (running way) call settings program
+nothing_written : (way : Mode) (call : TopCall) (settings : Settings) (program : Program) → RunsAsMeant program → IsNumbered way settings.files → StopsBefore call (authority_text program) → WritesRun (running way) call settings program []
 nothing_written mode.Silent call settings program laws number so = so.out
 nothing_written mode.Traced call settings program laws number so =
-    writes_none call settings program so.out so.same (λ uncut. stopped_status call.status uncut.full uncut.written so.why) (λ is. stopped_spent call.status is so.why)
+    writes_none call settings program so.out (λ uncut. stopped_status call.status uncut.full uncut.written so.why) (λ is. stopped_spent call.status is so.why)
 nothing_written (mode.Summed number) call settings program laws is so =
     sums_none call settings program number is so.out (λ ended. stopped_ended call.status ended so.why) (misses call (authority_text program) so)
 nothing_written mode.Observed call settings program laws number so =
-    used_none call settings program laws so.out so.same (λ uncut. stopped_status call.status uncut.full uncut.written so.why) (misses call (authority_text program) so)
+    used_none call settings program laws so.out (λ uncut. stopped_status call.status uncut.full uncut.written so.why) (misses call (authority_text program) so)
 
 stopped_reached : (call : TopCall) (text : List ℕ) → StopsBefore call text → IsOfRun call.status
 stopped_reached call text so = elim so.why [ inl is ↦ subst IsOfRun (sym is) tt | inr is ↦ subst IsOfRun (sym is.0) tt ]
 
-stopped_by : (call : TopCall) (program : Program) → RunsAsMeant program → (asked : HasRun call) → WritesRun asked.settings.command call asked.settings program → StopsBefore call (authority_text program) → Runs call program
-stopped_by call program laws asked out so =
-    let did = did_nothing program asked.settings.depth call.devices call.devices_after so.same in
+stopped_by : (call : TopCall) (program : Program) → Accepted program → RunsAsMeant program → (asked : HasRun call) → WritesRun asked.settings.command call asked.settings program []
+    → StopsBefore call (authority_text program) → Runs call program
+stopped_by call program accepted laws asked out so =
+    let none = did_nothing program asked.settings.depth call.devices call.devices_after so.same in
     record {
       asked = asked;
+      accepted = accepted;
       reached = stopped_reached call (authority_text program) so;
+      events = [];
+      did = none.did;
+      first = none.begins.first;
+      ends = λ uncut. absurd (stopped_status call.status uncut.full uncut.written so.why);
       out = out;
       printed = record {
         front = so.short.written.front;
@@ -202,28 +185,31 @@ stopped_by call program laws asked out so =
         whole = λ written full. absurd (stopped_status call.status full written so.why);
         proper = λ is. unwritten_by asked.settings.command call so.short.rest (unprinted call (authority_text program) so is);
       };
-      operations = operations_of program laws asked.settings.depth call.devices call.devices_after did;
-      prefix = prefix_of call program asked.settings.depth did;
       authority = laws.bounded;
       reported = laws.reported;
-      ends = λ tells uncut. absurd (stopped_status call.status uncut.full uncut.written so.why);
       failed = λ grant op is. absurd (not_failed call.status grant op is so.why);
     }
 
 -- how code was run after the report was written: what was done, what came to `out`, and how it ended
 record Performs (call : TopCall) (asked : HasRun call) (program : Program) : Type 0 where
   reached : IsOfRun call.status
-  out : WritesRun asked.settings.command call asked.settings program
+  events : List Event
+  did : DidEvents program asked.settings.depth call.devices call.devices_after events
+  ends : IsUncut call.status → (more : Tapes) → EndsAs call.status asked.settings.steps (meant_after asked.settings program events more)
+  out : WritesRun asked.settings.command call asked.settings program events
   cut : call.status ≡ status.Unwritten → IsUnwritten asked.settings.command call []
-  did : DidEvents program asked.settings.depth call.devices call.devices_after
-  ends : TellsDeeds call.devices → IsUncut call.status → EndsAs call.status asked.settings.steps (course_in call asked.settings program)
   failed : (grant : List ℕ) (op : OpName) → call.status ≡ status.DeviceFailed grant op → Rose (device_of call.devices (kind_named op)).faults (device_of call.devices_after (kind_named op)).faults
 
-performed_by : (call : TopCall) (program : Program) → RunsAsMeant program → (asked : HasRun call) → WritesUpTo (authority_text program) [] call.report call.report_after → Performs call asked program
+performed_by : (call : TopCall) (program : Program) → Accepted program → RunsAsMeant program → (asked : HasRun call) → WritesUpTo (authority_text program) [] call.report call.report_after → Performs call asked program
     → Runs call program
-performed_by call program laws asked written so = record {
+performed_by call program accepted laws asked written so = record {
   asked = asked;
+  accepted = accepted;
   reached = so.reached;
+  events = so.events;
+  did = so.did.did;
+  first = so.did.begins.first;
+  ends = so.ends;
   out = so.out;
   printed = record {
     front = written.front;
@@ -234,11 +220,8 @@ performed_by call program laws asked written so = record {
     whole = λ _ full. refl;
     proper = so.cut;
   };
-  operations = operations_of program laws asked.settings.depth call.devices call.devices_after so.did;
-  prefix = prefix_of call program asked.settings.depth so.did;
   authority = laws.bounded;
   reported = laws.reported;
-  ends = so.ends;
   failed = so.failed;
 }
 
@@ -251,7 +234,8 @@ performs_run : (call : TopCall) (settings : Settings) (set : IsSet call settings
 unfolding run_command
 performs_run call settings set program laws is so out = record {
   reached = subst IsOfRun (sym so.says) (run_of_end so.ended);
-  out = subst (λ (c : Command). WritesRun c call settings program) (sym is) out;
+  events = so.runs.events;
+  out = subst (λ (c : Command). WritesRun c call settings program so.runs.events) (sym is) out;
   cut = λ unwritten. absurd (unwritten_code program settings.depth settings.steps call.devices call.devices_after call.status so unwritten);
   did = did_code program laws settings.depth settings.steps call.devices call.devices_after call.status so;
   ends = ends_code program laws settings.depth settings.steps call.devices call.devices_after call.status so;
@@ -263,7 +247,8 @@ performs_trace : (call : TopCall) (settings : Settings) (set : IsSet call settin
 unfolding run_command
 performs_trace call settings set program laws is so = record {
   reached = subst IsOfRun (sym so.says) (run_of_end so.ended);
-  out = subst (λ (c : Command). WritesRun c call settings program) (sym is) (writes_events call settings program laws so);
+  events = so.runs.events;
+  out = subst (λ (c : Command). WritesRun c call settings program so.runs.events) (sym is) (writes_events call settings program laws so);
   cut = λ unwritten. subst (λ (c : Command). IsUnwritten c call []) (sym is)
       (inr (refl, rose_traced program settings.depth settings.steps so.runs.events call.out call.out_after so.ended so.runs.ends (sym so.says ∙ unwritten)));
   did = did_traced program laws settings.depth settings.steps call.out call.out_after call.devices call.devices_after call.status so;
@@ -292,32 +277,34 @@ performs_sample : (call : TopCall) (settings : Settings) (set : IsSet call setti
 unfolding run_command
 performs_sample call settings set program laws number numbered is so =
     let code : RunsCode (lowered program (program_starts program)) settings.depth settings.steps call.devices call.devices_after (status_of so.ended) = record { ended = so.ended; runs = so.runs; says = refl } in
-    let finished : so.ended ≡ end.Ended → TellsDeeds call.devices → HasEnded call settings program = λ ended tells.
-    ended_by call settings program (subst (λ (e : RunEnd). EndsAs (status_of e) settings.steps (course_in call settings program)) ended
-    (ends_code program laws settings.depth settings.steps call.devices call.devices_after (status_of so.ended) code tells (uncut_ended so.ended ended))) in
+    let finished : so.ended ≡ end.Ended → HasEnded settings program so.runs.events = λ ended.
+    ended_by settings program so.runs.events (λ more. subst (λ (e : RunEnd). EndsAs (status_of e) settings.steps (meant_after settings program so.runs.events more)) ended
+    (ends_code program laws settings.depth settings.steps call.devices call.devices_after (status_of so.ended) code (uncut_ended so.ended ended) more)) in
     record {
       reached = then_run (summary_text number program) call.out call.out_after so.ended call.status so.wrote;
-      out = subst (λ (c : Command). WritesRun c call settings program) (sym is) (sums_by call settings program number numbered so.ended so.wrote finished
+      events = so.runs.events;
+      out = subst (λ (c : Command). WritesRun c call settings program so.runs.events) (sym is) (sums_by call settings program so.runs.events number numbered so.ended so.wrote finished
           (λ _ unwritten. written_code program settings.depth settings.steps so.runs.events so.ended so.runs.ends unwritten));
       cut = λ unwritten. subst (λ (c : Command). IsUnwritten c call []) (sym is)
           (inr (refl, then_unwritten program settings.depth settings.steps so.runs.events (summary_text number program) call.out call.out_after so.ended call.status so.runs.ends so.wrote unwritten));
       did = did_code program laws settings.depth settings.steps call.devices call.devices_after (status_of so.ended) code;
-      ends = λ tells uncut. let same : call.status ≡ status_of so.ended = then_status (summary_text number program) call.out call.out_after so.ended call.status so.wrote uncut in
-          subst (λ (s : Status). EndsAs s settings.steps (course_in call settings program)) (sym same)
-          (ends_code program laws settings.depth settings.steps call.devices call.devices_after (status_of so.ended) code tells (subst (λ (s : Status). IsUncut s) same uncut));
+      ends = λ uncut more. let same : call.status ≡ status_of so.ended = then_status (summary_text number program) call.out call.out_after so.ended call.status so.wrote uncut in
+          subst (λ (s : Status). EndsAs s settings.steps (meant_after settings program so.runs.events more)) (sym same)
+          (ends_code program laws settings.depth settings.steps call.devices call.devices_after (status_of so.ended) code (subst (λ (s : Status). IsUncut s) same uncut) more);
       failed = λ grant op failed. fault_of call.devices call.devices_after so.ended grant op (then_failed (summary_text number program) call.out call.out_after so.ended call.status grant op so.wrote failed) so.runs.failed;
     }
 
 -- memory was wanting before the run began
 performs_none : (call : TopCall) (settings : Settings) (set : IsSet call settings) (program : Program) → (is : settings.command ≡ command.Observe) → call.status ≡ status.Memory → call.devices_after ≡ call.devices
-    → WritesUsed call settings program → Performs call (run_command call settings mode.Observed set is) program
+    → WritesUsed call settings program [] → Performs call (run_command call settings mode.Observed set is) program
 unfolding run_command
 performs_none call settings set program is memory same out = record {
   reached = subst IsOfRun (sym memory) tt;
-  out = subst (λ (c : Command). WritesRun c call settings program) (sym is) out;
+  events = [];
+  out = subst (λ (c : Command). WritesRun c call settings program []) (sym is) out;
   cut = λ unwritten. let q : status.Memory ≡ status.Unwritten = sym memory ∙ unwritten in absurd (cc);
   did = did_nothing program settings.depth call.devices call.devices_after same;
-  ends = λ tells uncut. absurd (uncut.full memory);
+  ends = λ uncut. absurd (uncut.full memory);
   failed = λ grant op failed. let q : status.Memory ≡ status.DeviceFailed grant op = sym memory ∙ failed in absurd (cc);
 }
 
@@ -326,36 +313,38 @@ performs_observe : (call : TopCall) (settings : Settings) (set : IsSet call sett
     → Performs call (run_command call settings mode.Observed set is) program
 unfolding run_command
 performs_observe call settings set program laws is (unbegun memory out same) =
-    performs_none call settings set program is memory same (writes_used call settings program laws (unbegun memory out same))
+    performs_none call settings set program is memory same (used_none call settings program laws out (λ uncut. uncut.full memory)
+    (λ unwritten. let q : status.Memory ≡ status.Unwritten = sym memory ∙ unwritten in absurd (cc)))
 performs_observe call settings set program laws is (begun ended runs so) =
     let code : RunsCode (lowered program (program_starts program)) settings.depth settings.steps call.devices call.devices_after (status_of ended) = record { ended = ended; runs = runs; says = refl } in
     let came : Came call.out call.out_after ended call.status = came_of (observed_text program runs.events) call.out call.out_after ended call.status so in
     record {
       reached = observed_run (observed_text program runs.events) call.out call.out_after ended call.status so;
-      out = subst (λ (c : Command). WritesRun c call settings program) (sym is) (writes_used call settings program laws (begun ended runs so));
+      events = runs.events;
+      out = subst (λ (c : Command). WritesRun c call settings program runs.events) (sym is) (writes_used call settings program laws ended runs so);
       cut = λ unwritten. subst (λ (c : Command). IsUnwritten c call []) (sym is)
           (inr (refl, came_rose call.out call.out_after ended call.status (written_code program settings.depth settings.steps runs.events ended runs.ends) came unwritten));
       did = did_code program laws settings.depth settings.steps call.devices call.devices_after (status_of ended) code;
-      ends = λ tells uncut. let same : call.status ≡ status_of ended = came_uncut call.out call.out_after ended call.status came uncut in
-          subst (λ (s : Status). EndsAs s settings.steps (course_in call settings program)) (sym same)
-          (ends_code program laws settings.depth settings.steps call.devices call.devices_after (status_of ended) code tells (subst (λ (s : Status). IsUncut s) same uncut));
+      ends = λ uncut more. let same : call.status ≡ status_of ended = came_uncut call.out call.out_after ended call.status came uncut in
+          subst (λ (s : Status). EndsAs s settings.steps (meant_after settings program runs.events more)) (sym same)
+          (ends_code program laws settings.depth settings.steps call.devices call.devices_after (status_of ended) code (subst (λ (s : Status). IsUncut s) same uncut) more);
       failed = λ grant op failed. fault_of call.devices call.devices_after ended grant op (came_failed call.out call.out_after ended call.status grant op came failed) runs.failed;
     }
 
-pub runs_by : (call : TopCall) (settings : Settings) (set : IsSet call settings) (program : Program) → RunsAsMeant program → (way : Mode) → settings.command ≡ running way → IsNumbered way settings.files
+pub runs_by : (call : TopCall) (settings : Settings) (set : IsSet call settings) (program : Program) → Accepted program → RunsAsMeant program → (way : Mode) → settings.command ≡ running way → IsNumbered way settings.files
     → Ran way program settings.depth settings.steps call.out call.out_after call.report call.report_after call.devices call.devices_after call.status → Runs call program
 unfolding run_command
-runs_by call settings set program laws way is number (stopped short out same why) =
+runs_by call settings set program accepted laws way is number (stopped short out same why) =
     let so : StopsBefore call (authority_text program) = record { short = short; out = out; same = same; why = why } in
-    stopped_by call program laws (run_command call settings way set is) (subst (λ (c : Command). WritesRun c call settings program) (sym is) (nothing_written way call settings program laws number so)) so
-runs_by call settings set program laws mode.Silent is number (performed written so) =
-    performed_by call program laws (run_command call settings mode.Silent set is) written (performs_run call settings set program laws is so.0 so.1)
-runs_by call settings set program laws mode.Traced is number (performed written so) =
-    performed_by call program laws (run_command call settings mode.Traced set is) written (performs_trace call settings set program laws is so)
-runs_by call settings set program laws (mode.Summed n) is number (performed written so) =
-    performed_by call program laws (run_command call settings (mode.Summed n) set is) written (performs_sample call settings set program laws n number is so)
-runs_by call settings set program laws mode.Observed is number (performed written so) =
-    performed_by call program laws (run_command call settings mode.Observed set is) written (performs_observe call settings set program laws is so)
+    stopped_by call program accepted laws (run_command call settings way set is) (subst (λ (c : Command). WritesRun c call settings program []) (sym is) (nothing_written way call settings program laws number so)) so
+runs_by call settings set program accepted laws mode.Silent is number (performed written so) =
+    performed_by call program accepted laws (run_command call settings mode.Silent set is) written (performs_run call settings set program laws is so.0 so.1)
+runs_by call settings set program accepted laws mode.Traced is number (performed written so) =
+    performed_by call program accepted laws (run_command call settings mode.Traced set is) written (performs_trace call settings set program laws is so)
+runs_by call settings set program accepted laws (mode.Summed n) is number (performed written so) =
+    performed_by call program accepted laws (run_command call settings (mode.Summed n) set is) written (performs_sample call settings set program laws n number is so)
+runs_by call settings set program accepted laws mode.Observed is number (performed written so) =
+    performed_by call program accepted laws (run_command call settings mode.Observed set is) written (performs_observe call settings set program laws is so)
 
 pub ran_counted : (way : Mode) (program : Program) (depth steps : ℕ) (out out' report report' : SinkState) (devices devices' : DevicesState) (end : Status)
     → Ran way program depth steps out out' report report' devices devices' end → report.faults ≤ report'.faults

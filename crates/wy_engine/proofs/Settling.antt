@@ -300,7 +300,7 @@ settles_answered law size sound runs call settings read set few so (answering.ra
       crowded = λ other same many. not_crowded call settings other set few same many;
       idle = λ none. absurd (cc);
       runs = λ other same. let e : program ≡ other = cc in subst (λ (p : Program). Runs call p) e
-          (runs_by call settings set program (runs read program is.passes) way run number ended);
+          (runs_by call settings set program is.passes.accepted.accepted (runs read program is.passes) way run number ended);
       checks = λ none. absurd (cc);
       reports = λ program none. absurd (cc);
       formats = λ tree none. absurd (cc);

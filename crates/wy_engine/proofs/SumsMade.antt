@@ -3,13 +3,14 @@ use Rattle.std.proofs.Common.{◌≡◌, ◌≢◌, inl, inr, ◌≤◌, ℕ, Li
 use Rattle.std.proofs.lemmas.Bool.{cases_lt}
 use Rattle.wy_text.specs.Outside.{Rose, SinkState}
 use Rattle.wy_text.proofs.Gains.{gained-nil}
-use Rattle.wy_device.specs.Events.{TellsDeeds}
+use Rattle.wy_device.specs.Tapes.{Tapes}
+use Rattle.wy_device.specs.declared.deed.Event.{Event}
 use Rattle.wy_device.specs.declared.operation.OpName.{OpName}
 use Rattle.wy_machine.specs.declared.run_end.RunEnd.{RunEnd}
 use Rattle.wy_machine.specs.declared.run_end.RunEnd.TheVariants as end
 use Rattle.wy_types.specs.Program.{Program}
 use Rattle.wy_settings.specs.Settings.{Settings, sample_number}
-use Rattle.wy_engine.specs.Headline.{EndsAs, HasEnded, IsUncut, MissesReport, SumsUp, course_in}
+use Rattle.wy_engine.specs.Headline.{EndsAs, HasEnded, IsUncut, MissesReport, SumsUp, meant_after}
 use Rattle.wy_engine.specs.Judgement.{authority_text, summary_text}
 use Rattle.wy_engine.specs.Running.{ThenWrote, skipped, status_of, summed}
 use Rattle.wy_engine.specs.TopCall.{TopCall}
@@ -39,19 +40,20 @@ ended_wrote text out out' s (starved rest written is) full uncut = absurd (full 
 pub uncut_ended : (e : RunEnd) → e ≡ end.Ended → IsUncut (status_of e)
 uncut_ended e is = subst (λ (x : RunEnd). IsUncut (status_of x)) (sym is) (record { full = λ other. cc; written = λ other. cc })
 
-pub ended_by : (call : TopCall) (settings : Settings) (program : Program) → EndsAs status.Ended settings.steps (course_in call settings program) → HasEnded call settings program
-ended_by call settings program ends =
-    let within : (course_in call settings program).steps ≤ settings.steps = elim (cases_lt settings.steps (course_in call settings program).steps) [
-      | inl more ↦ let q : status.Ended ≡ status.Spent = (ends.spent more).0 in absurd (cc)
+pub ended_by : (settings : Settings) (program : Program) (events : List Event) → ((more : Tapes) → EndsAs status.Ended settings.steps (meant_after settings program events more)) → HasEnded settings program events
+ended_by settings program events ends = record { within = within; ended = λ more. (ends more).whole (within more) }
+  where
+    within : (more : Tapes) → (meant_after settings program events more).steps ≤ settings.steps
+    within more = elim (cases_lt settings.steps (meant_after settings program events more).steps) [
+      | inl above ↦ let q : status.Ended ≡ status.Spent = ((ends more).spent above).0 in absurd (cc)
       | inr few ↦ few
-    ] in
-    record { within = within; ended = ends.whole within }
+    ]
 
 -- ---- the line behind it
 
 -- nothing came to `out`, and the run did not end well
 pub sums_none : (call : TopCall) (settings : Settings) (program : Program) (number : ℕ) → sample_number settings.files ≡ Some number → call.out_after ≡ call.out → call.status ≢ status.Ended
-    → (call.status ≡ status.Unwritten → MissesReport call (authority_text program)) → SumsUp call settings program
+    → (call.status ≡ status.Unwritten → MissesReport call (authority_text program)) → SumsUp call settings program []
 sums_none call settings program number is out other why = record {
   number = number;
   is = is;
@@ -65,9 +67,9 @@ sums_none call settings program number is out other why = record {
   cut = λ unwritten. inl (why unwritten);
 }
 
-wrote_by : (call : TopCall) (settings : Settings) (program : Program) (number : ℕ) → sample_number settings.files ≡ Some number → (TellsDeeds call.devices → HasEnded call settings program)
-    → Wrote (summary_text number program) call.out call.out_after call.status → SumsUp call settings program
-wrote_by call settings program number is finished (whole written ended) = record {
+wrote_by : (call : TopCall) (settings : Settings) (program : Program) (events : List Event) (number : ℕ) → sample_number settings.files ≡ Some number → HasEnded settings program events
+    → Wrote (summary_text number program) call.out call.out_after call.status → SumsUp call settings program events
+wrote_by call settings program events number is finished (whole written ended) = record {
   number = number;
   is = is;
   front = written.front;
@@ -79,7 +81,7 @@ wrote_by call settings program number is finished (whole written ended) = record
   begun = inr finished;
   cut = λ unwritten. let q : status.Ended ≡ status.Unwritten = sym ended ∙ unwritten in absurd (cc);
 }
-wrote_by call settings program number is finished (cut short rose unwritten) = record {
+wrote_by call settings program events number is finished (cut short rose unwritten) = record {
   number = number;
   is = is;
   front = short.written.front;
@@ -91,7 +93,7 @@ wrote_by call settings program number is finished (cut short rose unwritten) = r
   begun = inr finished;
   cut = λ _. inr (short.some, finished);
 }
-wrote_by call settings program number is finished (starved rest written wanting) = record {
+wrote_by call settings program events number is finished (starved rest written wanting) = record {
   number = number;
   is = is;
   front = written.front;
@@ -113,11 +115,11 @@ not_ended (end.DeviceFailed grant op) other is = cc
 not_ended end.SinkFailed other is = cc
 not_ended end.Memory other is = cc
 
-pub sums_by : (call : TopCall) (settings : Settings) (program : Program) (number : ℕ) → sample_number settings.files ≡ Some number → (ended : RunEnd)
-    → ThenWrote (summary_text number program) call.out call.out_after ended call.status → (ended ≡ end.Ended → TellsDeeds call.devices → HasEnded call settings program)
-    → (call.status ≡ status.Unwritten → status_of ended ≢ status.Unwritten) → SumsUp call settings program
-sums_by call settings program number is ended (summed ok wrote) finished unwritten = wrote_by call settings program number is (finished ok) wrote
-sums_by call settings program number is ended (skipped other same says) finished unwritten = record {
+pub sums_by : (call : TopCall) (settings : Settings) (program : Program) (events : List Event) (number : ℕ) → sample_number settings.files ≡ Some number → (ended : RunEnd)
+    → ThenWrote (summary_text number program) call.out call.out_after ended call.status → (ended ≡ end.Ended → HasEnded settings program events)
+    → (call.status ≡ status.Unwritten → status_of ended ≢ status.Unwritten) → SumsUp call settings program events
+sums_by call settings program events number is ended (summed ok wrote) finished unwritten = wrote_by call settings program events number is (finished ok) wrote
+sums_by call settings program events number is ended (skipped other same says) finished unwritten = record {
   number = number;
   is = is;
   front = [];

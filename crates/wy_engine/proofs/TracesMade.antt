@@ -3,21 +3,16 @@ use Rattle.std.proofs.Common.{◌≡◌, ◌≢◌, ◌⊎◌, inl, inr, ℕ, Li
 use Rattle.std.proofs.lemmas.List.{append-nil}
 use Rattle.wy_text.proofs.Gains.{gained-nil}
 use Rattle.wy_text.specs.Outside.{Rose, SinkState, gained}
-use Rattle.wy_device.specs.Events.{DidExactly, TellsDeeds}
-use Rattle.wy_device.specs.Tapes.{Tapes, tapes_between}
 use Rattle.wy_device.specs.declared.deed.Event.{Event}
-use Rattle.wy_code.specs.Running.{machine}
-use Rattle.wy_lower.specs.Correct.{IsPrefix}
 use Rattle.wy_lower.specs.Lowering.{lowered}
-use Rattle.wy_machine.specs.Runs.{EndsIn, tapes_of}
+use Rattle.wy_machine.specs.Runs.{EndsIn}
 use Rattle.wy_machine.specs.Traces.{EndsTraced, WroteAll, WroteSome}
 use Rattle.wy_machine.specs.declared.run_end.RunEnd.{RunEnd}
 use Rattle.wy_machine.specs.declared.run_end.RunEnd.TheVariants as end
 use Rattle.wy_meaning.specs.EventLines.{event_lines}
-use Rattle.wy_sound.specs.Laws.{course}
 use Rattle.wy_sound.specs.Programs.{program_starts}
 use Rattle.wy_types.specs.Program.{Program}
-use Rattle.wy_engine.specs.Headline.{BeginsLine, IsUncut, WritesEvents, course_in, none, some}
+use Rattle.wy_engine.specs.Headline.{BeginsLine, IsUncut, WritesEvents, none, some}
 use Rattle.wy_engine.specs.ProgramLaws.{RunsAsMeant}
 use Rattle.wy_engine.specs.Running.{TracesCode, status_of}
 use Rattle.wy_settings.specs.Settings.{Settings}
@@ -25,7 +20,6 @@ use Rattle.wy_engine.specs.TopCall.{TopCall}
 use Rattle.wy_engine.specs.declared.status.Status.{Status}
 use Rattle.wy_engine.specs.declared.status.Status.TheVariants as status
 use Rattle.wy_engine.proofs.CodeRuns.{BeginsWith, all_events, begins_happened, begins_with, spent_events}
-use Rattle.wy_engine.proofs.Deeds.{did_none, no_tapes, spliced-none, tapes_between-of}
 
 -- ---- how a traced run ended
 
@@ -112,55 +106,40 @@ lines_of program depth k events out out' end.Memory to = either_lines events out
 
 -- ---- the whole call
 
-pub first_events : (program : Program) (depth : ℕ) (events : List Event) → BeginsWith program depth events → IsPrefix events (course program depth (tapes_of events)).events
-first_events program depth events begins =
-    subst (λ (t : Tapes). IsPrefix events (course program depth t).events) (spliced-none (tapes_of events)) (begins.first no_tapes)
-
 pub writes_events : (call : TopCall) (settings : Settings) (program : Program) → RunsAsMeant program
-    → TracesCode (lowered program (program_starts program)) settings.depth settings.steps call.out call.out_after call.devices call.devices_after call.status → WritesEvents call settings program
+    → (so : TracesCode (lowered program (program_starts program)) settings.depth settings.steps call.out call.out_after call.devices call.devices_after call.status) → WritesEvents call settings program so.runs.events
 writes_events call settings program laws so =
-    let code = lowered program (program_starts program) in
     let events = so.runs.events in
     let lines : Lines events call.out call.out_after so.ended = lines_of program settings.depth settings.steps events call.out call.out_after so.ended so.runs.ends in
-    let given : TellsDeeds call.devices → tapes_between call.devices call.devices_after ≡ tapes_of events = λ tells. tapes_between-of call.devices call.devices_after events tells so.runs.did in
     let ended : (uncut : IsUncut call.status) → IsUncut (status_of so.ended) = λ uncut. subst (λ (s : Status). IsUncut s) so.says uncut in
-    let no_more : IsUncut call.status → lines.further ≡ [] = λ uncut. lines.uncut (ended uncut) in
-    let all : IsUncut call.status → lines.whole ≡ events = λ uncut. sym (append-nil lines.whole) ∙ ap (λ x. lines.whole ++ x) (sym (no_more uncut)) ∙ sym lines.split in
+    let run : (uncut : IsUncut call.status) → EndsIn (lowered program (program_starts program)) settings.depth settings.steps events so.ended = λ uncut.
+    (uncut_run program settings.depth settings.steps events call.out call.out_after so.ended so.runs.ends (ended uncut)).0 in
     record {
       whole = lines.whole;
       part = lines.part;
       further = lines.further;
+      split = lines.split;
       taken = lines.taken;
       begun = lines.begun;
-      did = subst (λ es. DidExactly call.devices call.devices_after es) lines.split so.runs.did;
-      uncut = no_more;
-      first = λ tells. subst (λ es. IsPrefix es (course_in call settings program).events) lines.split
-          (subst (λ (t : Tapes). IsPrefix events (course program settings.depth t).events) (sym (given tells))
-          (first_events program settings.depth events (begins_traced program laws settings.depth settings.steps events call.out call.out_after so.ended so.runs.ends)));
-      all = λ tells uncut unspent. all uncut ∙ all_events program laws settings.depth settings.steps events so.ended
-          (uncut_run program settings.depth settings.steps events call.out call.out_after so.ended so.runs.ends (ended uncut)).0 (ended uncut).full (λ is. unspent (so.says ∙ is))
-          ∙ ap (λ (t : Tapes). (course program settings.depth t).events) (sym (given tells));
-      spent = λ tells is. let uncut : IsUncut call.status = spent_uncut call.status is in
-          all uncut ∙ spent_events program settings.depth settings.steps events so.ended
-          (uncut_run program settings.depth settings.steps events call.out call.out_after so.ended so.runs.ends (ended uncut)).0 (sym so.says ∙ is)
-          ∙ ap (λ (t : Tapes). (machine code settings.depth settings.steps t).events) (sym (given tells));
+      uncut = λ uncut. lines.uncut (ended uncut);
+      all = λ uncut unspent. all_events program laws settings.depth settings.steps events so.ended (run uncut) (ended uncut).full (λ is. unspent (so.says ∙ is));
+      spent = λ is. spent_events program settings.depth settings.steps events so.ended (run (spent_uncut call.status is)) (sym so.says ∙ is);
     }
   where
     spent_uncut : (s : Status) → s ≡ status.Spent → IsUncut s
     spent_uncut s is = record { full = λ other. let q : status.Spent ≡ status.Memory = sym is ∙ other in cc; written = λ other. let q : status.Spent ≡ status.Unwritten = sym is ∙ other in cc }
 
 -- nothing was run
-pub writes_none : (call : TopCall) (settings : Settings) (program : Program) → call.out_after ≡ call.out → call.devices_after ≡ call.devices
-    → (IsUncut call.status → ⊥) → call.status ≢ status.Spent → WritesEvents call settings program
-writes_none call settings program out same cut unspent = record {
+pub writes_none : (call : TopCall) (settings : Settings) (program : Program) → call.out_after ≡ call.out
+    → (IsUncut call.status → ⊥) → call.status ≢ status.Spent → WritesEvents call settings program []
+writes_none call settings program out cut unspent = record {
   whole = [];
   part = [];
   further = [];
+  split = refl;
   taken = ap (λ (s : SinkState). s.taken) out ∙ sym (gained-nil call.out.taken);
   begun = none refl;
-  did = did_none call.devices call.devices_after same;
   uncut = λ uncut. refl;
-  first = λ tells. ((course_in call settings program).events, refl);
-  all = λ tells uncut spent. absurd (cut uncut);
-  spent = λ tells is. absurd (unspent is);
+  all = λ uncut spent. absurd (cut uncut);
+  spent = λ is. absurd (unspent is);
 }

@@ -7,9 +7,9 @@ use Rattle.wy_text.specs.Members.{In}
 use Rattle.wy_authority.specs.Authority.{authority_of}
 use Rattle.wy_authority.specs.declared.rows.InstanceRow.{InstanceRow}
 use Rattle.wy_meaning.specs.Bounds.{Bounded, BoundedFrom, Call}
-use Rattle.wy_code.specs.Running.{Ran as RanCode, machine}
-use Rattle.wy_device.specs.Events.{DidExactly, TellsDeeds}
-use Rattle.wy_device.specs.Tapes.{Tapes, spliced, tapes_between}
+use Rattle.wy_code.specs.Running.{Ran as RanCode}
+use Rattle.wy_device.specs.Devices.{DevicesState}
+use Rattle.wy_device.specs.Tapes.{Tapes, spliced}
 use Rattle.wy_device.specs.declared.deed.Event.{Event}
 use Rattle.wy_device.specs.declared.deed.Event.TheVariants.{Deed, Enter, Leave}
 use Rattle.wy_device.specs.declared.operation.OpName.{OpName}
@@ -22,18 +22,17 @@ use Rattle.wy_sound.specs.Laws.{course}
 use Rattle.wy_sound.specs.Programs.{allowed, program_starts}
 use Rattle.wy_sound.specs.Used.{IsUsedWithin}
 use Rattle.wy_types.specs.Program.{Program}
-use Rattle.wy_engine.specs.Headline.{AreOfRun, IsUncut, MissesReport, WritesUsed, course_in}
+use Rattle.wy_engine.specs.Headline.{AreOfRun, IsUncut, MissesReport, WritesUsed, code_after}
 use Rattle.wy_engine.specs.Judgement.{authority_text, observed_text}
 use Rattle.wy_engine.specs.ProgramLaws.{RunsAsMeant}
-use Rattle.wy_engine.specs.Running.{ObservesCode, ThenObserved, begun, behind, observed, status_of, unbegun, unobserved}
+use Rattle.wy_engine.specs.Running.{ThenObserved, behind, observed, status_of, unobserved}
 use Rattle.wy_engine.specs.TopCall.{TopCall}
 use Rattle.wy_engine.specs.Writing.{Wrote, cut, starved, whole}
 use Rattle.wy_engine.specs.declared.status.Status.{Status}
 use Rattle.wy_engine.specs.declared.status.Status.TheVariants as status
 use Rattle.wy_settings.specs.Settings.{Settings}
 use Rattle.wy_engine.proofs.CodeRuns.{BeginsWith, begins_with, code_events, written_code}
-use Rattle.wy_engine.proofs.Deeds.{did_none, no_tapes, tapes_between-of}
-use Rattle.wy_engine.proofs.TracesMade.{first_events}
+use Rattle.wy_engine.proofs.Deeds.{no_tapes}
 
 -- ---- the status
 
@@ -77,16 +76,11 @@ bounded_front authority calls (Deed deed ∷ events) later h = (h.0, bounded_fro
 bounded_front authority [] (Leave ∷ events) later h = bounded_front authority [] events later h
 bounded_front authority (call ∷ calls) (Leave ∷ events) later h = bounded_front authority calls events later h
 
-are_of_run : (call : TopCall) (settings : Settings) (program : Program) → RunsAsMeant program → (events : List Event) → tapes_between call.devices call.devices_after ≡ tapes_of events
-    → events ≡ (machine (lowered program (program_starts program)) settings.depth settings.steps (tapes_of events)).events → AreOfRun call settings program events
-are_of_run call settings program laws events given is =
-    let tapes : Tapes = tapes_between call.devices call.devices_after in
-    let code : events ≡ (machine (lowered program (program_starts program)) settings.depth settings.steps tapes).events =
-    is ∙ ap (λ (t : Tapes). (machine (lowered program (program_starts program)) settings.depth settings.steps t).events) (sym given) in
-    record {
-      within = λ few. code ∙ ap (λ (r : RanCode). r.events) ((laws.follows settings.depth settings.steps tapes).whole few);
-      spent = λ more. code;
-    }
+are_of_run : (settings : Settings) (program : Program) → RunsAsMeant program → (events : List Event) → ((more : Tapes) → events ≡ (code_after settings program events more).events) → AreOfRun settings program events
+are_of_run settings program laws events is = record {
+  within = λ more few. is more ∙ ap (λ (r : RanCode). r.events) ((laws.follows settings.depth settings.steps (spliced (tapes_of events) more)).whole few);
+  spent = λ more above. is more;
+}
 
 -- what was used in the first events of a program's meaning is within its authority
 used_within : (program : Program) → RunsAsMeant program → (depth : ℕ) (events : List Event) → BeginsWith program depth events → (r : InstanceRow) → In r (authority_of program).rows → IsUsedWithin program events r
@@ -98,116 +92,93 @@ used_within program laws depth events begins =
 -- ---- the lines
 
 -- nothing came to `out`, and nothing was run
-pub used_none : (call : TopCall) (settings : Settings) (program : Program) → RunsAsMeant program → call.out_after ≡ call.out → call.devices_after ≡ call.devices
-    → (IsUncut call.status → ⊥) → (call.status ≡ status.Unwritten → MissesReport call (authority_text program)) → WritesUsed call settings program
-used_none call settings program laws out same stopped why = record {
-  events = [];
+pub used_none : (call : TopCall) (settings : Settings) (program : Program) → RunsAsMeant program → call.out_after ≡ call.out
+    → (IsUncut call.status → ⊥) → (call.status ≡ status.Unwritten → MissesReport call (authority_text program)) → WritesUsed call settings program []
+used_none call settings program laws out stopped why = record {
   front = [];
   rest = observed_text program [];
   split = refl;
   taken = ap (λ (s : SinkState). s.taken) out ∙ sym (gained-nil call.out.taken);
-  did = did_none call.devices call.devices_after same;
   within = laws.used [] tt;
-  first = λ tells. ((course_in call settings program).events, refl);
   whole = λ uncut. absurd (stopped uncut);
-  all = λ uncut tells. absurd (stopped uncut);
+  all = λ uncut. absurd (stopped uncut);
   begun = inl refl;
   cut = λ unwritten. inl (why unwritten);
 }
 
 -- a run of the program's code, whose events were kept
-record IsRun (call : TopCall) (settings : Settings) (program : Program) (events : List Event) (ended : RunEnd) : Type 0 where
-  did : DidExactly call.devices call.devices_after events
+record IsRun (settings : Settings) (program : Program) (events : List Event) (ended : RunEnd) : Type 0 where
   within : (r : InstanceRow) → In r (authority_of program).rows → IsUsedWithin program events r
-  first : TellsDeeds call.devices → IsPrefix events (course_in call settings program).events
-  all : ended ≢ end.Memory → TellsDeeds call.devices → AreOfRun call settings program events
+  all : ended ≢ end.Memory → AreOfRun settings program events
   code : status_of ended ≢ status.Unwritten
 
-is_run : (call : TopCall) (settings : Settings) (program : Program) → RunsAsMeant program → (ended : RunEnd)
-    → (runs : RunsMachine (lowered program (program_starts program)) settings.depth settings.steps call.devices call.devices_after ended) → IsRun call settings program runs.events ended
-is_run call settings program laws ended runs =
-    let given : TellsDeeds call.devices → tapes_between call.devices call.devices_after ≡ tapes_of runs.events = λ tells. tapes_between-of call.devices call.devices_after runs.events tells runs.did in
-    record {
-      did = runs.did;
-      within = used_within program laws settings.depth runs.events (begins_with program laws settings.depth settings.steps runs.events ended runs.ends);
-      first = λ tells. subst (λ (t : Tapes). IsPrefix runs.events (course program settings.depth t).events) (sym (given tells))
-          (first_events program settings.depth runs.events (begins_with program laws settings.depth settings.steps runs.events ended runs.ends));
-      all = λ full tells. are_of_run call settings program laws runs.events (given tells) (code_events program settings.depth settings.steps runs.events ended runs.ends full);
-      code = written_code program settings.depth settings.steps runs.events ended runs.ends;
-    }
+is_run : (settings : Settings) (program : Program) → RunsAsMeant program → (old new : DevicesState) (ended : RunEnd)
+    → (runs : RunsMachine (lowered program (program_starts program)) settings.depth settings.steps old new ended) → IsRun settings program runs.events ended
+is_run settings program laws old new ended runs = record {
+  within = used_within program laws settings.depth runs.events (begins_with program laws settings.depth settings.steps runs.events ended runs.ends);
+  all = λ full. are_of_run settings program laws runs.events (code_events program settings.depth settings.steps runs.events ended runs.ends full);
+  code = written_code program settings.depth settings.steps runs.events ended runs.ends;
+}
 
-used_behind : (call : TopCall) (settings : Settings) (program : Program) (events : List Event) (ended : RunEnd) (wrote : Status) → IsRun call settings program events ended → ended ≢ end.Memory
-    → call.status ≡ behind wrote ended → Wrote (observed_text program events) call.out call.out_after wrote → WritesUsed call settings program
+used_behind : (call : TopCall) (settings : Settings) (program : Program) (events : List Event) (ended : RunEnd) (wrote : Status) → IsRun settings program events ended → ended ≢ end.Memory
+    → call.status ≡ behind wrote ended → Wrote (observed_text program events) call.out call.out_after wrote → WritesUsed call settings program events
 used_behind call settings program events ended wrote run full same (whole written is) =
     let says : call.status ≡ status_of ended = same ∙ ap (λ (s : Status). behind s ended) is in
     record {
-      events = events;
       front = written.front;
       rest = [];
       split = written.split;
       taken = written.taken;
-      did = run.did;
       within = run.within;
-      first = run.first;
       whole = λ _. refl;
-      all = λ _ tells. run.all full tells;
-      begun = inr (λ tells. run.all full tells);
+      all = λ _. run.all full;
+      begun = inr (run.all full);
       cut = λ unwritten. absurd (run.code (sym says ∙ unwritten));
     }
 used_behind call settings program events ended wrote run full same (cut short rose is) =
     let says : call.status ≡ status.Unwritten = same ∙ ap (λ (s : Status). behind s ended) is in
     record {
-      events = events;
       front = short.written.front;
       rest = short.rest;
       split = short.written.split;
       taken = short.written.taken;
-      did = run.did;
       within = run.within;
-      first = run.first;
       whole = λ uncut. absurd (uncut.written says);
-      all = λ _ tells. run.all full tells;
-      begun = inr (λ tells. run.all full tells);
-      cut = λ _. inr (short.some, λ tells. run.all full tells);
+      all = λ _. run.all full;
+      begun = inr (run.all full);
+      cut = λ _. inr (short.some, run.all full);
     }
 used_behind call settings program events ended wrote run full same (starved rest written is) =
     let says : call.status ≡ status.Memory = same ∙ ap (λ (s : Status). behind s ended) is in
     record {
-      events = events;
       front = written.front;
       rest = rest;
       split = written.split;
       taken = written.taken;
-      did = run.did;
       within = run.within;
-      first = run.first;
       whole = λ uncut. absurd (uncut.full says);
-      all = λ _ tells. run.all full tells;
-      begun = inr (λ tells. run.all full tells);
+      all = λ _. run.all full;
+      begun = inr (run.all full);
       cut = λ unwritten. let q : status.Memory ≡ status.Unwritten = sym says ∙ unwritten in absurd (cc);
     }
 
-used_then : (call : TopCall) (settings : Settings) (program : Program) (events : List Event) (ended : RunEnd) → IsRun call settings program events ended
-    → ThenObserved (observed_text program events) call.out call.out_after ended call.status → WritesUsed call settings program
+used_then : (call : TopCall) (settings : Settings) (program : Program) (events : List Event) (ended : RunEnd) → IsRun settings program events ended
+    → ThenObserved (observed_text program events) call.out call.out_after ended call.status → WritesUsed call settings program events
 used_then call settings program events ended run (unobserved is same) = record {
-  events = events;
   front = [];
   rest = observed_text program events;
   split = refl;
   taken = ap (λ (s : SinkState). s.taken) same ∙ sym (gained-nil call.out.taken);
-  did = run.did;
   within = run.within;
-  first = run.first;
   whole = λ uncut. absurd (uncut.full is);
-  all = λ uncut tells. absurd (uncut.full is);
+  all = λ uncut. absurd (uncut.full is);
   begun = inl refl;
   cut = λ unwritten. let q : status.Memory ≡ status.Unwritten = sym is ∙ unwritten in absurd (cc);
 }
 used_then call settings program events ended run (observed full wrote so says) = used_behind call settings program events ended wrote run full says so
 
-pub writes_used : (call : TopCall) (settings : Settings) (program : Program) → RunsAsMeant program
-    → ObservesCode (observed_text program) (lowered program (program_starts program)) settings.depth settings.steps call.out call.out_after call.devices call.devices_after call.status
-    → WritesUsed call settings program
-writes_used call settings program laws (unbegun is out same) =
-    used_none call settings program laws out same (λ uncut. uncut.full is) (λ unwritten. let q : status.Memory ≡ status.Unwritten = sym is ∙ unwritten in absurd (cc))
-writes_used call settings program laws (begun ended runs so) = used_then call settings program runs.events ended (is_run call settings program laws ended runs) so
+-- a run that was begun is observed
+pub writes_used : (call : TopCall) (settings : Settings) (program : Program) → RunsAsMeant program → (ended : RunEnd)
+    → (runs : RunsMachine (lowered program (program_starts program)) settings.depth settings.steps call.devices call.devices_after ended)
+    → ThenObserved (observed_text program runs.events) call.out call.out_after ended call.status → WritesUsed call settings program runs.events
+writes_used call settings program laws ended runs so = used_then call settings program runs.events ended (is_run settings program laws call.devices call.devices_after ended runs) so

@@ -3,13 +3,11 @@
 use Rattle.std.specs.Prelude.{◌≡◌, ◌≢◌, ◌⊎◌, ◌<◌, ◌≤◌, ◌*◌, ℕ, List, [], ◌∷◌, ◌++◌, Some, length}
 use Rattle.wy_text.specs.Outside.{gained, Rose, SinkState}
 use Rattle.wy_device.specs.Devices.{device_of}
-use Rattle.wy_device.specs.Events.{DidExactly, TellsDeeds, deeds_of}
+use Rattle.wy_device.specs.Events.{DidExactly}
 use Rattle.wy_device.specs.Operation.{kind_named}
 use Rattle.wy_device.specs.RunEnds as ends
-use Rattle.wy_device.specs.Tapes.{Tapes, new_deeds_of, spliced, tapes_between}
-use Rattle.wy_device.specs.declared.deed.Deed.{Deed}
+use Rattle.wy_device.specs.Tapes.{Tapes, spliced}
 use Rattle.wy_device.specs.declared.deed.Event.{Event}
-use Rattle.wy_device.specs.declared.operation.Kind.{Kind}
 use Rattle.wy_device.specs.declared.operation.OpName.{OpName}
 use Rattle.wy_text.specs.Members.{In}
 use Rattle.wy_authority.specs.Authority.{authority_of}
@@ -17,6 +15,7 @@ use Rattle.wy_authority.specs.declared.rows.InstanceRow.{InstanceRow}
 use Rattle.wy_code.specs.Running.{Ran, machine}
 use Rattle.wy_lower.specs.Correct.{IsPrefix}
 use Rattle.wy_lower.specs.Lowering.{lowered}
+use Rattle.wy_machine.specs.Runs.{tapes_of}
 use Rattle.wy_machine.specs.Steps.{AreQuiet}
 use Rattle.wy_meaning.specs.Bounds.{Bounded}
 use Rattle.wy_meaning.specs.EventLines.{event_line, event_lines}
@@ -95,22 +94,19 @@ pub record PrintsReport (call : TopCall) (command : Command) (text : List ℕ) :
   pub whole : call.status ≢ status.Unwritten → call.status ≢ status.Memory → rest ≡ []
   pub proper : call.status ≡ status.Unwritten → IsUnwritten command call rest
 
--- what a program means over the answers that its devices gave in this call
-abbrev pub course_in : TopCall → Settings → Program → Course
-course_in call settings program = course program settings.depth (tapes_between call.devices call.devices_after)
+-- what a program means over the answers in these events, and any further ones after them
+abbrev pub meant_after : Settings → Program → List Event → Tapes → Course
+meant_after settings program events more = course program settings.depth (spliced (tapes_of events) more)
 
 -- .. and the run of its code
-abbrev pub code_in : TopCall → Settings → Program → Ran
-code_in call settings program = machine (lowered program (program_starts program)) settings.depth settings.steps (tapes_between call.devices call.devices_after)
+abbrev pub code_after : Settings → Program → List Event → Tapes → Ran
+code_after settings program events more =
+    machine (lowered program (program_starts program)) settings.depth settings.steps (spliced (tapes_of events) more)
 
 -- a part of the line of the first of these events, and not the whole, where there are any; and no other is a deed
 pub data BeginsLine (part : List ℕ) : List Event → Type 0 where
   none : part ≡ [] → BeginsLine part []
   some : (event : Event) (later : List Event) (cut : List ℕ) → event_line event ≡ part ++ cut → 0 < length cut → AreQuiet later → BeginsLine part (event ∷ later)
-
--- the deeds that a device did are the first of these
-abbrev pub DidFirst : Kind → TopCall → List Deed → Type 0
-DidFirst kind call deeds = (later : List Deed) × (deeds ≡ new_deeds_of kind call.devices call.devices_after ++ later)
 
 -- the status is that of a run which neither memory nor a write cut short
 pub record IsUncut (end : Status) : Type 0 where
@@ -124,35 +120,33 @@ pub record EndsAs (end : Status) (bound : ℕ) (c : Course) : Type 0 where
   pub whole : c.steps ≤ bound → IsOfEnd end c.end
   pub spent : bound < c.steps → (end ≡ status.Spent) × (bound < 4 * c.nodes)
 
--- The line of each event of a traced run was written to `out` when it had happened.
+-- The line of each of these events of a traced run was written to `out` when it had happened.
 --   `whole` are the events whose lines stand there; a part of the next one's line may stand behind them.
 --   `further` are those that happened besides; at most the first of them is a deed. There are none unless memory or a write
 --   cut the run short.
---   Where the devices tell their deeds, all these are the first events of the program's meaning over the answers that
---   were given: all of them, where nothing cut the run short, and as many as the code has after the steps of the bound,
---   where it is spent.
-pub record WritesEvents (call : TopCall) (settings : Settings) (program : Program) : Type 0 where
+--   Whatever would be answered further, the events are all of the program's meaning, if nothing cut the run short, and as many as
+--   the code has after the steps of the bound, if it is spent.
+pub record WritesEvents (call : TopCall) (settings : Settings) (program : Program) (events : List Event) : Type 0 where
   pub whole : List Event
   pub part : List ℕ
   pub further : List Event
+  pub split : events ≡ whole ++ further
   pub taken : call.out_after.taken ≡ gained call.out.taken (event_lines whole ++ part)
   pub begun : BeginsLine part further
-  pub did : DidExactly call.devices call.devices_after (whole ++ further)
   pub uncut : IsUncut call.status → further ≡ []
-  pub first : TellsDeeds call.devices → IsPrefix (whole ++ further) (course_in call settings program).events
-  pub all : TellsDeeds call.devices → IsUncut call.status → call.status ≢ status.Spent → whole ≡ (course_in call settings program).events
-  pub spent : TellsDeeds call.devices → call.status ≡ status.Spent → whole ≡ (code_in call settings program).events
+  pub all : IsUncut call.status → call.status ≢ status.Spent → (more : Tapes) → events ≡ (meant_after settings program events more).events
+  pub spent : call.status ≡ status.Spent → (more : Tapes) → events ≡ (code_after settings program events more).events
 
--- the program's meaning over the answers that were given ends within the bound
-pub record HasEnded (call : TopCall) (settings : Settings) (program : Program) : Type 0 where
-  pub within : (course_in call settings program).steps ≤ settings.steps
-  pub ended : (course_in call settings program).end ≡ ends.Ended
+-- whatever would be answered further, the program's meaning over the answers in these events ends within the bound
+pub record HasEnded (settings : Settings) (program : Program) (events : List Event) : Type 0 where
+  pub within : (more : Tapes) → (meant_after settings program events more).steps ≤ settings.steps
+  pub ended : (more : Tapes) → (meant_after settings program events more).end ≡ ends.Ended
 
--- The line that sums a sample up came to `out`: whole where the status is Ended, and a part of it, or nothing, where it is
--- Unwritten or where memory was wanting; else nothing. Where the devices tell their deeds, something of it stands there only behind a run
--- that did all that the program means. Where the status is Unwritten, a part of the report is missing; or a part of the line is,
--- and the run did all that the program means.
-pub record SumsUp (call : TopCall) (settings : Settings) (program : Program) : Type 0 where
+-- The line that sums a sample up came to `out`, after a run of these events: whole where the status is Ended, and a part of it, or
+-- nothing, where it is Unwritten or where memory was wanting; else nothing. Something of it stands there only after a run that did
+-- all that the program means. Where the status is Unwritten, a part of the report is missing; or a part of the line is, and the run
+-- did all that the program means.
+pub record SumsUp (call : TopCall) (settings : Settings) (program : Program) (events : List Event) : Type 0 where
   pub number : ℕ
   pub is : sample_number settings.files ≡ Some number
   pub front : List ℕ
@@ -161,61 +155,58 @@ pub record SumsUp (call : TopCall) (settings : Settings) (program : Program) : T
   pub taken : call.out_after.taken ≡ gained call.out.taken front
   pub whole : call.status ≡ status.Ended → rest ≡ []
   pub others : IsUncut call.status → call.status ≢ status.Ended → front ≡ []
-  pub begun : (front ≡ []) ⊎ (TellsDeeds call.devices → HasEnded call settings program)
-  pub cut : call.status ≡ status.Unwritten → MissesReport call (authority_text program) ⊎ ((0 < length rest) × (TellsDeeds call.devices → HasEnded call settings program))
+  pub begun : (front ≡ []) ⊎ HasEnded settings program events
+  pub cut : call.status ≡ status.Unwritten → MissesReport call (authority_text program) ⊎ ((0 < length rest) × HasEnded settings program events)
 
--- These are the events of a whole run, over the answers that the devices gave: all of the program's meaning, where the steps that
--- it takes are within the bound; else as many as the code has after the steps of the bound.
-pub record AreOfRun (call : TopCall) (settings : Settings) (program : Program) (events : List Event) : Type 0 where
-  pub within : (course_in call settings program).steps ≤ settings.steps → events ≡ (course_in call settings program).events
-  pub spent : settings.steps < (course_in call settings program).steps → events ≡ (code_in call settings program).events
+-- These are the events of a whole run, whatever would be answered further: all of the program's meaning, where the steps that it
+-- takes are within the bound; else as many as the code has after the steps of the bound.
+pub record AreOfRun (settings : Settings) (program : Program) (events : List Event) : Type 0 where
+  pub within : (more : Tapes) → (meant_after settings program events more).steps ≤ settings.steps → events ≡ (meant_after settings program events more).events
+  pub spent : (more : Tapes) → settings.steps < (meant_after settings program events more).steps → events ≡ (code_after settings program events more).events
 
--- The lines of what was used of each instance came to `out`, behind a run of these events: whole, unless memory was wanting or the status
--- is Unwritten, and else a part of them, or nothing. The devices did the deeds of these events. Where the devices tell their deeds, the
--- events are the first of the program's meaning over the answers that were given; and they are those of the whole run where all lines
--- stand there, where some of them do, and where the status is Unwritten and no part of the report is missing. What was used of an
--- instance is within what the report's line of the instance says.
-pub record WritesUsed (call : TopCall) (settings : Settings) (program : Program) : Type 0 where
-  pub events : List Event
+-- The lines of what was used of each instance came to `out`, after a run of these events: whole, unless memory was wanting or the
+-- status is Unwritten, and else a part of them, or nothing. The events are those of the whole run where all lines stand there,
+-- where some of them do, and where the status is Unwritten and no part of the report is missing. What was used of an instance is
+-- within what the report's line of the instance says.
+pub record WritesUsed (call : TopCall) (settings : Settings) (program : Program) (events : List Event) : Type 0 where
   pub front : List ℕ
   pub rest : List ℕ
   pub split : observed_text program events ≡ front ++ rest
   pub taken : call.out_after.taken ≡ gained call.out.taken front
-  pub did : DidExactly call.devices call.devices_after events
   pub within : (r : InstanceRow) → In r (authority_of program).rows → IsUsedWithin program events r
-  pub first : TellsDeeds call.devices → IsPrefix events (course_in call settings program).events
   pub whole : IsUncut call.status → rest ≡ []
-  pub all : IsUncut call.status → TellsDeeds call.devices → AreOfRun call settings program events
-  pub begun : (front ≡ []) ⊎ (TellsDeeds call.devices → AreOfRun call settings program events)
-  pub cut : call.status ≡ status.Unwritten → MissesReport call (authority_text program) ⊎ ((0 < length rest) × (TellsDeeds call.devices → AreOfRun call settings program events))
+  pub all : IsUncut call.status → AreOfRun settings program events
+  pub begun : (front ≡ []) ⊎ AreOfRun settings program events
+  pub cut : call.status ≡ status.Unwritten → MissesReport call (authority_text program) ⊎ ((0 < length rest) × AreOfRun settings program events)
 
--- what came to `out`: `run` writes nothing there, `trace` the lines of the events, `sample` the line that sums it up, and
--- `observe` those of what was used of each instance
-abbrev pub WritesRun : Command → TopCall → Settings → Program → Type 0
-WritesRun command.Run call settings program = call.out_after ≡ call.out
-WritesRun command.Trace call settings program = WritesEvents call settings program
-WritesRun command.Sample call settings program = SumsUp call settings program
-WritesRun command.Observe call settings program = WritesUsed call settings program
-WritesRun command call settings program = ⊥
+-- what came to `out`, after a run of these events: `run` writes nothing there, `trace` the lines of the events, `sample` the line that
+-- sums it up, and `observe` those of what was used of each instance
+abbrev pub WritesRun : Command → TopCall → Settings → Program → List Event → Type 0
+WritesRun command.Run call settings program events = call.out_after ≡ call.out
+WritesRun command.Trace call settings program events = WritesEvents call settings program events
+WritesRun command.Sample call settings program events = SumsUp call settings program events
+WritesRun command.Observe call settings program events = WritesUsed call settings program events
+WritesRun command call settings program events = ⊥
 
--- A program was accepted, and its run was begun. Where the devices tell their deeds:
---   they did exactly the deeds of the program's meaning over the answers that they gave;
---   over any tapes that begin with these answers, the deeds that were done are the first of the meaning's;
---   and the status is the one that the meaning's end gives, or Spent, unless memory was wanting or the report or an event's
+-- A program was accepted, and its run was begun. These events happened, and the devices did their deeds and no others. Whatever
+-- would be answered after the answers in these events:
+--   the events are the first of the program's meaning over all these answers;
+--   and the status is the one that this meaning's end gives, or Spent, unless memory was wanting or the report or an event's
 --   line was not written.
 -- At every depth and over all answers each operation is in the authority of every call that is open at it, which is what
 -- the printed report says of the call's body.
 pub record Runs (call : TopCall) (program : Program) : Type 0 where
   pub asked : HasRun call
+  pub accepted : Accepted program
   pub reached : IsOfRun call.status
-  pub out : WritesRun asked.settings.command call asked.settings program
+  pub events : List Event
+  pub did : DidExactly call.devices call.devices_after events
+  pub first : (more : Tapes) → IsPrefix events (meant_after asked.settings program events more).events
+  pub ends : IsUncut call.status → (more : Tapes) → EndsAs call.status asked.settings.steps (meant_after asked.settings program events more)
+  pub out : WritesRun asked.settings.command call asked.settings program events
   pub printed : PrintsReport call asked.settings.command (authority_text program)
-  pub operations : TellsDeeds call.devices → DidExactly call.devices call.devices_after (course_in call asked.settings program).events
-  pub prefix : TellsDeeds call.devices → (kind : Kind) (more : Tapes) →
-      DidFirst kind call (deeds_of kind (course program asked.settings.depth (spliced (tapes_between call.devices call.devices_after) more)).events)
   pub authority : (depth : ℕ) (tapes : Tapes) → Bounded (allowed program) (course program depth tapes).events
   pub reported : IsReported program
-  pub ends : TellsDeeds call.devices → IsUncut call.status → EndsAs call.status asked.settings.steps (course_in call asked.settings program)
   pub failed : (grant : List ℕ) (op : OpName) → call.status ≡ status.DeviceFailed grant op → Rose (device_of call.devices (kind_named op)).faults (device_of call.devices_after (kind_named op)).faults
 
 -- A command's text was written to `out`, and nothing else was done. Where it could not be written whole, a part of it

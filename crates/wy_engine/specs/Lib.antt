@@ -16,6 +16,7 @@ pub mod ProgramLaws
 pub mod Reading
 pub mod Running
 pub mod Status
+pub mod Told
 pub mod TopCall
 pub mod ValsInOrder
 pub mod Writing

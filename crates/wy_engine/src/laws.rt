@@ -6,6 +6,7 @@ ghost use Rattle.wy_engine.specs.FormatAgain.{FormatAgain};
 ghost use Rattle.wy_engine.specs.MarkFiles.{MarksAreInFiles};
 ghost use Rattle.wy_engine.specs.OldTexts.{OldTextsAreJudgedAlike, OldTextsMeanTheSame, ReportedArePassed};
 ghost use Rattle.wy_engine.specs.ProgramLaws.{AcceptedRunAsMeant};
+ghost use Rattle.wy_engine.specs.Told.{RunsAreTold};
 ghost use Rattle.wy_engine.specs.ValsInOrder.{ValsStandInOrder};
 
 use wy_canonical::trees_have_words;
@@ -43,6 +44,14 @@ pub fn accepted_run_as_meant()
     used_is_allowed();
     instances_are_told();
     nodes_cost_four();
+    answers_are_taken_in_order();
+}
+
+/// A run over devices that tell their deeds is one of what they told. The answers in its events are those that the devices gave.
+/// They did exactly the deeds of the program's meaning over these answers, and its status is that of this meaning.
+pub fn runs_are_told()
+    ensures { RunsAreTold }
+{
     answers_are_taken_in_order();
 }
 
