@@ -76,3 +76,17 @@ class Checks(ToolTest):
         self.assertEqual(status, 1)
         for wanted in ("a link to none.md", "tools/none is not there", "does not name wy_other"):
             self.assertIn(wanted, said)
+
+    def test_files_of_crates(self):
+        for name in ("wy_a/src/here.rt", "wy_a/specs/Here.antt", "wy_b/proofs/Examples.antt", "wy_c/specs/Further.antt"):
+            self.write(f"crates/{name}", "")
+        self.write("docs/ARCHITECTURE.md", "- wy_a: src `here`,\n  `gone`; specs `Here`\n  and `Lost`. Then wy_b's proofs `Examples`, `Off`.\n")
+        self.write("docs/PROMISES.md", "- **[A]**: texts (`B`). *In* wy_a: `Here`, over wy_c's `Away`,\n  `Further`; `Old` (`Fine`). Tried in wy_b's\n"
+                   "  `Examples`, `NoExamples`.\n")
+        self.write("crates/wy_a/README.md", "In wy_b: specs `Here`,\n`Not`; wy_c's\nspecs `Further`, `On`; proofs\n`Examples` of wy_b.\n")
+        status, said = self.check("check_pages")
+        wanted = ("docs/ARCHITECTURE.md: wy_a/src/gone.rt", "docs/ARCHITECTURE.md: wy_a/specs/Lost.antt", "docs/ARCHITECTURE.md: wy_b/proofs/Off.antt",
+                  "docs/PROMISES.md: wy_c/specs/Away.antt", "docs/PROMISES.md: wy_a/specs/Old.antt", "docs/PROMISES.md: wy_a/proofs/NoExamples.antt",
+                  "crates/wy_a/README.md: wy_a/specs/Not.antt", "crates/wy_a/README.md: wy_c/specs/On.antt")
+        self.assertEqual(status, 1)
+        self.assertEqual([it for it in said.splitlines() if ": crates/wy_" in it], [it.replace(": ", ": crates/") + " is not there" for it in wanted])

@@ -42,6 +42,8 @@ class Style(ToolTest):
                "It is as said, and else it fails.", "There was want of\nmemory.", "Give a file word.")
         self.assertEqual(len(self.listed("\n\n".join(bad))), len(bad))
         self.assertEqual(self.listed("There is no loop. `but for` stands for it. Where is it? It names where it comes from.\n"), [])
+        self.assertEqual(self.listed("See [prefix of\ndeeds].\n"), [])
+        self.assertEqual(len(self.listed("See [all deeds](a.md).\n")), 1)
         self.assertEqual([it[0] for it in self.listed("One.\n\n- Two\n  lines, so many.\n")], ["docs/A.md:4"])
 
     def test_budgets(self):
