@@ -1,5 +1,5 @@
-"""Reads the public items of a crate from the sources in its folder src/: functions, structs, enums and traits, with their doc
-comments, their signatures and their clauses."""
+"""Reads the public items of a crate from the sources in its folder src/: functions, structs, enums, traits, types and constants, with
+their doc comments, their signatures and their clauses."""
 
 import collections
 import glob
@@ -12,7 +12,7 @@ Item = collections.namedtuple("Item", "kind name owner home module doc text")
 # A module of a crate: its path with `::`, "" for that of the crate itself; the doc comment of the module; its items.
 Module = collections.namedtuple("Module", "path doc items")
 
-START = re.compile(r"( *)pub (?:const )?(fn|struct|enum|trait) (\w+)")
+START = re.compile(r"( *)pub (?:const (?=fn))?(fn|struct|enum|trait|type|const|static) (\w+)")
 IMPL = re.compile(r"impl\b(?:<[^{]*?>)? (?:[^{]* for )?(\w+)")
 USE = re.compile(r"^pub use ([^;]*);", re.M)
 PUBLIC_MODULE = re.compile(r"^pub mod (\w+);", re.M)
@@ -111,6 +111,8 @@ def items_of(lines, module):
         indent, kind, name = found.groups()
         if kind == "fn":
             taken = function_end(lines, at, indent)
+        elif kind in ("type", "const", "static"):
+            taken = [line if line.endswith(";") else line.partition(" =")[0]]
         else:
             taken = block_end(lines, at, indent)
             taken = without_private(taken) if kind == "struct" else taken

@@ -60,6 +60,12 @@ pub enum Kind {
     B(u8),
 }
 
+pub type Kinds = Vec<Kind>;
+
+pub const TABLE: [u8; 2] = [
+    1, 2,
+];
+
 pub trait Taker {
     /// Takes one.
     fn take(&mut self) -> u8
@@ -111,7 +117,7 @@ class Items(SiteTest):
         modules = public_items.modules_of(self.folder)
         self.assertEqual([(it.path, it.doc) for it in modules], [("", "What is shared."), ("open", "What is open.")])
         names = [[f"{it.kind} {it.owner}.{it.name}" for it in module.items] for module in modules]
-        self.assertEqual(names, [["struct .Kept", "fn Kept.number", "fn .made"], ["enum .Kind", "trait .Taker", "fn .law"]])
+        self.assertEqual(names, [["struct .Kept", "fn Kept.number", "fn .made"], ["enum .Kind", "type .Kinds", "const .TABLE", "trait .Taker", "fn .law"]])
         self.assertEqual(public_items.other_crates_uses(self.folder), ["wy_other::thing::Thing"])
 
     def test_signatures_and_clauses(self):
@@ -120,6 +126,7 @@ class Items(SiteTest):
         clauses = "\n    requires small { self.now.number < 9 }\n    ensures { result ≡ self.now.number }"
         self.assertEqual(texts["number"], "pub fn number(&self) -> u8" + clauses)
         self.assertEqual(texts["made"], "pub fn made(\n    number: u8,\n) -> Kept")
+        self.assertEqual((texts["Kinds"], texts["TABLE"]), ("pub type Kinds = Vec<Kind>;", "pub const TABLE: [u8; 2]"))
         self.assertEqual(texts["law"], "pub fn law()\n    ensures { Law<A> }")
         self.assertEqual(texts["Taker"], OPEN[OPEN.index("pub trait"): OPEN.index("\n/// A law")].rstrip("\n"))
 
@@ -152,7 +159,7 @@ class Pages(SiteTest):
         return ran.returncode, ran.stdout + ran.stderr
 
     def test_each_link_leads_somewhere(self):
-        self.assertEqual(self.site("made"), (0, "site: 5 pages, 6 public items, 1 files copied, 0 links lead nowhere\n"))
+        self.assertEqual(self.site("made"), (0, "site: 5 pages, 8 public items, 1 files copied, 0 links lead nowhere\n"))
         paths = glob.glob(os.path.join(self.room, "made", "**", "*.html"), recursive=True)
         pages = {os.path.normpath(it): Links(self.read(it)) for it in paths}
         self.assertEqual(len(pages), 5)
