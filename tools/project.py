@@ -1,12 +1,15 @@
 """What the tools share: where the repository is, which program they ask, and how they end."""
 
+import glob
 import os
+import re
 import subprocess
 import sys
 
 sys.dont_write_bytecode = True
 
 TOP = os.path.dirname(os.path.dirname(os.path.abspath(__file__)))
+USES_LIBRARY = re.compile(r"\b(?:lib_|Lib[A-Z])\w*")
 
 
 def program_and_words(doc):
@@ -35,6 +38,16 @@ def last_line(run):
 def stop(text, status=2):
     print(text, file=sys.stderr)
     sys.exit(status)
+
+
+def example_files(name):
+    """Returns the files of the program examples/NAME: its own, and those of library/ if it names anything of the library."""
+    files = sorted(glob.glob(os.path.join(TOP, "examples", name, "*.wy")))
+    for file in files:
+        with open(file, encoding="utf-8") as it:
+            if USES_LIBRARY.search(it.read()):
+                return files + sorted(glob.glob(os.path.join(TOP, "library", "*.wy")))
+    return files
 
 
 def page(name):

@@ -71,6 +71,15 @@ class Cases(ToolTest):
         for wanted in ("two: there are no answers", "gone: neither a file", "one: no line is a call", "3 wrong"):
             self.assertIn(wanted, said)
 
+    def test_a_copy_of_a_file_of_the_repository(self):
+        self.write("library/texts.wy", "copied\n")
+        self.write("tests/cases/rules/one.expected", "% library/texts.wy\n$ run library/texts.wy\n! done: \"\\\\\n> copied\n+ disk/made\n| a\\x01\\\n= 0\n")
+        self.assertEqual(self.cases("rules/one"), (0, "cases: 1 cases, 1 calls, 0 wrong\n"))
+        for name in ("library/gone.wy", "../program", "library"):
+            self.write("tests/cases/rules/one.expected", f"% {name}\n$ check one.wy\n= 4\n")
+            status, said = self.cases("rules/one")
+            self.assertEqual((status, f"there is no file {name}" in said), (1, True))
+
     def test_a_new_case(self):
         self.write("tests/cases/rules/bug.wy", "text\n")
         self.assertEqual(self.cases("--new", "rules/bug", "check", "check --steps 1 bug.wy")[0], 0)

@@ -5,9 +5,9 @@ import shutil
 import subprocess
 import sys
 
-from support import TOP, ToolTest
+from support import TOP, ToolTest, example_files
 
-COPIED = ("README.md", "CHANGELOG.md", "LICENSE", "VERSION", "crates.txt", "docs", "editors", "examples", "bench", "dist", "tools", "tests")
+COPIED = ("README.md", "CHANGELOG.md", "LICENSE", "VERSION", "crates.txt", "docs", "editors", "examples", "library", "bench", "dist", "tools", "tests")
 SOURCES = ("wy_text/src/fault.rt", "wy_text/src/limit.rt", "wy_engine/src/last_line.rt", "wy_calls/src/examples_table.rt")
 # Answers each call as the program does that it is compared with: by the report beside the files, or not at all; each policy allows
 # all, but one that allows `main` nothing; and a certificate, which is the first file's text, proves all but where it has a word `lag`.
@@ -68,6 +68,11 @@ class Checks(ToolTest):
         wrong = ("plugin: it does not keep to its policy", "logger: its certificate does not prove it")
         for wanted in ("examples_table.rt: log.wy", "crates/wy_cli/data/b.wy", "one row for hello", *wrong):
             self.assertIn(wanted, said)
+
+    def test_an_example_of_the_library_has_its_files(self):
+        named = [os.path.relpath(it, TOP) for it in example_files("orders")]
+        self.assertEqual((named[:2], len(named)), (["examples/orders/orders.wy", "library/csv.wy"], 8))
+        self.assertEqual([os.path.relpath(it, TOP) for it in example_files("hello")], ["examples/hello/hello.wy"])
 
     def test_pages(self):
         self.write("docs/OTHER.md", "[a](none.md) and `tools/none`\n")

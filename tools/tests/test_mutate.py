@@ -13,7 +13,7 @@ class Mutate(ToolTest):
         self.assertEqual((ran.returncode, ran.stdout), (0, "5 changed programs, 0 with answers that cannot be\n"))
 
     def test_a_program_whose_commands_disagree_is_found(self):
-        for name in ("tools", "examples", "docs"):
+        for name in ("tools", "examples", "library", "docs"):
             shutil.copytree(os.path.join(TOP, name), os.path.join(self.room, name))
         liar = self.write("liar", '#!/bin/sh\necho "x.wy:1:1: refused: $1" >&2\nexit 4\n')
         os.chmod(liar, 0o755)

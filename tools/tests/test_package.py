@@ -8,7 +8,7 @@ import subprocess
 
 from support import HELLO, PROGRAM, TOP, ToolTest, needs_program
 
-PACKED = ("VERSION", "LICENSE", "CHANGELOG.md", "README.md", "docs", "editors", "completions", "man", "examples", "tools")
+PACKED = ("VERSION", "LICENSE", "CHANGELOG.md", "README.md", "docs", "editors", "completions", "man", "examples", "library", "tools")
 REFUSED = "tools/renew_dist makes dist/ anew"
 
 
@@ -61,6 +61,9 @@ class Package(ToolTest):
         ran = self.tool_here("usr/share/wyvern/tools/explain", "check", "x.wy")
         self.assertEqual(ran.returncode, 4)
         self.assertIn("which does not allow console.Out", ran.stderr)
+        share = os.path.join(self.room, "usr/share/wyvern")
+        ran = subprocess.run(["./wyvern check library/*.wy examples/orders/*.wy"], shell=True, cwd=share, capture_output=True, text=True)
+        self.assertEqual(ran.stdout, "accepted\n")
 
     def test_a_foreign_program(self):
         self.put(self.write("other", "#!/bin/sh\necho foreign\n"))

@@ -4,7 +4,7 @@ import glob
 import os
 import subprocess
 
-from support import PROGRAM, TOP, ToolTest, needs_program
+from support import PROGRAM, TOP, ToolTest, example_files, needs_program
 
 REPORT = """authority of pure a: -
   init: -
@@ -35,7 +35,8 @@ class PolicyFrom(ToolTest):
     def test_the_examples_keep_to_theirs(self):
         for folder in glob.glob(os.path.join(TOP, "examples", "*", "")):
             self.write("first.pol", self.tool("policy_from", folder + "report.txt").stdout)
-            ran = subprocess.run([PROGRAM, "policy", "first.pol", *glob.glob(folder + "*.wy")], cwd=self.room, capture_output=True, text=True)
+            files = example_files(os.path.basename(os.path.dirname(folder)))
+            ran = subprocess.run([PROGRAM, "policy", "first.pol", *files], cwd=self.room, capture_output=True, text=True)
             self.assertEqual((ran.returncode, ran.stdout), (0, "allowed\n"), folder)
 
     @needs_program

@@ -5,7 +5,7 @@ import os
 import shutil
 import subprocess
 
-from support import PROGRAM, TOP, ToolTest, needs_program
+from support import PROGRAM, TOP, ToolTest, example_files, needs_program
 
 PLUGIN = """// The type Store and the module sum.
 type Store
@@ -91,6 +91,8 @@ class RenamePrefix(ToolTest):
         for folder in glob.glob(os.path.join(TOP, "examples", "*", "")):
             room = os.path.join(self.room, os.path.basename(os.path.dirname(folder)))
             shutil.copytree(folder, room)
+            for file in example_files(os.path.basename(room)):
+                shutil.copy(file, room)
             files = sorted(glob.glob(f"{room}/*.wy"))
             self.assertEqual(self.tool("rename_prefix", "acme_", *files).returncode, 0, folder)
             report = subprocess.run([PROGRAM, "authority", *files], capture_output=True, text=True).stdout

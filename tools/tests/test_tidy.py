@@ -59,7 +59,7 @@ class Tidy(ToolTest):
         self.write("x.wy", HELLO.replace("\n", "\r\n"))
         self.assertEqual((self.tool("tidy", "x.wy").returncode, self.read("x.wy")), (0, HELLO))
 
-    def test_the_examples_are_tidy(self):
-        files = sorted(glob.glob(os.path.join(TOP, "examples", "*", "*.wy")))
+    def test_the_examples_and_the_library_are_tidy(self):
+        files = sorted(glob.glob(os.path.join(TOP, "examples", "*", "*.wy")) + glob.glob(os.path.join(TOP, "library", "*.wy")))
         ran = self.tool("tidy", "--check", *files)
         self.assertEqual((ran.returncode, ran.stdout), (0, ""))
