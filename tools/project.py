@@ -3,6 +3,8 @@
 import glob
 import os
 import re
+import shutil
+import stat
 import subprocess
 import sys
 
@@ -48,6 +50,18 @@ def example_files(name):
             if USES_LIBRARY.search(it.read()):
                 return files + sorted(glob.glob(os.path.join(TOP, "library", "*.wy")))
     return files
+
+
+def copy(source, to):
+    """Copies a file, or a folder into one that may be there, so that its owner can change the copies, whatever the source allows."""
+    if os.path.isdir(source):
+        shutil.copytree(source, to, dirs_exist_ok=True)
+    else:
+        to = shutil.copy(source, to)
+    for folder, _, names in os.walk(to) if os.path.isdir(to) else [(to, [], [])]:
+        for path in (folder, *(os.path.join(folder, name) for name in names)):
+            if not os.path.islink(path):
+                os.chmod(path, os.stat(path).st_mode | stat.S_IWUSR)
 
 
 def page(name):

@@ -10,7 +10,7 @@ sys.dont_write_bytecode = True
 
 TOP = os.path.dirname(os.path.dirname(os.path.dirname(os.path.abspath(__file__))))
 sys.path.insert(0, os.path.join(TOP, "tools"))
-from project import example_files  # noqa: E402, F401
+from project import copy, example_files  # noqa: E402, F401
 
 PROGRAM = os.environ.get("WYVERN", "")
 HELLO = 'program\n  grant console: Console\n  run: {console.Out}\n    console.write("hello\\n")\n'

@@ -1,11 +1,10 @@
 """The checks of pages and examples find what is wrong, in a copy of the repository."""
 
 import os
-import shutil
 import subprocess
 import sys
 
-from support import TOP, ToolTest, example_files
+from support import TOP, ToolTest, copy, example_files
 
 COPIED = ("README.md", "CHANGELOG.md", "LICENSE", "VERSION", "crates.txt", "docs", "editors", "examples", "library", "bench", "dist", "tools", "tests")
 SOURCES = ("wy_text/src/fault.rt", "wy_text/src/limit.rt", "wy_engine/src/last_line.rt", "wy_calls/src/examples_table.rt")
@@ -26,11 +25,10 @@ class Checks(ToolTest):
     def setUp(self):
         super().setUp()
         for name in COPIED:
-            copy = shutil.copytree if os.path.isdir(os.path.join(TOP, name)) else shutil.copy
             copy(os.path.join(TOP, name), os.path.join(self.room, name))
         for name in SOURCES:
             os.makedirs(os.path.dirname(os.path.join(self.room, "crates", name)), exist_ok=True)
-            shutil.copy(os.path.join(TOP, "crates", name), os.path.join(self.room, "crates", name))
+            copy(os.path.join(TOP, "crates", name), os.path.join(self.room, "crates", name))
         os.chmod(self.write("program", STAND_IN), 0o755)
 
     def check(self, name, *words):

@@ -3,10 +3,9 @@
 import gzip
 import hashlib
 import os
-import shutil
 import subprocess
 
-from support import HELLO, PROGRAM, TOP, ToolTest, needs_program
+from support import HELLO, PROGRAM, TOP, ToolTest, copy, needs_program
 
 PACKED = ("VERSION", "LICENSE", "CHANGELOG.md", "README.md", "docs", "editors", "completions", "man", "examples", "library", "tools")
 REFUSED = "tools/renew_dist makes dist/ anew"
@@ -19,7 +18,6 @@ class Package(ToolTest):
     def setUp(self):
         super().setUp()
         for name in PACKED:
-            copy = shutil.copytree if os.path.isdir(os.path.join(TOP, name)) else shutil.copy
             copy(os.path.join(TOP, name), os.path.join(self.room, name))
         self.write("crates.txt", "wy_cli:\n")
         self.write("crates/wy_cli/src/main.rt", "one")

@@ -2,10 +2,9 @@
 
 import glob
 import os
-import shutil
 import subprocess
 
-from support import PROGRAM, TOP, ToolTest, example_files, needs_program
+from support import PROGRAM, TOP, ToolTest, copy, example_files, needs_program
 
 PLUGIN = """// The type Store and the module sum.
 type Store
@@ -90,9 +89,9 @@ class RenamePrefix(ToolTest):
     def test_the_examples(self):
         for folder in glob.glob(os.path.join(TOP, "examples", "*", "")):
             room = os.path.join(self.room, os.path.basename(os.path.dirname(folder)))
-            shutil.copytree(folder, room)
+            copy(folder, room)
             for file in example_files(os.path.basename(room)):
-                shutil.copy(file, room)
+                copy(file, room)
             files = sorted(glob.glob(f"{room}/*.wy"))
             self.assertEqual(self.tool("rename_prefix", "acme_", *files).returncode, 0, folder)
             report = subprocess.run([PROGRAM, "authority", *files], capture_output=True, text=True).stdout
