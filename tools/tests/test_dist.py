@@ -20,7 +20,7 @@ BUILT = "crates/wy_cli/out/wy_cli"
 COMMANDS = """awk bash cat chmod cp cut dirname env find grep gzip head mkdir mv readlink rm sed sh sha256sum sleep sort tail touch tr
 uname xargs""".split()
 # All that a call of the script needs once it has looked.
-FEW_COMMANDS = ("bash", "env", "find")
+FEW_COMMANDS = ("find",)
 NOBODY = 65534
 
 
