@@ -93,12 +93,17 @@ class TryEdits(ToolTest):
     def test_edits_are_taken_out_after_an_interrupt(self):
         self.write("tools/edits/high/slow.edit", EDIT)
         for number in (signal.SIGINT, signal.SIGTERM):
-            how = {"stdout": subprocess.PIPE, "start_new_session": True, **self.how()}
+            how = {"stdout": subprocess.PIPE, "start_new_session": True, "preexec_fn": heeds_interrupts, **self.how()}
             with subprocess.Popen([f"{self.room}/tools/try_edits", "high"], **how) as ran:
                 self.assertEqual(ran.stdout.readline(), "waits\n")
                 os.killpg(ran.pid, number)
                 self.assertEqual(ran.wait(20), 1)
             self.assert_taken_out()
+
+
+def heeds_interrupts():
+    """Has a process end at an interrupt, though the tests may run in the background of a script, where interrupts are ignored."""
+    signal.signal(signal.SIGINT, signal.SIG_DFL)
 
 
 def folder_and_edits():
