@@ -9,11 +9,13 @@ ghost use Rattle.wy_host.specs.FolderNames.{HoldsFileNames, ListsFileNames};
 use crate::fault::count_fault;
 use crate::listing::listing;
 use crate::plain_file::{
-    append_file, file_names, is_folder, is_plain_file, read_file, remove_file, write_file,
+    append_file, file_names, is_folder, is_plain_file, read_file, remove_file,
 };
+use crate::replacing::{begin, replace};
 use std::alloc::Global;
 use std::collections::BTreeSet;
 use std::io::{self, ErrorKind};
+use std::os::fd::AsFd;
 use std::rt::Files;
 use std::str;
 use wy_device::deed::DeedList;
@@ -27,7 +29,8 @@ use wy_text::text::{Memory, Text, from_vec};
 /// `has` is true of plain files alone, a name that nothing goes by is read as the empty text, and removing it does
 /// nothing. An operation fails where the grant's folder is not there or is a symbolic link, where a name is no file's,
 /// where something else than a plain file is read, written or removed, where a text is longer than an answer may be, and
-/// where the machine refuses. A write that failed may have done a part of its work.
+/// where the machine refuses. A write that failed left the old text as it was. An append that failed may have done a part
+/// of its work.
 /// (docs/LANGUAGE.md, "Primitive types")
 #[derive(Drop)]
 pub struct RealFolder<R> {
@@ -75,7 +78,10 @@ fn path_in(alloc: Global, folder: &str, name: &str) -> Result<String, Memory>
     Ok(format!(in alloc; "{folder}/{name}")?)
 }
 
-impl<R: Files + AllocGlobal + Clone + Drop> RealFolder<R> {
+impl<R: Files + AllocGlobal + Clone + Drop> RealFolder<R>
+where
+    R::File: AsFd,
+{
     /// Folders with no faults yet. The base is the path of the folder that the grants' folders are in.
     /// It takes no memory.
     pub fn new(alloc: Global, rt: R, base: String) -> RealFolder<R> {
@@ -195,13 +201,17 @@ impl<R: Files + AllocGlobal + Clone + Drop> RealFolder<R> {
         Ok(Answer::Truth(self.told(there)?))
     }
 
+    /// Until the second file is there, nothing was changed, so want of memory is no fault.
     fn write(&mut self, grant: &Text, name: &Text, text: &Text) -> Result<Answer, DeviceError>
         ensures unit { IfOk result (λ a. a ≡ Answer.Unit) }
         ensures counted { CountsFailure self.old.faults self.new.faults (result_err result) }
     {
         let path = self.file_path(grant, name)?;
-        let written = write_file(&self.rt, path.as_str(), text.as_bytes());
-        self.done(written)
+        let folder = self.folder_path(grant)?;
+        let begun = begin(&self.rt, self.alloc, folder.as_str(), path.as_str());
+        let draft = self.told(begun)?;
+        let replaced = replace(&self.rt, draft, path.as_str(), text.as_bytes());
+        self.done(replaced)
     }
 
     fn append(&mut self, grant: &Text, name: &Text, text: &Text) -> Result<Answer, DeviceError>
@@ -243,7 +253,10 @@ impl<R: Files + AllocGlobal + Clone + Drop> RealFolder<R> {
     }
 }
 
-impl<R: Files + AllocGlobal + Clone + Drop> Device for RealFolder<R> {
+impl<R: Files + AllocGlobal + Clone + Drop> Device for RealFolder<R>
+where
+    R::File: AsFd,
+{
     ghost use Rattle.wy_device.specs.Device.{untold};
     ghost use Rattle.wy_device.specs.declared.operation.Kind.TheVariants.{Folder};
 

@@ -10,4 +10,5 @@ pub mod folder;
 mod listing;
 mod plain_file;
 pub mod random;
+mod replacing;
 pub mod stream;
