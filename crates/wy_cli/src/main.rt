@@ -88,7 +88,8 @@ fn run(rt: HostRuntime) -> io::Result<Status> {
     let input = BufReader::new(alloc, rt.stdin())?;
     let console = RealConsole::new(alloc, input, rt.stdout())?;
     let console: Box<dyn Device> = Box::new(alloc, console)?;
-    let folder = RealFolder::new(alloc, rt.clone()?, String::from_str(alloc, ".")?);
+    let base = String::from_str(alloc, ".")?;
+    let folder = RealFolder::new(alloc, rt.clone()?, base, Vec::new(alloc));
     let folder: Box<dyn Device> = Box::new(alloc, folder)?;
     let random: Box<dyn Device> = Box::new(alloc, RealRandom::new(rt.clone()?))?;
     let handed = hand_in(console, folder, clock, random);

@@ -7,6 +7,7 @@ pub mod console;
 mod fault;
 pub mod files;
 pub mod folder;
+pub mod grant_folder;
 mod listing;
 mod plain_file;
 pub mod random;

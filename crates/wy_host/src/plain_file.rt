@@ -38,6 +38,15 @@ pub fn is_folder<R: Files>(rt: &R, path: &str) -> io::Result<bool> {
     }
 }
 
+/// Whether a path leads to a folder, which may be behind links.
+pub fn leads_to_folder<R: Files>(rt: &R, path: &str) -> io::Result<bool> {
+    match fs::metadata(rt, path) {
+        Ok(seen) => Ok(seen.is_dir()),
+        Err(error) if error.kind() == ErrorKind::NotFound => Ok(false),
+        Err(error) => Err(error),
+    }
+}
+
 /// Whether two looks saw one file.
 fn is_same_file(one: &Metadata, other: &Metadata) -> bool {
     one.dev() == other.dev() && one.ino() == other.ino()

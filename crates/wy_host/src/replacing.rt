@@ -1,6 +1,6 @@
-//! Replaces the text of a file as a whole. The new text is written to a second file in the same folder, which then takes the
-//! place of the old one. So whoever reads meanwhile sees one of the two texts, and the old one stands until the new one is
-//! whole.
+//! Replaces the text of a file as a whole. The new text is written to a second file in the same folder, which then
+//! takes the place of the old one. So whoever reads meanwhile sees one of the two texts, and the old one stands until
+//! the new one is whole.
 
 ghost use Rattle.std.specs.Prelude.{◌≡◌, ◌++◌, IfOk, string_bytes};
 ghost use Rattle.wy_host.specs.FolderNames.{IsUnlistedIn};
@@ -33,7 +33,8 @@ pub struct Draft<F> {
     old: Option<Metadata>,
 }
 
-/// Returns the path of a second file in a folder. Its name is not a file name of the language, so `names` leaves it out.
+/// Returns the path of a second file in a folder. Its name is not a file name of the language, so `names` leaves it
+/// out.
 fn draft_path(alloc: Global, folder: &str, number: usize) -> Result<String, AllocError>
     ensures { IfOk result (λ path. IsUnlistedIn folder.now (string_bytes path)) }
 {
@@ -61,8 +62,8 @@ fn make_draft<R: Files>(
     Err(io::Error::from(ErrorKind::AlreadyExists))
 }
 
-/// Begins to replace the text of a plain file in a folder, which may be there or not. It changes nothing of the file, and
-/// makes an empty file beside it.
+/// Begins to replace the text of a plain file in a folder, which may be there or not. It changes nothing of the file,
+/// and makes an empty file beside it.
 ///
 /// # Errors
 ///
@@ -89,8 +90,8 @@ pub fn begin<R: Files>(
     Ok(Draft { path, file, old })
 }
 
-/// Returns what is left of a mode if the file's group is another one: whoever is not the owner may do what both the old group
-/// and all others could.
+/// Returns what is left of a mode if the file's group is another one: whoever is not the owner may do what both the
+/// old group and all others could.
 fn for_another_group(mode: u32) -> u32 {
     let shared = (mode >> 3) & mode & 0o007;
     (mode & 0o700) | (shared << 3) | shared
@@ -107,6 +108,10 @@ fn take_rights<F: OpenFile + AsFd>(file: &F, old: &Metadata) -> io::Result<()> {
         // (mostly refused: then the file is the program's user's, who could write the old one)
         let _given = fchown(file.as_fd(), Some(old.uid()), None);
     }
+    // (some file systems have one mode for all files, and refuse to set one)
+    if new.mode() & RIGHTS == mode {
+        return Ok(());
+    }
     file.set_permissions(Permissions::from_mode(mode))
 }
 
@@ -119,8 +124,8 @@ fn fill<F: Write + OpenFile + AsFd>(draft: &mut Draft<F>, bytes: &[u8]) -> io::R
     }
 }
 
-/// Puts the second file, with these bytes, in the place of the file of a path. What stands there then is replaced whole, unless
-/// it is a folder. No link is followed.
+/// Puts the second file, with these bytes, in the place of the file of a path. What stands there then is replaced
+/// whole, unless it is a folder. No link is followed.
 ///
 /// # Errors
 ///

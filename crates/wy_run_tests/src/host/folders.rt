@@ -5,6 +5,7 @@ use std::test::Fail;
 use std::{env, fs, io, process};
 use wy_device::operation::LONGEST_TEXT;
 use wy_host::folder::RealFolder;
+use wy_host::grant_folder::GrantFolder;
 use wy_text::text::from_bytes;
 
 /// Writes a file below a path.
@@ -121,17 +122,24 @@ fn mode_of(rt: &HostRuntime, base: &str, name: &str) -> Result<u32, Fail> {
     Ok(fs::metadata(rt, path)?.permissions().mode() & 0o777)
 }
 
-/// Asks the folder of a path.
-fn ask(rt: &HostRuntime, base: &str, asked: &[Asked]) -> Result<(), Fail> {
+/// Asks the folder of a path, and those that are given.
+fn ask(
+    rt: &HostRuntime,
+    base: &str,
+    folders: Vec<GrantFolder>,
+    asked: &[Asked],
+) -> Result<(), Fail> {
     let alloc = rt.alloc();
-    let mut folder = RealFolder::new(alloc, rt.clone()?, String::from_str(alloc, base)?);
+    let base = String::from_str(alloc, base)?;
+    let mut folder = RealFolder::new(alloc, rt.clone()?, base, folders);
     all_are_answered(alloc, &mut folder, asked)
 }
 
 /// Returns how many bytes are read of a file of the grant `disk`.
 fn length_of(rt: &HostRuntime, base: &str, name: &str) -> Result<usize, Fail> {
     let alloc = rt.alloc();
-    let mut folder = RealFolder::new(alloc, rt.clone()?, String::from_str(alloc, base)?);
+    let base = String::from_str(alloc, base)?;
+    let mut folder = RealFolder::new(alloc, rt.clone()?, base, Vec::new(alloc));
     let name = from_bytes(alloc, name.as_bytes())?;
     let read = answer(alloc, &mut folder, "disk", "read", name, "")?;
     Ok(read.as_bytes().len())
@@ -149,7 +157,7 @@ fn a_folder_holds_plain_files_and_leads_nowhere_else(rt: HostRuntime) -> Result<
     let path = base(&rt, "folder")?;
     let base = path.as_path().to_str().ok_or("a path")?;
     lay_out(&rt, base)?;
-    ask(&rt, base, &ROWS)?;
+    ask(&rt, base, Vec::new(rt.alloc()), &ROWS)?;
     assert!(rt; is_kept(&rt, base)?);
     assert!(rt; mode_of(&rt, base, "disk/rights")? == 0o750);
     assert!(rt; length_of(&rt, base, "full")? == LONGEST_TEXT);
@@ -188,7 +196,68 @@ fn a_write_that_fails_leaves_the_old_text(rt: HostRuntime) -> Result<(), Fail> {
     let path = base(&rt, "crowded")?;
     let base = path.as_path().to_str().ok_or("a path")?;
     lay_out_crowded(&rt, base)?;
-    ask(&rt, base, &CROWDED_ROWS)?;
+    ask(&rt, base, Vec::new(rt.alloc()), &CROWDED_ROWS)?;
+    fs::remove_dir_all(&rt, base)?;
+    Ok(())
+}
+
+/// Makes a folder `disk` and a folder `other`, with a file and a link each, and a link to the second.
+fn lay_out_given(rt: &HostRuntime, base: &str) -> io::Result<()> {
+    let alloc = rt.alloc();
+    fs::create_dir_all(rt, format!(in alloc; "{base}/disk")?)?;
+    fs::create_dir_all(rt, format!(in alloc; "{base}/other")?)?;
+    write(rt, base, "disk/a", b"of disk")?;
+    write(rt, base, "other/a", b"of other")?;
+    link(rt, base, "other/inner", "a")?;
+    link(rt, base, "given", "other")
+}
+
+/// The way from any folder up to the root.
+const UP: &str = "../../../../../../../../../../../../../../../../../../../../../../../..";
+
+/// Returns the pairs of a grant and a path, of which each path begins with the front and ends in this name.
+fn given(rt: &HostRuntime, base: &str) -> Result<Vec<GrantFolder>, Fail> {
+    let alloc = rt.alloc();
+    let mut folders = Vec::new(alloc);
+    for (grant, front, name) in [
+        ("full", "", "other"),
+        ("full", "", "disk"),
+        ("relative", UP, "other"),
+        ("linked", "", "given"),
+        ("missing", "", "none"),
+        ("file", "", "disk/a"),
+    ] {
+        folders.push(GrantFolder {
+            grant: String::from_str(alloc, grant)?,
+            path: format!(in alloc; "{front}{base}/{name}")?,
+        })?;
+    }
+    Ok(folders)
+}
+
+/// Operations in order, where folders are given for some grants.
+static GIVEN_ROWS: [Asked; 13] = [
+    ("disk", "read", "a", "", "of disk"),
+    ("full", "read", "a", "", "of other"),
+    ("relative", "read", "a", "", "of other"),
+    ("linked", "read", "a", "", "of other"),
+    ("linked", "names", "", "", "a\n"),
+    ("linked", "read", "inner", "", "failed"),
+    ("linked", "write", "b", "new", "done"),
+    ("relative", "append", "b", " text", "done"),
+    ("full", "read", "b", "", "new text"),
+    ("missing", "names", "", "", "failed"),
+    ("file", "names", "", "", "failed"),
+    ("given", "names", "", "", "failed"),
+    ("disk", "names", "", "", "a\n"),
+];
+
+#[test]
+fn a_folder_may_be_given_for_a_grant(rt: HostRuntime) -> Result<(), Fail> {
+    let path = base(&rt, "given")?;
+    let base = path.as_path().to_str().ok_or("a path")?;
+    lay_out_given(&rt, base)?;
+    ask(&rt, base, given(&rt, base)?, &GIVEN_ROWS)?;
     fs::remove_dir_all(&rt, base)?;
     Ok(())
 }
