@@ -1,14 +1,17 @@
 //! The program: the words, files, streams and devices of the machine for the top call.
 #![tactic(auto)]
 
-ghost use Rattle.std.specs.Prelude.{◌≡◌};
+ghost use Rattle.std.specs.Prelude.{◌≡◌, OnOk};
+ghost use Rattle.std.specs.Io.KnownBytes.{Appends};
 ghost use Rattle.wy_device.specs.Devices.{IsInOrder};
+ghost use Rattle.wy_engine.specs.LastLine.{LineWords, last_line};
+ghost use Rattle.wy_engine.specs.declared.status.Status.TheVariants as status;
 ghost use Rattle.wy_machine.specs.Devices.{states};
 ghost use Rattle.wy_device.specs.declared.operation.Kind.{Kind};
 
 use std::alloc::Global;
 use std::env;
-use std::io::{self, BufReader};
+use std::io::{self, BufReader, Write};
 use std::process::ExitCode;
 use wy_device::device::Device;
 use wy_device::handed::Handed;
@@ -22,6 +25,9 @@ use wy_host::files::RealFiles;
 use wy_host::folder::RealFolder;
 use wy_host::random::RealRandom;
 use wy_host::stream::Stream;
+
+/// The last line where memory is wanting before the call (docs/LANGUAGE.md, "Statuses"). The call writes its own.
+const NO_MEMORY: &[u8] = b"no memory\n";
 
 /// The words after the program's name; none where one of them is not text. The error is want of memory.
 fn words(rt: &HostRuntime) -> io::Result<Vec<String>> {
@@ -58,29 +64,27 @@ fn hand_in(
     )
 }
 
-/// Makes the rest of the outside from the real one, and calls.
-fn call(rt: HostRuntime, handed: Devices<Handed>) -> Status
+/// Makes the rest of the outside from the real one, and calls. The error is want of memory before the call.
+fn call(rt: HostRuntime, handed: Devices<Handed>) -> io::Result<Status>
     requires { IsInOrder (states ⟦<Handed as Device>⟧.state handed) }
 {
     let mut handed = handed;
     let alloc: Global = rt.alloc();
-    let Ok(words) = words(&rt) else {
-        return Status::Memory;
-    };
+    let words = words(&rt)?;
     let mut out = Stream::new(rt.stdout());
     let mut report = Stream::new(rt.stderr());
     let mut shelf = RealFiles::new(alloc, rt);
-    wyvern(
+    Ok(wyvern(
         alloc,
         words.as_slice(),
         &mut shelf,
         &mut out,
         &mut report,
         &mut handed,
-    )
+    ))
 }
 
-/// Makes the devices of the machine, and calls with them.
+/// Makes the devices of the machine, and calls with them. The error is want of memory before the call.
 fn run(rt: HostRuntime) -> io::Result<Status> {
     let alloc: Global = rt.alloc();
     // (boxed first: behind others the prover does not find its kind)
@@ -88,14 +92,30 @@ fn run(rt: HostRuntime) -> io::Result<Status> {
     let input = BufReader::new(alloc, rt.stdin())?;
     let console = RealConsole::new(alloc, input, rt.stdout())?;
     let console: Box<dyn Device> = Box::new(alloc, console)?;
-    let folder = RealFolder::new(alloc, rt.clone()?, String::from_str(alloc, ".")?);
+    let base = String::from_str(alloc, ".")?;
+    let folder = RealFolder::new(alloc, rt.clone()?, base, Vec::new(alloc));
     let folder: Box<dyn Device> = Box::new(alloc, folder)?;
     let random: Box<dyn Device> = Box::new(alloc, RealRandom::new(rt.clone()?))?;
     let handed = hand_in(console, folder, clock, random);
-    Ok(call(rt, handed))
+    call(rt, handed)
+}
+
+/// Writes the last line of Memory. It takes no memory.
+fn write_no_memory<W: Write>(report: &mut W) -> io::Result<()>
+    ensures { (words : LineWords) → OnOk result (Appends (W.contents report.old) (W.contents report.new) (last_line words status.Memory)) }
+{
+    report.write_all(NO_MEMORY)
 }
 
 fn main(rt: HostRuntime) -> ExitCode {
-    let status = run(rt).unwrap_or(Status::Memory);
+    let mut report = rt.stderr();
+    let status = match run(rt) {
+        Ok(status) => status,
+        Err(_) => {
+            // (where the line is not written, the status stays the same)
+            let _written = write_no_memory(&mut report);
+            Status::Memory
+        }
+    };
     ExitCode::from(status.number())
 }

@@ -1,1 +1,2 @@
 mod FileNames
+mod Pieces

@@ -1,5 +1,5 @@
 -- What a folder of the machine lists, whatever is in it.
-use Rattle.std.specs.Prelude.{◌≡◌, ℕ, List, true, All, string_bytes}
+use Rattle.std.specs.Prelude.{◌≡◌, ◌++◌, ◌∷◌, ℕ, List, false, true, All, string_bytes}
 use Rattle.std.specs.BTreeSet.{BTreeSet, IsOrdered}
 use Rattle.std.specs.Cmp.Lexicographic.{slice_cmp}
 use Rattle.std.specs.List.Sorted.{IsStrictlySortedBy}
@@ -19,3 +19,9 @@ pub record ListsFileNames (text : List ℕ) : Type 0 where
   pub ascending : IsStrictlySortedBy (slice_cmp nat_cmp) names
   pub named : All (λ name. is_file_name name ≡ true) names
   pub lines : text ≡ in_lines names
+
+-- the path leads to something in the folder whose name is no file name
+pub record IsUnlistedIn (folder path : List ℕ) : Type 0 where
+  pub name : List ℕ
+  pub within : path ≡ folder ++ 47 ∷ name
+  pub unlisted : is_file_name name ≡ false

@@ -1,2 +1,4 @@
 pub mod Failures
 pub mod FolderNames
+pub mod FolderPaths
+pub mod Streams

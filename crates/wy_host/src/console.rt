@@ -1,7 +1,9 @@
-ghost use Rattle.std.specs.Prelude.{◌≤◌, IfOk, length};
+ghost use Rattle.std.specs.Prelude.{◌≡◌, ◌≤◌, ◌-◌, [], IfOk, OnOk, false, length};
+ghost use Rattle.std.specs.Io.KnownBytes.{Appends};
 ghost use Rattle.std.specs.Result.{result_err};
 ghost use Rattle.wy_device.specs.Device.{DeviceState};
 ghost use Rattle.wy_host.specs.Failures.{CountsFailure};
+ghost use Rattle.wy_host.specs.Streams.{GrewUpTo, IsFirst};
 
 use crate::fault::count_fault;
 use std::alloc::{AllocError, Global};
@@ -24,17 +26,36 @@ pub struct RealConsole<I, O> {
 }
 
 /// Whether these bytes are a line with its newline, or as long as a piece of one may be.
-fn is_whole(line: &[u8]) -> bool {
+fn is_whole(line: &[u8]) -> bool
+    ensures { line.now ≡ [] → result ≡ false }
+{
     line.len() >= LONGEST_LINE || line.last() == Some(&b'\n')
 }
 
-/// Reads up to the next newline, the end of the input, or the greatest length of a piece.
-fn fill<I: BufRead>(input: &mut I, line: &mut Vec<u8>) -> io::Result<()> {
-    if !is_whole(line.as_slice()) {
-        let room = LONGEST_LINE.saturating_sub(line.len());
-        let _size = input.take(room as u64).read_until(b'\n', line)?;
-    }
+/// How many bytes a piece may still have behind these.
+fn room_behind(line: &Vec<u8>) -> usize
+    ensures { result ≡ 65536 - length line.now.items }
+{
+    LONGEST_LINE.saturating_sub(line.len())
+}
+
+/// Reads up to the next newline, the end of the input, or so many bytes, and adds them to a line.
+fn read_up_to<I: BufRead>(input: &mut I, room: usize, line: &mut Vec<u8>) -> io::Result<()>
+    ensures { OnOk result (GrewUpTo room (I.remaining input.old) line.old.items line.new.items) }
+{
+    let _size = input.take(room as u64).read_until(b'\n', line)?;
     Ok(())
+}
+
+/// Reads up to the next newline, the end of the input, or the greatest length of a piece.
+fn fill<I: BufRead>(input: &mut I, line: &mut Vec<u8>) -> io::Result<()>
+    ensures { line.old.items ≡ [] → OnOk result (IsFirst (I.remaining input.old) line.new.items) }
+{
+    if is_whole(line.as_slice()) {
+        return Ok(());
+    }
+    let room = room_behind(line);
+    read_up_to(input, room, line)
 }
 
 impl<I: BufRead + Drop, O: Write + Drop> RealConsole<I, O> {
@@ -52,6 +73,8 @@ impl<I: BufRead + Drop, O: Write + Drop> RealConsole<I, O> {
 
     /// The next line with its newline, or a piece of it; the empty text at the end of the input.
     fn read_line(&mut self) -> Result<Text, DeviceError>
+        ensures first { self.old.line.items ≡ [] → IfOk result (IsFirst (I.remaining self.old.input)) }
+        ensures given { OnOk result (self.new.line.items ≡ []) }
         ensures piece { IfOk result (λ text. length text ≤ 65536) }
         ensures counted { CountsFailure self.old.faults self.new.faults (result_err result) }
     {
@@ -63,7 +86,9 @@ impl<I: BufRead + Drop, O: Write + Drop> RealConsole<I, O> {
         Ok(line)
     }
 
+    /// Writes a whole text.
     fn write_text(&mut self, text: &Text) -> Result<(), DeviceError>
+        ensures passed { OnOk result (Appends (O.contents self.old.output) (O.contents self.new.output) text.now) }
         ensures counted { CountsFailure self.old.faults self.new.faults (result_err result) }
     {
         match self.output.write_all(text.as_bytes()) {

@@ -1,19 +1,25 @@
 ghost use Rattle.std.specs.Prelude.{◌≡◌, ◌≤◌, ◌++◌, ◌∷◌, List, ℕ, Ok, IfOk, OnOk, IfSome, OnSome, IsTrue, Contains, true, length, string_bytes};
+ghost use Rattle.std.specs.Option.{option_map};
 ghost use Rattle.std.specs.Result.{result_err};
 ghost use Rattle.wy_device.specs.Device.{DeviceState, IsBytesUpTo, IsTruth};
 ghost use Rattle.wy_device.specs.Requests as requests;
 ghost use Rattle.wy_device.specs.Traps.{text_limit};
 ghost use Rattle.wy_host.specs.Failures.{CountsFailure};
 ghost use Rattle.wy_host.specs.FolderNames.{HoldsFileNames, ListsFileNames};
+ghost use Rattle.wy_host.specs.FolderPaths.{IsFileOf, IsFolderOf};
+ghost use Rattle.wy_host.specs.FolderPaths as paths;
 
 use crate::fault::count_fault;
+use crate::grant_folder::{GrantFolder, given_path};
 use crate::listing::listing;
 use crate::plain_file::{
-    append_file, file_names, is_folder, is_plain_file, read_file, remove_file, write_file,
+    append_file, file_names, is_folder, is_plain_file, leads_to_folder, read_file, remove_file,
 };
+use crate::replacing::{begin, replace};
 use std::alloc::Global;
 use std::collections::BTreeSet;
 use std::io::{self, ErrorKind};
+use std::os::fd::AsFd;
 use std::rt::Files;
 use std::str;
 use wy_device::deed::DeedList;
@@ -22,18 +28,21 @@ use wy_device::file_name::is_file_name;
 use wy_device::operation::{Answer, Kind, LONGEST_TEXT, Op};
 use wy_text::text::{Memory, Text, from_vec};
 
-/// The folders of the machine: a grant's is the one of its name in the base. It tells no deeds.
+/// The folders of the machine. A grant's is the one that is given for it, or else the one of its name in the base. It
+/// tells no deeds.
 ///
 /// `has` is true of plain files alone, a name that nothing goes by is read as the empty text, and removing it does
-/// nothing. An operation fails where the grant's folder is not there or is a symbolic link, where a name is no file's,
-/// where something else than a plain file is read, written or removed, where a text is longer than an answer may be, and
-/// where the machine refuses. A write that failed may have done a part of its work.
+/// nothing. An operation fails where the grant's folder is not there, where the one in the base is a symbolic link,
+/// where a name is no file's, where something else than a plain file is read, written or removed, where a text is
+/// longer than an answer may be, and where the machine refuses. A write that failed left the old text as it was. An
+/// append that failed may have done a part of its work.
 /// (docs/LANGUAGE.md, "Primitive types")
 #[derive(Drop)]
 pub struct RealFolder<R> {
     alloc: Global,
     rt: R,
     base: String,
+    folders: Vec<GrantFolder>,
     faults: u64,
 }
 
@@ -75,14 +84,18 @@ fn path_in(alloc: Global, folder: &str, name: &str) -> Result<String, Memory>
     Ok(format!(in alloc; "{folder}/{name}")?)
 }
 
-impl<R: Files + AllocGlobal + Clone + Drop> RealFolder<R> {
-    /// Folders with no faults yet. The base is the path of the folder that the grants' folders are in.
-    /// It takes no memory.
-    pub fn new(alloc: Global, rt: R, base: String) -> RealFolder<R> {
+impl<R: Files + AllocGlobal + Clone + Drop> RealFolder<R>
+where
+    R::File: AsFd,
+{
+    /// Returns folders with no faults yet. `folders` gives the folders of some grants. Those of the others are in
+    /// `base`, each by the name of its grant. It takes no memory.
+    pub fn new(alloc: Global, rt: R, base: String, folders: Vec<GrantFolder>) -> RealFolder<R> {
         RealFolder {
             alloc,
             rt,
             base,
+            folders,
             faults: 0,
         }
     }
@@ -122,25 +135,21 @@ impl<R: Files + AllocGlobal + Clone + Drop> RealFolder<R> {
         Ok(Answer::Bytes(from_vec(bytes)))
     }
 
-    /// The path of a grant's folder, which is there and is no link. Between this look and what follows the
-    /// machine may change: whoever may write in the base can put a link there.
-    fn folder_path(&mut self, grant: &Text) -> Result<String, DeviceError>
-        ensures path { IfOk result (λ path. string_bytes path ≡ string_bytes self.old.base ++ 47 ∷ grant.now) }
-        ensures counted { CountsFailure self.old.faults self.new.faults (result_err result) }
+    /// A copy of the path that is given for a grant's folder; `None` where none is.
+    fn given_path(&self, grant: &Text) -> Result<Option<String>, Memory>
+        ensures { IfOk result (λ p. option_map string_bytes p ≡ paths.given_path self.now.folders.items grant.now) }
     {
-        match folder_name(grant) {
-            Some(name) => self.path_in_base(name),
-            None => Err(count_fault(&mut self.faults)),
+        match given_path(self.folders.as_slice(), grant) {
+            Some(path) => Ok(Some(String::from_str(self.alloc, path)?)),
+            None => Ok(None),
         }
     }
 
-    /// The path of a folder in the base, which is there and is no link.
-    fn path_in_base(&mut self, name: &str) -> Result<String, DeviceError>
-        ensures path { IfOk result (λ path. string_bytes path ≡ string_bytes self.old.base ++ 47 ∷ name.now) }
+    /// The path of a folder, if a look saw one there.
+    fn found(&mut self, path: String, there: io::Result<bool>) -> Result<String, DeviceError>
+        ensures same { IfOk result (λ found. found ≡ path) }
         ensures counted { CountsFailure self.old.faults self.new.faults (result_err result) }
     {
-        let path = path_in(self.alloc, self.base.as_str(), name)?;
-        let there = is_folder(&self.rt, path.as_str());
         if self.told(there)? {
             Ok(path)
         } else {
@@ -148,9 +157,37 @@ impl<R: Files + AllocGlobal + Clone + Drop> RealFolder<R> {
         }
     }
 
+    /// The path of a grant's folder, which is there. Only a path that is given may be a link.
+    fn folder_path(&mut self, grant: &Text) -> Result<String, DeviceError>
+        ensures path { IfOk result (IsFolderOf self.old.folders.items self.old.base grant.now) }
+        ensures counted { CountsFailure self.old.faults self.new.faults (result_err result) }
+    {
+        match self.given_path(grant)? {
+            Some(path) => {
+                let there = leads_to_folder(&self.rt, path.as_str());
+                self.found(path, there)
+            }
+            None => self.path_in_base(grant),
+        }
+    }
+
+    /// The path of the folder of a grant's name in the base, which is there and is no link. Between this look and what
+    /// follows the machine may change: whoever may write in the base can put a link there.
+    fn path_in_base(&mut self, grant: &Text) -> Result<String, DeviceError>
+        ensures path { IfOk result (λ path. string_bytes path ≡ string_bytes self.old.base ++ 47 ∷ grant.now) }
+        ensures counted { CountsFailure self.old.faults self.new.faults (result_err result) }
+    {
+        let Some(name) = folder_name(grant) else {
+            return Err(count_fault(&mut self.faults));
+        };
+        let path = path_in(self.alloc, self.base.as_str(), name)?;
+        let there = is_folder(&self.rt, path.as_str());
+        self.found(path, there)
+    }
+
     /// The path of a file in a grant's folder. The name is a file's: no other leads to a path.
     fn file_path(&mut self, grant: &Text, name: &Text) -> Result<String, DeviceError>
-        ensures path { IfOk result (λ path. string_bytes path ≡ string_bytes self.old.base ++ 47 ∷ grant.now ++ 47 ∷ name.now) }
+        ensures path { IfOk result (IsFileOf self.old.folders.items self.old.base grant.now name.now) }
         ensures named { OnOk result (requests.is_file_name name.now ≡ true) }
         ensures counted { CountsFailure self.old.faults self.new.faults (result_err result) }
     {
@@ -162,7 +199,7 @@ impl<R: Files + AllocGlobal + Clone + Drop> RealFolder<R> {
 
     /// The path of what goes by a name in a grant's folder.
     fn path_in_folder(&mut self, grant: &Text, name: &str) -> Result<String, DeviceError>
-        ensures path { IfOk result (λ path. string_bytes path ≡ string_bytes self.old.base ++ 47 ∷ grant.now ++ 47 ∷ name.now) }
+        ensures path { IfOk result (IsFileOf self.old.folders.items self.old.base grant.now name.now) }
         ensures counted { CountsFailure self.old.faults self.new.faults (result_err result) }
     {
         let folder = self.folder_path(grant)?;
@@ -195,13 +232,17 @@ impl<R: Files + AllocGlobal + Clone + Drop> RealFolder<R> {
         Ok(Answer::Truth(self.told(there)?))
     }
 
+    /// Until the second file is there, nothing was changed, so want of memory is no fault.
     fn write(&mut self, grant: &Text, name: &Text, text: &Text) -> Result<Answer, DeviceError>
         ensures unit { IfOk result (λ a. a ≡ Answer.Unit) }
         ensures counted { CountsFailure self.old.faults self.new.faults (result_err result) }
     {
         let path = self.file_path(grant, name)?;
-        let written = write_file(&self.rt, path.as_str(), text.as_bytes());
-        self.done(written)
+        let folder = self.folder_path(grant)?;
+        let begun = begin(&self.rt, self.alloc, folder.as_str(), path.as_str());
+        let draft = self.told(begun)?;
+        let replaced = replace(&self.rt, draft, path.as_str(), text.as_bytes());
+        self.done(replaced)
     }
 
     fn append(&mut self, grant: &Text, name: &Text, text: &Text) -> Result<Answer, DeviceError>
@@ -243,7 +284,10 @@ impl<R: Files + AllocGlobal + Clone + Drop> RealFolder<R> {
     }
 }
 
-impl<R: Files + AllocGlobal + Clone + Drop> Device for RealFolder<R> {
+impl<R: Files + AllocGlobal + Clone + Drop> Device for RealFolder<R>
+where
+    R::File: AsFd,
+{
     ghost use Rattle.wy_device.specs.Device.{untold};
     ghost use Rattle.wy_device.specs.declared.operation.Kind.TheVariants.{Folder};
 

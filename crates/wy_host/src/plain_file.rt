@@ -38,16 +38,36 @@ pub fn is_folder<R: Files>(rt: &R, path: &str) -> io::Result<bool> {
     }
 }
 
+/// Whether a path leads to a folder, which may be behind links.
+pub fn leads_to_folder<R: Files>(rt: &R, path: &str) -> io::Result<bool> {
+    match fs::metadata(rt, path) {
+        Ok(seen) => Ok(seen.is_dir()),
+        Err(error) if error.kind() == ErrorKind::NotFound => Ok(false),
+        Err(error) => Err(error),
+    }
+}
+
 /// Whether two looks saw one file.
 fn is_same_file(one: &Metadata, other: &Metadata) -> bool {
     one.dev() == other.dev() && one.ino() == other.ino()
 }
 
-/// Opens the plain file of this name; `None` where nothing stands there.
+/// How often a file is looked at and opened, as long as other programs make it, remove it or replace it in between.
+const ROUNDS: usize = 1_000;
+
+/// Whether an error means that a file came, went or was replaced between a look and an opening.
+fn has_changed(error: &io::Error) -> bool {
+    matches!(
+        error.kind(),
+        ErrorKind::NotFound | ErrorKind::AlreadyExists | ErrorKind::ResourceBusy
+    )
+}
+
+/// Opens the plain file of this name once; `None` where nothing stands there.
 ///
 /// Between the look and the opening the machine may put something else there, so what was opened is compared
 /// with what was seen. Until then it is neither read nor changed.
-fn open_plain<R: Files>(rt: &R, how: &OpenOptions, path: &str) -> io::Result<Option<R::File>> {
+fn open_seen<R: Files>(rt: &R, how: &OpenOptions, path: &str) -> io::Result<Option<R::File>> {
     let Some(seen) = seen_at(rt, path)? else {
         return Ok(None);
     };
@@ -62,20 +82,37 @@ fn open_plain<R: Files>(rt: &R, how: &OpenOptions, path: &str) -> io::Result<Opt
     Ok(Some(file))
 }
 
-/// Opens the plain file of this name, and makes it where nothing stands there. Where another program makes it
-/// between the look and the making, that file is looked at and opened.
-fn open_or_make<R: Files>(rt: &R, how: &mut OpenOptions, path: &str) -> io::Result<R::File> {
-    if let Some(file) = open_plain(rt, how, path)? {
-        return Ok(file);
+/// Opens the plain file of this name; `None` where nothing stands there.
+pub fn open_plain<R: Files>(rt: &R, how: &OpenOptions, path: &str) -> io::Result<Option<R::File>> {
+    for _ in 0..ROUNDS {
+        match open_seen(rt, how, path) {
+            Err(error) if has_changed(&error) => {}
+            outcome => return outcome,
+        }
     }
-    match how.create_new(true).open(rt, path) {
-        Err(error) if error.kind() == ErrorKind::AlreadyExists => {}
-        made => return made,
-    }
-    match open_plain(rt, how.create_new(false), path)? {
+    Err(io::Error::from(ErrorKind::ResourceBusy))
+}
+
+/// Opens the plain file of this name once to add to its end, and makes it where nothing stands there.
+fn open_or_make<R: Files>(rt: &R, path: &str) -> io::Result<R::File> {
+    match open_seen(rt, OpenOptions::new().append(true), path)? {
         Some(file) => Ok(file),
-        None => Err(io::Error::from(ErrorKind::NotFound)),
+        None => OpenOptions::new()
+            .append(true)
+            .create_new(true)
+            .open(rt, path),
     }
+}
+
+/// Opens the plain file of this name to add to its end, and makes it where nothing stands there.
+fn open_end<R: Files>(rt: &R, path: &str) -> io::Result<R::File> {
+    for _ in 0..ROUNDS {
+        match open_or_make(rt, path) {
+            Err(error) if has_changed(&error) => {}
+            outcome => return outcome,
+        }
+    }
+    Err(io::Error::from(ErrorKind::ResourceBusy))
 }
 
 /// The first bytes of a plain file, at most so many; none where nothing stands by its name.
@@ -87,17 +124,10 @@ pub fn read_file<R: Files>(rt: &R, alloc: Global, path: &str, most: u64) -> io::
     Ok(bytes)
 }
 
-/// Makes these the bytes of a plain file, which may be there or not. After an error it may hold a first part of them.
-pub fn write_file<R: Files>(rt: &R, path: &str, bytes: &[u8]) -> io::Result<()> {
-    let mut file = open_or_make(rt, OpenOptions::new().write(true), path)?;
-    file.set_len(0)?;
-    file.write_all(bytes)
-}
-
 /// Puts these bytes at the end of a plain file, which may be there or not. After an error a first part of them may
 /// stand there.
 pub fn append_file<R: Files>(rt: &R, path: &str, bytes: &[u8]) -> io::Result<()> {
-    let mut file = open_or_make(rt, OpenOptions::new().append(true), path)?;
+    let mut file = open_end(rt, path)?;
     file.write_all(bytes)
 }
 

@@ -4,10 +4,11 @@ mod folders;
 mod numbers;
 
 use crate::asking::{gives, write};
-use std::alloc::Global;
+use std::alloc::{AllocError, Global};
 use std::test::Fail;
 use std::{env, fs};
 use wy_device::device::Device;
+use wy_device::operation::LONGEST_LINE;
 use wy_host::console::RealConsole;
 use wy_host::files::RealFiles;
 use wy_host::stream::Stream;
@@ -62,5 +63,27 @@ fn a_console_reads_lines_and_writes_texts(rt: HostRuntime) -> Result<(), Fail> {
     let alloc = rt.alloc();
     let mut console = RealConsole::new(alloc, b"one\ntwo".as_slice(), Vec::new(alloc))?;
     assert!(rt; is_read(alloc, &mut console)?);
+    Ok(())
+}
+
+/// Returns a line of `x` with a newline, one byte longer than a piece, and a line of three bytes behind it.
+fn long_input(alloc: Global) -> Result<Vec<u8>, AllocError> {
+    let mut input = vec![in alloc; b'x'; LONGEST_LINE]?;
+    input.extend_from_slice(b"\nyz\n")?;
+    Ok(input)
+}
+
+/// Whether a long line comes in two pieces, and the next line behind it.
+fn is_cut<D: Device>(alloc: Global, console: &mut D) -> Result<bool, Memory> {
+    let piece = vec![in alloc; b'x'; LONGEST_LINE]?;
+    gives(alloc, console, &[piece.as_slice(), b"\n", b"yz\n", b""])
+}
+
+#[test]
+fn a_console_cuts_a_long_line_into_pieces(rt: HostRuntime) -> Result<(), Fail> {
+    let alloc = rt.alloc();
+    let input = long_input(alloc)?;
+    let mut console = RealConsole::new(alloc, input.as_slice(), Vec::new(alloc))?;
+    assert!(rt; is_cut(alloc, &mut console)?);
     Ok(())
 }

@@ -1,0 +1,68 @@
+"""A real folder whose files others look at and change, and that the machine does not let grow."""
+
+import os
+import resource
+import signal
+import subprocess
+
+from support import PROGRAM, ToolTest, needs_program
+
+ROUNDS = 20
+CHANGES = 100
+
+HEAD = """program
+  grant logs: FullFolder
+  run: {logs.Read, logs.Write, logs.Append, logs.Remove}
+"""
+WRITES = '    logs.write("f", a)\n    logs.write("f", b)\n'
+TEXTS = f'    val a = "{"a" * 50_000}"\n    val b = "{"b" * 100_000}"\n'
+
+
+def allow_small_files():
+    """Has the machine refuse files of more than 1,000 bytes, without a signal."""
+    signal.signal(signal.SIGXFSZ, signal.SIG_IGN)
+    resource.setrlimit(resource.RLIMIT_FSIZE, (1_000, 1_000))
+
+
+@needs_program
+class Folders(ToolTest):
+    def setUp(self):
+        super().setUp()
+        os.mkdir(os.path.join(self.room, "logs"))
+
+    def start(self, name, **how):
+        return subprocess.Popen([PROGRAM, "run", name], cwd=self.room, stderr=subprocess.PIPE, text=True, **how)
+
+    def last_line(self, program):
+        return program.communicate(timeout=60)[1].splitlines()[-1]
+
+    def test_the_old_text_stands_if_the_machine_refuses_the_new_one(self):
+        self.write("logs/f", "old")
+        self.write("x.wy", HEAD + f'    logs.write("f", "{"x" * 1_001}")\n')
+        program = self.start("x.wy", preexec_fn=allow_small_files)
+        self.assertEqual(self.last_line(program), "logs.write: failed")
+        self.assertEqual(program.returncode, 9)
+        self.assertEqual(self.read("logs/f"), "old")
+        self.assertEqual(os.listdir(os.path.join(self.room, "logs")), ["f"])
+
+    def test_whoever_reads_a_file_sees_a_whole_text(self):
+        self.write("logs/f", "")
+        self.write("x.wy", HEAD + TEXTS + WRITES * CHANGES)
+        program = self.start("x.wy")
+        seen = {""}
+        while program.poll() is None:
+            seen.add(self.read("logs/f"))
+        self.last_line(program)
+        self.assertEqual(program.returncode, 0)
+        self.assertLessEqual({len(text) for text in seen}, {0, 50_000, 100_000})
+
+    def test_no_operation_fails_while_another_program_changes_the_file(self):
+        changes = '    logs.write("f", "a")\n    logs.append("f", logs.read("f"))\n    logs.remove("f")\n'
+        self.write("x.wy", HEAD + changes * CHANGES)
+        for _ in range(ROUNDS):
+            both = [self.start("x.wy") for _ in range(2)]
+            self.assertEqual([(self.last_line(it), it.returncode) for it in both], [(self.last_of_report(), 0)] * 2)
+        self.assertEqual(os.listdir(os.path.join(self.room, "logs")), [])
+
+    def last_of_report(self):
+        return "  run: logs.Read, logs.Write, logs.Append, logs.Remove"
