@@ -1,4 +1,4 @@
--- Image files: eight letters, and an image (docs/LANGUAGE.md, "Images").
+-- Image files: eight letters, and an image (docs/PROMISES.md, "Images").
 use Rattle.std.specs.Prelude.{codes, ℕ, List}
 use Rattle.wy_spelling.specs.Spelling.{behind}
 use Rattle.wy_image.specs.Spelled.{IsImageSpelled, image_bytes}

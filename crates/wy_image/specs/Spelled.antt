@@ -1,4 +1,4 @@
--- The bytes of image files (docs/LANGUAGE.md, "Images").
+-- The bytes of image files (docs/PROMISES.md, "Images").
 use Rattle.std.specs.Prelude.{ℕ, List, [], ◌∷◌, ◌++◌}
 use Rattle.wy_spelling.specs.Plain.{text_bytes, IsTextSpelled, int_bytes, IsIntSpelled, truth_bytes, IsTruthSpelled}
 use Rattle.wy_spelling.specs.Spelling.{number_bytes, list_bytes, IsNumber, AreSpelled}

@@ -14,7 +14,7 @@ pub enum DecodeRefusal {
     Memory,
 }
 
-/// Returns the image that all of the bytes spell (docs/LANGUAGE.md, "Images").
+/// Returns the image that all of the bytes spell (docs/PROMISES.md, "Images").
 ///
 /// # Errors
 ///

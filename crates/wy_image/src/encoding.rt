@@ -8,7 +8,7 @@ use std::alloc::Global;
 use wy_spelling::{Spelled, WriteRefusal};
 use wy_text::text::{Text, from_vec};
 
-/// Returns the bytes of an image (docs/LANGUAGE.md, "Images").
+/// Returns the bytes of an image (docs/PROMISES.md, "Images").
 ///
 /// # Errors
 ///

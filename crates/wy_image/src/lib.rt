@@ -1,4 +1,4 @@
-//! Image files: code, and what each instance states of it, as data and as bytes (docs/LANGUAGE.md, "Images").
+//! Image files: code, and what each instance states of it, as data and as bytes (docs/PROMISES.md, "Images").
 #![tactic(auto)]
 
 mod arguments;
