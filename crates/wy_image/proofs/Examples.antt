@@ -77,7 +77,7 @@ one IsSpelled x is = (lit< tt, λ y h. elim h [ inl e ↦ subst IsSpelled e is |
 two : {X : Type 0} (IsSpelled : X → Type 0) (x z : X) → IsSpelled x → IsSpelled z → AreSpelled IsSpelled (x ∷ z ∷ [])
 two {X} IsSpelled x z is also =
     let each : (y : X) → In y (x ∷ z ∷ []) → IsSpelled y = λ y h.
-        elim h [ inl e ↦ subst IsSpelled e is | inr g ↦ elim g [ inl e ↦ subst IsSpelled e also | inr f ↦ absurd f ] ] in
+    elim h [ inl e ↦ subst IsSpelled e is | inr g ↦ elim g [ inl e ↦ subst IsSpelled e also | inr f ↦ absurd f ] ] in
     (lit< tt, each)
 
 unit_spelled : IsRowSpelled unit_row
