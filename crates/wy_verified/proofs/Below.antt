@@ -105,7 +105,11 @@ module _ (image : Image) where
         method = h;
         there = e;
         stands =
-            record { params = of_params s.pairs s.closed h.params g.params c.params; effect = c.effect; result = of_pair s.pairs s.closed h.result g.result c.result };
+            record {
+              params = of_params s.pairs s.closed h.params g.params c.params;
+              effect = c.effect;
+              result = of_pair s.pairs s.closed h.result g.result c.result;
+            };
       }
 
   pub all_trans : (is js ks : List Kind) → AllBelow is js → AllBelow js ks → AllBelow is ks

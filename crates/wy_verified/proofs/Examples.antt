@@ -187,12 +187,26 @@ log_follows =
     each zero p k e f = at_place 0 (Get 0) (known []) p k (
       Granted 0,
       record { there = refl; read = tt },
-      record { room = omega arith; comes = record { next = known (Granted 0 ∷ []); there = refl; reaches = record { operands = (inl refl, tt); stored = λ s h. h; set = refl } } },
+      record {
+        room = omega arith;
+        comes = record {
+          next = known (Granted 0 ∷ []);
+          there = refl;
+          reaches = record { operands = (inl refl, tt); stored = λ s h. h; set = refl };
+        };
+      },
     ) e f
     each (suc zero) p k e f = at_place 1 (Load 1) (known (Granted 0 ∷ [])) p k (
       Texts,
       record { by = inr (inl (0, refl, refl)) },
-      record { room = omega arith; comes = record { next = known (Texts ∷ Granted 0 ∷ []); there = refl; reaches = record { operands = (inl refl, (inl refl, tt)); stored = λ s h. h; set = refl } } },
+      record {
+        room = omega arith;
+        comes = record {
+          next = known (Texts ∷ Granted 0 ∷ []);
+          there = refl;
+          reaches = record { operands = (inl refl, (inl refl, tt)); stored = λ s h. h; set = refl };
+        };
+      },
     ) e f
     each (suc (suc zero)) p k e f = at_place 2 (Call 0 1) (known (Texts ∷ Granted 0 ∷ [])) p k (record {
       listed = refl;
@@ -252,12 +266,26 @@ run_follows =
     each zero p k e f = at_place 0 (Push (constant.Instance 0)) (known []) p k (
       Own 0 0,
       (refl, omega arith, refl),
-      record { room = omega arith; comes = record { next = known (Own 0 0 ∷ []); there = refl; reaches = record { operands = (inl refl, tt); stored = λ s h. h; set = refl } } },
+      record {
+        room = omega arith;
+        comes = record {
+          next = known (Own 0 0 ∷ []);
+          there = refl;
+          reaches = record { operands = (inl refl, tt); stored = λ s h. h; set = refl };
+        };
+      },
     ) e f
     each (suc zero) p k e f = at_place 1 (Push (constant.Text 0)) (known (Own 0 0 ∷ [])) p k (
       Texts,
       (omega arith, refl),
-      record { room = omega arith; comes = record { next = known (Texts ∷ Own 0 0 ∷ []); there = refl; reaches = record { operands = (inl refl, (inl refl, tt)); stored = λ s h. h; set = refl } } },
+      record {
+        room = omega arith;
+        comes = record {
+          next = known (Texts ∷ Own 0 0 ∷ []);
+          there = refl;
+          reaches = record { operands = (inl refl, (inl refl, tt)); stored = λ s h. h; set = refl };
+        };
+      },
     ) e f
     each (suc (suc zero)) p k e f = at_place 2 (Call 1 1) (known (Texts ∷ Own 0 0 ∷ [])) p k (record {
       listed = refl;

@@ -125,7 +125,15 @@ module _ (image : Image) where
 
     this_kept : (x l : ℕ) (w u : Store) (this : Word) → Keeps image now w u → ThisIs x l w this → ThisIs x l u this
     this_kept x l w u this g h = let s = g.objects h.object h.thing h.there in
-        record { object = h.object; thing = s.0; is = h.is; there = s.1; instance = s.2 ∙ h.instance; literal = s.3 ∙ h.literal; ready = h.ready }
+        record {
+          object = h.object;
+          thing = s.0;
+          is = h.is;
+          there = s.1;
+          instance = s.2 ∙ h.instance;
+          literal = s.3 ∙ h.literal;
+          ready = h.ready;
+        }
 
     this_grows : (x held : ℕ) (owner : Owner) (w u : Store) (set : ℕ) (this : Word) → Grows image now w u →
         ThisHas x held owner w set this → ThisHas x held owner u set this
@@ -184,7 +192,10 @@ module _ (image : Image) where
         SlotHas image c.x c.owner c.body c.bounds less s k →
         SlotHas image c.x c.owner c.body c.bounds stored s k
     slot_less c stored less sub s k h =
-        record { by = elim h.by [ inl t ↦ inl t | inr q ↦ inr (elim q [ inl p ↦ inl p | inr v ↦ inr (v.0, v.1, sub s v.2, v.3) ]) ] }
+        record {
+          by =
+              elim h.by [ inl t ↦ inl t | inr q ↦ inr (elim q [ inl p ↦ inl p | inr v ↦ inr (v.0, v.1, sub s v.2, v.3) ]) ];
+        }
 
     pub reached : (c : Context) (w : Store) (known next : Known) (slots operands : List Word) →
         Reaches image c.x c.owner c.body c.bounds known next →

@@ -123,7 +123,12 @@ module _ (image : Image) (x : ℕ) (owner : Owner) (body : Body) (bounds : Bound
       of (q ∷ qs) f =
           let same : q ≡ k = some_same (sym (ap (λ (l : List Known). slice_get (l ++ m ∷ []) 0) f) ∙ s.starts) in
           let z : at ≡ at + 0 = omega arith in
-          record { next = k; there = ap (slice_get all) z ∙ here 0 k (ap (λ (l : List Known). slice_get l 0) f ∙ ap (λ (q : Known). Some q) same); reaches = knows_same k }
+          record {
+            next = k;
+            there =
+                ap (slice_get all) z ∙ here 0 k (ap (λ (l : List Known). slice_get l 0) f ∙ ap (λ (q : Known). Some q) same);
+            reaches = knows_same k;
+          }
 
   ------------------------------------------------------------
   -- Nothing, and one instruction that goes on to the next place

@@ -239,19 +239,31 @@ module _ (image : Image) (x : ℕ) (owner : Owner) (body : Body) (bounds : Bound
   follows states at known (Push c) w = (
     constant_kind image x owner body bounds held c,
     constants c (w.rules State).1 (w.rules Range),
-    record { room = room states at known (Push c) w known.operands (constant_kind image x owner body bounds held c) refl; comes = comes states at known (Push c) w (suc at) (inl (tt, refl)) },
+    record {
+      room = room states at known (Push c) w known.operands (constant_kind image x owner body bounds held c) refl;
+      comes = comes states at known (Push c) w (suc at) (inl (tt, refl));
+    },
   )
   follows states at known (Load s) w =
       let k = kind_or (Kind_of known.stored s) in (
         k,
         slot_has known.stored s k (readable (Kind_of known.stored s) (w.rules State).1),
-        record { room = room states at known (Load s) w known.operands k refl; comes = comes states at known (Load s) w (suc at) (inl (tt, refl)) },
+        record {
+          room = room states at known (Load s) w known.operands k refl;
+          comes = comes states at known (Load s) w (suc at) (inl (tt, refl));
+        },
       )
   follows states at known (Get i) w =
       let k = kind_or (value_kind image x owner body bounds held i) in (
         k,
-        record { there = readable (value_kind image x owner body bounds held i) (w.rules State).1.0; read = (w.rules State).1.1 },
-        record { room = room states at known (Get i) w known.operands k refl; comes = comes states at known (Get i) w (suc at) (inl (tt, refl)) },
+        record {
+          there = readable (value_kind image x owner body bounds held i) (w.rules State).1.0;
+          read = (w.rules State).1.1;
+        },
+        record {
+          room = room states at known (Get i) w known.operands k refl;
+          comes = comes states at known (Get i) w (suc at) (inl (tt, refl));
+        },
       )
   follows states at known (Store s) w =
       let j : ℕ = s - suc body.parameters in
@@ -267,7 +279,15 @@ module _ (image : Image) (x : ℕ) (owner : Owner) (body : Body) (bounds : Bound
         one_more known.operands (w.rules State).0,
         subst (λ k. Fits image (top_kind known.operands) k) (ap kind_or v.1) (w.rules Types).0,
         (let c = comes states at known (Store s) w (suc at) (inl (tt, refl)) in
-            record { next = c.next; there = c.there; reaches = record { operands = c.reaches.operands; stored = λ a i. slot_within s a known.stored (c.reaches.stored a i); set = c.reaches.set } }),
+            record {
+              next = c.next;
+              there = c.there;
+              reaches = record {
+                operands = c.reaches.operands;
+                stored = λ a i. slot_within s a known.stored (c.reaches.stored a i);
+                set = c.reaches.set;
+              };
+            }),
         omega (arith, h.0, h.1),
       )
   follows states at known (Set i) w =
@@ -295,7 +315,10 @@ module _ (image : Image) (x : ℕ) (owner : Owner) (body : Body) (bounds : Bound
         t.1,
         split_at (operand_count o) known.operands,
         t.2,
-        record { room = room states at known (Op o) w (drop (operand_count o) known.operands) (result_kind o) refl; comes = comes states at known (Op o) w (suc at) (inl (tt, refl)) },
+        record {
+          room = room states at known (Op o) w (drop (operand_count o) known.operands) (result_kind o) refl;
+          comes = comes states at known (Op o) w (suc at) (inl (tt, refl));
+        },
       )
   follows states at known (Jump to) w = ((w.rules Flow).0.0, comes states at known (Jump to) w to (inr refl))
   follows states at known (JumpFalse to) w = (
