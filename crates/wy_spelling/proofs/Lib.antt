@@ -1,7 +1,11 @@
 pub mod Fronts
+pub mod Forms
+pub mod IntFronts
 pub mod Lists
 pub mod Numbers
 pub mod Pairs
 pub mod Shapes
+pub mod TextFronts
+pub mod TruthFronts
 pub mod Unwritten
 pub mod Wholes

@@ -1,7 +1,12 @@
 pub mod Spelling
+pub mod Plain
 pub mod Reading
 pub mod Writing
 pub mod NumberLaws
 pub mod PairLaws
 pub mod ListLaws
 pub mod ShapeLaws
+pub mod TextLaws
+pub mod IntLaws
+pub mod TruthLaws
+pub mod Kinds

@@ -1,0 +1,15 @@
+use Rattle.std.proofs.lemmas.Result.{on_ok_weaker}
+use Rattle.wy_image.proofs.Written.{written_then}
+use Rattle.wy_spelling.specs.Spelling.{number_bytes}
+use Rattle.wy_image.proofs.atoms.AtomSpelled.write.Goals as goal
+
+pub returns-clause-written : goal.returns-clause-written
+returns-clause-written c =
+    let self = c.args.self.now in
+    let w1 = c.in_ok-write.ensures.written in
+    on_ok_weaker c.write-2.result
+    (λ last. (
+      (w1.0, last.0),
+      written_then _ _ _ (number_bytes self.grant) _ w1.1 last.1,
+    ))
+    c.write-2.ensures.written

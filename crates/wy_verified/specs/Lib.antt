@@ -1,0 +1,13 @@
+pub mod CodeOf
+pub mod FileLaws
+pub mod Images
+pub mod Members
+pub mod Ranges
+pub mod Verifying
+pub mod Kinds
+pub mod Laws
+pub mod Passing
+pub mod Rules
+pub mod Stating
+pub mod Visiting
+pub mod Walking
