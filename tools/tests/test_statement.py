@@ -50,6 +50,24 @@ pub record Top (k : Kind) : Type 0 where
 abbrev pub first_of : Kind → Kind
 first_of k = record k { unused = "unused" }
 """
+FIELDS = """-- Two fields with the names of definitions.
+use Rattle.wy_low.specs.Low.{one}
+use Rattle.wy_low.specs.declared.kinds.Kind.{Kind}
+
+-- what the statement says
+abbrev pub Headline : Kind → Type 0
+Headline k = asks k
+
+abbrev pub asks : Kind → Type 0
+asks k = one k
+
+abbrev pub ResolveTo : Type 0
+ResolveTo = Kind
+
+-- it has a field of that name
+pub record Asked : Type 0 where
+  pub asks : Kind
+"""
 
 
 class Statements(ToolTest):
@@ -80,6 +98,40 @@ class Statements(ToolTest):
     def test_a_small_one(self):
         status, said = self.statement("wy_low.one")
         self.assertEqual((status, "1 definitions" in said, "Tree" in said), (0, True, False))
+
+    def test_a_field_hides_no_definition(self):
+        self.write("crates/wy_engine/specs/Fields.antt", FIELDS)
+        status, said = self.statement("Headline")
+        self.assertEqual((status, "asks k = one k" in said, "Asked" in said), (0, True, False))
+        self.assertIn("3 definitions of 7 lines, in 2 files", said)
+        self.assertIn("The whole files have 21 lines.", said)
+
+    def test_each_readme_lists_the_files_of_the_statement(self):
+        self.write("crates/wy_engine/specs/Fields.antt", FIELDS)
+        self.write("crates/wy_rules/specs/Rules.antt", "abbrev pub Accepted : Type 0\nAccepted = Unit {0}\n")
+        self.write("crates/wy_low/specs/Others.antt", "abbrev pub other : Type 0\nother = Unit {0}\n")
+        self.write("crates/wy_low/specs/Lib.antt", "pub mod Low\npub mod Others\n")
+        self.write("crates/wy_low/README.md", "# wy_low\n\n## Trusted\n\nAll.\n")
+        self.assertEqual(self.statement("--check")[0], 1)
+        self.assertEqual(self.statement("--write"), (0, "statement: 3 files, 3 written\n"))
+        self.assertEqual(self.statement("--check"), (0, "statement: 3 files, 0 wrong\n"))
+        page = self.read("crates/wy_low/README.md")
+        self.assertTrue(page.startswith("# wy_low\n\n## Definitions\n\n"))
+        self.assertTrue(page.endswith("\n- Part of the statement: `Low`.\n- Only for proofs: `Others`.\n\n## Trusted\n\nAll.\n"))
+        self.write("crates/wy_low/README.md", page.replace("`Others`", "`Low`"))
+        status, said = self.statement("--check")
+        self.assertEqual((status, "crates/wy_low/README.md is not what the sources say" in said), (1, True))
+        self.statement("--write")
+        self.assertEqual(self.read("crates/wy_low/README.md"), page)
+
+    def test_the_page_of_promises_has_the_counts(self):
+        self.write("crates/wy_engine/specs/Fields.antt", FIELDS)
+        self.write("crates/wy_rules/specs/Rules.antt", "abbrev pub Accepted : Type 0\nAccepted = Unit {0}\n")
+        self.write("docs/PROMISES.md", "| [headline](statement/headline.txt) | all | 1 | 2 | 3 |\n")
+        self.assertEqual(self.statement("--check")[0], 1)
+        self.statement("--write")
+        self.assertEqual(self.read("docs/PROMISES.md"), "| [headline](statement/headline.txt) | all | 3 | 7 | 21 |\n")
+        self.assertEqual(self.statement("--check")[0], 0)
 
     def test_what_cannot_be_resolved_is_an_error(self):
         self.write("crates/wy_high/specs/High.antt", HIGH.replace("one k ⊑ other", "two k ⊑ other"))

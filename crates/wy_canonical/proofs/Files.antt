@@ -20,7 +20,8 @@ use Rattle.wy_syntax.specs.Languages.{Lang, Sign, ◌⨟◌, Each}
 use Rattle.wy_syntax.specs.Grammar.{SpellsItem, Spells}
 use Rattle.wy_syntax.specs.Canonical.{newline, in_order, item_text, after_blank, canonical_form}
 use Rattle.wy_canonical.specs.Unplaced.{bare_item}
-use Rattle.wy_canonical.specs.Printed.{IsWithinLimits, HasTree, HasTreeAgain}
+use Rattle.wy_canonical.specs.Printed.{IsWithinLimits, HasTreeAgain}
+use Rattle.wy_canonical.specs.HasTree.{HasTree}
 use Rattle.wy_canonical.proofs.Reading.{is_limit, LexedIn, LinesIn}
 use Rattle.wy_canonical.proofs.LineReading.{up_here, up_blank, up_end}
 use Rattle.wy_canonical.proofs.Source.{AllFair, lexed_fair}

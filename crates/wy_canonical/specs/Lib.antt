@@ -1,3 +1,4 @@
 pub mod Unplaced
 pub mod Printed
+pub mod HasTree
 pub mod OwnWords

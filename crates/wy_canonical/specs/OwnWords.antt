@@ -2,7 +2,7 @@
 use Rattle.std.specs.Prelude.{ℕ, List}
 use Rattle.wy_syntax.specs.OwnWords.{HaveWords}
 use Rattle.wy_syntax.specs.Trees.{ItemTree}
-use Rattle.wy_canonical.specs.Printed.{HasTree}
+use Rattle.wy_canonical.specs.HasTree.{HasTree}
 
 -- the items of a file have words
 abbrev pub TreesHaveWords : Type 0

@@ -4,22 +4,15 @@ use Rattle.wy_text.specs.declared.token.Token.{Token}
 use Rattle.wy_text.specs.declared.limit.LimitName.{LimitName}
 use Rattle.wy_layout.specs.Counts.{most_file_bytes}
 use Rattle.wy_layout.specs.Layout.{Lexes, IsLimit}
-use Rattle.wy_syntax.specs.Tokens.{toks}
 use Rattle.wy_syntax.specs.Trees.{ItemTree}
-use Rattle.wy_syntax.specs.Grammar.{Spells}
 use Rattle.wy_syntax.specs.Canonical.{canonical_form}
 use Rattle.wy_canonical.specs.Unplaced.{unplaced}
+use Rattle.wy_canonical.specs.HasTree.{HasTree}
 
 -- the file of this number and these bytes passes no limit of layout
 pub record IsWithinLimits (file : ℕ) (bs : List ℕ) : Type 0 where
   pub short : length bs ≤ most_file_bytes
   pub none : (limit : LimitName) → IsLimit file bs limit → ⊥
-
--- the tokens of the bytes spell the tree
-pub record HasTree (file : ℕ) (bs : List ℕ) (items : List ItemTree) : Type 0 where
-  pub tokens : List Token
-  pub lexed : Lexes file bs tokens
-  pub spelled : Spells (toks tokens) items
 
 -- the tokens of the bytes spell the same tree, but for places
 pub record HasTreeAgain (file : ℕ) (bs : List ℕ) (items : List ItemTree) : Type 0 where

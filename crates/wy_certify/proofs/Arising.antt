@@ -18,10 +18,10 @@ use Rattle.wy_types.specs.Subtyping.{LeadsBy, IsStep, IsClosed, AnyEffect}
 use Rattle.wy_types.proofs.Closing.{closed_step}
 use Rattle.wy_types.proofs.FindingMethods.{find_mapped}
 use Rattle.wy_types.proofs.Reaching.{no_methods}
-use Rattle.wy_rules.specs.Tables.{erased_methods}
+use Rattle.wy_rules.specs.PlainMethods.{erased_methods}
 use Rattle.wy_subtype.specs.declared.verdict.Mode.{Mode}
 use Rattle.wy_subtype.specs.declared.verdict.Mode.TheVariants.{Annotated, Plain}
-use Rattle.wy_subtype.specs.Verdict.{Allows, StepsTo}
+use Rattle.wy_subtype.specs.Steps.{Allows, StepsTo}
 use Rattle.wy_subtype.proofs.Places.{slice_get-mapped}
 use Rattle.wy_proving.specs.Certified.{Pair, bare}
 use Rattle.wy_proving.proofs.Erasing.{methods_agree, bare_signature}

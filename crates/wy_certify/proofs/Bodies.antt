@@ -5,7 +5,7 @@ use Rattle.wy_types.specs.declared.types.TypeRef.{TypeRef}
 use Rattle.wy_types.specs.declared.types.TypeRef.TheVariants.{Unit as Nothing}
 use Rattle.wy_types.specs.declared.resolved.Body as own
 use Rattle.wy_types.specs.Code.{Values, Block}
-use Rattle.wy_types.specs.Core.{value_count}
+use Rattle.wy_types.specs.Vals.{value_count}
 use Rattle.wy_types.specs.Program.{Program, Scope, Body, Start, Init, Run, body_of}
 use Rattle.wy_types.specs.Types.{is_plain}
 use Rattle.wy_rules.specs.Derivations.{block_mark}

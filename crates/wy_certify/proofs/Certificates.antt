@@ -34,10 +34,12 @@ use Rattle.wy_certify.specs.declared.listing.PartRefusal.{PartRefusal}
 use Rattle.wy_certify.specs.declared.listing.PartRefusal.TheVariants as part
 use Rattle.wy_certify.specs.declared.certifying.CertifyRefusal.{CertifyRefusal}
 use Rattle.wy_certify.specs.declared.certifying.CertifyRefusal.TheVariants as refusal
-use Rattle.wy_certify.specs.Certificates.{IsPart, IsCertificateOf, IsTooLong, IsRefusedBy, IsUnspelled, most_bytes, refusal_of}
-use Rattle.wy_certify.specs.Numbering.{part_types, IsEachOnce, AreNumbers}
+use Rattle.wy_certify.specs.Certificates.{IsPart, IsCertificateOf, IsTooLong, most_bytes}
+use Rattle.wy_certify.specs.NotCertified.{IsRefusedBy, IsUnspelled, refusal_of}
+use Rattle.wy_certify.specs.Numbering.{part_types, IsEachOnce}
+use Rattle.wy_certify.specs.PartTable.{AreNumbers}
 use Rattle.wy_certify.specs.Parts.{part_pairs, part_bares, part_steps, types_in, said, IsFound, AreFoundParts}
-use Rattle.wy_certify.specs.Settling.{locals_at}
+use Rattle.wy_certify.specs.LocalsAt.{locals_at}
 use Rattle.wy_certify.proofs.Arising.{same_pairs, same_number}
 use Rattle.wy_certify.proofs.Numbers.{each_is_once, table_lists, table_stands}
 use Rattle.wy_certify.proofs.ScopesProved.{part_proves}

@@ -3,7 +3,8 @@ use Rattle.std.proofs.Common.{◌≡◌, [], ◌∷◌, refl}
 use Rattle.wy_types.specs.declared.types.TypeRef.TheVariants.{Int, Bool, Text, At}
 use Rattle.wy_cert.specs.declared.certificate.CertType.TheVariants as as_listed
 use Rattle.wy_proving.specs.Written.{written_out}
-use Rattle.wy_certify.specs.Numbering.{type_added, each_once, part_types, part_table}
+use Rattle.wy_certify.specs.Numbering.{part_types}
+use Rattle.wy_certify.specs.PartTable.{type_added, each_once, part_table}
 
 -- a type that comes again is there
 twice_met : each_once (Int ∷ Bool ∷ Int ∷ []) ≡ Int ∷ Bool ∷ []

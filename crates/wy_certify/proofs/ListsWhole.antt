@@ -8,7 +8,8 @@ use Rattle.wy_types.specs.Program.{Program, Scope}
 use Rattle.wy_subtype.specs.declared.verdict.Mode.TheVariants.{Annotated, Plain}
 use Rattle.wy_proving.specs.Certified.{Pair}
 use Rattle.wy_proving.specs.Proving.{TypeStands}
-use Rattle.wy_proving.specs.Written.{asks, plain_asks, pair_types, step_types, written_steps, IsWhole, AskedStand}
+use Rattle.wy_proving.specs.Written.{asks, plain_asks, pair_types, step_types, written_steps}
+use Rattle.wy_proving.specs.WrittenLaws.{IsWhole, AskedStand}
 use Rattle.wy_certify.specs.Closed.{AllHold, IsClosedList}
 
 module _ (p : Program) (k : ℕ) (s : Scope) (us : List TypeRef) (stand : AskedStand p k s us) where

@@ -21,7 +21,8 @@ use Rattle.wy_proving.specs.Steps.{Step}
 use Rattle.wy_proving.specs.Written.{cert_type, listed_types, number_of, number, cert_node, pair_types, step_types, type_of}
 use Rattle.wy_certify.specs.declared.step.Step as own
 use Rattle.wy_certify.specs.Step.{step_of, steps_of}
-use Rattle.wy_certify.specs.Numbering.{is_listed, type_added, each_once_after, each_once, part_types, part_table, IsEachOnce}
+use Rattle.wy_certify.specs.Numbering.{part_types, IsEachOnce}
+use Rattle.wy_certify.specs.PartTable.{is_listed, type_added, each_once_after, each_once, part_table}
 
 ------------------------------------------------------------
 -- Keys tell types apart

@@ -13,7 +13,7 @@ use Rattle.wy_types.specs.Core.{IsCore}
 use Rattle.wy_types.specs.Subtyping.{AnyEffect}
 use Rattle.wy_types.proofs.Closing.{IsClosed-more}
 use Rattle.wy_types.proofs.Finite.{pair_bound, length-le-pair_bound}
-use Rattle.wy_rules.specs.Tables.{erased_methods}
+use Rattle.wy_rules.specs.PlainMethods.{erased_methods}
 use Rattle.wy_subtype.specs.declared.verdict.Mode.{Mode}
 use Rattle.wy_subtype.specs.declared.verdict.Mode.TheVariants.{Annotated, Plain}
 use Rattle.wy_subtype.specs.declared.unfolding.UnfoldedPair.{UnfoldedPair}

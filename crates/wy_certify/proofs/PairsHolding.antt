@@ -16,16 +16,18 @@ use Rattle.wy_types.specs.Program.{Program, Scope}
 use Rattle.wy_types.specs.Signature.{Signature}
 use Rattle.wy_types.specs.Types.{IsObject, erased, methods_of}
 use Rattle.wy_types.specs.Bounds.{bounds_of}
-use Rattle.wy_types.specs.Fitting.{member_count, scope_literals, IsTypeOf}
+use Rattle.wy_types.specs.Fitting.{scope_literals, IsTypeOf}
+use Rattle.wy_types.specs.MemberCount.{member_count}
 use Rattle.wy_types.specs.Core.{IsCore}
 use Rattle.wy_types.specs.Subtyping.{IsClosed, LeadsBy, AnyEffect}
 use Rattle.wy_types.proofs.Closing.{find_in}
-use Rattle.wy_rules.specs.Tables.{erased_methods, IsPlainSubtypeOver}
+use Rattle.wy_rules.specs.PlainMethods.{erased_methods, IsPlainSubtypeOver}
 use Rattle.wy_subtype.specs.declared.verdict.Mode.{Mode}
 use Rattle.wy_subtype.specs.declared.verdict.Mode.TheVariants.{Annotated, Plain}
 use Rattle.wy_subtype.specs.declared.verdict.Cause.{Cause}
 use Rattle.wy_subtype.specs.declared.unfolding.UnfoldedPair.{UnfoldedPair}
-use Rattle.wy_subtype.specs.Verdict.{Allows, StepsTo, FailsBy}
+use Rattle.wy_subtype.specs.Verdict.{FailsBy}
+use Rattle.wy_subtype.specs.Steps.{Allows, StepsTo}
 use Rattle.wy_subtype.specs.Unfolding.{sides, Asks}
 use Rattle.wy_proving.specs.Certified.{Pair}
 use Rattle.wy_proving.specs.Proving.{TypeStands, sets_of}

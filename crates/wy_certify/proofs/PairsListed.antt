@@ -8,7 +8,7 @@ use Rattle.wy_types.specs.declared.types.TypeRef.TheVariants.{Int, Bool, Text, U
 use Rattle.wy_types.specs.Program.{Program, Scope}
 use Rattle.wy_types.specs.Types.{IsObject, annotated, erased}
 use Rattle.wy_types.specs.Subtyping.{IsClosed, AnyEffect}
-use Rattle.wy_rules.specs.Tables.{erased_methods}
+use Rattle.wy_rules.specs.PlainMethods.{erased_methods}
 use Rattle.wy_subtype.specs.declared.verdict.Mode.{Mode}
 use Rattle.wy_subtype.specs.declared.verdict.Mode.TheVariants.{Annotated, Plain}
 use Rattle.wy_proving.specs.Certified.{Pair, bare}

@@ -11,14 +11,15 @@ use Rattle.wy_cert.specs.declared.certificate.CertScope.{CertScope}
 use Rattle.wy_proving.specs.Certified.{Pair}
 use Rattle.wy_proving.specs.Steps.{Step}
 use Rattle.wy_proving.specs.Proving.{ScopeProof}
-use Rattle.wy_proving.specs.Written.{AreFound, AskedStand, written_steps}
+use Rattle.wy_proving.specs.Written.{written_steps}
+use Rattle.wy_proving.specs.WrittenLaws.{AreFound, AskedStand}
 use Rattle.wy_proving.proofs.AcceptedCertified.{written_is_proof, what_is_asked_stands}
 use Rattle.wy_certify.specs.declared.step.Step as own
 use Rattle.wy_certify.specs.Asking.{asks_in}
 use Rattle.wy_certify.specs.Certificates.{IsPart}
 use Rattle.wy_certify.specs.Closed.{AllHold, IsClosedList}
 use Rattle.wy_certify.specs.Numbering.{part_types}
-use Rattle.wy_certify.specs.Settling.{locals_at}
+use Rattle.wy_certify.specs.LocalsAt.{locals_at}
 use Rattle.wy_certify.specs.Step.{step_of, steps_of}
 use Rattle.wy_certify.proofs.ListsWhole.{asks_hold, plain_asks_hold, lists_whole}
 use Rattle.wy_certify.proofs.Settled.{are_found}

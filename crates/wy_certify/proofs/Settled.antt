@@ -19,10 +19,11 @@ use Rattle.wy_types.specs.Program.{Program, Scope, Body, Start, Init, Run, body_
 use Rattle.wy_types.specs.Types.{is_plain}
 use Rattle.wy_rules.specs.Acceptance.{reading_of}
 use Rattle.wy_rules.specs.Canonical.{same_type, same_read, with_local, settle_values, settle_block, settle_start, canonical_locals}
-use Rattle.wy_proving.specs.Written.{AreFound}
+use Rattle.wy_proving.specs.WrittenLaws.{AreFound}
 use Rattle.wy_proving.specs.OneReading.{reading_at}
 use Rattle.wy_certify.specs.Written.{Context, reading, expr_typ}
-use Rattle.wy_certify.specs.Settling.{knowing, val_typ, expr_settled, value_settled, values_settled, block_settled, stmt_settled, front_settled, start_settled, bodies_settled, locals_at}
+use Rattle.wy_certify.specs.Settling.{knowing, val_typ, expr_settled, value_settled, values_settled, block_settled, stmt_settled, front_settled, start_settled, bodies_settled}
+use Rattle.wy_certify.specs.LocalsAt.{locals_at}
 use Rattle.wy_certify.proofs.Bodies.{with_owner}
 
 ------------------------------------------------------------

@@ -9,7 +9,7 @@ use Rattle.wy_effects.proofs.Numbers.{union-turn, union-none}
 use Rattle.wy_types.specs.declared.types.TypeRef.{TypeRef}
 use Rattle.wy_types.specs.declared.code.Value as v
 use Rattle.wy_types.specs.declared.code.Stmt as st
-use Rattle.wy_types.specs.Core.{value_count}
+use Rattle.wy_types.specs.Vals.{value_count}
 use Rattle.wy_types.specs.View.{value_of, values_of}
 use Rattle.wy_cert.specs.declared.certificate.Rule.TheVariants as by
 use Rattle.wy_proving.specs.Steps.{Step, step}

@@ -5,22 +5,15 @@ use Rattle.wy_text.specs.LimitName.{limit_number}
 use Rattle.wy_text.specs.declared.limit.LimitName.TheVariants as limit
 use Rattle.wy_types.specs.declared.types.TypeRef.{TypeRef}
 use Rattle.wy_types.specs.Program.{Program, Scope}
-use Rattle.wy_types.specs.Core.{IsCore}
-use Rattle.wy_rules.specs.Acceptance.{Accepted}
 use Rattle.wy_subtype.specs.declared.verdict.Mode.TheVariants.{Annotated, Plain}
 use Rattle.wy_spelling.specs.Spelling.{Spells}
 use Rattle.wy_cert.specs.declared.certificate.CertScope.{CertScope}
 use Rattle.wy_cert.specs.Spelled.{IsCertificateSpelled, certificate_bytes}
 use Rattle.wy_proving.specs.Certified.{Pair}
-use Rattle.wy_proving.specs.Proving.{IsProof}
 use Rattle.wy_proving.specs.Written.{asks, plain_asks, written_out, written_steps}
 use Rattle.wy_certify.specs.Closed.{IsClosedList}
 use Rattle.wy_certify.specs.Numbering.{IsEachOnce, part_types}
-use Rattle.wy_certify.specs.Settling.{locals_at}
-use Rattle.wy_certify.specs.declared.certifying.CertifyRefusal.{CertifyRefusal}
-use Rattle.wy_certify.specs.declared.certifying.CertifyRefusal.TheVariants as refusal
-use Rattle.wy_certify.specs.declared.listing.PartRefusal.{PartRefusal}
-use Rattle.wy_certify.specs.declared.listing.PartRefusal.TheVariants as part
+use Rattle.wy_certify.specs.LocalsAt.{locals_at}
 
 -- the most bytes of a certificate
 abbrev pub most_bytes : ℕ
@@ -49,32 +42,3 @@ IsCertified p bytes = (cert : List CertScope) × IsCertificateOf p cert × Spell
 -- a certificate of the program has more bytes than the limit, four being counted for each number
 abbrev pub IsTooLong : Program → Type 0
 IsTooLong p = (cert : List CertScope) × IsCertificateOf p cert × (most_bytes < length (certificate_bytes cert))
-
--- why no certificate is given; of want of memory nothing is said
-abbrev pub IsRefusedBy : Program → CertifyRefusal → Type 0
-IsRefusedBy p (refusal.Limit name) = (name ≡ limit.CertificateBytes) × IsTooLong p
-IsRefusedBy p refusal.Memory = Unit {0}
-
-------------------------------------------------------------
--- While it is made
-
--- a refusal of a part, by numbers
-abbrev pub refusal_of : PartRefusal → CertifyRefusal
-refusal_of part.Limit = refusal.Limit limit.CertificateBytes
-refusal_of part.Memory = refusal.Memory
-
--- why a certificate is not spelled
-abbrev pub IsUnspelled : List CertScope → CertifyRefusal → Type 0
-IsUnspelled cert (refusal.Limit name) = (name ≡ limit.CertificateBytes) × (most_bytes < length (certificate_bytes cert))
-IsUnspelled cert refusal.Memory = Unit {0}
-
-------------------------------------------------------------
--- Laws
-
--- a certificate of an accepted program proves it
-abbrev pub CertificatesProve : Type 0
-CertificatesProve = (p : Program) → IsCore p → Accepted p → (cert : List CertScope) → IsCertificateOf p cert → IsProof p cert
-
--- certificates of a program have as many bytes: they differ in the order of their types and pairs alone
-abbrev pub OneSize : Type 0
-OneSize = (p : Program) (one other : List CertScope) → IsCertificateOf p one → IsCertificateOf p other → length (certificate_bytes one) ≡ length (certificate_bytes other)

@@ -5,10 +5,10 @@ use Rattle.wy_types.specs.declared.path.Step.{Step}
 use Rattle.wy_types.specs.Program.{Program, Scope}
 use Rattle.wy_types.specs.Types.{annotated, erased}
 use Rattle.wy_types.specs.Subtyping.{IsAnnotatedSubtype}
-use Rattle.wy_rules.specs.Tables.{erased_methods, IsPlainSubtypeOver}
+use Rattle.wy_rules.specs.PlainMethods.{erased_methods, IsPlainSubtypeOver}
 use Rattle.wy_subtype.specs.declared.verdict.Mode.{Mode}
 use Rattle.wy_subtype.specs.declared.verdict.Mode.TheVariants.{Annotated, Plain}
-use Rattle.wy_subtype.specs.Verdict.{StepsTo}
+use Rattle.wy_subtype.specs.Steps.{StepsTo}
 use Rattle.wy_proving.specs.Certified.{Pair, bare}
 use Rattle.wy_proving.specs.Proving.{TypeStands}
 use Rattle.wy_proving.specs.Written.{BareStands}

@@ -1,11 +1,15 @@
 pub mod Asking
 pub mod Certificates
+pub mod CertificateLaws
 pub mod Closed
 pub mod Gathered
 pub mod Numbering
 pub mod Pair
 pub mod Parts
+pub mod PartTable
 pub mod Settling
+pub mod LocalsAt
+pub mod NotCertified
 pub mod Step
 pub mod Writer
 pub mod Written

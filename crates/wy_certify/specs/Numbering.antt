@@ -1,45 +1,18 @@
--- Types, each once, in the order in which they are met: the table by whose numbers a scope's part speaks of them (docs/LANGUAGE.md,
+-- The types of which the part of a scope speaks, and lists of types that have each once (docs/LANGUAGE.md,
 -- "Certificates").
-use Rattle.std.specs.Prelude.{Bool as Truth, false, ◌||◌, List, [], ◌∷◌, ◌++◌, length, if◌then◌else◌}
+use Rattle.std.specs.Prelude.{List, ◌++◌}
 use Rattle.wy_text.specs.Members.{In, Apart}
 use Rattle.wy_types.specs.declared.types.TypeRef.{TypeRef}
-use Rattle.wy_rules.specs.Canonical.{same_type}
-use Rattle.wy_spelling.specs.Spelling.{IsNumber}
 use Rattle.wy_proving.specs.Certified.{Pair}
 use Rattle.wy_proving.specs.Steps.{Step}
 use Rattle.wy_proving.specs.Written.{pair_types, step_types}
 
-abbrev pub is_listed : TypeRef → List TypeRef → Truth
-is_listed t [] = false
-is_listed t (u ∷ us) = same_type u t || is_listed t us
-
--- the list, with the type at its end where it has it not
-unfoldable pub type_added : List TypeRef → TypeRef → List TypeRef
-type_added ts t = if is_listed t ts then ts else ts ++ t ∷ []
-
--- .. with types, one after the other
-abbrev pub each_once_after : List TypeRef → List TypeRef → List TypeRef
-each_once_after ts [] = ts
-each_once_after ts (u ∷ us) = each_once_after (type_added ts u) us
-
--- the list without what stood in it before
-abbrev pub each_once : List TypeRef → List TypeRef
-each_once us = each_once_after [] us
-
 -- the types of which the part of a scope speaks: those of pairs, of pairs for plain comparison, of steps and of `val`s
 unfoldable pub part_types : List Pair → List Pair → List TypeRef → List (Step TypeRef) → List TypeRef
 part_types ps bs us sts = pair_types ps ++ (pair_types bs ++ (step_types sts ++ us))
-
--- .. and the table of them
-abbrev pub part_table : List Pair → List Pair → List TypeRef → List (Step TypeRef) → List TypeRef
-part_table ps bs us sts = each_once (part_types ps bs us sts)
 
 -- a list that has these types, each once, and no others
 pub record IsEachOnce (us ts : List TypeRef) : Type 0 where
   pub all : (t : TypeRef) → In t us → In t ts
   pub only : (t : TypeRef) → In t ts → In t us
   pub apart : Apart ts
-
--- four bytes can say the number of each type, and how many parts each step has
-abbrev pub AreNumbers : List TypeRef → List (Step TypeRef) → Type 0
-AreNumbers ts sts = IsNumber (length ts) × ((st : Step TypeRef) → In st sts → IsNumber st.parts)

@@ -9,9 +9,9 @@ use Rattle.wy_proving.specs.Steps.{Step}
 use Rattle.wy_proving.specs.Written.{asks, plain_asks, written_out, written_steps}
 use Rattle.wy_certify.specs.declared.finding.ScopePart.{ScopePart}
 use Rattle.wy_certify.specs.Closed.{IsClosedList}
-use Rattle.wy_certify.specs.Numbering.{part_table}
+use Rattle.wy_certify.specs.PartTable.{part_table}
 use Rattle.wy_certify.specs.Pair.{pair_of}
-use Rattle.wy_certify.specs.Settling.{locals_at}
+use Rattle.wy_certify.specs.LocalsAt.{locals_at}
 use Rattle.wy_certify.specs.Step.{steps_of}
 
 abbrev pub part_pairs : ScopePart → List Pair

@@ -1,13 +1,11 @@
 -- The types of `val`s that are known after each part of a scope's bodies, over those that were known before it.
-use Rattle.std.specs.Prelude.{ℕ, List, [], ◌∷◌, Option}
+use Rattle.std.specs.Prelude.{List, [], ◌∷◌, Option}
 use Rattle.wy_types.specs.declared.types.TypeRef.{TypeRef}
 use Rattle.wy_types.specs.declared.code.Stmt as st
 use Rattle.wy_types.specs.Code.{Expr, Value, Values, Block}
 use Rattle.wy_types.specs.View.{value_of}
-use Rattle.wy_types.specs.Program.{Program, Scope, Body, program_of, scope_of}
-use Rattle.wy_types.specs.Types.{is_plain}
-use Rattle.wy_rules.specs.Canonical.{same_type, with_local, val_type, settle_expr, settle_value, settle_values, settle_block, settle_start, settle_bodies, canonical_locals}
-use Rattle.wy_proving.specs.OneReading.{reading_at}
+use Rattle.wy_types.specs.Program.{Body, program_of, scope_of}
+use Rattle.wy_rules.specs.Canonical.{same_type, with_local, val_type, settle_expr, settle_value, settle_values, settle_block, settle_start, settle_bodies}
 use Rattle.wy_certify.specs.declared.settling.Settler.{Settler}
 use Rattle.wy_certify.specs.Written.{Context, reading}
 
@@ -50,7 +48,3 @@ start_settled c = settle_start (reading c) same_type c.scope c.scope.start
 
 unfoldable pub bodies_settled : Context → List Body → List TypeRef → List TypeRef
 bodies_settled c bs us = settle_bodies (reading c) same_type c.scope bs us
-
--- of all `val`s of a scope
-abbrev pub locals_at : Program → ℕ → Scope → List TypeRef
-locals_at p k s = canonical_locals (reading_at p k (is_plain s.kind)) same_type s

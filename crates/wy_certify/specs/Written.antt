@@ -10,7 +10,7 @@ use Rattle.wy_types.specs.declared.code.Stmt as st
 use Rattle.wy_types.specs.Code.{Expr, Value, Plain, Values, Block}
 use Rattle.wy_types.specs.View.{value_of}
 use Rattle.wy_types.specs.Program.{Program, Scope, Body}
-use Rattle.wy_types.specs.Core.{value_count}
+use Rattle.wy_types.specs.Vals.{value_count}
 use Rattle.wy_types.specs.Types.{is_plain}
 use Rattle.wy_types.specs.Signature.{Signature, find_method}
 use Rattle.wy_rules.specs.Readings.{Reading}

@@ -9,10 +9,12 @@ ghost use Rattle.wy_spelling.specs.Spelling.{Spells};
 ghost use Rattle.wy_cert.specs.Spelled.{IsCertificateSpelled, certificate_bytes};
 ghost use Rattle.wy_certify.specs.declared.listing.PartRefusal.TheVariants as part;
 ghost use Rattle.wy_certify.specs.declared.finding.ScopePart.{ScopePart as Part};
-ghost use Rattle.wy_certify.specs.Numbering.{AreNumbers};
+ghost use Rattle.wy_certify.specs.PartTable.{AreNumbers};
 ghost use Rattle.wy_certify.specs.Parts.{part_steps, said, types_in};
 ghost use Rattle.wy_certify.specs.declared.certifying.CertifyRefusal.TheVariants as refusal;
-ghost use Rattle.wy_certify.specs.Certificates.{IsCertificateOf, IsCertified, IsRefusedBy, IsUnspelled, CertificatesProve, OneSize, most_bytes, refusal_of};
+ghost use Rattle.wy_certify.specs.Certificates.{IsCertificateOf, IsCertified, most_bytes};
+ghost use Rattle.wy_certify.specs.CertificateLaws.{CertificatesProve, OneSize};
+ghost use Rattle.wy_certify.specs.NotCertified.{IsRefusedBy, IsUnspelled, refusal_of};
 
 use crate::finding::{ScopePart, found_parts};
 use crate::listing::{PartRefusal, part_of};

@@ -3,7 +3,7 @@
 ghost use Rattle.std.specs.Prelude.{◌≡◌, ◌↔◌, [], IfErr, IfOk, IsTrue, OnOk, length, map};
 ghost use Rattle.wy_spelling.specs.Spelling.{IsNumber};
 ghost use Rattle.wy_proving.specs.Written.{number, cert_type, cert_pair, cert_node};
-ghost use Rattle.wy_certify.specs.Numbering.{AreNumbers};
+ghost use Rattle.wy_certify.specs.PartTable.{AreNumbers};
 ghost use Rattle.wy_certify.specs.Pair.{pair_of};
 ghost use Rattle.wy_certify.specs.Parts.{part_steps, said, said_by, types_in};
 ghost use Rattle.wy_certify.specs.Step.{step_of, steps_of};

@@ -3,7 +3,7 @@
 ghost use Rattle.std.specs.Prelude.{◌≡◌, ◌++◌, [], IfOk, OnOk, length, map};
 ghost use Rattle.wy_spelling.specs.Spelling.{IsNumber};
 ghost use Rattle.wy_proving.specs.Written.{number, type_number, type_of, pair_types, step_types};
-ghost use Rattle.wy_certify.specs.Numbering.{type_added, each_once_after};
+ghost use Rattle.wy_certify.specs.PartTable.{type_added, each_once_after};
 ghost use Rattle.wy_certify.specs.Pair.{pair_of};
 ghost use Rattle.wy_certify.specs.Step.{steps_of};
 

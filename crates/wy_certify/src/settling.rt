@@ -5,7 +5,8 @@ ghost use Rattle.std.specs.Prelude.{◌≡◌, ◌<◌, [], IfOk, OnOk, None, So
 ghost use Rattle.wy_types.specs.View.{expr_of, value_of, values_of, block_of};
 ghost use Rattle.wy_types.specs.Program.{Scope as ProgramScope, program_of, scope_of, body_of};
 ghost use Rattle.wy_rules.specs.Canonical.{with_local};
-ghost use Rattle.wy_certify.specs.Settling.{standing_of, knowing, val_typ, expr_settled, value_settled, values_settled, stmt_settled, front_settled, block_settled, start_settled, bodies_settled, locals_at};
+ghost use Rattle.wy_certify.specs.Settling.{standing_of, knowing, val_typ, expr_settled, value_settled, values_settled, stmt_settled, front_settled, block_settled, start_settled, bodies_settled};
+ghost use Rattle.wy_certify.specs.LocalsAt.{locals_at};
 
 use crate::writer::Writer;
 use std::alloc::Global;

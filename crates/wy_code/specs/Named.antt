@@ -1,6 +1,6 @@
 -- What the instructions of code name, in the order of bodies and instructions: constant texts, methods, and the slots
 -- that are stored into. (docs/LANGUAGE.md, "Code")
-use Rattle.std.specs.Prelude.{◌≡◌, ℕ, ◌-◌, max, Bool, false, ◌||◌, List, [], ◌∷◌, ◌++◌, map, Option, Some, None, bytes_eq, slice_get, if◌then◌else◌}
+use Rattle.std.specs.Prelude.{◌≡◌, ℕ, ◌-◌, max, List, [], ◌∷◌, ◌++◌, map, Option, Some, None, slice_get}
 use Rattle.wy_code.specs.declared.instruction.Constant.TheVariants as constant
 use Rattle.wy_code.specs.declared.instruction.Instruction.{Instruction}
 use Rattle.wy_code.specs.declared.instruction.Instruction.TheVariants.{Push, Store, Call}
@@ -10,21 +10,10 @@ use Rattle.wy_code.specs.declared.code.Code.{Code}
 use Rattle.wy_code.specs.declared.code.Literal.{Literal}
 use Rattle.wy_code.specs.declared.code.Method.{Method}
 use Rattle.wy_code.specs.declared.code.Scope.{Scope}
+use Rattle.wy_code.specs.EachOnce.{each_once}
 
 ------------------------------------------------------------
 -- Lists of names and texts, each once
-
-abbrev pub is_among : List ℕ → List (List ℕ) → Bool
-is_among x [] = false
-is_among x (y ∷ ys) = bytes_eq y x || is_among x ys
-
-abbrev pub each_once_after : List (List ℕ) → List (List ℕ) → List (List ℕ)
-each_once_after seen [] = seen
-each_once_after seen (x ∷ xs) = if is_among x seen then each_once_after seen xs else each_once_after (seen ++ x ∷ []) xs
-
--- the list without what stood in it before
-abbrev pub each_once : List (List ℕ) → List (List ℕ)
-each_once xs = each_once_after [] xs
 
 abbrev pub text_at : Option (List ℕ) → List (List ℕ)
 text_at None = []

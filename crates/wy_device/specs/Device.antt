@@ -1,6 +1,5 @@
 -- What a device means.
-use Rattle.std.specs.Prelude.{◌≡◌, ℕ, ◌≤◌, List, [], ◌∷◌, Option, Some, None, Result, Ok, Err, IfOk, length, ⊤}
-use Rattle.wy_device.specs.declared.operation.Kind.{Kind}
+use Rattle.std.specs.Prelude.{◌≡◌, ℕ, ◌≤◌, List, [], ◌∷◌, Option, Some, None, Result, Err, IfOk, length, ⊤}
 use Rattle.wy_device.specs.declared.operation.Op.{Op}
 use Rattle.wy_device.specs.declared.operation.OpName.{OpName}
 use Rattle.wy_device.specs.declared.operation.OpName.TheVariants.{ConsoleRead, ConsoleWrite, FolderRead, FolderHas, FolderWrite, FolderAppend, FolderNames, ClockNow, RandomWord, FolderRemove}
@@ -12,12 +11,7 @@ use Rattle.wy_device.specs.declared.device.DeviceError.TheVariants.{Failed, Memo
 use Rattle.wy_device.specs.Operation.{name_of}
 use Rattle.wy_device.specs.Traps.{text_limit}
 use Rattle.wy_text.specs.Outside.{gained, Rose}
-
--- a device's kind, its deeds, where it tells them, and its count of faults
-pub record DeviceState : Type 0 where
-  pub kind : Kind
-  pub deeds : Option (List Deed)
-  pub faults : ℕ
+use Rattle.wy_device.specs.DeviceState.{DeviceState}
 
 -- the deeds of a device that keeps them to itself
 abbrev pub untold : Option (List Deed)

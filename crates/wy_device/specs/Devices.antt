@@ -1,6 +1,6 @@
 -- The four devices of a run.
 use Rattle.std.specs.Prelude.{◌≡◌}
-use Rattle.wy_device.specs.Device.{DeviceState}
+use Rattle.wy_device.specs.DeviceState.{DeviceState}
 use Rattle.wy_device.specs.declared.operation.Kind.{Kind}
 use Rattle.wy_device.specs.declared.operation.Kind.TheVariants.{Console, Folder, Clock, Random}
 

@@ -1,4 +1,5 @@
 pub mod Device
+pub mod DeviceState
 pub mod Devices
 pub mod Editions
 pub mod Events

@@ -2,7 +2,8 @@
 
 ghost use Rattle.std.specs.Prelude.{◌≡◌};
 ghost use Rattle.std.specs.Option.{option_copied};
-ghost use Rattle.wy_device.specs.Device.{DeviceState, Performs};
+ghost use Rattle.wy_device.specs.Device.{Performs};
+ghost use Rattle.wy_device.specs.DeviceState.{DeviceState};
 ghost use Rattle.wy_device.specs.Operation.{kind_of};
 
 use crate::deed::DeedList;

@@ -1,7 +1,7 @@
 ghost use Rattle.std.specs.Prelude.{◌≡◌, ◌≤◌, ◌-◌, [], IfOk, OnOk, false, length};
 ghost use Rattle.std.specs.Io.KnownBytes.{Appends};
 ghost use Rattle.std.specs.Result.{result_err};
-ghost use Rattle.wy_device.specs.Device.{DeviceState};
+ghost use Rattle.wy_device.specs.DeviceState.{DeviceState};
 ghost use Rattle.wy_host.specs.Failures.{CountsFailure};
 ghost use Rattle.wy_host.specs.Streams.{GrewUpTo, IsFirst};
 

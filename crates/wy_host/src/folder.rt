@@ -1,7 +1,8 @@
 ghost use Rattle.std.specs.Prelude.{◌≡◌, ◌≤◌, ◌++◌, ◌∷◌, List, ℕ, Ok, IfOk, OnOk, IfSome, OnSome, IsTrue, Contains, true, length, string_bytes};
 ghost use Rattle.std.specs.Option.{option_map};
 ghost use Rattle.std.specs.Result.{result_err};
-ghost use Rattle.wy_device.specs.Device.{DeviceState, IsBytesUpTo, IsTruth};
+ghost use Rattle.wy_device.specs.Device.{IsBytesUpTo, IsTruth};
+ghost use Rattle.wy_device.specs.DeviceState.{DeviceState};
 ghost use Rattle.wy_device.specs.Requests as requests;
 ghost use Rattle.wy_device.specs.Traps.{text_limit};
 ghost use Rattle.wy_host.specs.Failures.{CountsFailure};

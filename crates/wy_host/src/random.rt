@@ -1,4 +1,4 @@
-ghost use Rattle.wy_device.specs.Device.{DeviceState};
+ghost use Rattle.wy_device.specs.DeviceState.{DeviceState};
 
 use crate::fault::count_fault;
 use std::fs;

@@ -7,7 +7,7 @@ use Rattle.wy_types.specs.declared.types.TypeRef.{TypeRef}
 use Rattle.wy_types.specs.declared.types.Method.{Method}
 use Rattle.wy_types.specs.declared.code.Value as v
 use Rattle.wy_types.specs.Code.{Expr, Call, Values}
-use Rattle.wy_types.specs.Core.{expr_vals, values_vals, value_count}
+use Rattle.wy_types.specs.Vals.{expr_vals, values_vals, value_count}
 use Rattle.wy_types.specs.View.{values_of}
 use Rattle.wy_types.specs.Program.{Program, Scope}
 use Rattle.wy_types.specs.Signature.{Signature, find_method}

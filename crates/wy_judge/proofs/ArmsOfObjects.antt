@@ -11,7 +11,7 @@ use Rattle.wy_types.specs.declared.code.Binding.TheVariants as to
 use Rattle.wy_types.specs.declared.code.Value as v
 use Rattle.wy_types.specs.declared.resolved.Field.{Field}
 use Rattle.wy_types.specs.Code.{New, Ascribe, Assign, Value, Values}
-use Rattle.wy_types.specs.Core.{value_vals, values_vals}
+use Rattle.wy_types.specs.Vals.{value_vals, values_vals}
 use Rattle.wy_types.specs.View.{values_of}
 use Rattle.wy_types.specs.Program.{Program, Scope}
 use Rattle.wy_types.specs.Fitting.{IsTypeOf}

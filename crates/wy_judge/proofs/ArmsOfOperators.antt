@@ -8,7 +8,7 @@ use Rattle.wy_types.specs.declared.code.UnaryOperator.{UnaryOperator}
 use Rattle.wy_types.specs.declared.code.BinaryOperator.{BinaryOperator}
 use Rattle.wy_types.specs.Code.{Expr, Unary, Binary}
 use Rattle.wy_types.specs.Program.{Program, Scope}
-use Rattle.wy_types.specs.Core.{expr_vals}
+use Rattle.wy_types.specs.Vals.{expr_vals}
 use Rattle.wy_rules.specs.Operators.{unary_rows, binary_rows}
 use Rattle.wy_rules.specs.Acceptance.{scope_reading}
 use Rattle.wy_rules.specs.Nodes.{expr_nodes}

@@ -8,7 +8,8 @@ use Rattle.wy_types.specs.declared.code.TextOperator.{TextOperator}
 use Rattle.wy_types.specs.declared.code.TextOperator.TheVariants.{Size, Part, Code, Byte, Show}
 use Rattle.wy_types.specs.declared.code.Value as v
 use Rattle.wy_types.specs.Code.{TextCall, Values, none, more}
-use Rattle.wy_types.specs.Core.{value_count, text_arity, values_vals}
+use Rattle.wy_types.specs.Core.{text_arity}
+use Rattle.wy_types.specs.Vals.{value_count, values_vals}
 use Rattle.wy_types.specs.View.{values_of}
 use Rattle.wy_types.specs.Program.{Program, Scope}
 use Rattle.wy_types.specs.Fitting.{IsTypeOf}

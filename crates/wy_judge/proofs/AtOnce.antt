@@ -12,7 +12,7 @@ use Rattle.wy_types.specs.declared.types.Method.{Method}
 use Rattle.wy_types.specs.declared.code.TextOperator.{TextOperator}
 use Rattle.wy_types.specs.declared.resolved.Field.{Field}
 use Rattle.wy_types.specs.Code.{Expr, Plain, TextCall, Call, New, Value, Values, none, more}
-use Rattle.wy_types.specs.Core.{expr_vals, value_vals, values_vals, value_count}
+use Rattle.wy_types.specs.Vals.{expr_vals, value_vals, values_vals, value_count}
 use Rattle.wy_types.specs.Program.{Program, Scope}
 use Rattle.wy_types.specs.Signature.{Signature, find_method}
 use Rattle.wy_types.specs.Types.{IsObject, signature, methods_of}

@@ -11,7 +11,7 @@ use Rattle.wy_types.specs.declared.code.Stmt as st
 use Rattle.wy_types.specs.Code.{Value, Last}
 use Rattle.wy_types.specs.Program.{Program, Scope}
 use Rattle.wy_types.specs.View.{stmt_block, stmts_block}
-use Rattle.wy_types.specs.Core.{value_vals, block_vals}
+use Rattle.wy_types.specs.Vals.{value_vals, block_vals}
 use Rattle.wy_rules.specs.Acceptance.{scope_reading}
 use Rattle.wy_judge.specs.Fit.{Fit}
 use Rattle.wy_judge.specs.Fit as fit

@@ -7,7 +7,7 @@ use Rattle.wy_text.specs.declared.fault.RuleName.TheVariants.{TSeq}
 use Rattle.wy_types.specs.declared.types.TypeRef.{TypeRef}
 use Rattle.wy_types.specs.declared.types.TypeRef.TheVariants.{Unit as Nothing}
 use Rattle.wy_types.specs.Code.{Value, Block, Last, Then, Val}
-use Rattle.wy_types.specs.Core.{value_vals, block_vals}
+use Rattle.wy_types.specs.Vals.{value_vals, block_vals}
 use Rattle.wy_types.specs.Program.{Program, Scope}
 use Rattle.wy_types.specs.Fitting.{IsTypeOf}
 use Rattle.wy_rules.specs.Derivations.{mark}

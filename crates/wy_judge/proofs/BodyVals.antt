@@ -6,7 +6,8 @@ use Rattle.wy_text.specs.Members.{In, Apart}
 use Rattle.wy_text.proofs.Lists.{In-left, In-right, In-cases, In-unmap}
 use Rattle.wy_types.specs.declared.code.Variable.TheVariants.{Parameter, Local}
 use Rattle.wy_types.specs.Program.{Scope, Body}
-use Rattle.wy_types.specs.Core.{bodies_vals, block_vals, literal_captures, body_parameters, CapturesBefore}
+use Rattle.wy_types.specs.Core.{body_parameters, CapturesBefore}
+use Rattle.wy_types.specs.Vals.{bodies_vals, block_vals, literal_captures}
 use Rattle.wy_judge.proofs.Apart.{Apart-left, Apart-right, Apart-across}
 
 ------------------------------------------------------------

@@ -8,7 +8,7 @@ use Rattle.wy_text.specs.declared.fault.Fault.{Fault}
 use Rattle.wy_text.specs.Members.{In}
 use Rattle.wy_types.specs.declared.resolved.Body as b
 use Rattle.wy_types.specs.Program.{Program, Scope, Body, body_of}
-use Rattle.wy_types.specs.Core.{start_vals, bodies_vals, block_vals}
+use Rattle.wy_types.specs.Vals.{start_vals, bodies_vals, block_vals}
 use Rattle.wy_rules.specs.Acceptance.{scope_reading}
 use Rattle.wy_rules.specs.Nodes.{bodies_nodes}
 use Rattle.wy_judge.specs.Judged.{NodesJudged}

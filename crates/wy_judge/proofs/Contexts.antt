@@ -14,8 +14,10 @@ use Rattle.wy_types.specs.declared.resolved.ScopeKind.TheVariants.{Pure, Resourc
 use Rattle.wy_types.specs.Program.{Program, Scope, Body}
 use Rattle.wy_types.specs.Signature.{Signature, find_method}
 use Rattle.wy_types.specs.Types.{IsObject, is_plain, methods_of}
-use Rattle.wy_types.specs.Fitting.{FitsSignature, IsTypeOf, own_count, scope_literals, member_count}
-use Rattle.wy_types.specs.Core.{ScopeFits, IsWritten, IsAscribed, literal_fields}
+use Rattle.wy_types.specs.Fitting.{FitsSignature, IsTypeOf, own_count, scope_literals}
+use Rattle.wy_types.specs.MemberCount.{member_count}
+use Rattle.wy_types.specs.Core.{ScopeFits, IsWritten, IsAscribed}
+use Rattle.wy_types.specs.Vals.{literal_fields}
 use Rattle.wy_types.specs.InRange.{IsInRange}
 use Rattle.wy_types.proofs.Arities.{core_in_range}
 use Rattle.wy_types.proofs.Closing.{find_in}

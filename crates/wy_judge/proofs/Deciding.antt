@@ -9,12 +9,12 @@ use Rattle.wy_types.specs.Ground.{start_list}
 use Rattle.wy_types.specs.Program.{Program, Scope}
 use Rattle.wy_rules.specs.Nodes.{lines_nodes}
 use Rattle.wy_rules.specs.Failing.{AllPass, IsLineFault}
-use Rattle.wy_rules.specs.Refusals.{Turn, plain_modules, other_modules, the_program, turn_of, Numbered, scopes_of, FirstFault, AllScopesPass, LinesPassFrom}
-use Rattle.wy_rules.specs.Ends.{End, limited, refused, StartsTooMany, FirstEnd, AllGoOn, SomeReachTooMany, IsEnd}
+use Rattle.wy_rules.specs.Refusals.{Turn, plain_modules, other_modules, the_program, turn_of, Numbered, scopes_of, FirstFault, LinesPassFrom}
+use Rattle.wy_rules.specs.ProgramRefusal.{AllScopesPass}
+use Rattle.wy_rules.specs.Ends.{End, limited, refused, StartsTooMany, FirstEnd, AllGoOn, SomeReachTooMany, IsEnd, IsAccepted}
 use Rattle.wy_rules.proofs.Passing.{passing_is_accepted}
 use Rattle.wy_rules.proofs.Unrefused.{each_of_turn}
 use Rattle.wy_judge.specs.Accepting.{IsScopeDecided, IsDecided}
-use Rattle.wy_judge.specs.Checking.{IsAccepted}
 use Rattle.wy_judge.proofs.Checks.{its_turn}
 use Rattle.wy_judge.proofs.Programs.{each_goes_on}
 use Rattle.wy_judge.proofs.ReachDecided.{reach_decided}

@@ -11,7 +11,7 @@ use Rattle.wy_types.specs.declared.types.TypeRef.TheVariants.{Int}
 use Rattle.wy_types.specs.declared.types.Method.{Method}
 use Rattle.wy_types.specs.declared.code.Value as v
 use Rattle.wy_types.specs.Code.{Expr, Plain}
-use Rattle.wy_types.specs.Core.{value_count}
+use Rattle.wy_types.specs.Vals.{value_count}
 use Rattle.wy_types.specs.View.{values_of}
 use Rattle.wy_types.specs.Program.{Program, Scope}
 use Rattle.wy_types.specs.Signature.{Signature, find_method}

@@ -4,7 +4,8 @@ use Rattle.std.proofs.Common.{◌≡◌, ℕ, zero, suc, List, [], ◌∷◌, �
 use Rattle.std.proofs.lemmas.List.{take_all}
 use Rattle.wy_text.specs.declared.fault.Fault.{Fault}
 use Rattle.wy_text.specs.Members.{In}
-use Rattle.wy_types.specs.Core.{AreNumbered, start_vals, bodies_vals, scope_vals}
+use Rattle.wy_types.specs.Core.{AreNumbered}
+use Rattle.wy_types.specs.Vals.{start_vals, bodies_vals, scope_vals}
 use Rattle.wy_types.specs.Program.{Program, Scope, Body}
 use Rattle.wy_rules.specs.Readings.{Reading}
 use Rattle.wy_rules.specs.Typing.{fields_of}

@@ -9,7 +9,7 @@ use Rattle.wy_types.specs.declared.code.Value as v
 use Rattle.wy_types.specs.declared.code.Stmt as st
 use Rattle.wy_types.specs.Code.{Block}
 use Rattle.wy_types.specs.View.{value_of, values_of, stmt_block, stmts_block}
-use Rattle.wy_types.specs.Core.{value_vals, values_vals, block_vals}
+use Rattle.wy_types.specs.Vals.{value_vals, values_vals, block_vals}
 use Rattle.wy_judge.specs.Judging.{stmt_vals, stmts_vals}
 
 -- up to the next place there is what was there before it, and what stands there

@@ -17,7 +17,7 @@ use Rattle.wy_types.specs.declared.code.Binding.{Binding}
 use Rattle.wy_types.specs.declared.code.Variable.TheVariants.{Local}
 use Rattle.wy_types.specs.declared.resolved.Field.{Field}
 use Rattle.wy_types.specs.Code.{Expr, Number, Quoted, Truth as TruthOf, Nothing as NothingOf, This, Name, Unary, Binary, TextCall, Call, New, Ascribe, Assign, Value, Plain, If, Values, none, more, Block, Last, Then, Val}
-use Rattle.wy_types.specs.Core.{expr_vals, value_vals, values_vals, block_vals, value_count}
+use Rattle.wy_types.specs.Vals.{expr_vals, value_vals, values_vals, block_vals, value_count}
 use Rattle.wy_types.specs.Program.{Program, Scope}
 use Rattle.wy_types.specs.Signature.{Signature, find_method}
 use Rattle.wy_types.specs.Types.{IsObject, is_plain, methods_of}

@@ -9,7 +9,8 @@ use Rattle.wy_text.proofs.Lists.{In-slice_get}
 use Rattle.wy_types.specs.declared.types.TypeRef.{TypeRef}
 use Rattle.wy_types.specs.declared.types.TypeRef.TheVariants.{Unit as Nothing, Named, Own}
 use Rattle.wy_types.specs.Code.{Values}
-use Rattle.wy_types.specs.Core.{IsCore, start_vals, values_vals}
+use Rattle.wy_types.specs.Core.{IsCore}
+use Rattle.wy_types.specs.Vals.{start_vals, values_vals}
 use Rattle.wy_types.specs.Program.{Program, Scope, Body, Start, Init, Run}
 use Rattle.wy_types.specs.Types.{is_plain}
 use Rattle.wy_types.specs.Bounds.{bounds_of, declared_bounds}

@@ -3,7 +3,7 @@ use Rattle.std.proofs.Common.{◌≡◌, ℕ, zero, suc, List, [], ◌∷◌, le
 use Rattle.wy_types.specs.declared.types.TypeRef.{TypeRef}
 use Rattle.wy_types.specs.Code.{Value, Values, none, more}
 use Rattle.wy_types.specs.Program.{Scope}
-use Rattle.wy_types.specs.Core.{value_count}
+use Rattle.wy_types.specs.Vals.{value_count}
 use Rattle.wy_rules.specs.Readings.{Reading}
 use Rattle.wy_rules.specs.Derivations.{Derivations, none as no_derivations, more as one_more}
 use Rattle.wy_rules.specs.Typing.{DerivesAll, AllHaveAt}

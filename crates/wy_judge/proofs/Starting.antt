@@ -12,7 +12,8 @@ use Rattle.wy_types.specs.declared.code.Value as v
 use Rattle.wy_types.specs.Code.{Values, Block}
 use Rattle.wy_types.specs.View.{values_of}
 use Rattle.wy_types.specs.Program.{Program, Scope, Body, Start, Init, Run}
-use Rattle.wy_types.specs.Core.{StartFits, value_count, start_vals, bodies_vals, values_vals, block_vals}
+use Rattle.wy_types.specs.Core.{StartFits}
+use Rattle.wy_types.specs.Vals.{value_count, start_vals, bodies_vals, values_vals, block_vals}
 use Rattle.wy_rules.specs.Readings.{Reading}
 use Rattle.wy_rules.specs.Typing.{fields_of, field_types}
 use Rattle.wy_rules.specs.Nodes.{written, written_spots, start_nodes}

@@ -15,7 +15,7 @@ use Rattle.wy_types.specs.Code.{Expr, Plain, If, Block, Val}
 use Rattle.wy_types.specs.Program.{Program, Scope}
 use Rattle.wy_types.specs.Fitting.{IsTypeOf}
 use Rattle.wy_types.specs.View.{value_of, stmt_block}
-use Rattle.wy_types.specs.Core.{value_vals, block_vals}
+use Rattle.wy_types.specs.Vals.{value_vals, block_vals}
 use Rattle.wy_rules.specs.Derivations.{mark}
 use Rattle.wy_rules.specs.Acceptance.{scope_reading}
 use Rattle.wy_rules.specs.Nodes.{nothing, written}

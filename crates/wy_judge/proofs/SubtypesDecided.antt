@@ -29,7 +29,8 @@ use Rattle.wy_subtype.specs.declared.verdict.Mode.{Mode}
 use Rattle.wy_subtype.specs.declared.verdict.Mode.TheVariants.{Annotated, Plain}
 use Rattle.wy_subtype.specs.declared.unfolding.UnfoldedPair.{UnfoldedPair}
 use Rattle.wy_subtype.specs.declared.unfolding.Unfolding.TheVariants.{Closed}
-use Rattle.wy_subtype.specs.Verdict.{Pair, Allows, IsSubtypeIn, Closes, StepsTo, LeadsTo}
+use Rattle.wy_subtype.specs.Verdict.{IsSubtypeIn, Closes, LeadsTo}
+use Rattle.wy_subtype.specs.Steps.{Pair, Allows, StepsTo}
 use Rattle.wy_subtype.specs.Unfolding.{sides, Asks, all_pairs, IsMet}
 use Rattle.wy_subtype.proofs.Asking.{is_unfolded}
 use Rattle.wy_subtype.proofs.Working.{Leads-snoc}

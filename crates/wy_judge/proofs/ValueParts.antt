@@ -8,7 +8,7 @@ use Rattle.wy_types.specs.declared.types.TypeRef.TheVariants.{Bool}
 use Rattle.wy_types.specs.Code.{Expr, Plain, If, Block}
 use Rattle.wy_types.specs.Program.{Program, Scope}
 use Rattle.wy_types.specs.Types.{is_plain}
-use Rattle.wy_types.specs.Core.{expr_vals, value_vals, block_vals}
+use Rattle.wy_types.specs.Vals.{expr_vals, value_vals, block_vals}
 use Rattle.wy_rules.specs.Acceptance.{scope_reading}
 use Rattle.wy_rules.specs.Nodes.{Spot, nothing}
 use Rattle.wy_rules.proofs.Forms.{Lawful}

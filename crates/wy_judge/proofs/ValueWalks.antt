@@ -13,7 +13,7 @@ use Rattle.wy_types.specs.Code.{Value, Values, more}
 use Rattle.wy_types.specs.Program.{Program, Scope}
 use Rattle.wy_types.specs.Fitting.{IsTypeOf}
 use Rattle.wy_types.specs.View.{value_of, values_of}
-use Rattle.wy_types.specs.Core.{value_vals, values_vals}
+use Rattle.wy_types.specs.Vals.{value_vals, values_vals}
 use Rattle.wy_rules.specs.Acceptance.{scope_reading}
 use Rattle.wy_judge.specs.Fit.{Fit}
 use Rattle.wy_judge.specs.Fit as fit

@@ -6,7 +6,8 @@ use Rattle.wy_text.proofs.Lists.{In-slice_get, In-left, In-right, In-cases}
 use Rattle.wy_types.specs.declared.code.Variable.TheVariants.{Parameter, Local}
 use Rattle.wy_types.specs.declared.resolved.Literal.{Literal}
 use Rattle.wy_types.specs.Program.{Program, Scope, Body}
-use Rattle.wy_types.specs.Core.{HasParameter, literal_captures, body_parameters, start_vals, bodies_vals, block_vals}
+use Rattle.wy_types.specs.Core.{HasParameter, body_parameters}
+use Rattle.wy_types.specs.Vals.{literal_captures, start_vals, bodies_vals, block_vals}
 use Rattle.wy_judge.specs.Judging.{NoFault}
 use Rattle.wy_judge.specs.Tables.{Table, IsKnown, IsScopeOf, BlockReady}
 use Rattle.wy_judge.specs.Walking.{Walked, StartsTo, BodyTo}

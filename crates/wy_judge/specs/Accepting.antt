@@ -6,10 +6,9 @@ use Rattle.wy_types.specs.declared.types.TypeRef.{TypeRef}
 use Rattle.wy_types.specs.Program.{Program, Scope}
 use Rattle.wy_rules.specs.Typing.{ScopeHolds}
 use Rattle.wy_rules.specs.Acceptance.{scope_reading, PureHolds, AscriptionHolds}
-use Rattle.wy_rules.specs.Ends.{End, IsEnd}
+use Rattle.wy_rules.specs.Ends.{End, IsEnd, IsAccepted}
 use Rattle.wy_rules.specs.Failing.{IsScopeFault, IsLineFault}
 use Rattle.wy_rules.specs.Refusals.{ScopePasses, LinesPassFrom}
-use Rattle.wy_judge.specs.Checking.{IsAccepted}
 use Rattle.wy_judge.specs.declared.scopes.Judged.TheVariants.{Passes, Fails}
 use Rattle.wy_judge.specs.Tables.{IsScopeOf}
 use Rattle.wy_judge.specs.Walking.{IsJudged}

@@ -3,10 +3,9 @@ use Rattle.std.specs.Prelude.{◌≡◌, ℕ, List, length, Some, slice_get, Boo
 use Rattle.wy_text.specs.declared.limit.LimitName.TheVariants.{ReachedTypes}
 use Rattle.wy_types.specs.declared.types.TypeRef.{TypeRef}
 use Rattle.wy_types.specs.Program.{Program, Scope}
-use Rattle.wy_rules.specs.Acceptance.{Accepted}
 use Rattle.wy_rules.specs.Failing.{IsScopeFault}
 use Rattle.wy_rules.specs.Refusals.{Turn, plain_modules, other_modules, turn_of, is_its_turn, Numbered}
-use Rattle.wy_rules.specs.Ends.{limited, refused, ReachesTooMany, IsWithinLimits, FirstEnd, IsEnd}
+use Rattle.wy_rules.specs.Ends.{limited, refused, ReachesTooMany, FirstEnd, IsEnd}
 use Rattle.wy_judge.specs.declared.checking.Checked.{Checked}
 use Rattle.wy_judge.specs.declared.checking.CheckRefusal.{CheckRefusal}
 use Rattle.wy_judge.specs.declared.checking.CheckRefusal.TheVariants.{Fails, Limit, Memory}
@@ -69,12 +68,7 @@ IsFirstRefusal p ns (Fails fault) = FirstEnd p ns (refused fault)
 IsFirstRefusal p ns (Limit name) = FirstEnd p ns (limited name)
 IsFirstRefusal p ns Memory = Unit {0}
 
--- the program is accepted, within the limits
-pub record IsAccepted (p : Program) : Type 0 where
-  pub accepted : Accepted p
-  pub within : IsWithinLimits p
-
--- .. or judging it ends
+-- why judging a whole program ends
 abbrev pub IsRefusalOf : Program → CheckRefusal → Type 0
 IsRefusalOf p (Fails fault) = IsEnd p (refused fault)
 IsRefusalOf p (Limit name) = IsEnd p (limited name)

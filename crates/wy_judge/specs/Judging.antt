@@ -11,7 +11,7 @@ use Rattle.wy_types.specs.Code.{Expr, Value, Block, Last}
 use Rattle.wy_types.specs.View.{value_of, values_of, stmt_block, stmts_block}
 use Rattle.wy_types.specs.Program.{Program, Scope}
 use Rattle.wy_types.specs.Fitting.{IsTypeOf}
-use Rattle.wy_types.specs.Core.{expr_vals, value_vals, values_vals, block_vals}
+use Rattle.wy_types.specs.Vals.{expr_vals, value_vals, values_vals, block_vals}
 use Rattle.wy_text.specs.Members.{In}
 use Rattle.wy_effects.specs.EffSet.{IsSet}
 use Rattle.wy_rules.specs.Acceptance.{scope_reading}

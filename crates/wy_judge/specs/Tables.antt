@@ -7,7 +7,8 @@ use Rattle.wy_types.specs.declared.code.Variable.TheVariants.{Parameter, Local}
 use Rattle.wy_types.specs.Code.{Expr, Value, Values, Block}
 use Rattle.wy_types.specs.Program.{Program, Scope}
 use Rattle.wy_types.specs.Fitting.{IsTypeOf}
-use Rattle.wy_types.specs.Core.{IsCore, ExprFits, ValueFits, ValuesFit, BlockFits, HasParameter, expr_vals, value_vals, values_vals, block_vals}
+use Rattle.wy_types.specs.Core.{IsCore, ExprFits, ValueFits, ValuesFit, BlockFits, HasParameter}
+use Rattle.wy_types.specs.Vals.{expr_vals, value_vals, values_vals, block_vals}
 use Rattle.wy_rules.specs.Readings.{Reading}
 
 abbrev pub Table : Type 0

@@ -7,7 +7,7 @@ use Rattle.wy_types.specs.declared.types.TypeRef.TheVariants.{Unit as Nothing}
 use Rattle.wy_types.specs.declared.resolved.Body as b
 use Rattle.wy_types.specs.Program.{Program, Scope, Body}
 use Rattle.wy_types.specs.Types.{is_plain}
-use Rattle.wy_types.specs.Core.{start_vals, bodies_vals, block_vals, scope_vals}
+use Rattle.wy_types.specs.Vals.{start_vals, bodies_vals, block_vals, scope_vals}
 use Rattle.wy_rules.specs.Acceptance.{scope_reading, MembersHold, AscriptionHolds}
 use Rattle.wy_rules.specs.Nodes.{start_nodes, body_nodes, bodies_nodes, scope_nodes}
 use Rattle.wy_rules.specs.Failing.{MembersFail, SealFails, named_atom, AllPass, IsScopeFault}

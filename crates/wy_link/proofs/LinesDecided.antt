@@ -27,9 +27,8 @@ use Rattle.wy_rules.specs.Acceptance.{Handed, handed_to, parameters_of, opened, 
 use Rattle.wy_rules.specs.Nodes.{line_nodes, lines_nodes}
 use Rattle.wy_rules.specs.Failing.{LacksInMember, InstanceFits, IsLineFault}
 use Rattle.wy_rules.specs.Refusals.{plain_modules, scopes_of, LinesPassFrom}
-use Rattle.wy_rules.specs.Ends.{End, IsEnd, AllGoOn}
+use Rattle.wy_rules.specs.Ends.{End, IsEnd, AllGoOn, IsAccepted}
 use Rattle.wy_rules.proofs.Outside.{outside_disrespects}
-use Rattle.wy_judge.specs.Checking.{IsAccepted}
 use Rattle.wy_judge.specs.Outcomes.{fault_at}
 use Rattle.wy_judge.specs.Tables.{IsScopeOf}
 use Rattle.wy_judge.proofs.BoundsDecided.{outside_decided}

@@ -6,11 +6,11 @@ use Rattle.wy_types.specs.declared.types.TypeRef.{TypeRef}
 use Rattle.wy_types.specs.Program.{Program}
 use Rattle.wy_rules.specs.Failing.{IsLineFault}
 use Rattle.wy_rules.specs.Refusals.{plain_modules, other_modules, the_program, scopes_of, ScopePasses, FirstFault, LinesPassFrom}
-use Rattle.wy_rules.specs.Ends.{ReachesTooMany, StartsTooMany, AllGoOn, SomeReachTooMany}
+use Rattle.wy_rules.specs.Ends.{ReachesTooMany, StartsTooMany, AllGoOn, SomeReachTooMany, IsAccepted}
 use Rattle.wy_judge.specs.declared.checking.CheckRefusal.{CheckRefusal}
 use Rattle.wy_judge.specs.declared.checking.CheckRefusal.TheVariants.{Fails, Limit, Memory}
 use Rattle.wy_judge.specs.declared.scopes.Judged.TheVariants as judged
-use Rattle.wy_judge.specs.Checking.{IsLimitRefusal, IsAccepted, IsRefusalOf}
+use Rattle.wy_judge.specs.Checking.{IsLimitRefusal, IsRefusalOf}
 use Rattle.wy_judge.specs.Walking.{IsJudgedAt}
 use Rattle.wy_judge.proofs.Checks.{fault_there}
 use Rattle.wy_judge.proofs.Deciding.{accepted_by}

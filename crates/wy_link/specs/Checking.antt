@@ -1,8 +1,7 @@
 -- What checking a whole program gives: its links, where it is accepted within the limits.
 use Rattle.wy_types.specs.Program.{Program}
 use Rattle.wy_rules.specs.Refusals.{plain_modules, other_modules, the_program, scopes_of}
-use Rattle.wy_rules.specs.Ends.{AllGoOn, KeepsLimits}
-use Rattle.wy_judge.specs.Checking.{IsAccepted}
+use Rattle.wy_rules.specs.Ends.{AllGoOn, KeepsLimits, IsAccepted}
 use Rattle.wy_link.specs.declared.linking.Links.{Links}
 use Rattle.wy_link.specs.Linking.{IsLinked}
 

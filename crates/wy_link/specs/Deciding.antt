@@ -5,8 +5,7 @@ use Rattle.wy_types.specs.Program.{Program}
 use Rattle.wy_types.specs.Core.{IsCore}
 use Rattle.wy_rules.specs.Failing.{IsLineFault}
 use Rattle.wy_rules.specs.Refusals.{plain_modules, scopes_of, LinesPassFrom}
-use Rattle.wy_rules.specs.Ends.{End, IsEnd, AllGoOn}
-use Rattle.wy_judge.specs.Checking.{IsAccepted}
+use Rattle.wy_rules.specs.Ends.{End, IsEnd, AllGoOn, IsAccepted}
 
 -- where the plain modules go on, the lines pass or have a fault
 abbrev pub LinesAreDecided : Type 0

@@ -5,7 +5,8 @@ ghost use Rattle.std.specs.Prelude.{◌≡◌, ◌-◌, length, OnOk, IfOk, IfEr
 ghost use Rattle.wy_types.specs.Program.{program_of};
 ghost use Rattle.wy_rules.specs.Refusals.{the_program};
 ghost use Rattle.wy_rules.specs.Resolved.{CoreKeeps};
-ghost use Rattle.wy_judge.specs.Checking.{IsAccepted, IsRefusalOf, AreLocalsOf, PutsLists};
+ghost use Rattle.wy_rules.specs.Ends.{IsAccepted};
+ghost use Rattle.wy_judge.specs.Checking.{IsRefusalOf, AreLocalsOf, PutsLists};
 ghost use Rattle.wy_link.specs.Checking.{IsBeforeLines, IsCheckedProgram};
 
 use crate::lines::judge_lines;

@@ -12,7 +12,8 @@ use Rattle.wy_types.specs.declared.code.BinaryOperator.{BinaryOperator}
 use Rattle.wy_types.specs.declared.code.BinaryOperator.TheVariants as binary
 use Rattle.wy_types.specs.Code as code
 use Rattle.wy_types.specs.Code.{Expr, Number, Quoted, Truth, Nothing, This, Name, Unary, Binary, TextCall, Call, New, Ascribe, Assign, Plain, If, Values, none, more, Block, Last, Then, Val}
-use Rattle.wy_types.specs.Core.{value_count, text_arity, ExprFits, ValueFits, ValuesFit}
+use Rattle.wy_types.specs.Core.{text_arity, ExprFits, ValueFits, ValuesFit}
+use Rattle.wy_types.specs.Vals.{value_count}
 use Rattle.wy_types.specs.Program.{Program, Scope}
 use Rattle.wy_meaning.specs.Values.{Value, same_variable, value_named}
 use Rattle.wy_meaning.specs.Starts.{Starts}

@@ -6,7 +6,8 @@ use Rattle.std.specs.Prelude.{slice_get}
 use Rattle.wy_types.specs.declared.resolved.ScopeKind.{ScopeKind}
 use Rattle.wy_types.specs.declared.resolved.ScopeKind.TheVariants as kind
 use Rattle.wy_types.specs.Code.{Values, Block}
-use Rattle.wy_types.specs.Core.{ScopeFits, StartIs, StartFits, ProgramIsLast, literal_fields, start_vals, bodies_vals}
+use Rattle.wy_types.specs.Core.{ScopeFits, StartIs, StartFits, ProgramIsLast}
+use Rattle.wy_types.specs.Vals.{literal_fields, start_vals, bodies_vals}
 use Rattle.wy_types.specs.Program.{Program, Scope, Start, Init, Run}
 use Rattle.wy_device.specs.declared.deed.Event.{Event}
 use Rattle.wy_device.specs.declared.deed.Event.TheVariants.{Enter, Leave}

@@ -7,7 +7,8 @@ use Rattle.wy_text.specs.Members.{In, Apart}
 use Rattle.wy_text.proofs.Lists.{In-left, In-right}
 use Rattle.wy_types.specs.declared.code.Variable.TheVariants.{Local}
 use Rattle.wy_types.specs.Code.{Expr, Number, Quoted, Truth, Nothing, This, Name, Unary, Binary, TextCall, Call, New, Ascribe, Assign, Values}
-use Rattle.wy_types.specs.Core.{CapturesBefore, literal_captures, block_vals, bodies_vals}
+use Rattle.wy_types.specs.Core.{CapturesBefore}
+use Rattle.wy_types.specs.Vals.{literal_captures, block_vals, bodies_vals}
 use Rattle.wy_types.specs.Program.{Program, Scope, Body}
 use Rattle.wy_meaning.specs.Starts.{Starts}
 use Rattle.wy_lower.specs.Inside.{Inside, is_val}
@@ -22,7 +23,7 @@ use Rattle.wy_lower.proofs.Slots.{picked, not_picked}
 ------------------------------------------------------------
 -- Literals that are made
 
-makes_is : (l : ℕ) (e : Expr) → makes_literal l e ≡ true → In l (literal_made e)
+pub makes_is : (l : ℕ) (e : Expr) → makes_literal l e ≡ true → In l (literal_made e)
 makes_is l (New place k xs) h = inl (eqb-true k l h)
 makes_is l (Number place n) h = absurd cc
 makes_is l (Quoted place b) h = absurd cc

@@ -7,7 +7,8 @@ use Rattle.wy_text.specs.Members.{In}
 use Rattle.wy_text.specs.declared.fault.Place.{Place}
 use Rattle.wy_types.specs.declared.code.Variable.TheVariants.{Parameter, Local}
 use Rattle.wy_types.specs.declared.resolved.Literal.{Literal}
-use Rattle.wy_types.specs.Core.{ScopeFits, literal_captures, block_vals, start_vals}
+use Rattle.wy_types.specs.Core.{ScopeFits}
+use Rattle.wy_types.specs.Vals.{literal_captures, block_vals, start_vals}
 use Rattle.wy_types.specs.Program.{Program, Scope, Body as Method}
 use Rattle.wy_device.specs.declared.deed.Event.{Event}
 use Rattle.wy_device.specs.declared.deed.Event.TheVariants.{Enter, Leave}

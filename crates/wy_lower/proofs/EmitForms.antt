@@ -11,7 +11,7 @@ use Rattle.wy_types.specs.declared.code.Value as v
 use Rattle.wy_types.specs.declared.code.Stmt as s
 use Rattle.wy_types.specs.Code as code
 use Rattle.wy_types.specs.Code.{Expr, Number, Quoted, Truth, Nothing, This, Name, Unary, Binary, TextCall, Call, New, Ascribe, Assign, Plain, If, Values, Block, Last}
-use Rattle.wy_types.specs.Core.{value_count}
+use Rattle.wy_types.specs.Vals.{value_count}
 use Rattle.wy_types.specs.View.{value_of, values_of, stmt_block, stmts_block}
 use Rattle.wy_code.specs.declared.instruction.Constant.TheVariants as constant
 use Rattle.wy_code.specs.declared.instruction.Operator.{Operator}

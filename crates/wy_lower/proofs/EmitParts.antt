@@ -6,7 +6,7 @@ use Rattle.wy_text.specs.declared.fault.Place.{Place}
 use Rattle.wy_types.specs.declared.code.BinaryOperator.{BinaryOperator}
 use Rattle.wy_types.specs.declared.code.TextOperator.{TextOperator}
 use Rattle.wy_types.specs.Code.{Expr, Binary, TextCall, Call, New, If, Values, Block, Value, Last}
-use Rattle.wy_types.specs.Core.{expr_vals, value_vals, values_vals, block_vals}
+use Rattle.wy_types.specs.Vals.{expr_vals, value_vals, values_vals, block_vals}
 use Rattle.wy_types.specs.View.{value_of, values_of, stmt_block, stmts_block}
 use Rattle.wy_lower.specs.declared.gathering.Found.{Found}
 use Rattle.wy_lower.specs.declared.gathering.Names.{Names}

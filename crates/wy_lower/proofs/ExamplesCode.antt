@@ -21,6 +21,7 @@ use Rattle.wy_meaning.proofs.Rows.{logger, logger_started, kept_callback, kept_c
 use Rattle.wy_lower.specs.Listing.{listing, value_listing, values_listing, block_listing, fields_listing}
 use Rattle.wy_lower.specs.Operands.{operands, value_operands, values_operands, block_operands, fields_operands}
 use Rattle.wy_lower.specs.Counts.{lowering_limit}
+use Rattle.wy_lower.specs.Laws.{scopes_numbers}
 use Rattle.wy_lower.specs.Lowering.{lowered}
 use Rattle.wy_text.specs.declared.limit.LimitName.{LimitName}
 use Rattle.wy_text.specs.declared.limit.LimitName.TheVariants.{Slots}
@@ -81,6 +82,11 @@ nested_literals : literals_of (slice_get (code_of nested nested_started).scopes 
     record { captures = Value 0 ∷ Value 1 ∷ Slot 1 ∷ []; fields = 0; methods = record { method = 3; body = 3 } ∷ [] } ∷ []
 unfolding digits listing value_listing values_listing block_listing fields_listing operands value_operands values_operands block_operands fields_operands lowered
 nested_literals = refl
+
+-- so each body stands once among the scopes
+nested_numbers : scopes_numbers (code_of nested nested_started).scopes ≡ 0 ∷ 1 ∷ 2 ∷ 3 ∷ 4 ∷ []
+unfolding digits listing value_listing values_listing block_listing fields_listing operands value_operands values_operands block_operands fields_operands lowered
+nested_numbers = refl
 
 -- two sides: `if text_size(t) == 0` gives one text, or else `t`
 safe_code : slice_get (code_of three_files three_files_started).bodies 1

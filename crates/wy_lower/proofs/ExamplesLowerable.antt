@@ -5,7 +5,8 @@ use Rattle.std.specs.Prelude.{slice_get}
 use Rattle.wy_text.specs.Members.{In, Apart}
 use Rattle.wy_types.specs.declared.resolved.OwnName.{OwnName}
 use Rattle.wy_types.specs.declared.resolved.Origin.TheVariants as origin
-use Rattle.wy_types.specs.Core.{IsCore, literal_captures}
+use Rattle.wy_types.specs.Core.{IsCore}
+use Rattle.wy_types.specs.Vals.{literal_captures}
 use Rattle.wy_types.specs.Program.{Scope}
 use Rattle.wy_meaning.specs.Starts.{Started, starts_of, scope_names, last_scope}
 use Rattle.wy_meaning.proofs.Programs.{grant, used, line, imported}

@@ -11,7 +11,8 @@ use Rattle.wy_types.specs.declared.code.BinaryOperator.TheVariants as binary
 use Rattle.wy_types.specs.declared.resolved.Literal.{Literal}
 use Rattle.wy_types.specs.Code as code
 use Rattle.wy_types.specs.Code.{Expr, Number, Quoted, Truth as TruthOf, Nothing as NothingOf, This, Name, Unary, Binary, TextCall, Call, New, Ascribe, Assign, Plain, If, Values, none, more, Block, Last, Then, Val}
-use Rattle.wy_types.specs.Core.{value_count, ExprFits, ValueFits, ValuesFit, BlockFits, expr_vals, value_vals, values_vals, block_vals}
+use Rattle.wy_types.specs.Core.{ExprFits, ValueFits, ValuesFit, BlockFits}
+use Rattle.wy_types.specs.Vals.{value_count, expr_vals, value_vals, values_vals, block_vals}
 use Rattle.wy_types.specs.Program.{Program, Scope}
 use Rattle.wy_meaning.specs.Values.{Value, Int, Truth, Nothing, Text, World, value_named}
 use Rattle.wy_meaning.specs.Starts.{Starts}

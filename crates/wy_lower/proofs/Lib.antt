@@ -3,6 +3,7 @@ pub mod Addresses
 pub mod Allowed
 pub mod Beginning
 pub mod Bodies
+mod BodiesOnce
 pub mod Calls
 pub mod Capped
 pub mod Codes

@@ -7,7 +7,7 @@ use Rattle.wy_text.specs.declared.fault.Place.{Place}
 use Rattle.wy_types.specs.declared.code.Variable.{Variable}
 use Rattle.wy_types.specs.declared.linked.Actual.{Actual}
 use Rattle.wy_types.specs.declared.resolved.Literal.{Literal}
-use Rattle.wy_types.specs.Core.{literal_captures, literal_fields}
+use Rattle.wy_types.specs.Vals.{literal_captures, literal_fields}
 use Rattle.wy_types.specs.Program.{Program, Scope}
 use Rattle.wy_device.specs.RunEnds.{Trap, Wrong}
 use Rattle.wy_device.specs.Traps.{most_objects, Crowded}

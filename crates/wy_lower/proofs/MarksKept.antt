@@ -5,7 +5,7 @@ use Rattle.wy_types.specs.declared.code.BinaryOperator.{BinaryOperator}
 use Rattle.wy_types.specs.declared.code.BinaryOperator.TheVariants as binary
 use Rattle.wy_types.specs.Code as code
 use Rattle.wy_types.specs.Code.{Expr, Number, Quoted, Truth, Nothing, This, Name, Unary, Binary, TextCall, Call, New, Ascribe, Assign, Plain, If, Values, none, more, Block, Last, Then, Val}
-use Rattle.wy_types.specs.Core.{value_count}
+use Rattle.wy_types.specs.Vals.{value_count}
 use Rattle.wy_types.specs.Marks as marks
 use Rattle.wy_types.specs.Marks.{ExprPasses, ValuePasses, ValuesPass, BlockPasses, StartPasses, ScopesPass}
 use Rattle.wy_types.specs.Program.{Program, Scope, Body, Start, Init, Run}

@@ -13,7 +13,7 @@ use Rattle.wy_types.specs.declared.linked.Actual.TheVariants as actual
 use Rattle.wy_types.specs.declared.resolved.Literal.{Literal}
 use Rattle.wy_types.specs.Code as code
 use Rattle.wy_types.specs.Code.{Expr, Number, Quoted, Truth, Nothing, This, Name, Unary, Binary, TextCall, Call, New, Ascribe, Assign, Plain, If, Values, none, more, Block, Last, Then, Val}
-use Rattle.wy_types.specs.Core.{value_count}
+use Rattle.wy_types.specs.Vals.{value_count}
 use Rattle.wy_types.specs.Program.{Program, Scope, Body, Start, Init, Run}
 use Rattle.wy_meaning.specs.Starts.{Starts}
 use Rattle.wy_code.specs.declared.instruction.Constant.TheVariants as constant
@@ -22,7 +22,8 @@ use Rattle.wy_code.specs.declared.instruction.Instruction.TheVariants as does
 use Rattle.wy_code.specs.declared.instruction.Placed.{Placed}
 use Rattle.wy_code.specs.declared.code.Body as b
 use Rattle.wy_code.specs.declared.code.Method.{Method}
-use Rattle.wy_code.specs.Named.{each_once, text_at, numbered, text_pushed, method_called, named_in, named_by, kinds_entries, scopes_entries, HasPushedTexts, HasCalledMethods}
+use Rattle.wy_code.specs.Named.{text_at, numbered, text_pushed, method_called, named_in, named_by, kinds_entries, scopes_entries, HasPushedTexts, HasCalledMethods}
+use Rattle.wy_code.specs.EachOnce.{each_once}
 use Rattle.wy_lower.specs.Inside.{Inside, is_own, val_slot, slot_of, capture_value, field_value, assigned_value, handed_constant, name_code}
 use Rattle.wy_lower.specs.Listing.{placed, one, unary_code, text_code, value_mark, sides, binary_listing, listing, value_listing, values_listing, block_listing, fields_listing}
 use Rattle.wy_lower.specs.Lowering.{owned_names, kinds_names, entry_names, text_table, method_table, inside_start, inside_body, start_listing, bodies_code, scopes_bodies, methods_code, literals_code, scopes_code, lowered}

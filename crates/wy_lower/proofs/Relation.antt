@@ -5,7 +5,7 @@ use Rattle.std.specs.Prelude.{slice_get}
 use Rattle.wy_types.specs.declared.code.Variable.{Variable}
 use Rattle.wy_types.specs.declared.linked.Actual.{Actual}
 use Rattle.wy_types.specs.declared.linked.Actual.TheVariants as actual
-use Rattle.wy_types.specs.Core.{literal_captures, literal_fields}
+use Rattle.wy_types.specs.Vals.{literal_captures, literal_fields}
 use Rattle.wy_types.specs.Program.{Program, Scope}
 use Rattle.wy_meaning.specs.Values.{Value, Int, Truth, Nothing, Text, Object, Grant, Thing, World}
 use Rattle.wy_meaning.specs.Starts.{Starts, actual_of, scope_of_instance}

@@ -6,7 +6,8 @@ use Rattle.std.specs.Prelude.{slice_get, slice_set}
 use Rattle.wy_types.specs.declared.code.Variable.{Variable}
 use Rattle.wy_types.specs.Code as code
 use Rattle.wy_types.specs.Code.{Values, none, more}
-use Rattle.wy_types.specs.Core.{value_count, ValuesFit, literal_fields, values_vals}
+use Rattle.wy_types.specs.Core.{ValuesFit}
+use Rattle.wy_types.specs.Vals.{value_count, literal_fields, values_vals}
 use Rattle.wy_types.specs.Program.{Program, Scope}
 use Rattle.wy_meaning.specs.Values.{Value, Nothing, Thing, World, Reply, replied, field_added, fill_field}
 use Rattle.wy_meaning.specs.Starts.{Starts}

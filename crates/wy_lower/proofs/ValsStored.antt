@@ -11,7 +11,8 @@ use Rattle.wy_types.specs.declared.code.Binding.{Binding}
 use Rattle.wy_types.specs.declared.code.Binding.TheVariants as to
 use Rattle.wy_types.specs.Code as code
 use Rattle.wy_types.specs.Code.{Expr, Number, Quoted, Truth, Nothing, This, Name, Unary, Binary, TextCall, Call, New, Ascribe, Assign, Plain, If, Values, none, more, Block, Last, Then, Val}
-use Rattle.wy_types.specs.Core.{IsCore, value_count, expr_vals, value_vals, values_vals, block_vals, start_vals, bodies_vals}
+use Rattle.wy_types.specs.Core.{IsCore}
+use Rattle.wy_types.specs.Vals.{value_count, expr_vals, value_vals, values_vals, block_vals, start_vals, bodies_vals}
 use Rattle.wy_types.specs.Program.{Program, Scope, Body, Start, Init, Run}
 use Rattle.wy_meaning.specs.Starts.{Starts}
 use Rattle.wy_code.specs.declared.instruction.Constant.TheVariants as constant

@@ -2,7 +2,7 @@
 use Rattle.std.specs.Prelude.{◌≡◌, ℕ, false, List, [], ◌∷◌, ◌++◌}
 use Rattle.wy_types.specs.declared.code.Stmt.{Stmt, Val, Do}
 use Rattle.wy_types.specs.Code.{Expr, New}
-use Rattle.wy_types.specs.Core.{value_vals}
+use Rattle.wy_types.specs.Vals.{value_vals}
 use Rattle.wy_types.specs.View.{value_of}
 use Rattle.wy_lower.specs.declared.gathering.Found.{Found}
 use Rattle.wy_lower.specs.declared.gathering.Names.{Names}

@@ -2,7 +2,7 @@
 use Rattle.std.specs.Prelude.{◌≡◌, ◌<◌, ℕ, List, [], ◌∷◌, length, map, get_or, nat_eq, Option, Some, None, if◌then◌else◌}
 use Rattle.std.specs.List.{position_from}
 use Rattle.wy_types.specs.declared.resolved.Literal.{Literal}
-use Rattle.wy_types.specs.Core.{block_vals, start_vals}
+use Rattle.wy_types.specs.Vals.{block_vals, start_vals}
 use Rattle.wy_types.specs.Program.{Scope, Body}
 use Rattle.wy_lower.specs.declared.scopes.Tables.{Tables}
 use Rattle.wy_lower.specs.Parts.{block_parts, make_literal}

@@ -1,19 +1,21 @@
 -- Laws of lowering. (docs/LANGUAGE.md, "Code of programs")
-use Rattle.std.specs.Prelude.{◌≡◌, ℕ, ◌+◌, Bool, List, ◌++◌, Some, length, slice_get}
+use Rattle.std.specs.Prelude.{◌≡◌, ℕ, ◌+◌, ◌<◌, ◌↔◌, Bool, List, [], ◌∷◌, ◌++◌, map, Some, length, slice_get}
 use Rattle.wy_text.specs.declared.fault.Place.{Place}
-use Rattle.wy_text.specs.Members.{In}
+use Rattle.wy_text.specs.Members.{In, Apart}
 use Rattle.wy_types.specs.Code.{Block}
 use Rattle.wy_types.specs.Marks.{ProgramPasses}
 use Rattle.wy_types.specs.Program.{Program, Scope, Body}
 use Rattle.wy_code.specs.declared.code.Scope as code
 use Rattle.wy_rules.specs.Acceptance.{Accepted}
 use Rattle.wy_code.specs.declared.code.Body as b
+use Rattle.wy_code.specs.declared.code.Literal as l
+use Rattle.wy_code.specs.declared.code.Method as m
 use Rattle.wy_code.specs.Marks.{CodePasses}
 use Rattle.wy_code.specs.Named.{HasStoredVals}
 use Rattle.wy_code.specs.Running.{NeverStuck, machine}
 use Rattle.wy_device.specs.Tapes.{Tapes}
 use Rattle.wy_meaning.specs.Starts.{Starts}
-use Rattle.wy_sound.specs.Laws.{course}
+use Rattle.wy_sound.specs.Courses.{course}
 use Rattle.wy_sound.specs.Programs.{IsResolved, program_starts}
 use Rattle.wy_lower.specs.Correct.{Follows}
 use Rattle.wy_lower.specs.Counts.{body_count}
@@ -47,6 +49,20 @@ pub record Stands (p : Program) (s : Starts) (c : ℕ) (sc : Scope) : Type 0 whe
 
 abbrev pub HasItsBodies : Program → Starts → Type 0
 HasItsBodies p s = (c : ℕ) (sc : Scope) → slice_get p.scopes c ≡ Some sc → Stands p s c sc
+
+-- the numbers of the bodies of literals (the module's own object is the first), and those of scopes: of each its first body, and its methods
+abbrev pub literals_bodies : List l.Literal → List ℕ
+literals_bodies [] = []
+literals_bodies (x ∷ xs) = map (λ (e : m.Method). e.body) x.methods ++ literals_bodies xs
+
+abbrev pub scopes_numbers : List code.Scope → List ℕ
+scopes_numbers [] = []
+scopes_numbers (x ∷ xs) = x.start ∷ (literals_bodies x.literals ++ scopes_numbers xs)
+
+-- each body of the code stands once among its scopes
+abbrev pub HasBodiesOnce : Program → Starts → Type 0
+HasBodiesOnce p s =
+    Apart (scopes_numbers (lowered p s).scopes) × ((n : ℕ) → In n (scopes_numbers (lowered p s).scopes) ↔ (n < length (lowered p s).bodies))
 
 -- each of the code's bodies has as many `val`s as its instructions say
 abbrev pub HasItsVals : Program → Starts → Type 0

@@ -3,7 +3,8 @@
 use Rattle.std.specs.Prelude.{◌≡◌, ℕ, List, [], ◌∷◌, ◌++◌, Some, false, length, slice_get}
 use Rattle.wy_text.specs.Members.{Apart}
 use Rattle.wy_types.specs.Code.{Expr, New}
-use Rattle.wy_types.specs.Core.{IsCore, literal_captures}
+use Rattle.wy_types.specs.Core.{IsCore}
+use Rattle.wy_types.specs.Vals.{literal_captures}
 use Rattle.wy_types.specs.Program.{Program, Scope}
 pub use Rattle.wy_rules.specs.OwnNames.{GrantsStandFirst}
 use Rattle.wy_device.specs.Editions.{current}

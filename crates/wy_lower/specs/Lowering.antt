@@ -9,7 +9,7 @@ use Rattle.wy_types.specs.declared.resolved.Origin.TheVariants as origin
 use Rattle.wy_types.specs.declared.resolved.OwnName.{OwnName}
 use Rattle.wy_types.specs.declared.resolved.ScopeKind.{ScopeKind}
 use Rattle.wy_types.specs.declared.resolved.ScopeKind.TheVariants as kind
-use Rattle.wy_types.specs.Core.{literal_captures, block_vals, start_vals}
+use Rattle.wy_types.specs.Vals.{literal_captures, block_vals, start_vals}
 use Rattle.wy_types.specs.Program.{Program, Scope, Body, Start, Init, Run}
 use Rattle.wy_code.specs.declared.code.Argument.{Argument}
 use Rattle.wy_code.specs.declared.code.Argument.TheVariants as argument

@@ -5,7 +5,7 @@ use Rattle.std.specs.Prelude.{ℕ, ◌+◌, Bool, false, ◌||◌, List, [], ◌
 use Rattle.wy_types.specs.Code as code
 use Rattle.wy_types.specs.Code.{Expr, Number, Quoted, Truth, Nothing, This, Name, Unary, Binary, TextCall, Call, New, Ascribe, Assign, Plain, If, Values, none, more, Block, Last, Then, Val}
 use Rattle.wy_types.specs.Program.{Scope, Body, Start, Init, Run}
-pub use Rattle.wy_code.specs.Named.{is_among, each_once_after, each_once}
+pub use Rattle.wy_code.specs.EachOnce.{is_among, each_once_after, each_once}
 
 abbrev mutual
   pub expr_parts : Expr → List Expr

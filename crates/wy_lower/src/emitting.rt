@@ -2,7 +2,7 @@
 
 ghost use Rattle.std.specs.Prelude.{◌≡◌, ◌<◌, ◌++◌, ◌∷◌, [], ℕ, Some, false, slice_get, length, IfOk, OnOk};
 ghost use Rattle.wy_types.specs.Program as plain;
-ghost use Rattle.wy_types.specs.Core.{literal_captures};
+ghost use Rattle.wy_types.specs.Vals.{literal_captures};
 ghost use Rattle.wy_types.specs.Program.{start_of, body_of, scope_of};
 ghost use Rattle.wy_meaning.specs.Eval.{body_text};
 ghost use Rattle.wy_lower.specs.Capped.{capped};

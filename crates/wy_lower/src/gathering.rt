@@ -2,7 +2,7 @@
 //! call, the literals that they make, and their `val`s.
 
 ghost use Rattle.std.specs.Prelude.{◌≡◌, ◌++◌, ◌∷◌, [], false};
-ghost use Rattle.wy_types.specs.Core.{expr_vals, value_vals, values_vals, block_vals, start_vals};
+ghost use Rattle.wy_types.specs.Vals.{expr_vals, value_vals, values_vals, block_vals, start_vals};
 ghost use Rattle.wy_types.specs.Program.{start_of};
 ghost use Rattle.wy_types.specs.View.{expr_of, value_of, values_of, block_of};
 ghost use Rattle.wy_lower.specs.Parts.{expr_parts, value_parts, values_parts, block_parts, start_parts, each_once_after};

@@ -6,7 +6,7 @@ ghost use Rattle.wy_code.specs.Named.{HasPushedTexts, HasCalledMethods};
 ghost use Rattle.wy_code.specs.Running.{NeverStuck};
 ghost use Rattle.wy_lower.specs.Correct.{Compiles, NeverWrong};
 ghost use Rattle.wy_lower.specs.Inside.{Inside};
-ghost use Rattle.wy_lower.specs.Laws.{HasCountedBodies, HasItsTexts, HasItsMethodNames, HasItsBodies, HasItsVals, HasItsMarks, HasFixedLength, AcceptedIsLowerable, AcceptedCodeFollows, AcceptedIsNeverStuck};
+ghost use Rattle.wy_lower.specs.Laws.{HasCountedBodies, HasBodiesOnce, HasItsTexts, HasItsMethodNames, HasItsBodies, HasItsVals, HasItsMarks, HasFixedLength, AcceptedIsLowerable, AcceptedCodeFollows, AcceptedIsNeverStuck};
 ghost use Rattle.wy_lower.specs.Lowerable.{Lowerable};
 ghost use Rattle.wy_lower.specs.Lowering.{lowered};
 
@@ -42,6 +42,11 @@ pub fn methods_are_called()
 /// scope says, and its methods after that one, in their order.
 pub fn bodies_stand_at_their_numbers()
     ensures { (p : Program) (s : Starts) → HasItsBodies p s }
+{}
+
+/// Each body of the code stands once among its scopes: as the first of one, or as a method of one of its literals.
+pub fn bodies_stand_once()
+    ensures { (p : Program) (s : Starts) → IsCore p → HasBodiesOnce p s }
 {}
 
 /// A body has as many `val`s as its instructions say: its parameters are the slots behind the current object, and its

@@ -2,7 +2,7 @@
 
 ghost use Rattle.std.specs.Prelude.{◌≡◌, ◌<◌, [], ℕ, false, None, Some, length, map, get_or, nat_eq, if◌then◌else◌, IfOk, OnOk};
 ghost use Rattle.wy_types.specs.declared.resolved.Literal.{Literal};
-ghost use Rattle.wy_types.specs.Core.{block_vals, start_vals};
+ghost use Rattle.wy_types.specs.Vals.{block_vals, start_vals};
 ghost use Rattle.wy_types.specs.Program.{body_of, scope_of, start_of};
 ghost use Rattle.wy_types.specs.View.{block_of};
 ghost use Rattle.wy_lower.specs.Parts.{each_once_after, texts_in, calls_in, block_parts, bodies_parts, start_parts, scope_parts, scopes_parts};

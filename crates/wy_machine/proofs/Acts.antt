@@ -16,11 +16,13 @@ use Rattle.wy_code.specs.Stores.{Word, Int, Truth, Nothing, Text, Object, Grant,
 use Rattle.wy_code.specs.Machine as machine
 use Rattle.wy_code.specs.Machine.{State, Next, Go, Halt, stuck, act, first_of, word_of, has_room, popped, store_slot, stored, on_truth, return_to, take_operands, taken, short, on_taken, Taken, push_reply}
 use Rattle.wy_machine.specs.declared.run_end.RunEnd.{RunEnd}
-use Rattle.wy_machine.specs.Stacks.{OpenBody, StackState, pushed, with_operands, left_to, stored_in, at_address, jumped_unless}
+use Rattle.wy_machine.specs.Stacks.{pushed, with_operands, left_to, stored_in, at_address, jumped_unless}
+use Rattle.wy_machine.specs.OpenBodies.{OpenBody, StackState}
 use Rattle.wy_machine.specs.States.{frame_of, store_of, state_of}
 use Rattle.wy_machine.specs.Steps.{AreQuiet, IsNotStuck, IsStep}
 use Rattle.wy_machine.specs.Steps as steps
-use Rattle.wy_machine.specs.StoreStates.{StoreState, value_of, object_set, value_written}
+use Rattle.wy_machine.specs.StoreStates.{value_of, object_set, value_written}
+use Rattle.wy_machine.specs.StoreState.{StoreState}
 use Rattle.wy_machine.specs.Words.{truth_of, object_of}
 use Rattle.wy_machine.proofs.Quiet.{no_events, goes_quietly, unstuck}
 

@@ -18,10 +18,11 @@ use Rattle.wy_code.specs.Machine as machine
 use Rattle.wy_code.specs.Machine.{State, Next, Go, Halt, stuck, popped, call_on, enter_body, enter_method, method_of_literal, body_numbered, literal_of, name_in, all_instances, first_of}
 use Rattle.wy_machine.specs.declared.run_end.RunEnd.TheVariants.{TooDeep}
 use Rattle.wy_machine.specs.Calls.{number_called}
-use Rattle.wy_machine.specs.Stacks.{StackState, with_operands, entered}
+use Rattle.wy_machine.specs.Stacks.{with_operands, entered}
+use Rattle.wy_machine.specs.OpenBodies.{StackState}
 use Rattle.wy_machine.specs.States.{body_or_none, frame_of, store_of, state_of}
 use Rattle.wy_machine.specs.Steps.{acting, AreQuiet, IsNotStuck, IsStep}
-use Rattle.wy_machine.specs.StoreStates.{StoreState}
+use Rattle.wy_machine.specs.StoreState.{StoreState}
 use Rattle.wy_machine.proofs.Acts.{no_tapes, either, passed, operands_there, operands_taken, operand_there}
 use Rattle.wy_machine.proofs.OperatorSteps.{below, not_below}
 use Rattle.wy_machine.proofs.Quiet.{goes_quietly, is_too_deep, unstuck}

@@ -4,7 +4,8 @@ use Rattle.std.proofs.lemmas.List.{length-append, length-take, length-drop, leng
 use Rattle.std.proofs.lemmas.Slice.{between_is}
 use Rattle.wy_code.specs.Machine.{first_of}
 use Rattle.wy_code.specs.Stores.{Word, Nothing}
-use Rattle.wy_machine.specs.Stacks.{StackState, open_body, open_bodies, with_operands, entered, left_to}
+use Rattle.wy_machine.specs.Stacks.{open_body, open_bodies, with_operands, entered, left_to}
+use Rattle.wy_machine.specs.OpenBodies.{StackState}
 use Rattle.wy_machine.specs.declared.stack.Frame.{Frame}
 use Rattle.wy_machine.specs.declared.stack.Limits.{Limits}
 

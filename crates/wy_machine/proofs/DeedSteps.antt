@@ -31,10 +31,11 @@ use Rattle.wy_machine.specs.declared.run_end.RunEnd.TheVariants.{DeviceFailed}
 use Rattle.wy_machine.specs.declared.run_end.TrapKind.{TrapKind}
 use Rattle.wy_machine.specs.Requesting.{is_answered_by_text, asked_for, operation_with, first_text, refused, word_answer, HasPlace, word_received, store_received}
 use Rattle.wy_machine.specs.Runs.{tapes_of, AreSameDevices}
-use Rattle.wy_machine.specs.Stacks.{StackState, pushed}
+use Rattle.wy_machine.specs.Stacks.{pushed}
+use Rattle.wy_machine.specs.OpenBodies.{StackState}
 use Rattle.wy_machine.specs.States.{frame_of, store_of, state_of}
 use Rattle.wy_machine.specs.Steps.{IsNotStuck, IsStep}
-use Rattle.wy_machine.specs.StoreStates.{StoreState}
+use Rattle.wy_machine.specs.StoreState.{StoreState}
 use Rattle.wy_machine.specs.TrapKinds.{trap_meant}
 use Rattle.wy_machine.proofs.Acts.{no_tapes, either}
 use Rattle.wy_machine.proofs.CallSteps.{calling, called_from, calls}

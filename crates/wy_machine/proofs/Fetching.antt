@@ -8,10 +8,11 @@ use Rattle.wy_device.specs.Tapes.{Tapes}
 use Rattle.wy_code.specs.declared.code.Code.{Code}
 use Rattle.wy_code.specs.declared.instruction.Placed.{Placed}
 use Rattle.wy_code.specs.Machine.{step, act_first}
-use Rattle.wy_machine.specs.Stacks.{StackState, at_address}
+use Rattle.wy_machine.specs.Stacks.{at_address}
+use Rattle.wy_machine.specs.OpenBodies.{StackState}
 use Rattle.wy_machine.specs.States.{body_at, state_of}
 use Rattle.wy_machine.specs.Steps.{acting, stepping, IsNotStuck}
-use Rattle.wy_machine.specs.StoreStates.{StoreState}
+use Rattle.wy_machine.specs.StoreState.{StoreState}
 use Rattle.wy_machine.specs.Wanting.{takes_memory, first_takes, next_takes}
 use Rattle.wy_machine.proofs.Acts.{no_tapes}
 

@@ -9,10 +9,11 @@ use Rattle.wy_code.specs.Stores.{Store}
 use Rattle.wy_code.specs.Machine.{begin_next}
 use Rattle.wy_code.specs.Running.{Ran, steps, enter_first, store_at_first, objects_at_first, machine, NeverStuck}
 use Rattle.wy_machine.specs.Runs.{tapes_of, RunsTo}
-use Rattle.wy_machine.specs.Stacks.{StackState}
+use Rattle.wy_machine.specs.OpenBodies.{StackState}
 use Rattle.wy_machine.specs.States.{store_of, state_of}
 use Rattle.wy_machine.specs.Steps.{beginning, starting, IsNotStuck, Halts, IsStep}
-use Rattle.wy_machine.specs.StoreStates.{StoreState, store_with}
+use Rattle.wy_machine.specs.StoreStates.{store_with}
+use Rattle.wy_machine.specs.StoreState.{StoreState}
 use Rattle.wy_machine.specs.Wanting.{goes_to, state_after, state_reached}
 use Rattle.wy_machine.proofs.Leading.{Leads, later}
 

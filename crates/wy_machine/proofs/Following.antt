@@ -16,10 +16,10 @@ use Rattle.wy_code.specs.Machine.{all_instances}
 use Rattle.wy_machine.specs.declared.run_end.RunEnd.{RunEnd}
 use Rattle.wy_machine.specs.Observing.{Told, Entered, Left, Did, event_told, events_told, ArePlaced, AreFollowed, instance_names}
 use Rattle.wy_machine.specs.Runs.{tapes_of}
-use Rattle.wy_machine.specs.Stacks.{StackState}
+use Rattle.wy_machine.specs.OpenBodies.{StackState}
 use Rattle.wy_machine.specs.States.{frame_of, state_of}
 use Rattle.wy_machine.specs.Steps.{stepping, starting, IsStep}
-use Rattle.wy_machine.specs.StoreStates.{StoreState}
+use Rattle.wy_machine.specs.StoreState.{StoreState}
 use Rattle.wy_machine.proofs.Acts.{no_tapes}
 use Rattle.wy_machine.proofs.Nesting.{call_of, call_in, opens_after, opens_are, IsFew, IsNested, step_nests, start_nests}
 

@@ -10,7 +10,7 @@ use Rattle.wy_device.specs.declared.deed.Event.TheVariants.{Enter, Deed, Leave}
 use Rattle.wy_device.specs.declared.operation.Answer.{Answer}
 use Rattle.wy_device.specs.declared.operation.Kind.{Kind}
 use Rattle.wy_device.specs.declared.operation.Kind.TheVariants.{Console, Folder, Clock, Random}
-use Rattle.wy_device.specs.Device.{DeviceState}
+use Rattle.wy_device.specs.DeviceState.{DeviceState}
 use Rattle.wy_device.specs.Devices.{DevicesState, IsInOrder, device_of}
 use Rattle.wy_device.specs.Events.{deeds_of, same_kind, DidExactly}
 use Rattle.wy_device.specs.Operation.{kind_of, kind_named}
@@ -21,10 +21,10 @@ use Rattle.wy_code.specs.Running.{Ran, and_then, steps, machine, NeverStuck}
 use Rattle.wy_machine.specs.declared.run_end.RunEnd.{RunEnd}
 use Rattle.wy_machine.specs.declared.run_end.RunEnd.TheVariants.{Ended, Trap, TooDeep, Spent, DeviceFailed, SinkFailed, Memory}
 use Rattle.wy_machine.specs.Runs.{tapes_of, RunsTo, EndsIn, IsSameDevice, AreSameDevices, FailsByFault}
-use Rattle.wy_machine.specs.Stacks.{StackState}
+use Rattle.wy_machine.specs.OpenBodies.{StackState}
 use Rattle.wy_machine.specs.States.{state_of}
 use Rattle.wy_machine.specs.Steps.{stepping, IsNotStuck, Halts, StopsIn, IsStep}
-use Rattle.wy_machine.specs.StoreStates.{StoreState}
+use Rattle.wy_machine.specs.StoreState.{StoreState}
 use Rattle.wy_machine.specs.Wanting.{next_takes, WantsOnly, goes_to, state_after, state_reached, IsTaking, TakesMemory}
 
 ------------------------------------------------------------

@@ -7,7 +7,8 @@ use Rattle.wy_code.specs.declared.code.Code.{Code}
 use Rattle.wy_code.specs.Machine.{has_room}
 use Rattle.wy_code.specs.Stores.{Thing}
 use Rattle.wy_machine.specs.Loading.{words_of_body, most_words, IsLoaded}
-use Rattle.wy_machine.specs.Stacks.{StackState, words_in}
+use Rattle.wy_machine.specs.Stacks.{words_in}
+use Rattle.wy_machine.specs.OpenBodies.{StackState}
 use Rattle.wy_machine.specs.States.{body_or_none, body_at, frame_of}
 use Rattle.wy_machine.specs.declared.stack.Limits.{Limits}
 

@@ -17,10 +17,12 @@ use Rattle.wy_code.specs.Machine.{State, Next, Go, stuck, has_room, push_reply, 
 use Rattle.wy_machine.specs.declared.run_end.RunEnd.TheVariants.{Trap}
 use Rattle.wy_machine.specs.declared.run_end.TrapKind.TheVariants.{Crowded}
 use Rattle.wy_machine.specs.Captures.{word_found, words_found, after_words, with_fields, values_found}
-use Rattle.wy_machine.specs.Stacks.{StackState, pushed, with_operands}
+use Rattle.wy_machine.specs.Stacks.{pushed, with_operands}
+use Rattle.wy_machine.specs.OpenBodies.{StackState}
 use Rattle.wy_machine.specs.States.{frame_of, store_of, state_of}
 use Rattle.wy_machine.specs.Steps.{acting, IsNotStuck, IsStep}
-use Rattle.wy_machine.specs.StoreStates.{StoreState, with_object}
+use Rattle.wy_machine.specs.StoreStates.{with_object}
+use Rattle.wy_machine.specs.StoreState.{StoreState}
 use Rattle.wy_machine.proofs.Acts.{no_tapes, operands_there, operands_taken, pushes, room_to_push, value_at_is}
 use Rattle.wy_machine.proofs.OperatorSteps.{below, not_below}
 use Rattle.wy_machine.proofs.Quiet.{traps}

@@ -10,9 +10,9 @@ use Rattle.wy_machine.specs.declared.run_end.RunEnd.{RunEnd}
 use Rattle.wy_machine.specs.declared.run_end.RunEnd.TheVariants.{Ended, Trap, TooDeep, Spent, DeviceFailed, SinkFailed, Memory}
 use Rattle.wy_machine.specs.Observing.{AreFollowed, Told, event_told, events_told, HeardAll, HeardSome, IsObserved, RunsTold}
 use Rattle.wy_machine.specs.Runs.{RunsTo, EndsIn}
-use Rattle.wy_machine.specs.Stacks.{StackState}
+use Rattle.wy_machine.specs.OpenBodies.{StackState}
 use Rattle.wy_machine.specs.Steps.{stepping, starting, IsStep}
-use Rattle.wy_machine.specs.StoreStates.{StoreState}
+use Rattle.wy_machine.specs.StoreState.{StoreState}
 use Rattle.wy_machine.specs.Traces.{HappenedIn}
 use Rattle.wy_machine.specs.Wanting.{next_takes, WantsOnly}
 use Rattle.wy_machine.proofs.Following.{open_in, IsOpen, followed_on, followed_last, followed_after, first_nested, next_nested, first_open, next_open}

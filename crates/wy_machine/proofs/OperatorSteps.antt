@@ -19,10 +19,11 @@ use Rattle.wy_machine.specs.declared.run_end.RunEnd.TheVariants.{Trap}
 use Rattle.wy_machine.specs.declared.run_end.TrapKind.{TrapKind}
 use Rattle.wy_machine.specs.declared.run_end.TrapKind.TheVariants.{Crowded}
 use Rattle.wy_machine.specs.Computing.{IsGiven}
-use Rattle.wy_machine.specs.Stacks.{StackState, pushed, with_operands}
+use Rattle.wy_machine.specs.Stacks.{pushed, with_operands}
+use Rattle.wy_machine.specs.OpenBodies.{StackState}
 use Rattle.wy_machine.specs.States.{store_of, state_of}
 use Rattle.wy_machine.specs.Steps.{acting, IsNotStuck, IsStep}
-use Rattle.wy_machine.specs.StoreStates.{StoreState}
+use Rattle.wy_machine.specs.StoreState.{StoreState}
 use Rattle.wy_machine.specs.TrapKinds.{trap_meant}
 use Rattle.wy_machine.proofs.Acts.{no_tapes, operands_there, operands_taken, pushes}
 use Rattle.wy_machine.proofs.Quiet.{traps}

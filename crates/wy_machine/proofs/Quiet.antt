@@ -6,7 +6,7 @@ use Rattle.wy_text.proofs.Gains.{gained-nil}
 use Rattle.wy_text.specs.Outside.{gained}
 use Rattle.wy_device.specs.declared.deed.Event.{Event}
 use Rattle.wy_device.specs.declared.operation.Kind.TheVariants.{Console, Folder, Clock, Random}
-use Rattle.wy_device.specs.Device.{DeviceState}
+use Rattle.wy_device.specs.DeviceState.{DeviceState}
 use Rattle.wy_device.specs.Devices.{DevicesState}
 use Rattle.wy_device.specs.Events.{DidExactly, deeds_of}
 use Rattle.wy_device.specs.RunEnds as ends
@@ -17,10 +17,10 @@ use Rattle.wy_machine.specs.declared.run_end.RunEnd.{RunEnd}
 use Rattle.wy_machine.specs.declared.run_end.RunEnd.TheVariants.{Ended, Trap, TooDeep, Spent, DeviceFailed, SinkFailed, Memory}
 use Rattle.wy_machine.specs.declared.run_end.TrapKind.{TrapKind}
 use Rattle.wy_machine.specs.Runs.{tapes_of, IsSameDevice, AreSameDevices}
-use Rattle.wy_machine.specs.Stacks.{StackState}
+use Rattle.wy_machine.specs.OpenBodies.{StackState}
 use Rattle.wy_machine.specs.States.{state_of}
 use Rattle.wy_machine.specs.Steps.{AreQuiet, IsNotStuck, Halts, Comes, IsStep}
-use Rattle.wy_machine.specs.StoreStates.{StoreState}
+use Rattle.wy_machine.specs.StoreState.{StoreState}
 use Rattle.wy_machine.specs.TrapKinds.{trap_meant}
 use Rattle.wy_device.specs.Traps as device
 use Rattle.wy_machine.specs.Wanting.{WantsOnly, TrapsFirst}

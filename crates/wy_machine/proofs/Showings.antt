@@ -27,10 +27,10 @@ use Rattle.wy_machine.specs.declared.run_end.RunEnd.{RunEnd}
 use Rattle.wy_machine.specs.declared.run_end.RunEnd.TheVariants.{Ended, Trap, TooDeep, Spent, DeviceFailed, SinkFailed, Memory}
 use Rattle.wy_machine.specs.declared.run_end.TrapKind.{TrapKind}
 use Rattle.wy_machine.specs.Runs.{tapes_of}
-use Rattle.wy_machine.specs.Stacks.{StackState}
+use Rattle.wy_machine.specs.OpenBodies.{StackState}
 use Rattle.wy_machine.specs.States.{store_of, state_of}
 use Rattle.wy_machine.specs.Steps.{acting, starting, Halts, IsStep}
-use Rattle.wy_machine.specs.StoreStates.{StoreState}
+use Rattle.wy_machine.specs.StoreState.{StoreState}
 use Rattle.wy_machine.specs.TrapKinds.{trap_meant}
 use Rattle.wy_machine.proofs.Acts.{no_tapes}
 use Rattle.wy_machine.proofs.CallSteps.{calls}

@@ -18,11 +18,12 @@ use Rattle.wy_code.specs.Stores.{Nothing}
 use Rattle.wy_code.specs.Machine as machine
 use Rattle.wy_code.specs.Machine.{Next, Go, Halt, stuck, all_instances, begin_next, begin_instance, begin_body, start_in, this_at_start}
 use Rattle.wy_machine.specs.declared.run_end.RunEnd.TheVariants.{Ended}
-use Rattle.wy_machine.specs.Stacks.{OpenBody, StackState, begun}
+use Rattle.wy_machine.specs.Stacks.{begun}
+use Rattle.wy_machine.specs.OpenBodies.{OpenBody, StackState}
 use Rattle.wy_machine.specs.declared.stack.Limits.{Limits}
 use Rattle.wy_machine.specs.States.{body_or_none, frame_of, store_of}
 use Rattle.wy_machine.specs.Steps.{acting, beginning, AreQuiet, IsNotStuck, IsStep}
-use Rattle.wy_machine.specs.StoreStates.{StoreState}
+use Rattle.wy_machine.specs.StoreState.{StoreState}
 use Rattle.wy_machine.proofs.Acts.{no_tapes}
 use Rattle.wy_machine.proofs.Quiet.{goes_quietly, ends_run}
 

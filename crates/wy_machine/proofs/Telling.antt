@@ -19,10 +19,11 @@ use Rattle.wy_machine.specs.declared.run_end.TrapKind.{TrapKind}
 use Rattle.wy_machine.specs.Runs.{AreSameDevices}
 use Rattle.wy_machine.specs.TrapKinds.{trap_meant}
 use Rattle.wy_machine.specs.Observing.{ended_by, Told, Left, Did, event_told, events_told, entering, ArePlaced, HeardAll, HeardSome, IsHeardStep, IsObserved}
-use Rattle.wy_machine.specs.Stacks.{StackState, at_address}
+use Rattle.wy_machine.specs.Stacks.{at_address}
+use Rattle.wy_machine.specs.OpenBodies.{StackState}
 use Rattle.wy_machine.specs.States.{body_at}
 use Rattle.wy_machine.specs.Steps.{acting, stepping, AreQuiet, IsStep}
-use Rattle.wy_machine.specs.StoreStates.{StoreState}
+use Rattle.wy_machine.specs.StoreState.{StoreState}
 use Rattle.wy_machine.specs.Wanting.{takes_memory, next_takes, WantsOnly}
 use Rattle.wy_machine.proofs.Fetching.{fetched, takes_as}
 use Rattle.wy_machine.proofs.Quiet.{no_events, same_step, same_events}

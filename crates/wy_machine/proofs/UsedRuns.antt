@@ -8,8 +8,9 @@ use Rattle.wy_device.specs.Devices.{DevicesState}
 use Rattle.wy_text.specs.Members.{Apart}
 use Rattle.wy_meaning.specs.Bounds.{Call}
 use Rattle.wy_meaning.specs.OpenCalls.{open_after}
-use Rattle.wy_meaning.specs.Used.{UsedState, Follows, account_of, calls_of, unused}
-use Rattle.wy_meaning.specs.Used as used
+use Rattle.wy_meaning.specs.Used.{UsedState, Follows, account_of, calls_of}
+use Rattle.wy_meaning.specs.Accounts.{unused}
+use Rattle.wy_meaning.specs.Accounts as changes
 use Rattle.wy_meaning.specs.declared.used.Account.{Account}
 use Rattle.wy_meaning.proofs.UsedLemmas.{open_then, account_at, follows_first, follows_enter, follows_leave, follows_deed}
 use Rattle.wy_code.specs.declared.code.Code.{Code}
@@ -31,7 +32,7 @@ same_atoms : (t : Told) (a b : UsedState) (r : Result (Unit {0}) RunEnd) → Hea
 same_atoms (Entered i name body) a b r h = h.1.0
 same_atoms (Left i) a b r h = ap (λ (u : UsedState). u.atoms) h.1 ∙ of (slice_get a.accounts i)
   where
-    of : (o : Option Account) → (used.without_call o i a).atoms ≡ a.atoms
+    of : (o : Option Account) → (changes.without_call o i a).atoms ≡ a.atoms
     of None = refl
     of (Some x) = refl
 same_atoms (Did d) a b r h = ap (λ (u : UsedState). u.atoms) h.1
@@ -56,7 +57,7 @@ module _ (code : Code) (n : ℕ) (small : n < 2 ^ 64 - 1) where
 
     -- a call is left
     left_behind : (i : ℕ) (ts : List Told) (events : List Event) (a : UsedState) → Follows names events a → (cs : List Call) → open_after [] events ≡ cs → AreFollowed code n cs (Left i ∷ ts) →
-        AreFollowed code n (open_after [] (events ++ Leave ∷ [])) ts × Follows names (events ++ Leave ∷ []) (used.left i a)
+        AreFollowed code n (open_after [] (events ++ Leave ∷ [])) ts × Follows names (events ++ Leave ∷ []) (changes.left i a)
     left_behind i ts events a h [] e f = absurd f
     left_behind i ts events a h (c ∷ cs) e f =
         (subst (λ cs. AreFollowed code n cs ts) (sym (open_then [] events (Leave ∷ []) ∙ ap (λ cs. open_after cs (Leave ∷ [])) e)) f.1, follows_leave names events a h apart i c cs e f.0)

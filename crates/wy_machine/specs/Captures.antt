@@ -5,8 +5,9 @@ use Rattle.wy_code.specs.declared.code.Source.{Source}
 use Rattle.wy_code.specs.declared.code.Source.TheVariants.{Slot, Value}
 use Rattle.wy_code.specs.Machine.{first_of, with_word}
 use Rattle.wy_code.specs.Stores.{Word}
-use Rattle.wy_machine.specs.Stacks.{StackState}
-use Rattle.wy_machine.specs.StoreStates.{StoreState, value_of}
+use Rattle.wy_machine.specs.OpenBodies.{StackState}
+use Rattle.wy_machine.specs.StoreStates.{value_of}
+use Rattle.wy_machine.specs.StoreState.{StoreState}
 
 abbrev pub word_found : StackState → StoreState → Source → Option Word
 word_found s w (Slot i) = slice_get s.running.slots i

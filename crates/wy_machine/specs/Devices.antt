@@ -1,5 +1,5 @@
 -- The four devices that are handed in.
-use Rattle.wy_device.specs.Device.{DeviceState}
+use Rattle.wy_device.specs.DeviceState.{DeviceState}
 use Rattle.wy_device.specs.Devices.{DevicesState}
 use Rattle.wy_machine.specs.declared.devices.Devices.{Devices}
 

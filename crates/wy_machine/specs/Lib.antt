@@ -8,9 +8,11 @@ pub mod Runs
 pub mod Observed
 pub mod Observing
 pub mod Stacks
+pub mod OpenBodies
 pub mod States
 pub mod Steps
 pub mod StoreStates
+pub mod StoreState
 pub mod Traces
 pub mod TrapKinds
 pub mod Words

@@ -3,7 +3,8 @@ use Rattle.std.specs.Prelude.{◌≡◌, ◌<◌, ◌^◌, ◌-◌, ℕ, Some, R
 use Rattle.wy_device.specs.Devices.{DevicesState}
 use Rattle.wy_meaning.specs.Bounds.{atom_of}
 use Rattle.wy_text.specs.Members.{Apart}
-use Rattle.wy_meaning.specs.Used.{UsedState, Follows, entered, left, performed}
+use Rattle.wy_meaning.specs.Used.{UsedState, Follows}
+use Rattle.wy_meaning.specs.Accounts.{entered, left, performed}
 use Rattle.wy_meaning.specs.declared.used.Account.{Account}
 use Rattle.wy_code.specs.declared.code.Code.{Code}
 use Rattle.wy_machine.specs.declared.run_end.RunEnd.{RunEnd}

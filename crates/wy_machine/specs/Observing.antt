@@ -14,10 +14,10 @@ use Rattle.wy_code.specs.Machine.{Next, all_instances, name_in}
 use Rattle.wy_machine.specs.declared.run_end.RunEnd.{RunEnd}
 use Rattle.wy_machine.specs.declared.run_end.RunEnd.TheVariants.{DeviceFailed}
 use Rattle.wy_machine.specs.Runs.{EndsIn, AreSameDevices, FailsByFault}
-use Rattle.wy_machine.specs.Stacks.{StackState}
+use Rattle.wy_machine.specs.OpenBodies.{StackState}
 use Rattle.wy_machine.specs.States.{body_at}
 use Rattle.wy_machine.specs.Steps.{AreQuiet, IsStep}
-use Rattle.wy_machine.specs.StoreStates.{StoreState}
+use Rattle.wy_machine.specs.StoreState.{StoreState}
 use Rattle.wy_machine.specs.Traces.{HappenedIn}
 use Rattle.wy_machine.specs.Wanting.{WantsOnly}
 

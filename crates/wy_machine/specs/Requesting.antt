@@ -7,9 +7,10 @@ use Rattle.wy_code.specs.Operations.{operand_text, texts_named}
 use Rattle.wy_device.specs.Traps.{most_texts}
 use Rattle.wy_machine.specs.declared.run_end.TrapKind.{TrapKind}
 use Rattle.wy_machine.specs.declared.run_end.TrapKind.TheVariants.{BadName, Crowded}
-use Rattle.wy_machine.specs.Stacks.{StackState, pushed, with_operands}
+use Rattle.wy_machine.specs.Stacks.{pushed, with_operands}
+use Rattle.wy_machine.specs.OpenBodies.{StackState}
 use Rattle.wy_machine.specs.States.{store_of}
-use Rattle.wy_machine.specs.StoreStates.{StoreState}
+use Rattle.wy_machine.specs.StoreState.{StoreState}
 use Rattle.wy_device.specs.declared.operation.Answer.{Answer}
 use Rattle.wy_device.specs.declared.operation.Answer.TheVariants as answer
 use Rattle.wy_device.specs.Primitives.{operations_of}

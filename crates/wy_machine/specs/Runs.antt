@@ -7,7 +7,8 @@ use Rattle.wy_device.specs.declared.operation.Answer.{Answer}
 use Rattle.wy_device.specs.declared.operation.Op.{Op}
 use Rattle.wy_device.specs.declared.device.DeviceError.{DeviceError}
 use Rattle.wy_device.specs.declared.device.DeviceError.TheVariants as device_error
-use Rattle.wy_device.specs.Device.{DeviceState, IsAnswerOf}
+use Rattle.wy_device.specs.Device.{IsAnswerOf}
+use Rattle.wy_device.specs.DeviceState.{DeviceState}
 use Rattle.wy_device.specs.Devices.{DevicesState, device_of}
 use Rattle.wy_device.specs.Events.{deeds_of, DidExactly}
 use Rattle.wy_device.specs.Operation.{kind_named, kind_of}

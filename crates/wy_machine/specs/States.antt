@@ -5,8 +5,8 @@ use Rattle.wy_code.specs.declared.code.Body.{Body}
 use Rattle.wy_code.specs.declared.code.Code.{Code}
 use Rattle.wy_code.specs.Stores.{Store}
 use Rattle.wy_code.specs.Machine.{Frame, State}
-use Rattle.wy_machine.specs.Stacks.{OpenBody, StackState}
-use Rattle.wy_machine.specs.StoreStates.{StoreState}
+use Rattle.wy_machine.specs.OpenBodies.{OpenBody, StackState}
+use Rattle.wy_machine.specs.StoreState.{StoreState}
 
 abbrev pub no_body : Body
 no_body = record { name = []; parameters = 0; vals = 0; slots = 0; instructions = [] }

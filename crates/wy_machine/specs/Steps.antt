@@ -14,9 +14,9 @@ use Rattle.wy_code.specs.Running.{store_at_first}
 use Rattle.wy_machine.specs.declared.run_end.RunEnd.{RunEnd}
 use Rattle.wy_machine.specs.declared.run_end.RunEnd.TheVariants.{Ended, Trap, TooDeep, Spent, DeviceFailed, SinkFailed, Memory}
 use Rattle.wy_machine.specs.Runs.{tapes_of, AreSameDevices, FailsByFault}
-use Rattle.wy_machine.specs.Stacks.{StackState}
+use Rattle.wy_machine.specs.OpenBodies.{StackState}
 use Rattle.wy_machine.specs.States.{store_of, state_of}
-use Rattle.wy_machine.specs.StoreStates.{StoreState}
+use Rattle.wy_machine.specs.StoreState.{StoreState}
 use Rattle.wy_machine.specs.TrapKinds.{trap_meant}
 
 -- what an instruction does, by the answers to come

@@ -2,15 +2,7 @@
 use Rattle.std.specs.Prelude.{◌≡◌, ℕ, ⊤, List, [], ◌∷◌, ◌++◌, length, Option, Some, None, slice_get, slice_set}
 use Rattle.wy_code.specs.Stores.{Thing, Word, value_in}
 use Rattle.wy_machine.specs.Words.{object_of}
-
--- the objects, how many of them `New` made, the texts that were built, the number of the instance that starts next, and
--- the instances' objects as they are before any has started
-pub record StoreState : Type 0 where
-  pub objects : List Thing
-  pub made : ℕ
-  pub texts : List (List ℕ)
-  pub next : ℕ
-  pub first : List Thing
+use Rattle.wy_machine.specs.StoreState.{StoreState}
 
 -- the store of a run that starts
 abbrev pub store_with : List Thing → StoreState

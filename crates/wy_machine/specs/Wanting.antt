@@ -15,7 +15,7 @@ use Rattle.wy_code.specs.Running.{store_at_first}
 use Rattle.wy_code.specs.Stores.{Word, Grant}
 use Rattle.wy_machine.specs.declared.run_end.RunEnd.{RunEnd}
 use Rattle.wy_machine.specs.declared.run_end.RunEnd.TheVariants.{Ended, Trap, TooDeep, Spent, DeviceFailed, SinkFailed, Memory}
-use Rattle.wy_machine.specs.Stacks.{StackState}
+use Rattle.wy_machine.specs.OpenBodies.{StackState}
 use Rattle.wy_machine.specs.States.{body_at}
 
 ------------------------------------------------------------

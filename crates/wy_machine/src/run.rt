@@ -10,7 +10,7 @@ ghost use Rattle.wy_machine.specs.Observed.{RunsObserved};
 ghost use Rattle.wy_machine.specs.Observing.{instance_names};
 ghost use Rattle.wy_machine.specs.Runs.{Runs};
 ghost use Rattle.wy_machine.specs.Traces.{RunsTraced};
-ghost use Rattle.wy_meaning.specs.Used.{unused};
+ghost use Rattle.wy_meaning.specs.Accounts.{unused};
 
 use crate::devices::Devices;
 use crate::instances::first_objects;

@@ -42,7 +42,8 @@ pub struct Stack {
 
 impl Model for Stack {
     ghost use Rattle.std.specs.Prelude.{reverse, take, length, vec_capacity};
-    ghost use Rattle.wy_machine.specs.Stacks.{StackState, open_body, open_bodies, IsStacked};
+    ghost use Rattle.wy_machine.specs.Stacks.{open_body, open_bodies, IsStacked};
+    ghost use Rattle.wy_machine.specs.OpenBodies.{StackState};
 
     ghost Value = { StackState };
 

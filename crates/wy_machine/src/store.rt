@@ -22,7 +22,8 @@ pub struct Store {
 }
 
 impl Model for Store {
-    ghost use Rattle.wy_machine.specs.StoreStates.{StoreState, AreKept};
+    ghost use Rattle.wy_machine.specs.StoreStates.{AreKept};
+    ghost use Rattle.wy_machine.specs.StoreState.{StoreState};
 
     ghost Value = { StoreState };
 

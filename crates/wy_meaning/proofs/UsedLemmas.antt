@@ -14,7 +14,8 @@ use Rattle.wy_text.proofs.Lists.{In-slice_get}
 use Rattle.wy_meaning.specs.declared.used.Account.{Account}
 use Rattle.wy_meaning.specs.Bounds.{Call, atom_of}
 use Rattle.wy_meaning.specs.OpenCalls.{open_after}
-use Rattle.wy_meaning.specs.Used.{Follows, IsSaidOfEachUse, IsUsed, UsedState, account_of, calls_of, entered, is_open, left, no_account, noted, performed, place_from, unused, used_from, used_of, used_set, with_place, with_places}
+use Rattle.wy_meaning.specs.Used.{Follows, IsSaidOfEachUse, IsUsed, UsedState, account_of, calls_of, is_open, place_from, used_from, used_of, used_set, with_place, with_places}
+use Rattle.wy_meaning.specs.Accounts.{entered, left, no_account, noted, performed, unused}
 
 not_equal : (a b : List ℕ) → a ≢ b → bytes_eq a b ≡ false
 not_equal a b n = elim (bytes_eq a b) as (λ t. t ≡ bytes_eq a b → t ≡ false) [

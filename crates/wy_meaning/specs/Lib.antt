@@ -11,5 +11,6 @@ pub mod Results
 pub mod Start
 pub mod Starts
 pub mod Used
+pub mod Accounts
 pub mod Values
 pub mod Widening

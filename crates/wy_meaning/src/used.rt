@@ -4,6 +4,7 @@ ghost use Rattle.std.specs.Prelude.{◌≡◌, ◌+◌, ◌-◌, ◌<◌, ◌≤
 ghost use Rattle.std.specs.Option.{option_copied, option_map};
 ghost use Rattle.wy_device.specs.Operation.{member_named};
 ghost use Rattle.wy_meaning.specs.Used as used;
+ghost use Rattle.wy_meaning.specs.Accounts as changes;
 
 use std::alloc::Global;
 use std::marker::Model;
@@ -23,7 +24,7 @@ pub struct Account {
 impl Account {
     /// No call is open, and nothing was used. It takes no memory.
     fn new(alloc: Global) -> Account
-        ensures { result ≡ used.no_account }
+        ensures { result ≡ changes.no_account }
     {
         Account {
             calls: 0,
@@ -35,7 +36,7 @@ impl Account {
 /// The atom of a place was used of an instance, if a call of it is open.
 fn note(account: &mut Account, place: Option<usize>)
     requires { IfSome place (λ at. at < 512) }
-    ensures { account.new ≡ used.noted place account.old }
+    ensures { account.new ≡ changes.noted place account.old }
 {
     if account.calls == 0 {
         return;
@@ -67,7 +68,7 @@ impl<'a> Model for Used<'a> {
 /// The atom of a place was used of each of these instances of which a call is open.
 fn note_all(accounts: &mut [Account], place: Option<usize>)
     requires { IfSome place (λ at. at < 512) }
-    ensures { accounts.new ≡ map (used.noted place) accounts.old }
+    ensures { accounts.new ≡ map (changes.noted place) accounts.old }
 {
     for account in accounts.iter_mut() {
         note(account, place);
@@ -98,7 +99,7 @@ impl<'a> Used<'a> {
     /// Nothing was used so far of this many instances, the program among them as the last. The names are at most 512.
     pub fn new(alloc: Global, atoms: &'a [AtomName], instances: usize) -> Result<Used<'a>, Memory>
         requires few { length atoms.now ≤ 512 }
-        ensures made { IfOk result (λ u. u ≡ used.unused atoms.now instances) }
+        ensures made { IfOk result (λ u. u ≡ changes.unused atoms.now instances) }
     {
         let mut accounts = Vec::new(alloc);
         for _ in 0..instances {
@@ -109,7 +110,7 @@ impl<'a> Used<'a> {
 
     /// A call of an instance is open from here. It takes no memory. More than 2^64 - 1 open calls of an instance are not counted.
     pub fn enter(&mut self, instance: usize)
-        ensures counted { ((account : Account) → slice_get self.old.accounts instance ≡ Some account → account.calls < 2 ^ 64 - 1) → self.new ≡ used.entered instance self.old }
+        ensures counted { ((account : Account) → slice_get self.old.accounts instance ≡ Some account → account.calls < 2 ^ 64 - 1) → self.new ≡ changes.entered instance self.old }
         ensures atoms { self.new.atoms ≡ self.old.atoms }
     {
         if let Some(account) = self.accounts.get_mut(instance) {
@@ -119,7 +120,7 @@ impl<'a> Used<'a> {
 
     /// The latest call of an instance is left. It takes no memory.
     pub fn leave(&mut self, instance: usize)
-        ensures { self.new ≡ used.left instance self.old }
+        ensures { self.new ≡ changes.left instance self.old }
     {
         if let Some(account) = self.accounts.get_mut(instance) {
             account.calls = account.calls.saturating_sub(1);
@@ -129,7 +130,7 @@ impl<'a> Used<'a> {
     /// An operation was done on a grant, or failed: its effect was used of each instance of which a call is open. It takes no
     /// memory.
     pub fn perform(&mut self, grant: &Text, operation: OpName)
-        ensures { self.new ≡ used.performed (record { owner = grant.now; member = member_named operation }) self.old }
+        ensures { self.new ≡ changes.performed (record { owner = grant.now; member = member_named operation }) self.old }
     {
         let place = place_of(self.atoms, 0, grant, operation.member());
         note_all(self.accounts.as_mut_slice(), place);

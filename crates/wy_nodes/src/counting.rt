@@ -2,7 +2,8 @@
 //! memory.
 ghost use Rattle.std.specs.Prelude.{◌≡◌, ◌<◌, ◌≤◌, ◌^◌, map, true};
 ghost use Rattle.wy_syntax.specs.Views.{expr_tree, expr_trees, file_tree, item_tree, part_tree, part_trees, rhs_tree, stmt_tree, stmt_trees, tail_tree};
-ghost use Rattle.wy_syntax.specs.Nodes.{all_nodes, block_nodes, count_before, expr_nodes, exprs_nodes, file_nodes, is_before, item_nodes, one_if, part_nodes, parts_nodes, rhs_nodes, stmt_nodes, tail_nodes};
+ghost use Rattle.wy_syntax.specs.Nodes.{all_nodes, block_nodes, count_before, expr_nodes, exprs_nodes, file_nodes, item_nodes, one_if, part_nodes, parts_nodes, rhs_nodes, stmt_nodes, tail_nodes};
+ghost use Rattle.wy_syntax.specs.Before.{is_before};
 
 use wy_syntax::expressions::Expr;
 use wy_syntax::items::{Item, Tree};

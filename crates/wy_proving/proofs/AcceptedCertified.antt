@@ -14,9 +14,10 @@ use Rattle.wy_types.specs.Program.{Program, Scope}
 use Rattle.wy_types.specs.Types.{is_plain, erased, methods_of}
 use Rattle.wy_types.specs.Bounds.{bounds_of}
 use Rattle.wy_types.specs.Subtyping.{AnyEffect}
-use Rattle.wy_types.specs.Core.{IsCore, ScopeFits, scope_vals}
+use Rattle.wy_types.specs.Core.{IsCore, ScopeFits}
+use Rattle.wy_types.specs.Vals.{scope_vals}
 use Rattle.wy_rules.specs.Readings.{annotated_reading, plain_reading}
-use Rattle.wy_rules.specs.Tables.{erased_methods}
+use Rattle.wy_rules.specs.PlainMethods.{erased_methods}
 use Rattle.wy_rules.specs.Typing.{DerivesScope}
 use Rattle.wy_rules.specs.Acceptance.{ScopeAccepted, reading_of, scope_reading}
 use Rattle.wy_rules.specs.Canonical.{canonical_scope, same_read, same_type, locals_of}
@@ -32,7 +33,8 @@ use Rattle.wy_proving.proofs.BareStand.{BareStands, decide_bare, bare_of_standin
 use Rattle.wy_proving.proofs.ClosedPairs.{Closed, IsAsked, closed_of}
 use Rattle.wy_proving.proofs.EffectsKept.{scope_keeps}
 use Rattle.wy_proving.proofs.ExactLists.{pair_listed, ascended}
-use Rattle.wy_proving.specs.Written.{asked_by_all, unless_plain, where_plain, asked_by, asked_plainly, step_types, sub_pairs, pair_types, written_out, steps_in, written_steps, IsWhole, AreFound, AskedStand, WrittenIsProof, WhatIsAskedStands, NamedTypesStand, NamedBareTypesStand}
+use Rattle.wy_proving.specs.Written.{asked_by_all, unless_plain, where_plain, asked_by, asked_plainly, step_types, sub_pairs, pair_types, written_out, steps_in, written_steps}
+use Rattle.wy_proving.specs.WrittenLaws.{IsWhole, AreFound, AskedStand, WrittenIsProof, WhatIsAskedStands, NamedTypesStand, NamedBareTypesStand}
 use Rattle.wy_proving.specs.Written as written
 use Rattle.wy_proving.proofs.LinesAsked.{asked_by_each, asked_by_one, Asks, AsksPlainly, each_asked, each_asked_plainly, rules_hold, rule_stands}
 use Rattle.wy_proving.proofs.ListedClosed.{Whole, part, in_steps, in_locals, types_hold, asked_listed, asked_plainly_listed, pairs_hold, plain_hold, whole_of}

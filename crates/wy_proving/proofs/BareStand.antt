@@ -17,7 +17,7 @@ use Rattle.wy_types.specs.Core.{IsCore, ScopeFits}
 use Rattle.wy_types.specs.Subtyping.{ParamsIn, HasCover, IsClosed, IsPlainSubtype, AnyEffect}
 use Rattle.wy_types.proofs.Deciding.{decide_type}
 use Rattle.wy_types.proofs.FindingMethods.{find_mapped}
-use Rattle.wy_rules.specs.Tables.{erased_methods, IsPlainSubtypeOver}
+use Rattle.wy_rules.specs.PlainMethods.{erased_methods, IsPlainSubtypeOver}
 use Rattle.wy_proving.specs.Certified.{Pair, bare}
 use Rattle.wy_proving.specs.Proving.{TypeStands, IsEmptyIn}
 use Rattle.wy_proving.proofs.Erasing.{erased_erased, object_erased, erased_object, bare_signature, methods_agree}

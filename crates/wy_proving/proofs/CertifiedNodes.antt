@@ -5,7 +5,8 @@ use Rattle.std.proofs.lemmas.Bool.{eqb-true, eq-eqb}
 use Rattle.wy_types.specs.declared.types.TypeRef.{TypeRef}
 use Rattle.wy_types.specs.Program.{Program, Scope}
 use Rattle.wy_types.specs.Types.{is_plain, erased, scope_is_plain}
-use Rattle.wy_types.specs.Core.{IsCore, scope_vals}
+use Rattle.wy_types.specs.Core.{IsCore}
+use Rattle.wy_types.specs.Vals.{scope_vals}
 use Rattle.wy_types.specs.Subtyping.{IsAnnotatedSubtype, IsPlainSubtype}
 use Rattle.wy_rules.specs.Readings.{annotated_reading, plain_reading}
 use Rattle.wy_rules.specs.Canonical.{same_type}

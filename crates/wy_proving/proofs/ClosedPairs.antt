@@ -8,7 +8,7 @@ use Rattle.wy_types.specs.Signature.{Signature, find_method}
 use Rattle.wy_types.specs.Types.{IsObject}
 use Rattle.wy_types.specs.Subtyping.{ParamsIn, HasCover, IsClosed, IsSubtype}
 use Rattle.wy_types.proofs.Closing.{find_in}
-use Rattle.wy_rules.specs.Tables.{Methods}
+use Rattle.wy_rules.specs.PlainMethods.{Methods}
 use Rattle.wy_proving.specs.Certified.{Pair}
 
 -- every pair of a list is in another

@@ -7,7 +7,7 @@ use Rattle.wy_types.specs.declared.types.TypeRef.TheVariants.{Int, Bool, Text, U
 use Rattle.wy_types.specs.Program.{Program}
 use Rattle.wy_types.specs.Signature.{Signature, mapped_signature}
 use Rattle.wy_types.specs.Types.{IsObject, substituted, annotated, erased, declared_methods, named_methods, scope_is_plain, methods_of}
-use Rattle.wy_rules.specs.Tables.{erased_methods}
+use Rattle.wy_rules.specs.PlainMethods.{erased_methods}
 use Rattle.wy_rules.proofs.Agreeing.{map-after, mapped-after}
 
 pub erased_erased : (t : TypeRef) → erased (erased t) ≡ erased t

@@ -22,7 +22,7 @@ use Rattle.wy_types.specs.Core.{IsCore, ScopeFits, IsAscribed, IsWritten, HasSet
 use Rattle.wy_types.specs.Ground.{type_of, names_of}
 use Rattle.wy_types.proofs.Kept.{Fits-wider}
 use Rattle.wy_types.proofs.MemberSets.{arguments_are_sets}
-use Rattle.wy_rules.specs.Tables.{erased_methods}
+use Rattle.wy_rules.specs.PlainMethods.{erased_methods}
 use Rattle.wy_rules.specs.Acceptance.{Handed, reading_of, scope_reading, PureHolds, SealHolds, IsOfKind, ImportFits, InstanceHolds, ImportHolds, LineHolds, argument_type, parameters_of, ScopeAccepted}
 use Rattle.wy_rules.proofs.Agreeing.{annotation_of_erasure}
 use Rattle.wy_cert.specs.declared.certificate.CertScope.{CertScope}

@@ -9,7 +9,7 @@ use Rattle.wy_types.specs.Program.{Program, Scope}
 use Rattle.wy_types.specs.Types.{IsObject, methods_of}
 use Rattle.wy_types.specs.Bounds.{bounds_of}
 use Rattle.wy_types.specs.Subtyping.{IsClosed, IsAnnotatedSubtype, IsPlainSubtype, AnyEffect}
-use Rattle.wy_rules.specs.Tables.{erased_methods}
+use Rattle.wy_rules.specs.PlainMethods.{erased_methods}
 use Rattle.wy_cert.specs.declared.certificate.CertPair.{CertPair}
 use Rattle.wy_cert.specs.declared.certificate.CertScope.{CertScope}
 use Rattle.wy_proving.specs.Certified.{Pair, pair_of, typed_pairs, types_of, bare, annotated_pairs, plain_pairs}

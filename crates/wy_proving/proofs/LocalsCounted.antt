@@ -7,7 +7,8 @@ use Rattle.wy_text.proofs.Lists.{In-left, In-right, In-slice_get}
 use Rattle.wy_types.specs.Code.{Expr, Number, Quoted, Truth as TruthOf, Nothing as NothingOf, This, Name, Unary, Binary, TextCall, Call, New, Ascribe, Assign, Value, Plain, If, Values, none, more, Block, Last, Then, Val}
 use Rattle.wy_types.specs.Program.{Program, Scope, Body, Start, Init, Run}
 use Rattle.wy_types.specs.Types.{is_plain}
-use Rattle.wy_types.specs.Core.{IsCore, ScopeFits, expr_vals, value_vals, values_vals, block_vals, start_vals, bodies_vals, scope_vals}
+use Rattle.wy_types.specs.Core.{IsCore, ScopeFits}
+use Rattle.wy_types.specs.Vals.{expr_vals, value_vals, values_vals, block_vals, start_vals, bodies_vals, scope_vals}
 use Rattle.wy_rules.specs.Readings.{Reading}
 use Rattle.wy_rules.specs.Typing.{ScopeHolds}
 use Rattle.wy_rules.specs.Acceptance.{scope_reading}

@@ -13,7 +13,7 @@ use Rattle.wy_types.specs.Subtyping.{ParamsIn, HasCover, IsClosed, IsPlainSubtyp
 use Rattle.wy_types.proofs.Deciding.{decide_type, decide_pair}
 use Rattle.wy_types.proofs.FindingMethods.{find_mapped}
 use Rattle.wy_types.proofs.Closing.{find_in}
-use Rattle.wy_rules.specs.Tables.{erased_methods}
+use Rattle.wy_rules.specs.PlainMethods.{erased_methods}
 use Rattle.wy_proving.specs.Certified.{Pair, bare}
 use Rattle.wy_proving.proofs.Erasing.{methods_agree, bare_signature, object_erased, erased_object}
 use Rattle.wy_proving.proofs.ClosedTypes.{ClosedList, named}

@@ -17,8 +17,10 @@ use Rattle.wy_types.specs.declared.resolved.ScopeKind.TheVariants.{Pure, Resourc
 use Rattle.wy_types.specs.Program.{Program, Scope, Body}
 use Rattle.wy_types.specs.Signature.{Signature, mapped_signature}
 use Rattle.wy_types.specs.Types.{IsObject, is_plain, scope_is_plain, substituted, annotated, erased, signature, declared_methods, named_methods, methods_of_owner, scope_bodies, methods_of}
-use Rattle.wy_types.specs.Fitting.{FitsType, member_count}
-use Rattle.wy_types.specs.Core.{IsCore, ScopeFits, IsWritten, HasSets, literal_fields}
+use Rattle.wy_types.specs.Fitting.{FitsType}
+use Rattle.wy_types.specs.MemberCount.{member_count}
+use Rattle.wy_types.specs.Core.{IsCore, ScopeFits, IsWritten, HasSets}
+use Rattle.wy_types.specs.Vals.{literal_fields}
 use Rattle.wy_types.specs.Reached.{own_types}
 use Rattle.wy_types.proofs.Finite.{owner_among}
 use Rattle.wy_rules.specs.Readings.{Reading}

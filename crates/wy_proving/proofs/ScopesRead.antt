@@ -8,7 +8,7 @@ use Rattle.wy_types.specs.declared.types.TypeRef.TheVariants.{Unit as Nothing}
 use Rattle.wy_types.specs.Code.{Block}
 use Rattle.wy_types.specs.Program.{Program, Scope, Body, Start, Init, Run}
 use Rattle.wy_types.specs.Signature.{Signature, find_method}
-use Rattle.wy_types.specs.Core.{value_count}
+use Rattle.wy_types.specs.Vals.{value_count}
 use Rattle.wy_types.specs.Types.{IsObject, methods_of}
 use Rattle.wy_rules.specs.Readings.{Reading, IsBelow, annotated_reading, plain_reading}
 use Rattle.wy_rules.specs.Derivations as d

@@ -5,7 +5,7 @@ use Rattle.wy_text.specs.Members.{In}
 use Rattle.wy_text.proofs.Lists.{In-left, In-right, In-cases}
 use Rattle.wy_types.specs.declared.types.TypeRef.{TypeRef}
 use Rattle.wy_types.specs.Types.{IsObject}
-use Rattle.wy_rules.specs.Tables.{Methods}
+use Rattle.wy_rules.specs.PlainMethods.{Methods}
 use Rattle.wy_rules.specs.Reached.{Each}
 use Rattle.wy_rules.specs.Readings.{Reading}
 use Rattle.wy_rules.proofs.Transferring.{Tests}

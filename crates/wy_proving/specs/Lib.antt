@@ -5,3 +5,4 @@ pub mod Reading
 pub mod Proving
 pub mod Unproved
 pub mod Written
+pub mod WrittenLaws

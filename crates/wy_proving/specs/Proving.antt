@@ -15,10 +15,11 @@ use Rattle.wy_types.specs.Program.{Program, Scope}
 use Rattle.wy_types.specs.Types.{IsObject, is_plain, substituted, annotated, erased, methods_of}
 use Rattle.wy_types.specs.Bounds.{bounds_of}
 use Rattle.wy_types.specs.Subtyping.{IsClosed, AnyEffect}
-use Rattle.wy_types.specs.Fitting.{member_count}
-use Rattle.wy_types.specs.Core.{IsCore, scope_vals}
+use Rattle.wy_types.specs.MemberCount.{member_count}
+use Rattle.wy_types.specs.Core.{IsCore}
+use Rattle.wy_types.specs.Vals.{scope_vals}
 use Rattle.wy_types.specs.Ground.{names_of, arguments_sets}
-use Rattle.wy_rules.specs.Tables.{erased_methods}
+use Rattle.wy_rules.specs.PlainMethods.{erased_methods}
 use Rattle.wy_rules.specs.Readings.{plain_reading, annotated_reading}
 use Rattle.wy_rules.specs.Acceptance.{Accepted, PureHolds, MembersHold, IsOfKind, NumbersAgree, HasMembers, RespectsBounds, AllHanded, argument_type, ImportFits, scope_reading}
 use Rattle.wy_rules.specs.Canonical.{same_type, both, canonical_scope, locals_of}

@@ -12,7 +12,7 @@ use Rattle.wy_types.specs.Code.{Expr, Number, Quoted, Truth as TruthOf, Nothing 
 use Rattle.wy_types.specs.Program.{Program, Scope, Body, Start, Init, Run}
 use Rattle.wy_types.specs.Signature.{Signature, find_method}
 use Rattle.wy_types.specs.Bounds.{bounds_of}
-use Rattle.wy_types.specs.Core.{value_count}
+use Rattle.wy_types.specs.Vals.{value_count}
 use Rattle.wy_types.specs.Subtyping.{IsAnnotatedSubtype, IsPlainSubtype}
 use Rattle.wy_rules.specs.Readings.{Reading, annotated_reading, plain_reading}
 use Rattle.wy_rules.specs.Operators.{unary_rows, binary_rows, text_rows}

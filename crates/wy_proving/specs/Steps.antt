@@ -5,7 +5,7 @@ use Rattle.wy_types.specs.declared.types.TypeRef.TheVariants.{Bool, Unit as Noth
 use Rattle.wy_types.specs.Code.{Call, New, Ascribe, Assign, Value, Plain, If, Values, none, more, Block, Last, Then, Val}
 use Rattle.wy_types.specs.Program.{Scope, Body, Start, Init, Run}
 use Rattle.wy_types.specs.Signature.{find_method}
-use Rattle.wy_types.specs.Core.{value_count}
+use Rattle.wy_types.specs.Vals.{value_count}
 use Rattle.wy_rules.specs.Readings.{Reading}
 use Rattle.wy_rules.specs.Operators.{Operation, operation_of}
 use Rattle.wy_rules.specs.Derivations as d

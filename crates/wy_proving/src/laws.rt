@@ -3,7 +3,7 @@
 ghost use Rattle.wy_proving.specs.Proving.{AcceptedHasCanonicalCertificate, AcceptedHasCertificate, AcceptedHasWrittenCertificate, ListsAreExact, NodesAreRead, ProvedIsAccepted, ReachedTypesStand};
 ghost use Rattle.wy_proving.specs.Reading.{AnnotatedNodesAreRead, PlainNodesAreRead};
 ghost use Rattle.wy_proving.specs.Unproved.{OneUnproved, UnprovedIsNoProof};
-ghost use Rattle.wy_proving.specs.Written.{NamedBareTypesStand, NamedTypesStand, WhatIsAskedStands, WrittenIsProof};
+ghost use Rattle.wy_proving.specs.WrittenLaws.{NamedBareTypesStand, NamedTypesStand, WhatIsAskedStands, WrittenIsProof};
 
 /// What a certificate proves is accepted: each test holds, so the bodies have derivations and the rules for modules and lines
 /// hold (docs/LANGUAGE.md, "Certificates").

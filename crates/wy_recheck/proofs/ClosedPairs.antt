@@ -18,13 +18,14 @@ use Rattle.wy_types.specs.Subtyping.{ParamsIn, Covers, HasCover, LeadsBy, IsStep
 use Rattle.wy_types.proofs.Closing.{closed_step, IsClosed-more}
 use Rattle.wy_types.proofs.FindingMethods.{find_mapped}
 use Rattle.wy_types.proofs.Reaching.{no_methods}
-use Rattle.wy_rules.specs.Tables.{erased_methods}
+use Rattle.wy_rules.specs.PlainMethods.{erased_methods}
 use Rattle.wy_subtype.specs.declared.verdict.Mode.{Mode}
 use Rattle.wy_subtype.specs.declared.verdict.Mode.TheVariants.{Annotated, Plain}
 use Rattle.wy_subtype.specs.declared.verdict.Cause.{Cause}
 use Rattle.wy_subtype.specs.declared.verdict.Cause.TheVariants.{MissingMethod, Arity, Base, Effect}
 use Rattle.wy_subtype.specs.declared.unfolding.UnfoldedPair.{UnfoldedPair}
-use Rattle.wy_subtype.specs.Verdict.{Allows, Closes, StepsTo, AreObjects, FailsBy}
+use Rattle.wy_subtype.specs.Verdict.{Closes, AreObjects, FailsBy}
+use Rattle.wy_subtype.specs.Steps.{Allows, StepsTo}
 use Rattle.wy_subtype.specs.Unfolding.{sides, Asks}
 use Rattle.wy_subtype.proofs.Places.{slice_get-mapped}
 use Rattle.wy_subtype.proofs.Working.{fails_open}

@@ -7,7 +7,7 @@ use Rattle.wy_effects.proofs.SetLaws.{IsSetFrom-union}
 use Rattle.wy_types.specs.declared.types.TypeRef.{TypeRef}
 use Rattle.wy_types.specs.declared.code.Value as v
 use Rattle.wy_types.specs.View.{values_of}
-use Rattle.wy_types.specs.Core.{value_count}
+use Rattle.wy_types.specs.Vals.{value_count}
 use Rattle.wy_cert.specs.declared.certificate.CertNode.{CertNode}
 use Rattle.wy_proving.specs.Reading.{Part, part_stands, part_fails, part_then, Parts, parts_stand, parts_fail, parts_then, with_part}
 use Rattle.wy_recheck.specs.declared.failure.Failure.{Failure}

@@ -4,7 +4,7 @@ use Rattle.std.specs.Prelude.{Result, Ok, Err, nat_eq, if◌then◌else◌, OnOk
 use Rattle.wy_types.specs.declared.types.TypeRef.{TypeRef}
 use Rattle.wy_types.specs.Program.{Program, Scope}
 use Rattle.wy_types.specs.Types.{is_plain}
-use Rattle.wy_types.specs.Core.{scope_vals}
+use Rattle.wy_types.specs.Vals.{scope_vals}
 use Rattle.wy_rules.specs.Canonical.{same_type}
 use Rattle.wy_cert.specs.declared.certificate.CertScope.{CertScope}
 use Rattle.wy_cert.specs.declared.certificate.CertNode.{CertNode}

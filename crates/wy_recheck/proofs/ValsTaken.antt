@@ -10,7 +10,7 @@ use Rattle.wy_types.specs.declared.resolved.Body as b
 use Rattle.wy_types.specs.Code.{Block}
 use Rattle.wy_types.specs.View.{value_of, values_of, stmt_block, stmts_block, block_of}
 use Rattle.wy_types.specs.Program.{body_of}
-use Rattle.wy_types.specs.Core.{value_vals, values_vals, block_vals, bodies_vals}
+use Rattle.wy_types.specs.Vals.{value_vals, values_vals, block_vals, bodies_vals}
 use Rattle.wy_recheck.specs.Vals.{IsTaken, statement_vals}
 use Rattle.wy_recheck.proofs.NodesPassed.{left_at}
 

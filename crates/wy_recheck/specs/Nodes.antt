@@ -17,7 +17,8 @@ use Rattle.wy_types.specs.Program.{Program, Scope, Body, program_of, scope_of}
 use Rattle.wy_types.specs.Signature.{find_method}
 use Rattle.wy_types.specs.Types.{erased}
 use Rattle.wy_types.specs.Bounds.{bounds_of}
-use Rattle.wy_types.specs.Core.{IsCore, value_count}
+use Rattle.wy_types.specs.Core.{IsCore}
+use Rattle.wy_types.specs.Vals.{value_count}
 use Rattle.wy_rules.specs.Readings.{Reading}
 use Rattle.wy_rules.specs.Operators.{unary_rows, binary_rows, text_rows}
 use Rattle.wy_rules.specs.Typing.{field_types, var_field, binding_type}

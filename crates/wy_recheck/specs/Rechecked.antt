@@ -2,13 +2,10 @@
 -- (docs/LANGUAGE.md, "Certificates").
 use Rattle.std.specs.Prelude.{◌≡◌, ℕ, List, Result, Ok, Err}
 use Rattle.wy_types.specs.Program.{Program, Scope}
-use Rattle.wy_spelling.specs.Spelling.{IsBadAt, Spells}
 use Rattle.wy_cert.specs.declared.certificate.CertScope.{CertScope}
 use Rattle.wy_cert.specs.declared.reading.ReadRefusal.{ReadRefusal}
 use Rattle.wy_cert.specs.declared.reading.ReadRefusal.TheVariants as read
-use Rattle.wy_cert.specs.Spelled.{IsCertificateSpelled, certificate_bytes}
 use Rattle.wy_proving.specs.declared.proof.CertTest.{CertTest}
-use Rattle.wy_proving.specs.Proving.{IsProof}
 use Rattle.wy_proving.specs.Unproved.{FailsAt, HoldsBefore, IsFirstUnproved}
 use Rattle.wy_recheck.specs.declared.failure.Failure.{Failure}
 use Rattle.wy_recheck.specs.declared.failure.Failure.TheVariants.{At, Memory as NoMemory}
@@ -46,13 +43,3 @@ abbrev pub StopsAt : Program → List CertScope → CertRefusal → Type 0
 StopsAt p cert (refusal.BadCert at) = ⊥
 StopsAt p cert (refusal.Unproved scope test index) = IsFirstUnproved p cert scope test index
 StopsAt p cert refusal.Memory = Unit {0}
-
--- the bytes are a certificate that proves the program
-abbrev pub IsProvedBy : Program → List ℕ → Type 0
-IsProvedBy p bytes = (cert : List CertScope) × Spells IsCertificateSpelled certificate_bytes bytes cert × IsProof p cert
-
--- they are none, and so many of them can stand; or they are one of which this test fails first
-abbrev pub IsRefusedBy : Program → List ℕ → CertRefusal → Type 0
-IsRefusedBy p bytes (refusal.BadCert at) = IsBadAt IsCertificateSpelled certificate_bytes bytes at
-IsRefusedBy p bytes (refusal.Unproved scope test index) = (cert : List CertScope) × Spells IsCertificateSpelled certificate_bytes bytes cert × IsFirstUnproved p cert scope test index
-IsRefusedBy p bytes refusal.Memory = Unit {0}

@@ -3,7 +3,7 @@ use Rattle.std.specs.Prelude.{◌≡◌, ◌+◌, ◌<◌, ℕ, List, ◌∷◌,
 use Rattle.wy_types.specs.declared.code.Stmt.{Stmt}
 use Rattle.wy_types.specs.declared.code.Stmt.TheVariants.{Val, Do}
 use Rattle.wy_types.specs.View.{value_of}
-use Rattle.wy_types.specs.Core.{value_vals}
+use Rattle.wy_types.specs.Vals.{value_vals}
 
 -- so much is left of a number once `val`s are taken from it, or there are more of them
 abbrev pub IsTaken : ℕ → List ℕ → Option ℕ → Type 0

@@ -8,7 +8,8 @@ ghost use Rattle.wy_proving.specs.Certified.{types_of, annotated_pairs, plain_pa
 ghost use Rattle.wy_proving.specs.Unproved.{HoldsBefore};
 ghost use Rattle.wy_proving.specs.declared.proof.CertTest.TheVariants.{Lines};
 ghost use Rattle.wy_recheck.specs.PairSet.{StandsFor};
-ghost use Rattle.wy_recheck.specs.Rechecked.{IsTold, refusal_of, unproved, StopsIn, StopsAt, IsProvedBy, IsRefusedBy};
+ghost use Rattle.wy_recheck.specs.Rechecked.{IsTold, refusal_of, unproved, StopsIn, StopsAt};
+ghost use Rattle.wy_recheck.specs.ProvedBy.{IsProvedBy, IsRefusedBy};
 
 use crate::failure::Failure;
 use crate::lines::standing_lines;

@@ -3,7 +3,7 @@
 ghost use Rattle.std.specs.Prelude.{◌≡◌, ◌∷◌, [], ℕ, length, map, nat_eq};
 ghost use Rattle.wy_types.specs.View.{expr_of, value_of, values_of, block_of};
 ghost use Rattle.wy_types.specs.Program.{body_of, scope_of, start_of};
-ghost use Rattle.wy_types.specs.Core.{expr_vals, value_vals, values_vals, block_vals, start_vals, bodies_vals, scope_vals};
+ghost use Rattle.wy_types.specs.Vals.{expr_vals, value_vals, values_vals, block_vals, start_vals, bodies_vals, scope_vals};
 ghost use Rattle.wy_recheck.specs.Vals.{IsTaken, statement_vals};
 
 use wy_types::code::{Block, Expr, Stmt, Value};

@@ -19,7 +19,8 @@ use Rattle.wy_types.proofs.Composing.{transitive}
 use Rattle.wy_types.proofs.Deciding.{decide_type, object_cases}
 use Rattle.wy_types.proofs.Reflecting.{find_once}
 use Rattle.wy_rules.specs.Polarity.{Annotation, DualAnnotation}
-use Rattle.wy_rules.specs.Tables.{Methods, IsClosedUnder, ReflexiveOverTables, TransitiveOverTables, KeptUnderReplacement, ReplacedTablesAgree}
+use Rattle.wy_rules.specs.Tables.{IsClosedUnder, ReflexiveOverTables, TransitiveOverTables, KeptUnderReplacement, ReplacedTablesAgree}
+use Rattle.wy_rules.specs.PlainMethods.{Methods}
 
 params_same : (ps : List (TypeRef × TypeRef)) (ts : List TypeRef) → ((t : TypeRef) → In t ts → In {X = TypeRef × TypeRef} (t, t) ps) → ParamsIn ps ts ts
 params_same ps [] h = tt

@@ -16,7 +16,8 @@ use Rattle.wy_types.specs.declared.resolved.Field.{Field}
 use Rattle.wy_types.specs.Code.{Expr, Number, Quoted, Truth as TruthOf, Nothing as NothingOf, This, Name, Unary, Binary, TextCall, Call, New, Ascribe, Assign, Value, Plain, If, Values, none, more, Block, Last, Then, Val}
 use Rattle.wy_types.specs.Program.{Program, Scope}
 use Rattle.wy_types.specs.Signature.{Signature, find_method}
-use Rattle.wy_types.specs.Core.{ExprFits, ValueFits, ValuesFit, BlockFits, value_count}
+use Rattle.wy_types.specs.Core.{ExprFits, ValueFits, ValuesFit, BlockFits}
+use Rattle.wy_types.specs.Vals.{value_count}
 use Rattle.wy_rules.specs.Readings.{IsBelow}
 use Rattle.wy_rules.specs.Operators.{text_rows}
 use Rattle.wy_rules.specs.Derivations.{mark}

@@ -19,7 +19,8 @@ use Rattle.wy_types.specs.Code.{Values, Block}
 use Rattle.wy_types.specs.Program.{Program, Scope, Body, Start, Init, Run}
 use Rattle.wy_types.specs.Types.{is_plain}
 use Rattle.wy_types.specs.Bounds.{bounds_of}
-use Rattle.wy_types.specs.Core.{ScopeFits, StartFits, BodyFits, ValuesFit, BlockFits, literal_captures, body_parameters, start_vals, block_vals}
+use Rattle.wy_types.specs.Core.{ScopeFits, StartFits, BodyFits, ValuesFit, BlockFits, body_parameters}
+use Rattle.wy_types.specs.Vals.{literal_captures, start_vals, block_vals}
 use Rattle.wy_rules.specs.Typing.{BlockHas, AllHave, fields_of, field_types}
 use Rattle.wy_rules.specs.Acceptance.{scope_reading}
 use Rattle.wy_rules.specs.Nodes.{nothing, written, body, init, impure, seal, node, written_spots, values_nodes, block_nodes, start_nodes, body_nodes, bodies_nodes, var_nodes, impure_line, impure_lines, pure_nodes, seal_nodes, scope_nodes}

@@ -15,7 +15,8 @@ use Rattle.wy_types.specs.Program.{Program, Scope, Body}
 use Rattle.wy_types.specs.Signature.{Signature}
 use Rattle.wy_types.specs.Types.{IsObject, is_plain, signature, methods_of, methods_of_owner, scope_bodies}
 use Rattle.wy_types.specs.Paths.{IsPartOf}
-use Rattle.wy_types.specs.Core.{ScopeFits, literal_fields}
+use Rattle.wy_types.specs.Core.{ScopeFits}
+use Rattle.wy_types.specs.Vals.{literal_fields}
 use Rattle.wy_types.specs.Written.{block_types}
 use Rattle.wy_types.specs.Reached.{sealed_types, own_types, field_types as all_field_types, start_types, body_types, first_types, scope_first_types, IsReached as IsCounted}
 use Rattle.wy_types.proofs.Reaching.{walks_more, object_of}

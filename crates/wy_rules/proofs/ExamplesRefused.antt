@@ -13,7 +13,8 @@ use Rattle.wy_rules.specs.Readings.{annotated_reading}
 use Rattle.wy_rules.specs.Derivations.{T-Lit, T-Var, T-Call, none, more, Result}
 use Rattle.wy_rules.specs.Typing.{Has}
 use Rattle.wy_rules.specs.Acceptance.{Handed, HasMembers, IsArgument, RespectsBounds, LineHolds}
-use Rattle.wy_rules.specs.Refusals.{IsRefusal, ScopePasses}
+use Rattle.wy_rules.specs.Refusals.{ScopePasses}
+use Rattle.wy_rules.specs.ProgramRefusal.{IsRefusal}
 use Rattle.wy_rules.proofs.Closed.{annotated_subtype}
 use Rattle.wy_rules.proofs.Each.{arguments_hold, members_hold}
 use Rattle.wy_rules.proofs.ExamplesBodies.{lacks, logger_refused, main_refused}

@@ -15,13 +15,14 @@ use Rattle.wy_types.specs.declared.resolved.ScopeKind.{ScopeKind}
 use Rattle.wy_types.specs.declared.resolved.ScopeKind.TheVariants.{Pure, Resource, Plain, Program as Main}
 use Rattle.wy_types.specs.Program.{Program, Scope, Body, Start, Init, Run}
 use Rattle.wy_types.specs.Types.{is_plain}
-use Rattle.wy_types.specs.Core.{ScopeFits, StartFits, BodyFits, CapturesBefore, literal_captures, body_parameters, start_vals, block_vals}
+use Rattle.wy_types.specs.Core.{ScopeFits, StartFits, BodyFits, CapturesBefore, body_parameters}
+use Rattle.wy_types.specs.Vals.{literal_captures, start_vals, block_vals}
 use Rattle.wy_rules.specs.Derivations.{BodyDerivation, T-Body, T-Body-Init, effects_of}
 use Rattle.wy_rules.specs.Typing.{BlockHas, fields_of, field_types, DerivesStart, DerivesBodies, ScopeHolds}
 use Rattle.wy_rules.specs.Acceptance.{scope_reading, IsLine, PureHolds, AscriptionHolds}
 use Rattle.wy_rules.specs.Nodes.{nothing, written, impure, Node, node, written_spots, values_nodes, block_nodes, start_nodes, body_nodes, bodies_nodes, var_nodes, impure_line, impure_lines, pure_nodes, seal_nodes}
 use Rattle.wy_rules.specs.Failing.{FirstFailing, AllPass, IsScopeFault}
-use Rattle.wy_rules.specs.Refusals.{AcceptedScopesHold}
+use Rattle.wy_rules.specs.ProgramRefusal.{AcceptedScopesHold}
 use Rattle.wy_rules.proofs.Forms.{Lawful}
 use Rattle.wy_rules.proofs.Narrowing.{Narrower, AllNarrower, narrow_values, narrow_block}
 use Rattle.wy_rules.proofs.Passing.{left}

@@ -10,7 +10,8 @@ use Rattle.wy_types.specs.declared.code.Variable.TheVariants.{Local}
 use Rattle.wy_types.specs.Code.{Expr, Number, Quoted, Truth as TruthOf, Nothing as NothingOf, This, Name, Unary, Binary, TextCall, Call, New, Ascribe, Assign, Value, Plain, If, Values, none, more, Block, Last, Then, Val}
 use Rattle.wy_types.specs.Program.{Program, Scope, Body, Start, Init, Run}
 use Rattle.wy_types.specs.Types.{is_plain}
-use Rattle.wy_types.specs.Core.{ScopeFits, StartFits, ExprFits, ValueFits, ValuesFit, BlockFits, start_vals, bodies_vals}
+use Rattle.wy_types.specs.Core.{ScopeFits, StartFits, ExprFits, ValueFits, ValuesFit, BlockFits}
+use Rattle.wy_types.specs.Vals.{start_vals, bodies_vals}
 use Rattle.wy_rules.specs.Readings.{Reading, IsBelow}
 use Rattle.wy_rules.specs.Derivations.{BodyDerivation, T-Body, T-Body-Init, effects_of}
 use Rattle.wy_rules.specs.Typing.{field_types, IsValType, Has, AllHave, BlockHas, DerivesStart, DerivesBodies}

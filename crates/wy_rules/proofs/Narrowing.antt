@@ -11,7 +11,8 @@ use Rattle.wy_types.specs.declared.code.Variable.TheVariants.{Parameter, Local}
 use Rattle.wy_types.specs.declared.code.Binding.TheVariants as to
 use Rattle.wy_types.specs.Code.{Expr, Number, Quoted, Truth, Nothing as NothingOf, This, Name, Unary, Binary, TextCall, Call, New, Ascribe, Assign, Value, Plain, If, Values, none, more, Block, Last, Then, Val}
 use Rattle.wy_types.specs.Program.{Program, Scope}
-use Rattle.wy_types.specs.Core.{ExprFits, ValueFits, ValuesFit, BlockFits, expr_vals, value_vals, values_vals, block_vals}
+use Rattle.wy_types.specs.Core.{ExprFits, ValueFits, ValuesFit, BlockFits}
+use Rattle.wy_types.specs.Vals.{expr_vals, value_vals, values_vals, block_vals}
 use Rattle.wy_rules.specs.Readings.{Reading, IsBelow}
 use Rattle.wy_rules.specs.Operators.{Row, Operation, operation_of, literal_type, unary_rows, binary_rows, text_rows}
 use Rattle.wy_rules.specs.Derivations.{T-Lit, T-Var, T-This, T-Call, T-New, T-If, T-Set, T-Op, T-Asc, Derivations, none as no_derivations, more as one_more, Result, T-Seq, T-Val, effects_of, expr_mark, mark}

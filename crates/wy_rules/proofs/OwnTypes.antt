@@ -33,7 +33,7 @@ own_in Resource n l h k = in_module n l k
 own_in Plain n l h k = in_module n l k
 own_in Main n l h k = in_program n l (h refl) k
 
-in_below : (n a l : ℕ) → In l (range_with_len a n) → l < a + n
+pub in_below : (n a l : ℕ) → In l (range_with_len a n) → l < a + n
 in_below zero a l i = absurd i
 in_below (suc n) a l (inl e) = omega (arith, e)
 in_below (suc n) a l (inr i) = (let h = in_below n (a + 1) l i in omega (arith, h))

@@ -15,7 +15,8 @@ use Rattle.wy_types.specs.Types.{IsObject, substituted, annotated, erased, decla
 use Rattle.wy_types.specs.Bounds.{bounds_of}
 use Rattle.wy_types.proofs.Composing.{transitive}
 use Rattle.wy_types.proofs.Deciding.{decide_type}
-use Rattle.wy_rules.specs.Tables.{replaced_methods, erased_methods, retyped_methods}
+use Rattle.wy_rules.specs.Tables.{replaced_methods, retyped_methods}
+use Rattle.wy_rules.specs.PlainMethods.{erased_methods}
 use Rattle.wy_rules.specs.Readings.{annotated_reading, plain_reading, replaced_reading, erased_reading, retyped_reading}
 use Rattle.wy_rules.specs.Rereading.{Erasure, Substitution, Retyping}
 use Rattle.wy_rules.proofs.Agreeing.{map-after, mapped-after, object-substituted, substituted-object, replaced_tables_agree, transitive_over_tables}

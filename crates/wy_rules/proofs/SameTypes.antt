@@ -28,7 +28,7 @@ number_exact a b e = eqb-true a b e
 number_itself : (a : ℕ) → nat_eq a a ≡ true
 number_itself a = eq-eqb a a refl
 
-numbers_exact : (e f : List ℕ) → same_numbers e f ≡ true → e ≡ f
+pub numbers_exact : (e f : List ℕ) → same_numbers e f ≡ true → e ≡ f
 numbers_exact [] [] h = refl
 numbers_exact (a ∷ e) (b ∷ f) h =
     let i = number_exact a b (both_left (nat_eq a b) (same_numbers e f) h) in
@@ -41,7 +41,7 @@ numbers_itself : (e : List ℕ) → same_numbers e e ≡ true
 numbers_itself [] = refl
 numbers_itself (a ∷ e) = both_true (nat_eq a a) (same_numbers e e) (number_itself a) (numbers_itself e)
 
-sets_exact : (e f : List (List ℕ)) → same_sets e f ≡ true → e ≡ f
+pub sets_exact : (e f : List (List ℕ)) → same_sets e f ≡ true → e ≡ f
 sets_exact [] [] h = refl
 sets_exact (a ∷ e) (b ∷ f) h =
     let i = numbers_exact a b (both_left (same_numbers a b) (same_sets e f) h) in

@@ -10,7 +10,8 @@ use Rattle.wy_types.specs.declared.code.Variable.TheVariants.{Parameter, Local}
 use Rattle.wy_types.specs.declared.code.Binding.TheVariants as to
 use Rattle.wy_types.specs.Code.{Expr, Number, Quoted, Truth as TruthOf, Nothing as NothingOf, This, Name, Unary, Binary, TextCall, Call, New, Ascribe, Assign, Value, Plain, If, Values, none, more, Block, Last, Then, Val}
 use Rattle.wy_types.specs.Program.{Program, Scope}
-use Rattle.wy_types.specs.Core.{ExprFits, ValueFits, ValuesFit, BlockFits, expr_vals, value_vals, values_vals, block_vals}
+use Rattle.wy_types.specs.Core.{ExprFits, ValueFits, ValuesFit, BlockFits}
+use Rattle.wy_types.specs.Vals.{expr_vals, value_vals, values_vals, block_vals}
 use Rattle.wy_rules.specs.Readings.{Reading}
 use Rattle.wy_types.specs.Signature.{find_method}
 use Rattle.wy_rules.specs.Operators.{text_rows}

@@ -17,7 +17,8 @@ use Rattle.wy_types.specs.Code.{Expr, Number, Quoted, Truth as TruthOf, Nothing 
 use Rattle.wy_types.specs.Program.{Program, Scope}
 use Rattle.wy_types.specs.Signature.{Signature, find_method}
 use Rattle.wy_types.specs.Subtyping.{ParamsIn}
-use Rattle.wy_types.specs.Core.{ExprFits, ValueFits, ValuesFit, BlockFits, value_count}
+use Rattle.wy_types.specs.Core.{ExprFits, ValueFits, ValuesFit, BlockFits}
+use Rattle.wy_types.specs.Vals.{value_count}
 use Rattle.wy_rules.specs.Readings.{IsBelow}
 use Rattle.wy_rules.specs.Operators.{Row, text_rows}
 use Rattle.wy_rules.specs.Derivations.{Derivations, none as no_derivations, more as one_more}

@@ -7,7 +7,8 @@ use Rattle.wy_text.proofs.Lists.{In-slice_get}
 use Rattle.wy_types.specs.Program.{Program, Scope}
 use Rattle.wy_types.specs.Core.{IsCore, ScopeFits}
 use Rattle.wy_rules.specs.Acceptance.{Accepted, ScopeAccepted}
-use Rattle.wy_rules.specs.Refusals.{Turn, plain_modules, other_modules, the_program, turn_of, is_its_turn, Numbered, scopes_of, FirstFault, AcceptedHasNoFault}
+use Rattle.wy_rules.specs.Refusals.{Turn, plain_modules, other_modules, the_program, turn_of, is_its_turn, Numbered, scopes_of, FirstFault}
+use Rattle.wy_rules.specs.ProgramRefusal.{AcceptedHasNoFault}
 use Rattle.wy_rules.proofs.Holding.{accepted_scopes_hold}
 use Rattle.wy_rules.proofs.Passing.{accepted_lines_hold}
 

@@ -20,7 +20,8 @@ use Rattle.wy_types.specs.declared.code.TextOperator.TheVariants.{Size, Part, Co
 use Rattle.wy_types.specs.Code.{Expr, Number, Quoted, Truth as TruthOf, Nothing as NothingOf, This, Name, Unary, Binary, TextCall, Call, New, Ascribe, Assign, Value, Plain, If, Values, none, more, Block, Last, Then, Val}
 use Rattle.wy_types.specs.Program.{Program, Scope}
 use Rattle.wy_types.specs.Signature.{Signature, find_method}
-use Rattle.wy_types.specs.Core.{ExprFits, ValueFits, ValuesFit, BlockFits, expr_vals, value_vals, values_vals, block_vals}
+use Rattle.wy_types.specs.Core.{ExprFits, ValueFits, ValuesFit, BlockFits}
+use Rattle.wy_types.specs.Vals.{expr_vals, value_vals, values_vals, block_vals}
 use Rattle.wy_rules.specs.Readings.{Reading, IsBelow}
 use Rattle.wy_rules.specs.Operators.{Row, unary_rows, binary_rows, text_rows, equality_rows, two}
 use Rattle.wy_rules.specs.Derivations.{Derivation, Derivations, BlockDerivation, T-Op, none as no_derivations, more as one_more, effects_of, expr_mark, mark, block_mark}

@@ -10,7 +10,8 @@ use Rattle.wy_types.specs.declared.code.Variable.TheVariants.{Parameter, Local}
 use Rattle.wy_types.specs.Code.{Value, Plain, If}
 use Rattle.wy_types.specs.Program.{Program, Scope, Body, Start, Init, Run}
 use Rattle.wy_types.specs.Types.{is_plain}
-use Rattle.wy_types.specs.Core.{ScopeFits, StartFits, BodyFits, start_vals, block_vals, bodies_vals, scope_vals, literal_captures, body_parameters}
+use Rattle.wy_types.specs.Core.{ScopeFits, StartFits, BodyFits, body_parameters}
+use Rattle.wy_types.specs.Vals.{start_vals, block_vals, bodies_vals, scope_vals, literal_captures}
 use Rattle.wy_rules.specs.Readings.{Reading}
 use Rattle.wy_rules.specs.Derivations.{BodyDerivation, T-Body, T-Body-Init, effects_of}
 use Rattle.wy_rules.specs.Typing.{field_types, DerivesStart, DerivesBodies, DerivesScope}

@@ -14,7 +14,8 @@ use Rattle.wy_types.specs.Program.{Program, Scope, Body, Start, Init, Run}
 use Rattle.wy_types.specs.Signature.{Signature}
 use Rattle.wy_types.specs.Types.{IsObject, is_plain, signature, methods_of, methods_of_owner, scope_bodies}
 use Rattle.wy_types.specs.Fitting.{FitsType, IsTypeOf, scope_literals}
-use Rattle.wy_types.specs.Core.{IsCore, ScopeFits, StartFits, IsWritten, ExprFits, ValueFits, ValuesFit, BlockFits, literal_fields}
+use Rattle.wy_types.specs.Core.{IsCore, ScopeFits, StartFits, IsWritten, ExprFits, ValueFits, ValuesFit, BlockFits}
+use Rattle.wy_types.specs.Vals.{literal_fields}
 use Rattle.wy_types.specs.Written.{written_types, expr_types, value_types, values_types, block_types}
 use Rattle.wy_types.specs.Reached.{start_types}
 use Rattle.wy_types.proofs.Finite.{Fits-written, owner_among}

@@ -10,7 +10,8 @@ use Rattle.wy_types.specs.declared.resolved.Field.{Field}
 use Rattle.wy_types.specs.Code.{Expr, Number, Quoted, Truth as TruthOf, Nothing as NothingOf, This, Name, Unary, Binary, TextCall, Call, New, Ascribe, Assign, Value, Plain, If, Values, none, more, Block, Last, Then, Val}
 use Rattle.wy_types.specs.Program.{Program, Scope, Body, Start, Init, Run}
 use Rattle.wy_types.specs.Types.{is_plain}
-use Rattle.wy_types.specs.Core.{ScopeFits, IsCore, scope_vals}
+use Rattle.wy_types.specs.Core.{ScopeFits, IsCore}
+use Rattle.wy_types.specs.Vals.{scope_vals}
 use Rattle.wy_types.specs.Signature.{Signature, find_method}
 use Rattle.wy_rules.specs.Readings.{Reading, IsBelow}
 use Rattle.wy_rules.specs.Operators.{Row, row, unary_rows, binary_rows, text_rows}

@@ -30,6 +30,11 @@ pub record IsWithinLimits (p : Program) : Type 0 where
   pub types : (k : ℕ) (s : Scope) → slice_get p.scopes k ≡ Some s → ReachesTooMany p k → ⊥
   pub instances : StartsTooMany p → ⊥
 
+-- the program is accepted, within the limits
+pub record IsAccepted (p : Program) : Type 0 where
+  pub accepted : Accepted p
+  pub within : IsWithinLimits p
+
 module _ (p : Program) where
   abbrev pub IsScopeEnd : Numbered → End → Type 0
   IsScopeEnd n (limited name) = (name ≡ ReachedTypes) × ReachesTooMany p n.number

@@ -18,7 +18,7 @@ use Rattle.wy_types.specs.Signature.{Signature, find_method}
 use Rattle.wy_types.specs.Types.{is_plain, methods_of}
 use Rattle.wy_types.specs.Bounds.{bounds_of, declared_bounds}
 use Rattle.wy_types.specs.Paths.{IsEffect, Reaches}
-use Rattle.wy_types.specs.Core.{value_count}
+use Rattle.wy_types.specs.Vals.{value_count}
 use Rattle.wy_types.specs.Ground.{names_of, argument_sets, arguments_sets}
 use Rattle.wy_rules.specs.Readings.{Reading, IsBelow}
 use Rattle.wy_rules.specs.Operators.{Row, Operation, operation_of}

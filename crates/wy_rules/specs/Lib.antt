@@ -12,6 +12,7 @@ pub mod Nodes
 pub mod Operators
 pub mod OwnNames
 pub mod Polarity
+pub mod ProgramRefusal
 pub mod Reached
 pub mod Readings
 pub mod Refusals
@@ -19,5 +20,6 @@ pub mod Rereading
 pub mod Resolved
 pub mod Sparse
 pub mod Tables
+pub mod PlainMethods
 pub mod Transfer
 pub mod Typing

@@ -14,7 +14,7 @@ use Rattle.wy_types.specs.declared.resolved.ScopeKind.{ScopeKind}
 use Rattle.wy_types.specs.declared.resolved.ScopeKind.TheVariants.{Pure, Resource, Plain, Program as Main}
 use Rattle.wy_types.specs.Program.{Program, Scope, Body}
 use Rattle.wy_types.specs.Bounds.{type_bounds}
-use Rattle.wy_types.specs.Core.{literal_captures}
+use Rattle.wy_types.specs.Vals.{literal_captures}
 use Rattle.wy_types.specs.Fitting.{FitsType}
 use Rattle.wy_types.specs.Ground.{members_of, abstract_names, single_sets}
 use Rattle.wy_rules.specs.Acceptance.{is_parameter, parameters_among}

@@ -10,7 +10,8 @@ use Rattle.wy_types.specs.Signature.{Signature}
 use Rattle.wy_types.specs.Types.{IsObject as IsObjectType, substituted, annotated, erased, methods_of}
 use Rattle.wy_types.specs.Bounds.{bounds_of}
 use Rattle.wy_types.specs.Subtyping.{IsSubtype, AnyEffect}
-use Rattle.wy_rules.specs.Tables.{replaced_methods, erased_methods, retyped_methods}
+use Rattle.wy_rules.specs.Tables.{replaced_methods, retyped_methods}
+use Rattle.wy_rules.specs.PlainMethods.{erased_methods}
 
 pub record Reading : Type 1 where
   pub Kind : Type 0

@@ -1,14 +1,13 @@
--- The fault by which a whole program is refused: plain modules are judged first, then the other modules, then all lines, then the
--- program's body, each in file order (docs/LANGUAGE.md, "First failing node").
+-- The turns in which the scopes of a program are judged, and the first fault in a turn. Plain modules come first, then
+-- the other modules, then the program, each in file order (docs/LANGUAGE.md, "First failing node").
 use Rattle.std.specs.Prelude.{ℕ, ◌+◌, List, [], ◌∷◌, ◌⊎◌, Bool as Truth, true, false, if◌then◌else◌}
 use Rattle.wy_text.specs.declared.fault.Fault.{Fault}
 use Rattle.wy_types.specs.declared.resolved.ScopeKind.{ScopeKind}
 use Rattle.wy_types.specs.declared.resolved.ScopeKind.TheVariants.{Pure, Resource, Plain, Program as Main}
 use Rattle.wy_types.specs.Program.{Program, Scope}
-use Rattle.wy_types.specs.Core.{IsCore, ScopeFits}
-use Rattle.wy_rules.specs.Acceptance.{scope_reading, Accepted, ScopeAccepted}
+use Rattle.wy_rules.specs.Acceptance.{scope_reading}
 use Rattle.wy_rules.specs.Nodes.{scope_nodes, lines_nodes}
-use Rattle.wy_rules.specs.Failing.{AllPass, IsScopeFault, IsLineFault}
+use Rattle.wy_rules.specs.Failing.{AllPass, IsScopeFault}
 
 -- the passes over the scopes
 pub data Turn : Type 0 where
@@ -16,18 +15,21 @@ pub data Turn : Type 0 where
   other_modules : Turn
   the_program : Turn
 
+-- the turn of a scope
 abbrev pub turn_of : ScopeKind → Turn
 turn_of Pure = other_modules
 turn_of Resource = other_modules
 turn_of Plain = plain_modules
 turn_of Main = the_program
 
+-- the two turns are the same
 abbrev pub is_its_turn : Turn → Turn → Truth
 is_its_turn plain_modules plain_modules = true
 is_its_turn other_modules other_modules = true
 is_its_turn the_program the_program = true
 is_its_turn a b = false
 
+-- each node of the scope passes over some types of its `val`s
 pub record ScopePasses (p : Program) (k : ℕ) (s : Scope) : Type 0 where
   pub locals : List (scope_reading p k s).Kind
   pub nodes : AllPass p k s locals (scope_nodes s)
@@ -48,27 +50,7 @@ module _ (p : Program) where
   FirstFault [] fault = ⊥
   FirstFault (n ∷ ns) fault = IsScopeFault p n.number n.scope fault ⊎ (ScopePasses p n.number n.scope × FirstFault ns fault)
 
-  abbrev pub AllScopesPass : List Numbered → Type 0
-  AllScopesPass [] = Unit {0}
-  AllScopesPass (n ∷ ns) = ScopePasses p n.number n.scope × AllScopesPass ns
-
+  -- the lines of each of these scopes pass, the first scope having this number
   abbrev pub LinesPassFrom : ℕ → List Scope → Type 0
   LinesPassFrom k [] = Unit {0}
   LinesPassFrom k (s ∷ ss) = AllPass p k s [] (lines_nodes s.names) × LinesPassFrom (k + 1) ss
-
-  abbrev pub IsRefusal : Fault → Type 0
-  IsRefusal fault =
-      FirstFault (scopes_of plain_modules 0 p.scopes) fault ⊎
-      (AllScopesPass (scopes_of plain_modules 0 p.scopes) ×
-      (FirstFault (scopes_of other_modules 0 p.scopes) fault ⊎
-      (AllScopesPass (scopes_of other_modules 0 p.scopes) ×
-      (IsLineFault p fault ⊎
-      (LinesPassFrom 0 p.scopes × FirstFault (scopes_of the_program 0 p.scopes) fault)))))
-
--- no module and no program's body is refused whose rules hold
-abbrev pub AcceptedScopesHold : Type 0
-AcceptedScopesHold = (p : Program) (k : ℕ) (s : Scope) (fault : Fault) → ScopeFits p s → ScopeAccepted p k s → IsScopeFault p k s fault → ⊥
-
--- an accepted program has no fault
-abbrev pub AcceptedHasNoFault : Type 0
-AcceptedHasNoFault = (p : Program) (fault : Fault) → IsCore p → Accepted p → IsRefusal p fault → ⊥

@@ -7,18 +7,13 @@ use Rattle.wy_types.specs.declared.types.TypeRef.{TypeRef}
 use Rattle.wy_types.specs.declared.types.TypeRef.TheVariants.{Int, Bool, Text, Unit as Nothing, Named, At, Own}
 use Rattle.wy_types.specs.Program.{Program}
 use Rattle.wy_types.specs.Signature.{Signature, mapped_signature}
-use Rattle.wy_types.specs.Types.{IsObject, substituted, annotated, erased, declared_methods, named_methods, bounded_methods, methods_of_owner, scope_bodies, methods_of}
-use Rattle.wy_types.specs.Subtyping.{IsSubtype, AnyEffect}
-
-abbrev pub Methods : Type 0
-Methods = TypeRef → List (Signature TypeRef)
+use Rattle.wy_types.specs.Types.{IsObject, substituted, annotated, declared_methods, named_methods, bounded_methods, methods_of_owner, scope_bodies, methods_of}
+use Rattle.wy_types.specs.Subtyping.{IsSubtype}
+use Rattle.wy_rules.specs.PlainMethods.{IsPlainSubtypeOver, Methods}
 
 -- subtyping over bounds and a table, with effects and without
 abbrev pub IsSubtypeOver : Bounds → Methods → TypeRef → TypeRef → Type 0
 IsSubtypeOver bounds methods s t = IsSubtype TypeRef methods IsObject (IsWithin bounds) s t
-
-abbrev pub IsPlainSubtypeOver : Methods → TypeRef → TypeRef → Type 0
-IsPlainSubtypeOver methods s t = IsSubtype TypeRef methods IsObject AnyEffect s t
 
 -- the methods of the list's types have names that differ, and name types of the list
 pub record IsClosedUnder (methods : Methods) (ts : List TypeRef) : Type 0 where
@@ -62,16 +57,6 @@ replaced_methods p scope by (Own l) = map (mapped_signature (substituted by) (re
 -- they agree with the scope's own
 abbrev pub ReplacedTablesAgree : Type 0
 ReplacedTablesAgree = (p : Program) (scope : ℕ) (by : List (List ℕ)) → AreSets 512 by → Agree by (methods_of p scope) (replaced_methods p scope by)
-
--- the methods of a scope's types with no regard to effects: every declared type bare, every effect empty
-abbrev pub erased_methods : Program → ℕ → Methods
-erased_methods p scope Int = []
-erased_methods p scope Bool = []
-erased_methods p scope Text = []
-erased_methods p scope Nothing = []
-erased_methods p scope (Named d members) = map (mapped_signature erased (λ e. [])) (declared_methods (slice_get p.declarations d))
-erased_methods p scope (At d bound) = map (mapped_signature erased (λ e. [])) (declared_methods (slice_get p.declarations d))
-erased_methods p scope (Own l) = map (mapped_signature erased (λ e. [])) (methods_of_owner l (scope_bodies (slice_get p.scopes scope)))
 
 -- the methods of a plain module's types at a set: every declared type at it, every effect the set
 abbrev pub retyped_methods : Program → ℕ → List ℕ → Methods

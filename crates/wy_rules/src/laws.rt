@@ -10,7 +10,7 @@ ghost use Rattle.wy_rules.specs.Sparse.{NoSubsumptionAboveAnother};
 ghost use Rattle.wy_rules.specs.Transfer.{ScopesHoldWhereMethodsAgree, ScopesHoldWithoutType, AcceptedWithoutType};
 ghost use Rattle.wy_rules.specs.Judging.{PassingIsAccepted, AcceptedLinesHold};
 ghost use Rattle.wy_rules.specs.GroundTyping.{GroundTyping};
-ghost use Rattle.wy_rules.specs.Refusals.{AcceptedScopesHold, AcceptedHasNoFault};
+ghost use Rattle.wy_rules.specs.ProgramRefusal.{AcceptedScopesHold, AcceptedHasNoFault};
 ghost use Rattle.wy_rules.specs.Ends.{OneScopeFault, OneEnd, AcceptedHasNoEnd};
 
 /// Over any bounds and table of methods: each type of a list is a subtype of itself, where the list has what its

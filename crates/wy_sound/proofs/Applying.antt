@@ -10,7 +10,8 @@ use Rattle.wy_types.specs.declared.linked.Actual.TheVariants as actual
 use Rattle.wy_types.specs.declared.resolved.Field.{Field}
 use Rattle.wy_types.specs.Program.{Program}
 use Rattle.wy_types.specs.Signature.{Signature, find_method}
-use Rattle.wy_types.specs.Core.{IsCore, literal_fields, literal_captures}
+use Rattle.wy_types.specs.Core.{IsCore}
+use Rattle.wy_types.specs.Vals.{literal_fields, literal_captures}
 use Rattle.wy_rules.specs.GroundTypes.{GroundType, Int as Ints, Bool as Truths, Text as Texts, Nothing as Nothings, Own, ground_methods}
 use Rattle.wy_rules.specs.Typing.{fields_of, field_types}
 use Rattle.wy_device.specs.Editions.{current}

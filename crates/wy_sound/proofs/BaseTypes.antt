@@ -22,23 +22,23 @@ use Rattle.wy_sound.specs.TypedHeaps.{Placed, kind_at, ValueHas}
 ------------------------------------------------------------
 -- Base types and own types stay, however a scope is read
 
-read_int : (x : ℕ) (o : Option (List ℕ)) (sets : List (List ℕ)) → type_at x (read_by o sets of.Int) ≡ Ints
+pub read_int : (x : ℕ) (o : Option (List ℕ)) (sets : List (List ℕ)) → type_at x (read_by o sets of.Int) ≡ Ints
 read_int x None sets = refl
 read_int x (Some b) sets = refl
 
-read_bool : (x : ℕ) (o : Option (List ℕ)) (sets : List (List ℕ)) → type_at x (read_by o sets of.Bool) ≡ Truths
+pub read_bool : (x : ℕ) (o : Option (List ℕ)) (sets : List (List ℕ)) → type_at x (read_by o sets of.Bool) ≡ Truths
 read_bool x None sets = refl
 read_bool x (Some b) sets = refl
 
-read_text : (x : ℕ) (o : Option (List ℕ)) (sets : List (List ℕ)) → type_at x (read_by o sets of.Text) ≡ Texts
+pub read_text : (x : ℕ) (o : Option (List ℕ)) (sets : List (List ℕ)) → type_at x (read_by o sets of.Text) ≡ Texts
 read_text x None sets = refl
 read_text x (Some b) sets = refl
 
-read_nothing : (x : ℕ) (o : Option (List ℕ)) (sets : List (List ℕ)) → type_at x (read_by o sets of.Unit) ≡ Nothings
+pub read_nothing : (x : ℕ) (o : Option (List ℕ)) (sets : List (List ℕ)) → type_at x (read_by o sets of.Unit) ≡ Nothings
 read_nothing x None sets = refl
 read_nothing x (Some b) sets = refl
 
-read_own : (x l : ℕ) (o : Option (List ℕ)) (sets : List (List ℕ)) → type_at x (read_by o sets (of.Own l)) ≡ Own x l
+pub read_own : (x l : ℕ) (o : Option (List ℕ)) (sets : List (List ℕ)) → type_at x (read_by o sets (of.Own l)) ≡ Own x l
 read_own x l None sets = refl
 read_own x l (Some b) sets = refl
 

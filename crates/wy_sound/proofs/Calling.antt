@@ -5,7 +5,8 @@ use Rattle.std.proofs.lemmas.Bool.{eq-eqb, ne_eqb}
 use Rattle.wy_text.proofs.Lists.{In-slice_get}
 use Rattle.wy_types.specs.Program.{Program, Body}
 use Rattle.wy_types.specs.Signature.{Signature, find_method}
-use Rattle.wy_types.specs.Core.{literal_captures, body_parameters}
+use Rattle.wy_types.specs.Core.{body_parameters}
+use Rattle.wy_types.specs.Vals.{literal_captures}
 use Rattle.wy_rules.specs.GroundTypes.{GroundType, Own, ground_methods, ground_reading, effect_by}
 use Rattle.wy_rules.specs.Derivations.{BodyDerivation, T-Body, T-Body-Init}
 use Rattle.wy_rules.specs.Typing.{DerivesBody}

@@ -22,7 +22,7 @@ use Rattle.wy_meaning.proofs.Programs.{somewhere, number, truth, nothing, own, l
 use Rattle.wy_rules.specs.OwnNames.{ModulesCaptureNothing, HavePlainNames, GrantsStandFirst}
 use Rattle.wy_sound.specs.Arguments.{program_names}
 use Rattle.wy_sound.specs.Programs.{program_starts, allowed}
-use Rattle.wy_sound.specs.Laws.{course}
+use Rattle.wy_sound.specs.Courses.{course}
 
 ------------------------------------------------------------
 -- resource module logger(out: Console): ..

@@ -17,7 +17,7 @@ use Rattle.wy_sound.specs.GroundReached.{same_ground, is_among, with_others, nam
 ------------------------------------------------------------
 -- The test says exactly whether two types are the same
 
-ground_exact : (t u : GroundType) → same_ground t u ≡ true → t ≡ u
+pub ground_exact : (t u : GroundType) → same_ground t u ≡ true → t ≡ u
 ground_exact Int Int h = refl
 ground_exact Bool Bool h = refl
 ground_exact Text Text h = refl
@@ -34,7 +34,7 @@ ground_exact (Own x l) (Own y k) h =
     cc
 ground_exact t u h = absurd (cc)
 
-ground_itself : (t : GroundType) → same_ground t t ≡ true
+pub ground_itself : (t : GroundType) → same_ground t t ≡ true
 ground_itself Int = refl
 ground_itself Bool = refl
 ground_itself Text = refl
@@ -43,7 +43,7 @@ ground_itself (Named d es) = (types_are_told_apart (of.Named d es) (of.Named d e
 ground_itself (At d e) = (types_are_told_apart (of.At d e) (of.At d e)).1 refl
 ground_itself (Own x l) = rw (eq-eqb x x refl) (eq-eqb l l refl)
 
-among : (t : GroundType) (us : List GroundType) → is_among t us ≡ true → In t us
+pub among : (t : GroundType) (us : List GroundType) → is_among t us ≡ true → In t us
 among t [] e = absurd (cc)
 among t (u ∷ us) e =
     elim (same_ground u t) as (λ b. same_ground u t ≡ b → (if b then true else is_among t us) ≡ true → In t (u ∷ us)) [

@@ -15,7 +15,8 @@ use Rattle.wy_types.specs.Program.{Program, Scope, Body}
 use Rattle.wy_types.specs.Signature.{Signature, mapped_signature, signature_types}
 use Rattle.wy_types.specs.Types.{is_plain, signature, methods_of_owner, scope_bodies}
 use Rattle.wy_types.specs.Fitting.{FitsType, scope_literals}
-use Rattle.wy_types.specs.Core.{IsCore, ScopeFits, IsAscribed, literal_fields}
+use Rattle.wy_types.specs.Core.{IsCore, ScopeFits, IsAscribed}
+use Rattle.wy_types.specs.Vals.{literal_fields}
 use Rattle.wy_types.specs.Written.{block_types}
 use Rattle.wy_types.specs.Reached.{sealed_types, own_types, field_types as all_field_types, start_types, body_types, first_types, scope_first_types}
 use Rattle.wy_types.proofs.Kept.{Fits-wider}

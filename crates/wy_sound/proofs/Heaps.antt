@@ -8,7 +8,7 @@ use Rattle.wy_types.specs.declared.code.Variable.{Variable}
 use Rattle.wy_types.specs.declared.code.Variable.TheVariants.{Parameter, Local}
 use Rattle.wy_types.specs.declared.linked.Actual.TheVariants as actual
 use Rattle.wy_types.specs.Program.{Program}
-use Rattle.wy_types.specs.Core.{literal_captures}
+use Rattle.wy_types.specs.Vals.{literal_captures}
 use Rattle.wy_rules.specs.GroundTypes.{GroundType, Int, Bool as Truths, Text as Texts, Nothing as Nothings, Own}
 use Rattle.wy_meaning.specs.Values.{Value, Int as Number, Truth, Nothing, Text, Object, Grant, Named, value_named, Thing}
 use Rattle.wy_meaning.specs.Eval.{Sight, with_local}

@@ -7,13 +7,16 @@ pub mod Effects
 pub mod Evaluating
 mod Examples
 mod ExamplesGroundReached
-mod GroundLists
+pub mod GroundCanonical
+pub mod GroundLists
 pub mod GroundRange
 mod GroundReached
 pub mod Heaps
+mod LineNames
 pub mod Linked
 mod LinkingAdded
 mod LinkingApart
+mod LinkingAtoms
 mod LinkingBounds
 mod LinkingEnds
 mod LinkingExamples
@@ -39,6 +42,7 @@ pub mod Operating
 pub mod Operations
 pub mod Performing
 pub mod Placing
+mod ReachedSeen
 pub mod ReportRows
 pub mod Results
 pub mod Running

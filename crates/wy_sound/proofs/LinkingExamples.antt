@@ -26,6 +26,7 @@ use Rattle.wy_types.specs.Program.{Program, Scope, Init}
 use Rattle.wy_types.specs.Ground.{number_from, instance_of, program_sets, program_visited, start_list, visit, ground_of}
 use Rattle.wy_rules.specs.GroundTypes as ground
 use Rattle.wy_rules.specs.GroundTypes.{run_instances}
+use Rattle.wy_sound.specs.Granted.{granted_count}
 use Rattle.wy_sound.specs.GroundRange.{owns_among, IsOfRun}
 use Rattle.wy_sound.specs.Grounds.{IsGround}
 use Rattle.wy_rules.specs.OwnNames.{HaveTheirTypes, OwnNamesFit, LinesAreTyped, IsPlainName, HavePlainNames, GrantsStandFirst}
@@ -324,3 +325,28 @@ bound_kept (suc (suc a)) b e = absurd (cc)
 -- `{disk.Write}` would not be
 bound_not_kept : Respects find_bounded [] ((0 ∷ 3 ∷ []) ∷ (1 ∷ []) ∷ []) → ⊥
 bound_not_kept h = without 1 (0 ∷ 3 ∷ []) refl (none_within (1 ∷ []) (0 ∷ 3 ∷ []) (h 1 (0 ∷ []) refl) 1 (inl refl))
+
+------------------------------------------------------------
+-- Atoms of grants
+
+-- the first atoms are the grant's, and no ground set has another
+granted_are : granted_count imported ≡ 2
+granted_are = refl
+
+ground_is_granted : map (λ (i : Started). i.ground) (start_list imported) ≡ [] ∷ two ∷ [] ∷ []
+ground_is_granted = refl
+
+-- where a grant stood behind a line, one of its atoms would have no name in the report
+abbrev late : Program
+late = record {
+  declarations = primitive_types ++ log ∷ [];
+  scopes =
+      scope Resource (codes "quiet") [] [] (Some 5) ([] ∷ []) ∷
+      scope Main (codes "main") [] (own (codes "log") (Named 5 ((0 ∷ []) ∷ [])) (Instance 0 []) ∷ grant ∷ []) None [] ∷ [];
+}
+
+late_sets : program_sets late ≡ [] ∷ (1 ∷ []) ∷ (2 ∷ []) ∷ []
+late_sets = refl
+
+late_is_none : AreSets (granted_count late) (program_sets late) → ⊥
+late_is_none h = let s : IsSet 2 (2 ∷ []) = h (2 ∷ []) (inr (inr (inl refl))) in absurd (omega (arith, s.1))

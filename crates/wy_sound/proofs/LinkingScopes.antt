@@ -16,7 +16,8 @@ use Rattle.wy_types.specs.declared.resolved.ScopeKind.TheVariants.{Pure, Resourc
 use Rattle.wy_types.specs.Program.{Program, Scope}
 use Rattle.wy_types.specs.Types.{scope_is_plain, is_plain}
 use Rattle.wy_types.specs.Bounds.{bounds_of}
-use Rattle.wy_types.specs.Fitting.{FitsType, member_count}
+use Rattle.wy_types.specs.Fitting.{FitsType}
+use Rattle.wy_types.specs.MemberCount.{member_count}
 use Rattle.wy_types.specs.Core.{IsWritten, OriginFits, IsAscribed, origin_modules, LeadsTo, ScopeFits, IsCore}
 use Rattle.wy_types.specs.Ground.{Visited, names_of, members_of, is_use, uses_among, argument_sets, arguments_sets, handed, visit, program_number}
 use Rattle.wy_types.proofs.Bounding.{bounds_at}

@@ -13,7 +13,8 @@ use Rattle.wy_types.specs.declared.resolved.Origin.TheVariants.{Parameter, Grant
 use Rattle.wy_types.specs.declared.resolved.OwnName.{OwnName}
 use Rattle.wy_types.specs.Program.{Program}
 use Rattle.wy_types.specs.Types.{substituted}
-use Rattle.wy_types.specs.Fitting.{FitsType, member_count}
+use Rattle.wy_types.specs.Fitting.{FitsType}
+use Rattle.wy_types.specs.MemberCount.{member_count}
 use Rattle.wy_types.specs.Ground.{abstract_names, members_of, single_sets, argument_sets, arguments_sets}
 use Rattle.wy_rules.specs.Acceptance.{is_parameter, parameters_until, parameters_among}
 use Rattle.wy_rules.specs.OwnNames.{opens, opened_count, IsOpened}

@@ -17,7 +17,8 @@ use Rattle.wy_meaning.specs.Eval.{open_calls}
 use Rattle.wy_meaning.specs.Start.{begin, objects_at_first, end_of, world_at_first, meaning}
 use Rattle.wy_meaning.specs.Bounds.{Bounded}
 use Rattle.wy_sound.specs.Programs.{IsResolved, program_starts, allowed}
-use Rattle.wy_sound.specs.Laws.{course, NeverWrong, EventsAreBounded, Keeps, KeepsFilling, Preservation, BlockPreservation, CallPreservation, StartPreservation, FirstHeapIsTyped}
+use Rattle.wy_sound.specs.Laws.{NeverWrong, EventsAreBounded, Keeps, KeepsFilling, Preservation, BlockPreservation, CallPreservation, StartPreservation, FirstHeapIsTyped}
+use Rattle.wy_sound.specs.Courses.{course}
 use Rattle.wy_sound.proofs.LinkingLaws.{accepted_instances_fit, accepted_arguments_fit}
 use Rattle.wy_sound.proofs.LinkingMain.{main_fits}
 use Rattle.wy_sound.proofs.LinkingGrants.{grants_fit}

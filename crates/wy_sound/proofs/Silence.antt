@@ -27,7 +27,8 @@ use Rattle.wy_meaning.specs.Bounds.{Call, atom_of}
 use Rattle.wy_meaning.specs.OpenCalls.{open_after}
 use Rattle.wy_meaning.proofs.Bounding.{said_of_each_deed}
 use Rattle.wy_sound.specs.Programs.{body_atoms, call_atoms, allowed, IsResolved}
-use Rattle.wy_sound.specs.Laws.{course, PureInstancesMayNothing, PureInstancesAreSilent}
+use Rattle.wy_sound.specs.Laws.{PureInstancesMayNothing, PureInstancesAreSilent}
+use Rattle.wy_sound.specs.Courses.{course}
 use Rattle.wy_sound.proofs.LinkingLaws.{accepted_instances_fit}
 use Rattle.wy_sound.proofs.LinkingAdded.{AllUses, uses_are_uses, uses_are_names}
 use Rattle.wy_sound.proofs.LinkingPrograms.{last_scope, NoSpace, no_space_both, no_space_dot, number_found}

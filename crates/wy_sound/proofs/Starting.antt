@@ -9,7 +9,8 @@ use Rattle.wy_types.specs.declared.resolved.ScopeKind.TheVariants as kind
 use Rattle.wy_types.specs.Code.{Values, none, more, Block}
 use Rattle.wy_types.specs.Program.{Program, Start, Init, Run}
 use Rattle.wy_types.specs.declared.types.TypeRef.TheVariants as of
-use Rattle.wy_types.specs.Core.{ValuesFit, BlockFits, StartFits, StartIs, literal_captures}
+use Rattle.wy_types.specs.Core.{ValuesFit, BlockFits, StartFits, StartIs}
+use Rattle.wy_types.specs.Vals.{literal_captures}
 use Rattle.wy_rules.specs.GroundTypes.{GroundType, ground_reading, effect_by}
 use Rattle.wy_rules.specs.Derivations.{BodyDerivation, T-Body, T-Body-Init, Derivations, none as no_derivations, more as one_more, effects_of}
 use Rattle.wy_rules.specs.Typing.{DerivesAll, DerivesStart}

@@ -1,5 +1,5 @@
 -- Names that a report tells apart, and reports that would not.
-use Rattle.std.proofs.Common.{◌≡◌, ℕ, List, [], ◌∷◌, inl, inr, refl, false, true}
+use Rattle.std.proofs.Common.{◌≡◌, ℕ, List, [], ◌∷◌, inl, inr, refl, subst, arith, false, true}
 use Rattle.std.specs.Prelude.{codes}
 use Rattle.wy_text.specs.declared.fault.AtomName.{AtomName}
 use Rattle.wy_effects.specs.AtomTable.{atom_name}
@@ -9,6 +9,7 @@ use Rattle.wy_authority.specs.declared.rows.BodyRow.{BodyRow}
 use Rattle.wy_authority.specs.declared.rows.InstanceRow.{InstanceRow}
 use Rattle.wy_authority.specs.Authority.{body_row}
 use Rattle.wy_sound.specs.Programs.{call_atoms}
+use Rattle.wy_sound.specs.Telling.{IsLineByte, IsLineName}
 
 -- a method's name; neither what a module starts with nor the name of a literal's method is one
 write_is_one : IsMethodName (codes "write")
@@ -47,3 +48,16 @@ rows_alike = row (codes "log") (body_row (codes "init") (1 ∷ []) ∷ body_row 
 alike_may : call_atoms atoms (record { instance = codes "log"; body = codes "init" }) rows_alike ≡
     atom_name (codes "disk") (codes "Read") ∷ atom_name (codes "console") (codes "Out") ∷ []
 alike_may = refl
+
+-- a name that a line of the report can hold; with a colon in it, it is none, and one without bytes is none
+letter_is_one : IsLineName (codes "x")
+letter_is_one = record {
+  some = λ e. cc;
+  bytes = λ b i. elim i [ inl e ↦ subst IsLineByte e (omega arith, (λ f. omega (arith, f)), (λ f. omega (arith, f))) | inr j ↦ absurd j ];
+}
+
+colon_is_none : IsLineName (codes "x:y") → ⊥
+colon_is_none h = (h.bytes 58 (inr (inl refl))).2 refl
+
+empty_is_none : IsLineName [] → ⊥
+empty_is_none h = h.some refl

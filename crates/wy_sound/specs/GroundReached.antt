@@ -12,6 +12,7 @@ use Rattle.wy_types.specs.Reached.{scope_first_types}
 use Rattle.wy_rules.specs.Acceptance.{Accepted}
 use Rattle.wy_rules.specs.Canonical.{both, same_numbers, same_sets, canonical_locals, canonical_scope}
 use Rattle.wy_rules.specs.Reached.{IsReached, Each, NamesScope}
+use Rattle.wy_rules.specs.Typing.{DerivesScope}
 use Rattle.wy_rules.specs.GroundTypes.{GroundType, Int, Bool, Text, Nothing, Named, At, Own, type_at, read_by, run_instances, ground_methods, ground_reading}
 use Rattle.wy_rules.specs.GroundTyping.{IsInstanceOf}
 use Rattle.wy_sound.specs.GroundRange.{IsOfRun, ground_bound}
@@ -97,3 +98,9 @@ pub record OccursListed (p : Program) (x : ℕ) (i : Instance) (s : Scope) : Typ
 
 abbrev pub NoOtherGroundTypeOccurs : Type 0
 NoOtherGroundTypeOccurs = (p : Program) → IsResolved p → Accepted p → (x : ℕ) (i : Instance) (s : Scope) → IsInstanceOf p x i s → OccursListed p x i s
+
+-- the canonical derivation of an instance's scope, over the types of its `val`s that are found one after the other, is one over the types of the run
+abbrev pub GroundDerivationHolds : Type 0
+GroundDerivationHolds =
+    (p : Program) → IsResolved p → Accepted p → (x : ℕ) (i : Instance) (s : Scope) → IsInstanceOf p x i s →
+    DerivesScope (ground_reading p x i) s (canonical_scope (ground_reading p x i) same_ground s (canonical_locals (ground_reading p x i) same_ground s))

@@ -27,13 +27,10 @@ use Rattle.wy_meaning.specs.Starts.{started_of, scope_of_instance}
 use Rattle.wy_meaning.specs.Eval.{Sight, eval_value, eval_block, open_calls}
 use Rattle.wy_meaning.specs.Bounds.{Call, Bounded}
 use Rattle.wy_meaning.specs.OpenCalls.{open_after}
-use Rattle.wy_meaning.specs.Start.{Course, objects_at_first, start_of_scope, run_start, meaning}
+use Rattle.wy_meaning.specs.Start.{objects_at_first, start_of_scope, run_start}
 use Rattle.wy_sound.specs.TypedHeaps.{instance_count, Placed, fields_at, Ready, ValueHas, AllHave, WellHeap, SightHas, AreUnstarted, Filling, PartlyFilled}
 use Rattle.wy_sound.specs.Programs.{IsResolved, program_starts, allowed}
-
--- what a program does over these tapes, where at most n calls on objects are open at once
-abbrev pub course : Program → ℕ → Tapes → Course
-course p n tapes = meaning n p (program_starts p) tapes
+use Rattle.wy_sound.specs.Courses.{course}
 
 abbrev pub NeverWrong : Type 0
 NeverWrong = (p : Program) → IsResolved p → Accepted p → (n : ℕ) (tapes : Tapes) → (course p n tapes).end ≢ Wrong

@@ -1,8 +1,10 @@
 pub mod Arguments
+pub mod Granted
 pub mod GroundRange
 pub mod GroundReached
 pub mod Grounds
 pub mod Laws
+pub mod Courses
 pub mod Linking
 pub mod Programs
 pub mod StartingObjects

@@ -7,7 +7,7 @@ use Rattle.wy_types.specs.declared.types.TypeRef.{TypeRef}
 use Rattle.wy_types.specs.declared.linked.Actual.TheVariants as actual
 use Rattle.wy_types.specs.declared.linked.Instance.{Instance}
 use Rattle.wy_types.specs.Program.{Program, Scope}
-use Rattle.wy_types.specs.Core.{literal_captures}
+use Rattle.wy_types.specs.Vals.{literal_captures}
 use Rattle.wy_types.specs.Ground.{start_list}
 use Rattle.wy_rules.specs.GroundTypes.{GroundType, Int, Bool as Truths, Text as Texts, Nothing as Nothings, Own, type_at, read_by, ground_reading}
 use Rattle.wy_rules.specs.GroundTyping.{IsInstanceOf}

@@ -1,8 +1,9 @@
 //! The laws of soundness (docs/LANGUAGE.md, "Authority and report"), of programs as resolving makes them. No function
 //! here does anything: what it says is its clause.
 
+ghost use Rattle.wy_sound.specs.Granted.{ReachedTypesAreSeen};
 ghost use Rattle.wy_sound.specs.GroundRange.{GroundTypesAreFew, GroundTypesStay, GroundBelowIsSubtype};
-ghost use Rattle.wy_sound.specs.GroundReached.{GroundReachedIs, NoOtherGroundTypeOccurs};
+ghost use Rattle.wy_sound.specs.GroundReached.{GroundReachedIs, NoOtherGroundTypeOccurs, GroundDerivationHolds};
 ghost use Rattle.wy_sound.specs.Laws.{Preservation, BlockPreservation, CallPreservation, StartPreservation, FirstHeapIsTyped, NeverWrong, EventsAreBounded, PureInstancesMayNothing, PureInstancesAreSilent};
 ghost use Rattle.wy_sound.specs.StartingObjects.{StartingObjectStays, StartingObjectsAreTyped};
 
@@ -91,4 +92,16 @@ pub fn ground_reached_is()
 /// of its `val`s, and those that its canonical derivation names.
 pub fn no_other_ground_type_occurs()
     ensures { NoOtherGroundTypeOccurs }
+{}
+
+/// The canonical derivation of an instance's scope, over the types of its `val`s that are found one after the other, is a
+/// derivation over the types of the run.
+pub fn ground_derivation_holds()
+    ensures { GroundDerivationHolds }
+{}
+
+/// The types that an instance's scope reaches, as the instance reads types, have atoms of grants, and so have their methods'
+/// effects; the own types among them are the instance's.
+pub fn reached_types_are_seen()
+    ensures { ReachedTypesAreSeen }
 {}

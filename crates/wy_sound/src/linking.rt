@@ -1,6 +1,7 @@
 //! Laws of linking (docs/LANGUAGE.md, "Start order and ground sets", "Types of a run"). No function here does
 //! anything: what it says is its clause.
 
+ghost use Rattle.wy_sound.specs.Granted.{GroundAtomsAreGranted};
 ghost use Rattle.wy_sound.specs.Grounds.{GroundSetsAre, VisitsEnd};
 ghost use Rattle.wy_sound.specs.Linking.{AcceptedInstancesFit, AcceptedArgumentsFit};
 
@@ -21,6 +22,12 @@ pub fn accepted_arguments_fit()
 /// arguments' types; an atom of a grant is itself.
 pub fn ground_sets_are()
     ensures { GroundSetsAre }
+{}
+
+/// Each atom of a ground set of an instance or of the program, of an instance's bound, and of what a body of theirs may
+/// do, is of a grant of the program.
+pub fn ground_atoms_are_granted()
+    ensures { GroundAtomsAreGranted }
 {}
 
 /// Where no line leads back, a visit that may go through as many scopes as there are is never cut short.

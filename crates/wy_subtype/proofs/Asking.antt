@@ -27,7 +27,8 @@ use Rattle.wy_subtype.specs.declared.verdict.Cause.TheVariants.{MissingMethod, A
 use Rattle.wy_subtype.specs.declared.unfolding.UnfoldedPair.{UnfoldedPair}
 use Rattle.wy_subtype.specs.declared.unfolding.Unfolding.{Unfolding}
 use Rattle.wy_subtype.specs.declared.unfolding.Unfolding.TheVariants.{Fails, Closed}
-use Rattle.wy_subtype.specs.Verdict.{Pair, Allows, AreObjects, FailsBy}
+use Rattle.wy_subtype.specs.Verdict.{AreObjects, FailsBy}
+use Rattle.wy_subtype.specs.Steps.{Pair, Allows}
 use Rattle.wy_subtype.specs.Unfolding.{sides, Asks, IsUnfolded, param_pairs, method_pairs, found_pairs, all_pairs, IsMet, LacksAtom, FaultOf, AreMet}
 
 -- one method of the right side more

@@ -7,7 +7,7 @@ use Rattle.wy_types.specs.InRange.{IsInRange}
 use Rattle.wy_types.specs.Fitting.{IsTypeOf}
 use Rattle.wy_subtype.specs.declared.verdict.Mode.{Mode}
 use Rattle.wy_subtype.specs.declared.entry.Entry.{Entry}
-use Rattle.wy_subtype.specs.Verdict.{Pair}
+use Rattle.wy_subtype.specs.Steps.{Pair}
 use Rattle.wy_subtype.specs.Decided.{About}
 use Rattle.wy_subtype.specs.Nodes.{pair_at, AreKnown}
 use Rattle.wy_subtype.specs.Work.{entry_node, IsAlone}

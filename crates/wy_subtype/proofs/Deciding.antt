@@ -9,7 +9,8 @@ use Rattle.wy_types.specs.declared.path.Step.{Step}
 use Rattle.wy_subtype.specs.declared.verdict.Cause.{Cause}
 use Rattle.wy_subtype.specs.declared.node.Outcome.{Outcome}
 use Rattle.wy_subtype.specs.declared.entry.Entry.{Entry}
-use Rattle.wy_subtype.specs.Verdict.{Pair, IsSubtypeIn, FailsAt}
+use Rattle.wy_subtype.specs.Verdict.{IsSubtypeIn, FailsAt}
+use Rattle.wy_subtype.specs.Steps.{Pair}
 use Rattle.wy_subtype.specs.Nodes.{Continues, IsOutcome}
 use Rattle.wy_subtype.specs.Work.{entry_node, GoesOn}
 use Rattle.wy_subtype.specs.Decided.{About, Decided, Grows}

@@ -8,7 +8,8 @@ use Rattle.wy_types.specs.declared.path.Step.{Step}
 use Rattle.wy_types.specs.declared.types.TypeRef.{TypeRef}
 use Rattle.wy_types.specs.Program.{Program}
 use Rattle.wy_subtype.specs.declared.verdict.Mode.{Mode}
-use Rattle.wy_subtype.specs.Verdict.{Pair, LeadsTo}
+use Rattle.wy_subtype.specs.Verdict.{LeadsTo}
+use Rattle.wy_subtype.specs.Steps.{Pair}
 use Rattle.wy_subtype.specs.Decided.{About, Decided, IsReached, Grows}
 use Rattle.wy_subtype.specs.Worklist.{Met, met_pair, IsSeen, BeginsWith}
 use Rattle.wy_subtype.proofs.Working.{Leads-snoc}

@@ -9,7 +9,8 @@ use Rattle.wy_text.proofs.Lists.{In-left, In-right, In-cases, In-unmap, In-slice
 use Rattle.wy_subtype.specs.declared.node.Outcome.{Outcome}
 use Rattle.wy_subtype.specs.declared.node.Outcome.TheVariants.{Open, Fails, Asks, Holds}
 use Rattle.wy_subtype.specs.declared.node.Node.{Node}
-use Rattle.wy_subtype.specs.Verdict.{Pair, IsSubtypeIn}
+use Rattle.wy_subtype.specs.Verdict.{IsSubtypeIn}
+use Rattle.wy_subtype.specs.Steps.{Pair}
 use Rattle.wy_subtype.specs.Decided.{About}
 use Rattle.wy_subtype.specs.Nodes.{is_open, IsOpen, node_pair, node_key, open_node, with_outcome, pair_or_none, pair_at, pairs_at, Continues, Meets, AreMore, IsAsking, IsOutcome, IsNoted, AreKnown}
 use Rattle.wy_subtype.proofs.Places.{slice_get-left, slice_get-cases, slice_get-within, slice_get-mapped}

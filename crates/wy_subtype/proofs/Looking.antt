@@ -6,7 +6,7 @@ use Rattle.wy_subtype.specs.declared.verdict.Cause.{Cause}
 use Rattle.wy_subtype.specs.declared.entry.Entry.{Entry}
 use Rattle.wy_subtype.specs.declared.node.Node.{Node}
 use Rattle.wy_subtype.specs.declared.graph.Graph.{Graph}
-use Rattle.wy_subtype.specs.Verdict.{Pair}
+use Rattle.wy_subtype.specs.Steps.{Pair}
 use Rattle.wy_subtype.specs.Decided.{About}
 use Rattle.wy_subtype.specs.Nodes.{node_pair, pair_at, Continues, HasStep, IsOutcome}
 use Rattle.wy_subtype.specs.Work.{GoesOn}

@@ -11,7 +11,8 @@ use Rattle.wy_types.specs.Keys.{pair_key}
 use Rattle.wy_types.specs.contracts.key.KeyPartialEq.TheImpl as E
 use Rattle.wy_types.proofs.Keyed.{pair_once, met, not_met}
 use Rattle.wy_subtype.specs.declared.node.Node.{Node}
-use Rattle.wy_subtype.specs.Verdict.{Pair, AreSameBase}
+use Rattle.wy_subtype.specs.Verdict.{AreSameBase}
+use Rattle.wy_subtype.specs.Steps.{Pair}
 use Rattle.wy_subtype.specs.Nodes.{node_pair, node_key, open_node, Continues, Meets, IsNumbered, AreNumbersOf}
 use Rattle.wy_subtype.proofs.Knowing.{continues_get}
 

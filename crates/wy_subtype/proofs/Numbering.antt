@@ -9,7 +9,8 @@ use Rattle.wy_types.specs.Types.{IsObject}
 use Rattle.wy_subtype.specs.declared.unfolding.UnfoldedPair.{UnfoldedPair}
 use Rattle.wy_subtype.specs.declared.node.Outcome.{Outcome}
 use Rattle.wy_subtype.specs.declared.node.Node.{Node}
-use Rattle.wy_subtype.specs.Verdict.{Pair, AreSameBase, StepsTo}
+use Rattle.wy_subtype.specs.Verdict.{AreSameBase}
+use Rattle.wy_subtype.specs.Steps.{Pair, StepsTo}
 use Rattle.wy_subtype.specs.Unfolding.{sides, Asks}
 use Rattle.wy_subtype.specs.Decided.{About}
 use Rattle.wy_subtype.specs.Nodes.{node_pair, with_outcome, pair_at, pairs_at, Continues, AreMore, AreNumbersOf, base_pairs, IsAsking}

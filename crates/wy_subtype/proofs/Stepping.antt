@@ -9,7 +9,7 @@ use Rattle.wy_types.specs.Signature.{Signature, find_method}
 use Rattle.wy_types.specs.Types.{IsObject, methods_of}
 use Rattle.wy_types.specs.Subtyping.{LeadsBy}
 use Rattle.wy_subtype.specs.declared.verdict.Mode.{Mode}
-use Rattle.wy_subtype.specs.Verdict.{Pair, Allows, StepsTo}
+use Rattle.wy_subtype.specs.Steps.{Pair, Allows, StepsTo}
 use Rattle.wy_subtype.specs.Asked.{AreExchanged, AsksBy, IsAskedOf, IsAskedBy}
 
 -- no parameter asks and the results are others, so no part asks

@@ -8,7 +8,7 @@ use Rattle.wy_subtype.specs.declared.node.Outcome.{Outcome}
 use Rattle.wy_subtype.specs.declared.node.Outcome.TheVariants.{Open, Fails, Asks, Holds}
 use Rattle.wy_subtype.specs.declared.node.Node.{Node}
 use Rattle.wy_subtype.specs.declared.graph.Graph.{Graph}
-use Rattle.wy_subtype.specs.Verdict.{Pair}
+use Rattle.wy_subtype.specs.Steps.{Pair}
 use Rattle.wy_subtype.specs.Decided.{About, Grows}
 use Rattle.wy_subtype.specs.Nodes.{is_open, IsOpen, node_pair, with_outcome, pair_at, pairs_at, Continues, IsOutcome, AreKnown}
 use Rattle.wy_subtype.specs.Graph.{about_of, pairs_in, decided_of, IsGraph, IsWider}

@@ -29,7 +29,8 @@ use Rattle.wy_subtype.specs.declared.verdict.Verdict.TheVariants.{Yes, No}
 use Rattle.wy_subtype.specs.declared.entry.Entry.{Entry}
 use Rattle.wy_types.specs.InRange.{IsInRange}
 use Rattle.wy_types.specs.Bounds.{bounds_of}
-use Rattle.wy_subtype.specs.Verdict.{Pair, Allows, IsSubtypeIn, Closes, StepsTo, LeadsTo, AreObjects, FailsBy, FailsAt, IsVerdict, IsYes, is_yes}
+use Rattle.wy_subtype.specs.Verdict.{IsSubtypeIn, Closes, LeadsTo, AreObjects, FailsBy, FailsAt, IsVerdict, IsYes, is_yes}
+use Rattle.wy_subtype.specs.Steps.{Pair, Allows, StepsTo}
 use Rattle.wy_subtype.specs.Nodes.{base_pairs, pair_at, HasStep, IsAsking}
 use Rattle.wy_subtype.specs.Work.{entry_node, entry_of, IsAdded, AreAdded}
 use Rattle.wy_subtype.specs.Decided.{About}

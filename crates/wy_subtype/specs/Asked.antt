@@ -6,7 +6,7 @@ use Rattle.wy_types.specs.declared.path.Part.{Part}
 use Rattle.wy_types.specs.declared.path.Part.TheVariants.{Parameter, Result}
 use Rattle.wy_types.specs.declared.path.Step.{Step}
 use Rattle.wy_types.specs.Signature.{Signature, find_method}
-use Rattle.wy_subtype.specs.Verdict.{Pair}
+use Rattle.wy_subtype.specs.Steps.{Pair}
 
 -- the parameters of a number are the two types, with the sides exchanged
 abbrev pub AreExchanged : List TypeRef → List TypeRef → ℕ → Pair → Type 0

@@ -4,7 +4,8 @@ use Rattle.wy_text.specs.Members.{In}
 use Rattle.wy_types.specs.declared.path.Step.{Step}
 use Rattle.wy_types.specs.Program.{Program}
 use Rattle.wy_subtype.specs.declared.verdict.Mode.{Mode}
-use Rattle.wy_subtype.specs.Verdict.{Pair, LeadsTo}
+use Rattle.wy_subtype.specs.Verdict.{LeadsTo}
+use Rattle.wy_subtype.specs.Steps.{Pair}
 
 -- the program, the scope and the mode in which pairs are asked
 pub record About : Type 0 where

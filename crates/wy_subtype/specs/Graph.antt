@@ -4,7 +4,7 @@ use Rattle.wy_text.specs.Members.{In}
 use Rattle.wy_types.specs.Program.{program_of}
 use Rattle.wy_subtype.specs.declared.entry.Entry.{Entry}
 use Rattle.wy_subtype.specs.declared.graph.Graph.{Graph}
-use Rattle.wy_subtype.specs.Verdict.{Pair}
+use Rattle.wy_subtype.specs.Steps.{Pair}
 use Rattle.wy_subtype.specs.Decided.{About, Decided}
 use Rattle.wy_subtype.specs.Nodes.{node_pair, pairs_at, AreMore, AreKnown}
 use Rattle.wy_subtype.specs.Worklist.{Met, mets}

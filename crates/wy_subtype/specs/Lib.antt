@@ -5,5 +5,6 @@ pub mod Graph
 pub mod Nodes
 pub mod Unfolding
 pub mod Verdict
+pub mod Steps
 pub mod Work
 pub mod Worklist

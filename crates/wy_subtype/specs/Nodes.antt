@@ -9,7 +9,8 @@ use Rattle.wy_types.specs.Keys.{pair_key}
 use Rattle.wy_subtype.specs.declared.node.Outcome.{Outcome}
 use Rattle.wy_subtype.specs.declared.node.Outcome.TheVariants.{Open, Fails, Asks, Holds}
 use Rattle.wy_subtype.specs.declared.node.Node.{Node}
-use Rattle.wy_subtype.specs.Verdict.{Pair, IsSubtypeIn, Closes, StepsTo, FailsBy, AreSameBase}
+use Rattle.wy_subtype.specs.Verdict.{IsSubtypeIn, Closes, FailsBy, AreSameBase}
+use Rattle.wy_subtype.specs.Steps.{Pair, StepsTo}
 use Rattle.wy_subtype.specs.Decided.{About}
 
 abbrev pub is_open : Outcome → Truth

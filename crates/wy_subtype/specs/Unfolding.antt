@@ -14,7 +14,8 @@ use Rattle.wy_subtype.specs.declared.verdict.Cause.TheVariants.{MissingMethod, A
 use Rattle.wy_subtype.specs.declared.unfolding.UnfoldedPair.{UnfoldedPair}
 use Rattle.wy_subtype.specs.declared.unfolding.Unfolding.{Unfolding}
 use Rattle.wy_subtype.specs.declared.unfolding.Unfolding.TheVariants.{Fails, Closed}
-use Rattle.wy_subtype.specs.Verdict.{Pair, Allows, Closes, StepsTo, FailsBy}
+use Rattle.wy_subtype.specs.Verdict.{Closes, FailsBy}
+use Rattle.wy_subtype.specs.Steps.{Pair, Allows, StepsTo}
 
 abbrev pub sides : UnfoldedPair → Pair
 sides c = (c.left, c.right)

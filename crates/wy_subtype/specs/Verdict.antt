@@ -1,13 +1,13 @@
 -- What the test of subtyping answers: yes, or a path to a pair that fails by itself, with the cause.
 use Rattle.std.specs.Prelude.{◌≡◌, ℕ, List, Bool, true, false, Option, Some, None, length}
 use Rattle.wy_text.specs.Members.{In}
-use Rattle.wy_effects.specs.Bounds.{IsLeastMissing, IsUnder, IsWithin}
+use Rattle.wy_effects.specs.Bounds.{IsLeastMissing, IsUnder}
 use Rattle.wy_types.specs.declared.types.TypeRef.{TypeRef}
 use Rattle.wy_types.specs.declared.path.Step.{Step}
 use Rattle.wy_types.specs.Program.{Program}
 use Rattle.wy_types.specs.Signature.{Signature, find_method}
 use Rattle.wy_types.specs.Types.{IsObject, methods_of}
-use Rattle.wy_types.specs.Subtyping.{IsClosed, IsStep, Leads, AnyEffect, IsAnnotatedSubtype, IsPlainSubtype}
+use Rattle.wy_types.specs.Subtyping.{IsClosed, Leads, IsAnnotatedSubtype, IsPlainSubtype}
 use Rattle.wy_types.specs.Bounds.{bounds_of}
 use Rattle.wy_subtype.specs.declared.verdict.Mode.{Mode}
 use Rattle.wy_subtype.specs.declared.verdict.Mode.TheVariants.{Annotated, Plain}
@@ -15,15 +15,7 @@ use Rattle.wy_subtype.specs.declared.verdict.Cause.{Cause}
 use Rattle.wy_subtype.specs.declared.verdict.Cause.TheVariants.{MissingMethod, Arity, Base, Effect}
 use Rattle.wy_subtype.specs.declared.verdict.Verdict.{Verdict}
 use Rattle.wy_subtype.specs.declared.verdict.Verdict.TheVariants.{Yes, No}
-
--- what is asked: whether the first is a subtype of the second
-abbrev pub Pair : Type 0
-Pair = TypeRef × TypeRef
-
--- annotated subtyping wants the left effect within the right one, over the upper bounds of the scope's atoms; plain subtyping looks at neither
-abbrev pub Allows : Program → ℕ → Mode → List ℕ → List ℕ → Type 0
-Allows p scope Annotated e f = IsWithin (bounds_of p scope) e f
-Allows p scope Plain e f = AnyEffect e f
+use Rattle.wy_subtype.specs.Steps.{Allows, Pair}
 
 -- subtyping in a mode
 abbrev pub IsSubtypeIn : Program → ℕ → Mode → TypeRef → TypeRef → Type 0
@@ -33,10 +25,6 @@ IsSubtypeIn p scope Plain s t = IsPlainSubtype p scope s t
 -- the list closes the pair
 abbrev pub Closes : Program → ℕ → Mode → List Pair → Pair → Type 0
 Closes p scope mode pairs q = IsClosed TypeRef (methods_of p scope) IsObject (Allows p scope mode) pairs q
-
--- one step from a pair to another
-abbrev pub StepsTo : Program → ℕ → Mode → Pair → Step → Pair → Type 0
-StepsTo p scope mode q s r = IsStep TypeRef (methods_of p scope) IsObject (Allows p scope mode) q s r
 
 -- the path leads from a pair to another, with the sides exchanged at each parameter
 abbrev pub LeadsTo : Program → ℕ → Mode → Pair → List Step → Pair → Type 0

@@ -7,7 +7,8 @@ use Rattle.wy_types.specs.Fitting.{IsTypeOf}
 use Rattle.wy_subtype.specs.declared.verdict.Mode.{Mode}
 use Rattle.wy_subtype.specs.declared.verdict.Cause.{Cause}
 use Rattle.wy_subtype.specs.declared.entry.Entry.{Entry}
-use Rattle.wy_subtype.specs.Verdict.{Pair, IsSubtypeIn, Closes, StepsTo, FailsBy}
+use Rattle.wy_subtype.specs.Verdict.{IsSubtypeIn, Closes, FailsBy}
+use Rattle.wy_subtype.specs.Steps.{Pair, StepsTo}
 use Rattle.wy_subtype.specs.Nodes.{base_pairs, pair_at}
 
 -- a pair that was met, and the place of the pair that asked for it

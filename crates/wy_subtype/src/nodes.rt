@@ -3,7 +3,8 @@
 ghost use Rattle.std.specs.Prelude.{◌≡◌, ◌↔◌, ◌<◌, [], IfOk, OnOk, IsTrue, Some, length, map, slice_get};
 ghost use Rattle.wy_text.specs.Members.{In as IsIn};
 ghost use Rattle.wy_types.specs.Keys.{pair_key};
-ghost use Rattle.wy_subtype.specs.Verdict.{Pair, AreSameBase};
+ghost use Rattle.wy_subtype.specs.Verdict.{AreSameBase};
+ghost use Rattle.wy_subtype.specs.Steps.{Pair};
 ghost use Rattle.wy_subtype.specs.Unfolding.{sides};
 ghost use Rattle.wy_subtype.specs.Nodes.{node_pair, with_outcome, Meets, AreMore, IsNumbered, AreNumbersOf};
 

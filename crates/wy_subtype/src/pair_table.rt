@@ -5,7 +5,8 @@ ghost use Rattle.wy_text.specs.Members.{In as IsIn, Apart};
 ghost use Rattle.wy_types.specs.Program.{program_of};
 ghost use Rattle.wy_types.specs.Fitting.{IsTypeOf};
 ghost use Rattle.wy_types.specs.InRange.{IsInRange};
-ghost use Rattle.wy_subtype.specs.Verdict.{Pair, IsVerdict, IsYes, IsSubtypeIn};
+ghost use Rattle.wy_subtype.specs.Verdict.{IsVerdict, IsYes, IsSubtypeIn};
+ghost use Rattle.wy_subtype.specs.Steps.{Pair};
 ghost use Rattle.wy_subtype.specs.Decided.{IsReached};
 
 use crate::graph::Graph;

@@ -8,7 +8,7 @@ ghost use Rattle.wy_types.specs.Program.{program_of};
 ghost use Rattle.wy_types.specs.Types.{signature};
 ghost use Rattle.wy_types.specs.Signature.{find_method};
 ghost use Rattle.wy_types.specs.InRange.{IsInRange};
-ghost use Rattle.wy_subtype.specs.Verdict.{Allows};
+ghost use Rattle.wy_subtype.specs.Steps.{Allows};
 ghost use Rattle.wy_subtype.specs.Unfolding.{param_pairs, method_pairs, found_pairs, LacksAtom, CauseOf, FaultOf, IsMet, AreMet, IsUnfolded};
 
 use crate::steps::Steps;

@@ -1,7 +1,7 @@
 -- Which refusal comes first.
 use Rattle.std.specs.Prelude.{◌≡◌, ℕ, Bool, false, List, [], ◌∷◌, Option, Some, None, nat_lt, ◌==◌, ◌&&◌, ◌||◌, if◌then◌else◌}
 use Rattle.wy_text.specs.declared.fault.Place.{Place}
-use Rattle.wy_syntax.specs.Nodes.{is_before}
+use Rattle.wy_syntax.specs.Before.{is_before}
 use Rattle.wy_symbols.specs.declared.refusal.Cause.{Cause}
 use Rattle.wy_symbols.specs.declared.refusal.Cause.TheVariants.{Unknown, Twice, Cycle, TwoPrograms, MemberUndefined, MemberUnknown}
 use Rattle.wy_symbols.specs.declared.refusal.Refusal.{Refusal}

@@ -5,6 +5,7 @@ pub mod Grammar
 pub mod Languages
 pub mod Marks
 pub mod Nodes
+pub mod Before
 pub mod OwnWords
 pub mod Printing
 pub mod StmtGrammar

@@ -1,13 +1,8 @@
 -- How many expression nodes of a tree stand before a place.
-use Rattle.std.specs.Prelude.{ℕ, ◌+◌, Bool, true, false, ◌==◌, nat_lt, if◌then◌else◌, List, [], ◌∷◌}
+use Rattle.std.specs.Prelude.{ℕ, ◌+◌, Bool, true, false, List, [], ◌∷◌}
 use Rattle.wy_text.specs.declared.fault.Place.{Place}
 use Rattle.wy_syntax.specs.Trees.{ExprTree, ExprTrees, number, text, yes, no, this, name, unit, negate, invert, binary, call, size, part, byte_at, byte, show, ascribe, choice, none, more, RhsTree, literal, branch, value, StmtTree, StmtTrees, val, assign, run, no_stmts, more_stmts, PartTree, PartTrees, field, method, no_parts, more_parts, TailTree, short, long, ItemTree, type_item, pure_item, resource_item, plain_item, program_item}
-
--- files come in order, then lines, then columns
-abbrev pub is_before : Place → Place → Bool
-is_before a b =
-    if a.file == b.file then (if a.line == b.line then nat_lt a.column b.column else nat_lt a.line b.line)
-    else nat_lt a.file b.file
+use Rattle.wy_syntax.specs.Before.{is_before}
 
 -- one for a node that is counted
 abbrev pub one_if : Bool → ℕ

@@ -16,7 +16,8 @@ use Rattle.wy_types.specs.declared.resolved.TypeDecl.{TypeDecl}
 use Rattle.wy_types.specs.Program.{Program, Scope, Body}
 use Rattle.wy_types.specs.Signature.{Signature, mapped_signature}
 use Rattle.wy_types.specs.Types.{substituted, annotated, erased, signature, declared_methods, methods_of_owner, named_methods, scope_is_plain, scope_bodies, methods_of}
-use Rattle.wy_types.specs.Fitting.{member_count, scope_literals, own_count, FitsType, AllFit, FitsSignature, AllSignaturesFit, SignaturesFit, IsTypeOf}
+use Rattle.wy_types.specs.Fitting.{scope_literals, own_count, FitsType, AllFit, FitsSignature, AllSignaturesFit, SignaturesFit, IsTypeOf}
+use Rattle.wy_types.specs.MemberCount.{member_count}
 use Rattle.wy_types.specs.Few.{declared_count, type_count, type_bound}
 
 length-map' : {X Y : Type 0} (f : X → Y) (xs : List X) → length (map f xs) ≡ length xs

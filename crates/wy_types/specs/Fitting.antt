@@ -9,11 +9,7 @@ use Rattle.wy_types.specs.declared.resolved.Literal.{Literal}
 use Rattle.wy_types.specs.Program.{Program, Scope, Body}
 use Rattle.wy_types.specs.Signature.{Signature}
 use Rattle.wy_types.specs.Types.{signature}
-
--- how many abstract members a declaration has
-abbrev pub member_count : Option TypeDecl → ℕ
-member_count None = 0
-member_count (Some d) = length d.members
+use Rattle.wy_types.specs.MemberCount.{member_count}
 
 abbrev pub scope_literals : Option Scope → List Literal
 scope_literals None = []

@@ -2,8 +2,10 @@ pub mod Bodies
 pub mod Bounds
 pub mod Code
 pub mod Core
+pub mod Vals
 pub mod Few
 pub mod Fitting
+pub mod MemberCount
 pub mod Gathering
 pub mod Ground
 pub mod InRange

@@ -5,11 +5,11 @@ use Rattle.std.specs.Prelude.{slice_get, nat_eq, bytes_eq, if◌then◌else◌}
 use Rattle.std.proofs.lemmas.Bool.{eq-eqb, eqb-true, eqb-false}
 use Rattle.std.proofs.lemmas.Slice.Eq.{bytes_eq-Decides}
 use Rattle.wy_text.specs.Members.{In, Apart}
-use Rattle.wy_text.proofs.Lists.{In-map}
+use Rattle.wy_text.proofs.Lists.{In-map, In-left, In-right}
 use Rattle.wy_code.specs.declared.code.Body as code_body
 use Rattle.wy_code.specs.declared.code.Literal.{Literal}
 use Rattle.wy_code.specs.declared.code.Method.{Method}
-use Rattle.wy_code.specs.Named.{is_among, each_once_after, each_once}
+use Rattle.wy_code.specs.EachOnce.{is_among, each_once_after, each_once}
 use Rattle.wy_image.specs.declared.file.Body.{Body}
 use Rattle.wy_image.specs.declared.file.Scope.{Scope}
 use Rattle.wy_image.specs.declared.typing.Bounds.{Bounds}
@@ -18,7 +18,6 @@ use Rattle.wy_verified.specs.CodeOf.{number_in, body_of, bodies_of}
 use Rattle.wy_verified.specs.Kinds.{stated_in}
 use Rattle.wy_verified.specs.Ranges.{Role, entry_roles, literal_roles, roles_of, role_bodies, scopes_bodies}
 use Rattle.wy_verified.specs.Verifying.{owner_in}
-use Rattle.wy_text.proofs.Lists.{In-left, In-right}
 use Rattle.wy_verified.proofs.Lists.{some_same, none_some}
 
 ------------------------------------------------------------

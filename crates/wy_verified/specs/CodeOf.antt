@@ -18,7 +18,8 @@ use Rattle.wy_code.specs.declared.instruction.Constant.TheVariants as constant
 use Rattle.wy_code.specs.declared.instruction.Instruction as code_instruction
 use Rattle.wy_code.specs.declared.instruction.Instruction.TheVariants as instruction
 use Rattle.wy_code.specs.declared.instruction.Placed.{Placed}
-use Rattle.wy_code.specs.Named.{is_among, each_once, greatest, named_in, slot_stored}
+use Rattle.wy_code.specs.Named.{greatest, named_in, slot_stored}
+use Rattle.wy_code.specs.EachOnce.{is_among, each_once}
 use Rattle.wy_image.specs.declared.file.Argument.{Argument}
 use Rattle.wy_image.specs.declared.file.Argument.TheVariants as handed
 use Rattle.wy_image.specs.declared.file.Body.{Body}

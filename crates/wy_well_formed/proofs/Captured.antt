@@ -11,7 +11,8 @@ use Rattle.wy_types.specs.declared.code.Variable.TheVariants.{Parameter, Local}
 use Rattle.wy_types.specs.declared.code.Binding.TheVariants as to
 use Rattle.wy_types.specs.declared.resolved.Literal.{Literal}
 use Rattle.wy_types.specs.Program.{Scope, Body}
-use Rattle.wy_types.specs.Core.{CapturesBefore, literal_captures, expr_vals, value_vals, values_vals, block_vals}
+use Rattle.wy_types.specs.Core.{CapturesBefore}
+use Rattle.wy_types.specs.Vals.{literal_captures, expr_vals, value_vals, values_vals, block_vals}
 use Rattle.wy_bodies.specs.declared.sight.Entry.{Entry}
 use Rattle.wy_bodies.specs.Sight.{Sight, entry, variables, fields_from, params_from, with_val, with_params, inside, captures}
 use Rattle.wy_bodies.specs.Bodies as names

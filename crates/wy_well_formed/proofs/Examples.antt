@@ -1,5 +1,5 @@
 -- A small program resolved by hand: what its own names open, which types they have and that they are plain, where its grant stands, which
--- literals its bodies make and capture, and that none of these is the program's own; and how `val`s are numbered.
+-- literals its bodies make and capture, that none of these is the program's own, and that this has no fields; and how `val`s are numbered.
 --
 --   type Log
 --     effect Put
@@ -8,7 +8,7 @@
 --     grant disk: Folder
 --     instance lg = log(disk)
 --     import pl = log(disk) at {lg.Put}
-use Rattle.std.proofs.Common.{◌≡◌, ℕ, zero, suc, ◌<◌, List, [], ◌∷◌, ◌++◌, true, Some, None, inl, inr, refl, ap, ◌∙◌, subst, arith}
+use Rattle.std.proofs.Common.{◌≡◌, ℕ, zero, suc, ◌<◌, List, [], ◌∷◌, ◌++◌, true, false, Some, None, inl, inr, refl, ap, ◌∙◌, subst, arith}
 use Rattle.std.specs.Prelude.{codes, slice_get, pos, replicate}
 use Rattle.wy_text.specs.declared.fault.Place.{Place}
 use Rattle.wy_syntax.specs.declared.types.Name.{Name}
@@ -27,11 +27,13 @@ use Rattle.wy_types.specs.Primitive.{primitive_type, primitive_types}
 use Rattle.wy_types.specs.Code.{Plain, New, Nothing, none, more, Block, Last, Then, Val}
 use Rattle.wy_types.specs.Program.{Program, Scope, Body, Init, Run}
 use Rattle.wy_types.specs.Ground.{single_sets}
-use Rattle.wy_types.specs.Core.{AreNumbered, ScopeFits, literal_captures, scope_vals}
+use Rattle.wy_types.specs.Core.{AreNumbered, ScopeFits}
+use Rattle.wy_types.specs.Vals.{literal_captures, literal_fields, scope_vals}
 use Rattle.wy_bodies.specs.Sight.{outermost}
 use Rattle.wy_bodies.specs.Bodies.{Within, at_start, stmts_block, stmts_bodies}
 use Rattle.wy_rules.specs.OwnNames.{names_bounds, opened_count, HasItsType, HaveTheirTypes, IsPlainName, GrantsStandFirst, ModulesCaptureNothing}
 use Rattle.wy_rules.specs.News.{scope_news}
+use Rattle.wy_rules.specs.Resolved.{MainHasNoFields}
 use Rattle.wy_syntax.specs.OwnWords.{IsWord}
 use Rattle.wy_well_formed.specs.ValPlaces.{val_at, stmts_val_places, block_vals_at, bodies_vals_at}
 
@@ -144,6 +146,21 @@ nothing_captured s (inr (inr i)) = absurd i
 
 capturing : ModulesCaptureNothing (record { declarations = []; scopes = log_with captured ∷ main ∷ [] }) → ⊥
 capturing h = absurd (let t = h (log_with captured) (inl refl) in cc)
+
+-- the program's own object has no fields, and would not be one with a field
+abbrev IsBare : Scope → Type 0
+IsBare s = s.kind ≡ Main → literal_fields (slice_get s.literals 0) ≡ []
+
+main_is_bare : MainHasNoFields program
+main_is_bare s (inl same) = subst IsBare same (λ e. absurd (cc))
+main_is_bare s (inr (inl same)) = subst IsBare same (λ e. refl)
+main_is_bare s (inr (inr i)) = absurd i
+
+abbrev with_field : Scope
+with_field = record main { literals = record { captures = []; fields = record { name = codes "f"; place = nowhere; mutable = false; typ = Int } ∷ [] } ∷ [] }
+
+field_is_none : MainHasNoFields (record { declarations = []; scopes = with_field ∷ [] }) → ⊥
+field_is_none h = absurd (let e = h with_field (inl refl) refl in cc)
 
 -- the grant stands first, and would not behind the instance
 grant_first : GrantsStandFirst (main.names)

@@ -8,7 +8,8 @@ use Rattle.wy_types.specs.declared.resolved.Literal.{Literal}
 use Rattle.wy_types.specs.declared.code.Variable.TheVariants.{Local}
 use Rattle.wy_types.specs.Types.{is_plain, methods_of_owner}
 use Rattle.wy_types.specs.Program.{Program, Scope, Body, Start, Init, Run}
-use Rattle.wy_types.specs.Core.{StartFits, AreNumbered, CapturesBefore, start_vals, bodies_vals, block_vals, values_vals, value_count, literal_fields, literal_captures}
+use Rattle.wy_types.specs.Core.{StartFits, AreNumbered, CapturesBefore}
+use Rattle.wy_types.specs.Vals.{start_vals, bodies_vals, block_vals, values_vals, value_count, literal_fields, literal_captures}
 use Rattle.wy_symbols.specs.Declarations.{ProgramTree}
 use Rattle.wy_heads.specs.Counts as counts
 use Rattle.wy_bodies.specs.Sight.{outermost, inside, parts_write, tail_writes}

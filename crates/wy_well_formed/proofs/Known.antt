@@ -4,7 +4,7 @@ use Rattle.std.specs.Prelude.{slice_get}
 use Rattle.std.proofs.lemmas.List.{map-append}
 use Rattle.wy_syntax.specs.declared.items.TypeDecl.{TypeDecl}
 use Rattle.wy_types.specs.declared.resolved.TypeDecl as core
-use Rattle.wy_types.specs.Fitting.{member_count}
+use Rattle.wy_types.specs.MemberCount.{member_count}
 use Rattle.wy_types.specs.Ground.{abstract_names as declared_members}
 use Rattle.wy_types.specs.Bounds.{declaration_bounds}
 use Rattle.wy_types.specs.Primitive.{primitive_types}

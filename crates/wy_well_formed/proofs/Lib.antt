@@ -52,6 +52,7 @@ mod NamesAreWords
 mod NamesAreOrdinary
 mod GrantsFirst
 mod NothingCaptured
+mod MainHasNoFields
 mod ReachedMarks
 pub mod NamesDecided
 mod Examples

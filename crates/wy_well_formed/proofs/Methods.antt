@@ -15,7 +15,8 @@ use Rattle.wy_types.specs.declared.code.Variable.{Variable}
 use Rattle.wy_types.specs.declared.code.Variable.TheVariants.{Parameter}
 use Rattle.wy_types.specs.Types.{is_plain}
 use Rattle.wy_types.specs.Program.{Program, Scope, Body}
-use Rattle.wy_types.specs.Core.{IsWritten, AllWritten, BlockFits, BodyFits, literal_captures}
+use Rattle.wy_types.specs.Core.{IsWritten, AllWritten, BlockFits, BodyFits}
+use Rattle.wy_types.specs.Vals.{literal_captures}
 use Rattle.wy_symbols.specs.Declarations.{repeated}
 use Rattle.wy_heads.specs.Counts as counts
 use Rattle.wy_heads.specs.Counts.{part_params}

@@ -2,7 +2,7 @@
 use Rattle.std.proofs.Common.{◌≡◌, [], refl}
 use Rattle.std.specs.Prelude.{slice_get}
 use Rattle.wy_types.specs.Program.{Scope}
-use Rattle.wy_types.specs.Core.{literal_captures}
+use Rattle.wy_types.specs.Vals.{literal_captures}
 use Rattle.wy_well_formed.specs.WellFormed.{ResolvedModulesCaptureNothing}
 use Rattle.wy_well_formed.proofs.EachScope.{each_scope}
 

@@ -13,7 +13,8 @@ use Rattle.wy_types.specs.declared.resolved.Literal.{Literal}
 use Rattle.wy_types.specs.Signature.{Signature}
 use Rattle.wy_types.specs.Types.{is_plain, methods_of_owner}
 use Rattle.wy_types.specs.Program.{Program, Scope, Body, Init, Run}
-use Rattle.wy_types.specs.Core.{IsWritten, AllWritten, StartFits, BodyFits, HasParameter, AreNumbered, CapturesBefore, scope_vals, start_vals}
+use Rattle.wy_types.specs.Core.{IsWritten, AllWritten, StartFits, BodyFits, HasParameter, AreNumbered, CapturesBefore}
+use Rattle.wy_types.specs.Vals.{scope_vals, start_vals}
 use Rattle.wy_symbols.specs.Declarations.{ProgramTree}
 use Rattle.wy_symbols.specs.TypeUses.{type_ref, use_refusals, effect_of, effect_refusals}
 use Rattle.wy_bodies.specs.Sight.{outermost, inside}

@@ -13,7 +13,8 @@ use Rattle.wy_types.specs.declared.code.Binding.{Binding}
 use Rattle.wy_types.specs.declared.code.Binding.TheVariants as to
 use Rattle.wy_types.specs.declared.resolved.Literal.{Literal}
 use Rattle.wy_types.specs.Program.{Program, Scope}
-use Rattle.wy_types.specs.Core.{HasThis, HasField, BindingFits, literal_fields, literal_captures}
+use Rattle.wy_types.specs.Core.{HasThis, HasField, BindingFits}
+use Rattle.wy_types.specs.Vals.{literal_fields, literal_captures}
 use Rattle.wy_bodies.specs.declared.sight.Entry.{Entry}
 use Rattle.wy_symbols.specs.Declarations.{same_name, first_from}
 use Rattle.wy_bodies.specs.Sight.{Sight, entry, seen as last_bound, own_binding, or_own, with_val, with_params, inside, outermost, is_variable, variables, fields_from, params_from, captures, methods_write, parts_write, part_writes, tail_writes}

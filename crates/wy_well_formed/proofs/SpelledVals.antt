@@ -9,7 +9,7 @@ use Rattle.wy_syntax.specs.Trees.{InsideTree, ItemTree, type_item, pure_item, re
 use Rattle.wy_syntax.specs.Languages.{Lang, Word, Then, Indented, Lines}
 use Rattle.wy_syntax.specs.StmtGrammar.{SpellsRhs, SpellsStmt, SpellsBlock, SpellsPart, SpellsParts, SpellsTail}
 use Rattle.wy_syntax.specs.Grammar.{SpellsInside, SpellsItem}
-use Rattle.wy_syntax.specs.Nodes.{is_before}
+use Rattle.wy_syntax.specs.Before.{is_before}
 use Rattle.wy_text.specs.Members.{In, Within}
 use Rattle.wy_text.proofs.Lists.{In-cases, In-left, In-right}
 use Rattle.wy_symbols.specs.Declarations.{ModuleTree, ProgramTree, item_modules, item_programs}

@@ -5,7 +5,8 @@ use Rattle.std.proofs.lemmas.List.{length-append}
 use Rattle.wy_text.specs.Members.{In, Apart}
 use Rattle.wy_text.proofs.Lists.{In-cases, In-left, In-right}
 use Rattle.wy_types.specs.Program.{Body}
-use Rattle.wy_types.specs.Core.{AreNumbered, block_vals, bodies_vals}
+use Rattle.wy_types.specs.Core.{AreNumbered}
+use Rattle.wy_types.specs.Vals.{block_vals, bodies_vals}
 
 -- lists that share nothing
 pub apart_append : {X : Type 0} (xs ys : List X) → Apart xs → Apart ys → ((x : X) → In x xs → In x ys → ⊥) → Apart (xs ++ ys)

@@ -3,7 +3,7 @@ use Rattle.std.proofs.Common.{◌≡◌, ℕ, List, [], ◌∷◌, ◌++◌, ref
 use Rattle.wy_text.specs.declared.fault.Place.{Place}
 use Rattle.wy_syntax.specs.Trees as t
 use Rattle.wy_types.specs.Code as code
-use Rattle.wy_types.specs.Core.{expr_vals, value_vals, values_vals, block_vals, bodies_vals}
+use Rattle.wy_types.specs.Vals.{expr_vals, value_vals, values_vals, block_vals, bodies_vals}
 use Rattle.wy_bodies.specs.Sight.{Sight, inside, with_params}
 use Rattle.wy_bodies.specs.Bodies.{Within, Count, one_val, one_literal, one_body, rhs_after, stmt_after, stmts_after, part_after, parts_after, tail_after, stmt_sight, last_or, operand, bound, expr_value, expr_values, rhs_value, stmt_block, stmts_block, part_values, with_field, tail_block, rhs_bodies, stmt_bodies, stmts_bodies, part_bodies, parts_bodies, tail_bodies}
 use Rattle.wy_well_formed.proofs.Spreads.{Spread, spread_as, spread_none, spread_both, spread_first, spread_method, bodies_vals_append}

@@ -7,7 +7,7 @@ use Rattle.wy_syntax.specs.Trees as t
 use Rattle.wy_text.proofs.Lists.{In-cases, In-left, In-right}
 use Rattle.wy_types.specs.Code as code
 use Rattle.wy_types.specs.Program.{Body}
-use Rattle.wy_types.specs.Core.{start_vals, bodies_vals}
+use Rattle.wy_types.specs.Vals.{start_vals, bodies_vals}
 use Rattle.wy_symbols.specs.declared.scoping.Head.{Head}
 use Rattle.wy_symbols.specs.Declarations.{ModuleTree, ProgramTree, types_of, modules_of}
 use Rattle.wy_symbols.specs.Atoms.{heads_of}

@@ -3,7 +3,7 @@ use Rattle.std.proofs.Common.{◌≡◌, ℕ, zero, suc, ◌<◌, List, [], ◌�
 use Rattle.std.specs.Prelude.{slice_get}
 use Rattle.wy_text.specs.declared.fault.Place.{Place}
 use Rattle.wy_syntax.specs.Trees.{ItemTree}
-use Rattle.wy_syntax.specs.Nodes.{is_before}
+use Rattle.wy_syntax.specs.Before.{is_before}
 use Rattle.wy_text.specs.Members.{In}
 use Rattle.wy_text.proofs.Lists.{In-cases, In-slice_get}
 use Rattle.wy_types.specs.Program.{Scope}

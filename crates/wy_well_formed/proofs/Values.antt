@@ -11,7 +11,8 @@ use Rattle.wy_types.specs.declared.code.Variable.TheVariants.{Local}
 use Rattle.wy_types.specs.declared.resolved.Literal.{Literal}
 use Rattle.wy_types.specs.Code as code
 use Rattle.wy_types.specs.Program.{Program, Scope}
-use Rattle.wy_types.specs.Core.{IsWritten, ExprFits, ValueFits, ValuesFit, BlockFits, value_count, literal_fields, literal_captures}
+use Rattle.wy_types.specs.Core.{IsWritten, ExprFits, ValueFits, ValuesFit, BlockFits}
+use Rattle.wy_types.specs.Vals.{value_count, literal_fields, literal_captures}
 use Rattle.wy_symbols.specs.Declarations.{same_name}
 use Rattle.wy_bodies.specs.Sight.{Sight, inside, expr_writes, rhs_writes, stmt_writes, stmts_write, part_writes, parts_write, tail_writes}
 use Rattle.wy_bodies.specs.Bodies.{Within, Count, one_val, one_literal, one_body, rhs_after, stmt_after, stmts_after, part_after, tail_after, bound, typed, typed_if, stmt_sight, last_or, expr_value, rhs_value, stmt_block, stmts_block, part_values, with_field, tail_block, fields_of, literal_of, rhs_literals, stmt_literals, stmts_literals, part_literals, parts_literals, tail_literals}

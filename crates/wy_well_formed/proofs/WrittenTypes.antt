@@ -11,7 +11,8 @@ use Rattle.wy_effects.specs.EffSet.{IsSet, AreSets}
 use Rattle.wy_text.proofs.Lists.{In-unmap}
 use Rattle.wy_types.specs.declared.types.TypeRef.{TypeRef}
 use Rattle.wy_types.specs.Program.{Program}
-use Rattle.wy_types.specs.Fitting.{FitsType, member_count}
+use Rattle.wy_types.specs.Fitting.{FitsType}
+use Rattle.wy_types.specs.MemberCount.{member_count}
 use Rattle.wy_types.specs.Core.{HasSets}
 use Rattle.wy_symbols.specs.declared.scoping.Head.{Head}
 use Rattle.wy_symbols.specs.Declarations.{same_name}

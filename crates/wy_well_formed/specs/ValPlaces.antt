@@ -5,11 +5,11 @@ use Rattle.wy_text.specs.declared.fault.Place.{Place}
 use Rattle.wy_syntax.specs.Tokens.{Tok, code}
 use Rattle.wy_syntax.specs.Trees as t
 use Rattle.wy_syntax.specs.Grammar.{SpellsItem}
-use Rattle.wy_syntax.specs.Nodes.{is_before}
+use Rattle.wy_syntax.specs.Before.{is_before}
 use Rattle.wy_text.specs.Members.{In}
 use Rattle.wy_types.specs.Code.{Expr, Number, Quoted, Truth, Nothing, This, Name, Unary, Binary, TextCall, Call, New, Ascribe, Assign, Value, Plain, If, Values, none, more, Block, Last, Then, Val}
 use Rattle.wy_types.specs.Program.{Program, Scope, Body, Start, Init, Run}
-use Rattle.wy_types.specs.Core.{scope_vals}
+use Rattle.wy_types.specs.Vals.{scope_vals}
 use Rattle.wy_types.specs.Ground.{program_number}
 use Rattle.wy_symbols.specs.Declarations.{ModuleTree, ProgramTree, modules_of, programs_of}
 use Rattle.wy_names.specs.Names.{Resolves}

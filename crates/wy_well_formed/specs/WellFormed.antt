@@ -1,5 +1,6 @@
 -- What resolving makes: a program whose names resolve has what every core keeps, its own names have their types and plain names, its grants
--- stand first, its modules capture nothing, and each object literal is made at one place (docs/LANGUAGE.md, "Names", "Modules and lines").
+-- stand first, its modules capture nothing, each object literal is made at one place, and the program's own object has no fields
+-- (docs/LANGUAGE.md, "Names", "Modules and lines").
 use Rattle.std.specs.Prelude.{◌≢◌, ◌⊎◌, List, slice_get}
 use Rattle.wy_syntax.specs.Trees.{ItemTree}
 use Rattle.wy_types.specs.Program.{Program}
@@ -9,7 +10,7 @@ use Rattle.wy_rules.specs.OwnNames.{LinesAreTyped, HavePlainNames, HasOrdinaryNa
 use Rattle.wy_names.specs.declared.refusal.NameRefusal.{NameRefusal}
 use Rattle.wy_names.specs.declared.refusal.NameRefusal.TheVariants.{Memory}
 use Rattle.wy_names.specs.Names.{Resolves, Refused}
-use Rattle.wy_rules.specs.Resolved.{MakesOnce, CoreKeeps, IsResolved}
+use Rattle.wy_rules.specs.Resolved.{MakesOnce, MainHasNoFields, CoreKeeps, IsResolved}
 use Rattle.wy_syntax.specs.OwnWords.{HaveWords}
 
 -- names that resolve make a core
@@ -40,6 +41,10 @@ ResolvedModulesCaptureNothing = (items : List ItemTree) (p : Program) → Resolv
 -- no scope makes a literal at two places
 abbrev pub ResolvedMakesOnce : Type 0
 ResolvedMakesOnce = (items : List ItemTree) (p : Program) → Resolves items p → MakesOnce p
+
+-- the object of the program block has no fields
+abbrev pub ResolvedMainHasNoFields : Type 0
+ResolvedMainHasNoFields = (items : List ItemTree) (p : Program) → Resolves items p → MainHasNoFields p
 
 -- all of this: what every core keeps, and what one keeps whose items are of words
 abbrev pub ResolvedIsKept : Type 0

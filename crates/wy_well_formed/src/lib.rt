@@ -3,7 +3,7 @@
 #![tactic(auto)]
 
 ghost use Rattle.wy_well_formed.specs.ValPlaces.{ResolvedValsAreAsWritten, ResolvedValsAreInOrder};
-ghost use Rattle.wy_well_formed.specs.WellFormed.{NamesAreDecided, ResolvedGrantsStandFirst, ResolvedIsCore, ResolvedIsKept, ResolvedKeepsAll, ResolvedMakesOnce, ResolvedModulesCaptureNothing, ResolvedNamesAreOrdinary, ResolvedNamesAreWords, ResolvedNamesFit};
+ghost use Rattle.wy_well_formed.specs.WellFormed.{NamesAreDecided, ResolvedGrantsStandFirst, ResolvedIsCore, ResolvedIsKept, ResolvedKeepsAll, ResolvedMainHasNoFields, ResolvedMakesOnce, ResolvedModulesCaptureNothing, ResolvedNamesAreOrdinary, ResolvedNamesAreWords, ResolvedNamesFit};
 
 /// A program whose names resolve is a core: its numbers are in range, its names differ, its types, effects and bodies
 /// have the forms that their kinds of scope ask, and no module leads back to itself.
@@ -45,6 +45,11 @@ pub fn resolved_makes_once()
     ensures { ResolvedMakesOnce }
 {}
 
+/// The program's own object has no fields.
+pub fn resolved_main_has_no_fields()
+    ensures { ResolvedMainHasNoFields }
+{}
+
 /// The `val`s of a scope are numbered as they are written: they are as many as those of its tree, and the one of a number
 /// has the place of that number among theirs.
 pub fn resolved_vals_are_as_written()
@@ -66,6 +71,7 @@ pub fn resolved_is_kept()
     resolved_grants_stand_first();
     resolved_modules_capture_nothing();
     resolved_makes_once();
+    resolved_main_has_no_fields();
 }
 
 /// All of this, where the items are spelled by tokens whose names are words, no more than a file may have.

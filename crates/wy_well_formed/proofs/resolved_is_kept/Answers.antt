@@ -7,4 +7,5 @@ returns c items program resolves = record {
   grants = c.resolved_grants_stand_first.ensures items program resolves;
   captures = c.resolved_modules_capture_nothing.ensures items program resolves;
   once = c.resolved_makes_once.ensures items program resolves;
+  main = c.resolved_main_has_no_fields.ensures items program resolves;
 }

@@ -2,7 +2,8 @@ use Rattle.std.proofs.Common.{◌≡◌, List, Err, sym, subst, rules}
 use Rattle.wy_types.specs.Program.{program_of}
 use Rattle.wy_cert.specs.declared.certificate.CertScope.{CertScope}
 use Rattle.wy_certify.specs.declared.finding.ScopePart.{ScopePart}
-use Rattle.wy_certify.specs.Certificates.{IsCertificateOf, refusal_of}
+use Rattle.wy_certify.specs.Certificates.{IsCertificateOf}
+use Rattle.wy_certify.specs.NotCertified.{refusal_of}
 use Rattle.wy_certify.specs.Parts.{AreFoundParts}
 use Rattle.wy_certify.proofs.Certificates.{parts_said, refused_by}
 use Rattle.wy_certify.proofs.certifying.certificate_of.Goals as goal

@@ -4,7 +4,7 @@ use Rattle.wy_types.specs.declared.types.TypeRef.{TypeRef}
 use Rattle.wy_proving.specs.Written.{pair_types, step_types}
 use Rattle.wy_certify.specs.declared.pair.TypePair.{TypePair}
 use Rattle.wy_certify.specs.declared.step.Step as own
-use Rattle.wy_certify.specs.Numbering.{each_once_after}
+use Rattle.wy_certify.specs.PartTable.{each_once_after}
 use Rattle.wy_certify.specs.Pair.{pair_of}
 use Rattle.wy_certify.specs.Parts.{part_pairs, part_bares, part_steps}
 use Rattle.wy_certify.specs.Step.{steps_of}

@@ -2,7 +2,7 @@ use Rattle.std.proofs.Common.{List, sym, subst, rules}
 use Rattle.std.specs.Prelude.{IsTrue}
 use Rattle.wy_types.specs.declared.types.TypeRef.{TypeRef}
 use Rattle.wy_certify.specs.declared.step.Step as own
-use Rattle.wy_certify.specs.Numbering.{AreNumbers}
+use Rattle.wy_certify.specs.PartTable.{AreNumbers}
 use Rattle.wy_certify.specs.Parts.{part_steps}
 use Rattle.wy_certify.specs.Step.{steps_of}
 use Rattle.wy_certify.proofs.listing.numbered_by.Goals as goal

@@ -1,6 +1,6 @@
 use Rattle.std.proofs.Common.{List, sym, subst}
 use Rattle.wy_certify.specs.declared.step.Step as own
-use Rattle.wy_certify.specs.Numbering.{AreNumbers}
+use Rattle.wy_certify.specs.PartTable.{AreNumbers}
 use Rattle.wy_certify.specs.Step.{steps_of}
 use Rattle.wy_certify.proofs.listing.written_by.Goals as goal
 

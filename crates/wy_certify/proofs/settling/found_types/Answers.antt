@@ -2,7 +2,7 @@ use Rattle.std.proofs.Common.{◌≡◌, Some, ap, sym, ◌∙◌}
 use Rattle.std.specs.Prelude.{slice_get}
 use Rattle.std.proofs.lemmas.Result.{IfOk-weaker}
 use Rattle.wy_types.specs.Program.{Scope, program_of, scope_of}
-use Rattle.wy_certify.specs.Settling.{locals_at}
+use Rattle.wy_certify.specs.LocalsAt.{locals_at}
 use Rattle.wy_certify.proofs.Settled.{same_mapped, none_mapped}
 use Rattle.wy_certify.proofs.settling.found_types.Goals as goal
 

@@ -1,6 +1,6 @@
 use Rattle.std.proofs.Common.{drop}
 use Rattle.wy_types.specs.Code.{Last}
-use Rattle.wy_types.specs.Core.{values_vals, block_vals}
+use Rattle.wy_types.specs.Vals.{values_vals, block_vals}
 use Rattle.wy_types.specs.View.{value_of, values_of, stmts_block, block_of}
 use Rattle.wy_lower.specs.Parts.{values_parts, block_parts}
 use Rattle.wy_lower.proofs.EmitParts.{Gathering}

@@ -1,5 +1,5 @@
 use Rattle.std.proofs.Common.{rules, ◌≡◌, ◌<◌, ◌+◌, [], ◌∷◌, ◌++◌, length, map, take, drop, List, refl, sym, ap, ap₂, ◌∙◌, arith}
-use Rattle.wy_types.specs.Core.{block_vals}
+use Rattle.wy_types.specs.Vals.{block_vals}
 use Rattle.wy_types.specs.Program.{Body, body_of}
 use Rattle.wy_types.specs.View.{block_of}
 use Rattle.wy_lower.specs.Parts.{each_once_after, texts_in, calls_in, block_parts, bodies_parts}

@@ -4,7 +4,8 @@ use Rattle.std.proofs.lemmas.Int.{to_z-of_z}
 use Rattle.std.specs.Int.{w64}
 use Rattle.wy_code.specs.Stores.{Int}
 use Rattle.wy_machine.specs.Computing.{computed_meant}
-use Rattle.wy_machine.specs.Stacks.{StackState, pushed, with_operands}
+use Rattle.wy_machine.specs.Stacks.{pushed, with_operands}
+use Rattle.wy_machine.specs.OpenBodies.{StackState}
 use Rattle.wy_machine.specs.Steps.{IsStep}
 use Rattle.wy_machine.proofs.OperatorSteps.{operating, given_there, number_step, truth_step, trap_step, text_step, crowded_step, no_misfit}
 use Rattle.wy_machine.proofs.Acts.{no_tapes}

@@ -1,7 +1,9 @@
 use Rattle.std.proofs.Common.{ℕ, ◌+◌, ◌<◌, ◌≤◌, drop, sym, ap, ap₂, ◌∙◌, subst}
 use Rattle.wy_code.specs.Stores.{Object, Thing}
-use Rattle.wy_machine.specs.Stacks.{StackState, words_in, pushed, with_operands}
-use Rattle.wy_machine.specs.StoreStates.{StoreState, with_object}
+use Rattle.wy_machine.specs.Stacks.{words_in, pushed, with_operands}
+use Rattle.wy_machine.specs.OpenBodies.{StackState}
+use Rattle.wy_machine.specs.StoreStates.{with_object}
+use Rattle.wy_machine.specs.StoreState.{StoreState}
 use Rattle.wy_machine.proofs.Loads.{room_left}
 use Rattle.wy_machine.proofs.ObjectSteps.{captures_there, fields_there, make_step, make_room, crowd_step}
 use Rattle.wy_machine.proofs.Quiet.{step_to, wants_when}

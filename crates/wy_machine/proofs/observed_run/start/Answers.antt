@@ -1,6 +1,7 @@
 use Rattle.std.proofs.Common.{[], sym, ap, ◌∙◌, subst}
 use Rattle.wy_machine.specs.Steps.{beginning, starting, IsNotStuck}
-use Rattle.wy_machine.specs.StoreStates.{StoreState, store_with}
+use Rattle.wy_machine.specs.StoreStates.{store_with}
+use Rattle.wy_machine.specs.StoreState.{StoreState}
 use Rattle.wy_machine.proofs.FirstSteps.{starts}
 use Rattle.wy_machine.proofs.Quiet.{no_events, same_step, unstuck}
 use Rattle.wy_machine.proofs.observed_run.start.Goals as goal

@@ -3,7 +3,8 @@ use Rattle.std.specs.Prelude.{slice_get}
 use Rattle.wy_machine.specs.Devices.{states}
 use Rattle.wy_code.specs.Stores.{Nothing}
 use Rattle.wy_code.specs.Machine.{first_of}
-use Rattle.wy_machine.specs.Stacks.{StackState, pushed, left_to}
+use Rattle.wy_machine.specs.Stacks.{pushed, left_to}
+use Rattle.wy_machine.specs.OpenBodies.{StackState}
 use Rattle.wy_machine.specs.Steps.{acting, outcome, IsNotStuck}
 use Rattle.wy_machine.specs.StoreStates.{value_of}
 use Rattle.wy_machine.specs.Wanting.{takes_memory, WantsOnly}

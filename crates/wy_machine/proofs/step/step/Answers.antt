@@ -1,5 +1,5 @@
 use Rattle.std.proofs.Common.{sym, subst}
-use Rattle.wy_machine.specs.Stacks.{StackState}
+use Rattle.wy_machine.specs.OpenBodies.{StackState}
 use Rattle.wy_machine.specs.Steps.{acting, stepping, IsNotStuck}
 use Rattle.wy_machine.proofs.Fetching.{next_there, fetched}
 use Rattle.wy_machine.proofs.Quiet.{unstuck}

@@ -1,5 +1,5 @@
 use Rattle.std.proofs.Common.{◌≡◌, ◌+◌, ◌<◌, suc, length, arith}
-use Rattle.wy_meaning.specs.Used.{noted}
+use Rattle.wy_meaning.specs.Accounts.{noted}
 use Rattle.wy_meaning.proofs.UsedLemmas.{turn}
 use Rattle.wy_meaning.proofs.used.note_all.Goals as goal
 

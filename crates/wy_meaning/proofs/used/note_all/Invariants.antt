@@ -1,5 +1,5 @@
 use Rattle.std.proofs.Common.{◌≡◌, map, take, drop}
-use Rattle.wy_meaning.specs.Used.{noted}
+use Rattle.wy_meaning.specs.Accounts.{noted}
 use Rattle.wy_meaning.proofs.used.note_all.Given as goal
 
 -- the accounts before the place are noted, and those from there on are as they were

@@ -1,6 +1,7 @@
 use Rattle.std.proofs.Common.{◌≡◌, ◌<◌, ℕ, List, length, refl, rules, true}
 use Rattle.wy_syntax.specs.declared.expressions.Expr.{Expr}
-use Rattle.wy_syntax.specs.Nodes.{expr_nodes, exprs_nodes, is_before, one_if}
+use Rattle.wy_syntax.specs.Nodes.{expr_nodes, exprs_nodes, one_if}
+use Rattle.wy_syntax.specs.Before.{is_before}
 use Rattle.wy_syntax.specs.Views.{expr_tree, expr_trees}
 use Rattle.wy_syntax.proofs.Layers.{expr_tree-Binary, expr_tree-Call, expr_tree-Choice, expr_tree-TextCode, expr_tree-TextPart}
 use Rattle.wy_nodes.proofs.Sums.{sum_of_four, sum_of_three}

@@ -1,6 +1,7 @@
 use Rattle.std.proofs.Common.{◌≡◌, ◌≤◌, ◌+◌, true, drop}
 use Rattle.wy_syntax.specs.Views.{expr_trees}
-use Rattle.wy_syntax.specs.Nodes.{exprs_nodes, is_before}
+use Rattle.wy_syntax.specs.Nodes.{exprs_nodes}
+use Rattle.wy_syntax.specs.Before.{is_before}
 use Rattle.wy_nodes.proofs.counting.+expressions.Given as goal
 
 abbrev pub invariant-exprs_nodes-loop-e : goal.invariant-exprs_nodes-loop-e

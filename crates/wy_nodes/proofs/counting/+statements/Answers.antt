@@ -1,7 +1,8 @@
 use Rattle.std.proofs.Common.{◌≡◌, ◌<◌, ℕ, List, length, refl, rules, true}
 use Rattle.wy_syntax.specs.declared.statements.Part.{Part}
 use Rattle.wy_syntax.specs.declared.statements.Stmt.{Stmt}
-use Rattle.wy_syntax.specs.Nodes.{block_nodes, expr_nodes, is_before, one_if, part_nodes, parts_nodes, stmt_nodes}
+use Rattle.wy_syntax.specs.Nodes.{block_nodes, expr_nodes, one_if, part_nodes, parts_nodes, stmt_nodes}
+use Rattle.wy_syntax.specs.Before.{is_before}
 use Rattle.wy_syntax.specs.Views.{expr_tree, part_tree, part_trees, stmt_tree, stmt_trees}
 use Rattle.wy_syntax.proofs.Layers.{rhs_tree-Branch}
 use Rattle.wy_nodes.proofs.Sums.{sum_of_four}

@@ -1,6 +1,7 @@
 use Rattle.std.proofs.Common.{◌≡◌, ◌≤◌, ◌+◌, true, drop}
 use Rattle.wy_syntax.specs.Views.{part_trees, stmt_trees}
-use Rattle.wy_syntax.specs.Nodes.{block_nodes, is_before, parts_nodes}
+use Rattle.wy_syntax.specs.Nodes.{block_nodes, parts_nodes}
+use Rattle.wy_syntax.specs.Before.{is_before}
 use Rattle.wy_nodes.proofs.counting.+statements.Given as goal
 
 abbrev pub invariant-block_nodes-loop-stmt : goal.invariant-block_nodes-loop-stmt

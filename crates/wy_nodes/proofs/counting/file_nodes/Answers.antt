@@ -1,7 +1,8 @@
 use Rattle.std.proofs.Common.{◌<◌, ℕ, List, length, map, refl, rules, true}
 use Rattle.wy_syntax.specs.declared.items.Item.{Item}
 use Rattle.wy_syntax.specs.Views.{item_tree}
-use Rattle.wy_syntax.specs.Nodes.{file_nodes, is_before, item_nodes}
+use Rattle.wy_syntax.specs.Nodes.{file_nodes, item_nodes}
+use Rattle.wy_syntax.specs.Before.{is_before}
 use Rattle.wy_nodes.proofs.Turns.{counted_turn, within_turn}
 use Rattle.wy_nodes.proofs.counting.file_nodes.Goals as goal
 

@@ -1,6 +1,7 @@
 use Rattle.std.proofs.Common.{◌≡◌, ◌≤◌, ◌+◌, true, drop, map}
 use Rattle.wy_syntax.specs.Views.{item_tree}
-use Rattle.wy_syntax.specs.Nodes.{file_nodes, is_before}
+use Rattle.wy_syntax.specs.Nodes.{file_nodes}
+use Rattle.wy_syntax.specs.Before.{is_before}
 use Rattle.wy_nodes.proofs.counting.file_nodes.Given as goal
 
 abbrev pub invariant-loop-item : goal.invariant-loop-item

@@ -4,7 +4,7 @@ use Rattle.std.proofs.lemmas.Option.{slice_get_read}
 use Rattle.wy_types.specs.declared.types.TypeRef.{TypeRef}
 use Rattle.wy_types.specs.declared.resolved.Scope as declared
 use Rattle.wy_types.specs.Program.{Scope, program_of, scope_of}
-use Rattle.wy_types.specs.Core.{scope_vals}
+use Rattle.wy_types.specs.Vals.{scope_vals}
 use Rattle.wy_subtype.proofs.Places.{slice_get-mapped}
 use Rattle.wy_cert.specs.declared.certificate.CertScope.{CertScope}
 use Rattle.wy_proving.specs.Certified.{types_of, named_types}

@@ -3,7 +3,7 @@ use Rattle.wy_types.specs.declared.code.Value as v
 use Rattle.wy_types.specs.declared.code.Stmt.{Stmt}
 use Rattle.wy_types.specs.Code.{Last}
 use Rattle.wy_types.specs.View.{expr_of, value_of, values_of, block_of, stmts_block}
-use Rattle.wy_types.specs.Core.{expr_vals, value_vals, values_vals, block_vals}
+use Rattle.wy_types.specs.Vals.{expr_vals, value_vals, values_vals, block_vals}
 use Rattle.wy_types.proofs.Rows.{expr_text_call, expr_call, expr_new, value_if}
 use Rattle.wy_recheck.specs.Vals.{statement_vals}
 use Rattle.wy_recheck.proofs.ValsTaken.{taken_both, too_many, taken_as, Goes, goes_more, goes_short, goes_end, next_values, no_values, next_statements, no_statements}

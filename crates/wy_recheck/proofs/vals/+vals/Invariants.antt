@@ -1,7 +1,7 @@
 use Rattle.std.proofs.Common.{drop}
 use Rattle.wy_types.specs.Code.{Last}
 use Rattle.wy_types.specs.View.{value_of, values_of, stmts_block}
-use Rattle.wy_types.specs.Core.{values_vals, block_vals}
+use Rattle.wy_types.specs.Vals.{values_vals, block_vals}
 use Rattle.wy_recheck.proofs.ValsTaken.{Goes}
 use Rattle.wy_recheck.proofs.vals.+vals.Given as goal
 

@@ -1,5 +1,5 @@
 use Rattle.wy_types.specs.Program.{scope_of}
-use Rattle.wy_types.specs.Core.{scope_vals}
+use Rattle.wy_types.specs.Vals.{scope_vals}
 use Rattle.wy_recheck.proofs.ValsTaken.{short_of, none_left}
 use Rattle.wy_recheck.proofs.vals.has_vals.Goals as goal
 

@@ -1,7 +1,7 @@
 use Rattle.std.proofs.Common.{◌≡◌, List, map, subst, rules, None}
 use Rattle.wy_types.specs.declared.resolved.Body.{Body}
 use Rattle.wy_types.specs.Program.{body_of, start_of}
-use Rattle.wy_types.specs.Core.{start_vals, bodies_vals}
+use Rattle.wy_types.specs.Vals.{start_vals, bodies_vals}
 use Rattle.wy_recheck.specs.Vals.{IsTaken}
 use Rattle.wy_recheck.proofs.ValsTaken.{taken_both, too_many}
 use Rattle.wy_recheck.proofs.vals.take_all.Goals as goal

@@ -2,7 +2,7 @@ use Rattle.std.proofs.Common.{◌≡◌, ◌+◌, [], List, drop, map, subst, ar
 use Rattle.wy_types.specs.declared.resolved.Body.{Body}
 use Rattle.wy_types.specs.Program.{body_of}
 use Rattle.wy_types.specs.View.{block_of}
-use Rattle.wy_types.specs.Core.{bodies_vals, block_vals}
+use Rattle.wy_types.specs.Vals.{bodies_vals, block_vals}
 use Rattle.wy_recheck.proofs.ValsTaken.{Goes, goes_more, goes_short, goes_end, next_bodies, no_bodies}
 use Rattle.wy_recheck.proofs.vals.take_bodies.Goals as goal
 

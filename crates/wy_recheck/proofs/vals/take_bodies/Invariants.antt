@@ -1,6 +1,6 @@
 use Rattle.std.proofs.Common.{drop, map}
 use Rattle.wy_types.specs.Program.{body_of}
-use Rattle.wy_types.specs.Core.{bodies_vals}
+use Rattle.wy_types.specs.Vals.{bodies_vals}
 use Rattle.wy_recheck.proofs.ValsTaken.{Goes}
 use Rattle.wy_recheck.proofs.vals.take_bodies.Given as goal
 

@@ -1,7 +1,7 @@
 use Rattle.std.proofs.Common.{◌≡◌, ℕ, List, subst, rules}
 use Rattle.wy_types.specs.declared.types.TypeRef.{TypeRef}
 use Rattle.wy_types.specs.Types.{signature}
-use Rattle.wy_subtype.specs.Verdict.{Pair}
+use Rattle.wy_subtype.specs.Steps.{Pair}
 use Rattle.wy_subtype.specs.Asked.{AreExchanged}
 use Rattle.wy_subtype.proofs.Stepping.{asks_by_none}
 use Rattle.wy_subtype.proofs.asked.asking_part.Goals as goal

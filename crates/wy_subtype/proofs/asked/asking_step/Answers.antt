@@ -5,7 +5,7 @@ use Rattle.wy_types.specs.declared.types.TypeRef.{TypeRef}
 use Rattle.wy_types.specs.declared.path.Part.{Part}
 use Rattle.wy_types.specs.Signature.{Signature, find_method}
 use Rattle.wy_types.specs.Types.{signature}
-use Rattle.wy_subtype.specs.Verdict.{Pair}
+use Rattle.wy_subtype.specs.Steps.{Pair}
 use Rattle.wy_subtype.specs.Asked.{IsAskedOf}
 use Rattle.wy_subtype.proofs.asked.asking_step.Goals as goal
 

@@ -1,6 +1,6 @@
 use Rattle.std.proofs.Common.{◌≡◌, List, [], ◌∷◌, ◌++◌, sym, ◌∙◌, subst, rules}
 use Rattle.wy_types.specs.declared.types.TypeRef.{TypeRef}
-use Rattle.wy_certify.specs.Numbering.{type_added}
+use Rattle.wy_certify.specs.PartTable.{type_added}
 use Rattle.wy_certify.proofs.Numbers.{added_there, added_last, known}
 use Rattle.wy_certify.proofs.numbering.TypeNumbers.add.Goals as goal
 

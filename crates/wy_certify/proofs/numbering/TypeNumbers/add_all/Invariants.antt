@@ -1,5 +1,5 @@
 use Rattle.std.proofs.Common.{◌≡◌, drop}
-use Rattle.wy_certify.specs.Numbering.{each_once_after}
+use Rattle.wy_certify.specs.PartTable.{each_once_after}
 use Rattle.wy_certify.proofs.numbering.TypeNumbers.add_all.Given as goal
 
 abbrev pub invariant-loop-typ : goal.invariant-loop-typ

@@ -1,6 +1,6 @@
 use Rattle.std.proofs.Common.{◌≡◌, drop, map}
 use Rattle.wy_proving.specs.Written.{pair_types}
-use Rattle.wy_certify.specs.Numbering.{each_once_after}
+use Rattle.wy_certify.specs.PartTable.{each_once_after}
 use Rattle.wy_certify.specs.Pair.{pair_of}
 use Rattle.wy_certify.proofs.numbering.TypeNumbers.add_pairs.Given as goal
 

@@ -1,6 +1,6 @@
 use Rattle.std.proofs.Common.{◌≡◌, drop}
 use Rattle.wy_proving.specs.Written.{step_types}
-use Rattle.wy_certify.specs.Numbering.{each_once_after}
+use Rattle.wy_certify.specs.PartTable.{each_once_after}
 use Rattle.wy_certify.specs.Step.{steps_of}
 use Rattle.wy_certify.proofs.numbering.TypeNumbers.add_steps.Given as goal
 

@@ -1,6 +1,6 @@
 use Rattle.std.proofs.Common.{◌≡◌, ◌-◌, ◌≤◌, length, take, drop, reverse, sym, ap, ◌∙◌, subst}
 use Rattle.std.proofs.lemmas.List.{take_rest}
-use Rattle.wy_machine.specs.Stacks.{StackState}
+use Rattle.wy_machine.specs.OpenBodies.{StackState}
 use Rattle.wy_machine.proofs.Cuts.{arguments_are}
 use Rattle.wy_machine.proofs.stack.Stack.arguments.Goals as goal
 

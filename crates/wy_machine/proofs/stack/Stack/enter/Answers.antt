@@ -2,7 +2,8 @@ use Rattle.std.proofs.Common.{◌≡◌, ◌+◌, ◌-◌, ◌*◌, ◌<◌, ◌
 use Rattle.std.specs.Prelude.{is_ok, vec_capacity, if◌then◌else◌}
 use Rattle.std.proofs.lemmas.List.{reverse-append, length-reverse, length-drop, length-append, length-replicate, take_all}
 use Rattle.wy_code.specs.Stores.{Nothing}
-use Rattle.wy_machine.specs.Stacks.{StackState, AreWaiting, IsStacked, entered}
+use Rattle.wy_machine.specs.Stacks.{AreWaiting, IsStacked, entered}
+use Rattle.wy_machine.specs.OpenBodies.{StackState}
 use Rattle.wy_machine.specs.declared.stack.Frame.{Frame}
 use Rattle.wy_machine.proofs.Cuts.{stack_of, entered_is, length-open_bodies}
 use Rattle.wy_machine.proofs.Rooms.{waits, room_to_call}

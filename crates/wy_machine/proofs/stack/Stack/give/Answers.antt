@@ -1,6 +1,7 @@
 use Rattle.std.proofs.Common.{◌≡◌, ◌+◌, ◌-◌, ◌∷◌, drop, ap, ◌∙◌, arith}
 use Rattle.std.proofs.lemmas.List.{drop-drop}
-use Rattle.wy_machine.specs.Stacks.{StackState, with_operands}
+use Rattle.wy_machine.specs.Stacks.{with_operands}
+use Rattle.wy_machine.specs.OpenBodies.{StackState}
 use Rattle.wy_machine.proofs.stack.Stack.give.Goals as goal
 
 pub returns : goal.returns

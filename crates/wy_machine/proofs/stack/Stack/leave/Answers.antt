@@ -1,6 +1,7 @@
 use Rattle.std.proofs.Common.{◌≡◌, ◌<◌, ◌≤◌, [], ◌∷◌, length, take, set, reverse, Some, sym, ap, ◌∙◌, subst, arith}
 use Rattle.std.proofs.lemmas.List.{length-take, reverse-append}
-use Rattle.wy_machine.specs.Stacks.{StackState, AreWaiting, open_bodies, left_to}
+use Rattle.wy_machine.specs.Stacks.{AreWaiting, open_bodies, left_to}
+use Rattle.wy_machine.specs.OpenBodies.{StackState}
 use Rattle.wy_machine.proofs.Cuts.{stack_of, left_is, cut_back}
 use Rattle.wy_machine.proofs.stack.Stack.leave.Goals as goal
 

@@ -1,5 +1,6 @@
 use Rattle.std.proofs.Common.{◌<◌, reverse, sym, subst, arith}
-use Rattle.wy_machine.specs.Stacks.{StackState, words_in}
+use Rattle.wy_machine.specs.Stacks.{words_in}
+use Rattle.wy_machine.specs.OpenBodies.{StackState}
 use Rattle.wy_machine.proofs.Rooms.{words_above, room_above}
 use Rattle.wy_machine.proofs.stack.Stack.push.Goals as goal
 

@@ -1,5 +1,6 @@
 use Rattle.std.proofs.Common.{◌≡◌, ◌-◌, ◌<◌, ◌≤◌, ◌∷◌, length, drop, reverse, sym, ap, ◌∙◌, subst, arith}
-use Rattle.wy_machine.specs.Stacks.{StackState, with_operands}
+use Rattle.wy_machine.specs.Stacks.{with_operands}
+use Rattle.wy_machine.specs.OpenBodies.{StackState}
 use Rattle.wy_machine.proofs.Cuts.{replaced}
 use Rattle.wy_machine.proofs.stack.Stack.set_operand.Goals as goal
 

@@ -1,5 +1,5 @@
 use Rattle.std.proofs.Common.{◌<◌, ◌≤◌, length, set, reverse, sym, ap, ◌∙◌, subst, arith}
-use Rattle.wy_machine.specs.Stacks.{StackState}
+use Rattle.wy_machine.specs.OpenBodies.{StackState}
 use Rattle.wy_machine.proofs.Cuts.{slot_set}
 use Rattle.wy_machine.proofs.stack.Stack.set_slot.Goals as goal
 

@@ -1,6 +1,6 @@
 use Rattle.std.proofs.Common.{◌<◌, ◌-◌, length, sym, ap, ◌∙◌, arith}
 use Rattle.wy_code.specs.Machine.{first_of}
-use Rattle.wy_machine.specs.Stacks.{StackState}
+use Rattle.wy_machine.specs.OpenBodies.{StackState}
 use Rattle.wy_machine.proofs.Cuts.{first_at}
 use Rattle.wy_machine.proofs.stack.Stack.this.Goals as goal
 

@@ -1,6 +1,6 @@
 use Rattle.std.proofs.Common.{length, take, reverse, sym, ap, ◌∙◌}
 use Rattle.std.proofs.lemmas.List.{length-reverse}
-use Rattle.wy_machine.specs.Stacks.{StackState}
+use Rattle.wy_machine.specs.OpenBodies.{StackState}
 use Rattle.wy_machine.proofs.Cuts.{length-open_bodies}
 use Rattle.wy_machine.proofs.stack.Stack.waiting.Goals as goal
 

@@ -1,5 +1,5 @@
 use Rattle.std.proofs.Common.{◌≡◌, ℕ, ◌+◌, ◌-◌, ◌<◌, List, [], ◌∷◌, ◌++◌, length, take, sym, ap, ◌∙◌, subst, arith}
-use Rattle.wy_machine.specs.StoreStates.{StoreState}
+use Rattle.wy_machine.specs.StoreState.{StoreState}
 use Rattle.wy_machine.proofs.Cuts.{set_last}
 use Rattle.wy_machine.proofs.store.Store.fill_room.Goals as goal
 

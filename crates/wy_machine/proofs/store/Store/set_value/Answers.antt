@@ -3,7 +3,8 @@ use Rattle.std.specs.Prelude.{slice_get, IsSome}
 use Rattle.std.proofs.lemmas.List.{length-set}
 use Rattle.std.proofs.lemmas.Option.{slice_get_read}
 use Rattle.wy_code.specs.Stores.{Thing, value_in}
-use Rattle.wy_machine.specs.StoreStates.{StoreState, AreKept, object_set}
+use Rattle.wy_machine.specs.StoreStates.{AreKept, object_set}
+use Rattle.wy_machine.specs.StoreState.{StoreState}
 use Rattle.wy_machine.proofs.Refilling.{kept_set, object_within}
 use Rattle.wy_machine.proofs.store.Store.set_value.Goals as goal
 

@@ -1,6 +1,6 @@
 use Rattle.std.proofs.Common.{[], ◌∷◌, ◌++◌, ap₂, ◌∙◌}
 use Rattle.std.proofs.lemmas.List.{replicate_more}
-use Rattle.wy_meaning.specs.Used.{no_account}
+use Rattle.wy_meaning.specs.Accounts.{no_account}
 use Rattle.wy_meaning.proofs.used.Used.new.Goals as goal
 
 pub loop-preserved : goal.loop-preserved

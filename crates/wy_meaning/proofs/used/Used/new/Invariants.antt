@@ -1,6 +1,6 @@
 use Rattle.std.proofs.Common.{◌≡◌}
 use Rattle.std.specs.Prelude.{replicate}
-use Rattle.wy_meaning.specs.Used.{no_account}
+use Rattle.wy_meaning.specs.Accounts.{no_account}
 use Rattle.wy_meaning.proofs.used.Used.new.Given as goal
 
 -- each account so far is that of an instance of which nothing was used

@@ -3,7 +3,7 @@ use Rattle.std.proofs.lemmas.List.{map-id}
 use Rattle.wy_types.specs.declared.types.TypeRef.{TypeRef}
 use Rattle.wy_types.specs.Program.{scope_of}
 use Rattle.wy_types.specs.View.{values_of}
-use Rattle.wy_types.specs.Core.{value_count}
+use Rattle.wy_types.specs.Vals.{value_count}
 use Rattle.wy_rules.specs.Canonical.{same_type}
 use Rattle.wy_rules.specs.Typing.{field_types}
 use Rattle.wy_proving.specs.Reading.{same_types}

@@ -7,7 +7,7 @@ use Rattle.wy_text.proofs.Lists.{In-slice_get}
 use Rattle.wy_subtype.specs.declared.entry.Entry.{Entry}
 use Rattle.wy_subtype.specs.declared.node.Node.{Node}
 use Rattle.wy_subtype.specs.declared.graph.Graph.{Graph}
-use Rattle.wy_subtype.specs.Verdict.{Pair}
+use Rattle.wy_subtype.specs.Steps.{Pair}
 use Rattle.wy_subtype.specs.Decided.{Grows}
 use Rattle.wy_subtype.specs.Nodes.{node_pair, pair_at, Continues}
 use Rattle.wy_subtype.specs.Graph.{pairs_in, decided_of, IsGraph}

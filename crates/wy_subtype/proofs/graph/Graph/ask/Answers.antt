@@ -8,7 +8,8 @@ use Rattle.wy_types.specs.Program.{program_of}
 use Rattle.wy_types.specs.Fitting.{IsTypeOf}
 use Rattle.wy_subtype.specs.declared.graph.Graph.{Graph}
 use Rattle.wy_subtype.specs.declared.verdict.Verdict.{Verdict}
-use Rattle.wy_subtype.specs.Verdict.{Pair, IsVerdict}
+use Rattle.wy_subtype.specs.Verdict.{IsVerdict}
+use Rattle.wy_subtype.specs.Steps.{Pair}
 use Rattle.wy_subtype.specs.Decided.{Decided, Grows}
 use Rattle.wy_subtype.specs.Nodes.{node_pair, pair_at}
 use Rattle.wy_subtype.specs.Graph.{pairs_in, decided_of, IsWider}

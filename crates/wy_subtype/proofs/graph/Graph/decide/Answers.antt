@@ -8,7 +8,8 @@ use Rattle.wy_subtype.specs.declared.node.Outcome.{Outcome}
 use Rattle.wy_subtype.specs.declared.node.Outcome.TheVariants.{Holds}
 use Rattle.wy_subtype.specs.declared.node.Node.{Node}
 use Rattle.wy_subtype.specs.declared.graph.Graph.{Graph}
-use Rattle.wy_subtype.specs.Verdict.{Pair, IsSubtypeIn}
+use Rattle.wy_subtype.specs.Verdict.{IsSubtypeIn}
+use Rattle.wy_subtype.specs.Steps.{Pair}
 use Rattle.wy_subtype.specs.Nodes.{node_pair, pair_at, IsOutcome, IsNoted}
 use Rattle.wy_subtype.specs.Graph.{about_of, pairs_in, decided_of}
 use Rattle.wy_subtype.proofs.Places.{slice_get-mapped}

@@ -2,7 +2,7 @@ use Rattle.std.proofs.Common.{◌≡◌, ◌∙◌, ap, subst, sym, List, map}
 use Rattle.wy_text.specs.Members.{In}
 use Rattle.wy_subtype.specs.declared.node.Node.{Node}
 use Rattle.wy_subtype.specs.declared.node.Outcome.TheVariants.{Holds}
-use Rattle.wy_subtype.specs.Verdict.{Pair}
+use Rattle.wy_subtype.specs.Steps.{Pair}
 use Rattle.wy_subtype.specs.Decided.{Decided}
 use Rattle.wy_subtype.specs.Graph.{about_of}
 use Rattle.wy_subtype.specs.Nodes.{node_pair, pairs_at, AreKnown}

@@ -4,7 +4,8 @@ use Rattle.wy_text.specs.Members.{In}
 use Rattle.wy_text.proofs.Lists.{In-get, In-map}
 use Rattle.wy_subtype.specs.declared.entry.Entry.{Entry}
 use Rattle.wy_subtype.specs.declared.graph.Graph.{Graph}
-use Rattle.wy_subtype.specs.Verdict.{Pair, IsSubtypeIn}
+use Rattle.wy_subtype.specs.Verdict.{IsSubtypeIn}
+use Rattle.wy_subtype.specs.Steps.{Pair}
 use Rattle.wy_subtype.specs.Decided.{About, Decided}
 use Rattle.wy_subtype.specs.Nodes.{node_pair, pair_at}
 use Rattle.wy_subtype.specs.Graph.{about_of, pairs_in}

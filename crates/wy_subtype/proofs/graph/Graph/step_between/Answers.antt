@@ -6,7 +6,7 @@ use Rattle.wy_types.specs.Signature.{Signature}
 use Rattle.wy_types.specs.Types.{signature}
 use Rattle.wy_types.proofs.Arities.{few_parameters}
 use Rattle.wy_subtype.specs.declared.graph.Graph.{Graph}
-use Rattle.wy_subtype.specs.Verdict.{Pair, StepsTo}
+use Rattle.wy_subtype.specs.Steps.{Pair, StepsTo}
 use Rattle.wy_subtype.specs.Nodes.{node_pair, pair_at, HasStep}
 use Rattle.wy_subtype.specs.Graph.{about_of, pairs_in}
 use Rattle.wy_subtype.proofs.Places.{slice_get-mapped}

@@ -1,7 +1,8 @@
 use Rattle.std.proofs.Common.{◌≡◌, ℕ, List, map, sym, subst}
 use Rattle.wy_subtype.specs.declared.unfolding.Unfolding.{Unfolding}
 use Rattle.wy_subtype.specs.declared.unfolding.UnfoldedPair.{UnfoldedPair}
-use Rattle.wy_subtype.specs.Verdict.{Pair, FailsBy}
+use Rattle.wy_subtype.specs.Verdict.{FailsBy}
+use Rattle.wy_subtype.specs.Steps.{Pair}
 use Rattle.wy_subtype.specs.Unfolding.{sides, IsUnfolded}
 use Rattle.wy_subtype.specs.Graph.{about_of, pairs_in}
 use Rattle.wy_subtype.specs.Nodes.{node_pair, pair_at, IsAsking, AreNumbersOf}

@@ -2,7 +2,7 @@ use Rattle.std.proofs.Common.{◌≡◌, ◌∙◌, ◌++◌, ◌∷◌, [], Som
 use Rattle.std.specs.Prelude.{slice_get, map}
 use Rattle.wy_text.specs.Members.{In}
 use Rattle.wy_subtype.specs.declared.node.Node.{Node}
-use Rattle.wy_subtype.specs.Verdict.{Pair}
+use Rattle.wy_subtype.specs.Steps.{Pair}
 use Rattle.wy_subtype.specs.Nodes.{node_pair, Meets}
 use Rattle.wy_subtype.proofs.Meeting.{last_keyed, last_meets, last_number}
 use Rattle.wy_subtype.proofs.nodes.Nodes.add.Goals as goal

@@ -2,7 +2,7 @@ use Rattle.std.proofs.Common.{◌≡◌, Some, None, List, refl, inl, subst}
 use Rattle.std.specs.Prelude.{slice_get, map}
 use Rattle.wy_text.specs.Members.{In}
 use Rattle.wy_subtype.specs.declared.node.Node.{Node}
-use Rattle.wy_subtype.specs.Verdict.{Pair}
+use Rattle.wy_subtype.specs.Steps.{Pair}
 use Rattle.wy_subtype.specs.Nodes.{node_pair}
 use Rattle.wy_subtype.proofs.Meeting.{found_pair, found_none}
 use Rattle.wy_subtype.proofs.nodes.Nodes.number_of.Goals as goal

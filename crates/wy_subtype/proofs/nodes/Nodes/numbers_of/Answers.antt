@@ -1,7 +1,7 @@
 use Rattle.std.proofs.Common.{◌≡◌, ◌+◌, ℕ, get_or, List, ◌++◌, ◌∷◌, [], ◌∙◌, ap, map, take, subst, sym}
 use Rattle.std.proofs.lemmas.List.{take_more, map-append}
 use Rattle.wy_subtype.specs.declared.unfolding.UnfoldedPair.{UnfoldedPair}
-use Rattle.wy_subtype.specs.Verdict.{Pair}
+use Rattle.wy_subtype.specs.Steps.{Pair}
 use Rattle.wy_subtype.specs.Unfolding.{sides}
 use Rattle.wy_subtype.specs.Nodes.{node_pair, AreNumbersOf}
 use Rattle.wy_subtype.proofs.Knowing.{more_none, more_trans, more_continues}

@@ -2,7 +2,8 @@ use Rattle.std.proofs.Common.{subst, sym}
 use Rattle.std.specs.Prelude.{IfOk}
 use Rattle.std.proofs.lemmas.Result.{IfOk-weaker}
 use Rattle.wy_types.specs.Fitting.{IsTypeOf}
-use Rattle.wy_subtype.specs.Verdict.{Pair, IsVerdict}
+use Rattle.wy_subtype.specs.Verdict.{IsVerdict}
+use Rattle.wy_subtype.specs.Steps.{Pair}
 use Rattle.wy_subtype.specs.Decided.{Decided, Grows}
 use Rattle.wy_subtype.specs.Graph.{decided_of}
 use Rattle.wy_subtype.proofs.Working.{exact}
