@@ -14,7 +14,7 @@ use Rattle.wy_types.specs.declared.resolved.OwnName.{OwnName}
 use Rattle.wy_types.specs.declared.resolved.ScopeKind.{ScopeKind}
 use Rattle.wy_types.specs.declared.resolved.ScopeKind.TheVariants.{Pure, Resource, Plain, Program as Main}
 use Rattle.wy_types.specs.declared.resolved.TypeDecl.{TypeDecl}
-use Rattle.wy_types.specs.Core.{literal_fields}
+use Rattle.wy_types.specs.Vals.{literal_fields}
 use Rattle.wy_types.specs.Program.{Program, Scope, Body}
 use Rattle.wy_types.specs.Written.{block_types}
 use Rattle.wy_types.specs.Reached.{IsReached, body_types, field_types, first_types, own_types, scope_first_types, sealed_types}

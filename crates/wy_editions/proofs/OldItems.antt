@@ -40,7 +40,7 @@ use Rattle.wy_meaning.specs.Starts.{grant_from, grant_named, grant_of_primitive,
 use Rattle.wy_meaning.specs.Start.{meaning}
 use Rattle.wy_meaning.specs.Widening.{HaveSameGrants, LongerTextsChangeNothingElse, in_edition}
 use Rattle.wy_sound.specs.Programs.{program_starts}
-use Rattle.wy_editions.specs.Editions.{AreJudged, AreOld, IsOther, OldItemsAreJudgedAlike, OldItemsMeanTheSame}
+use Rattle.wy_editions.specs.Editions.{AreAccepted, AreJudged, AreOld, IsOther, OldItemsAreAcceptedAlike, OldItemsAreJudgedAlike, OldItemsMeanTheSame}
 use Rattle.wy_editions.proofs.Alike.{HeadsAlike}
 use Rattle.wy_editions.proofs.CountsOver.{limit_same}
 use Rattle.wy_editions.proofs.Gathered.{blocks_have, decls_have, modules_have}
@@ -201,6 +201,30 @@ module _ (resolved_is_core : ResolvedIsCore) (items : List ItemTree) (old : AreO
     resolves_before : (p : Program) → ResolvesOver primitive_types items p → ResolvesOver former_types items before
     resolves_before p r = record { program = g; one = one; bound = refl; within = limit_same items of_modules of_blocks ∙ r.within; sound = λ f h. r.sound f (refused_after f h) }
 
+  accepted_onward : (a : Authority) → AreAccepted former_types items a → AreAccepted primitive_types items a
+  accepted_onward a j =
+      let r = j.resolves in
+      let ok = resolves_after r.program r.one j.program r in
+      let goes = goes_onward r.program r.one ok in
+      record {
+        program = after r.program r.one;
+        resolves = ok;
+        accepted = goes.accepted (subst Accepted r.bound j.accepted);
+        reported = j.reported ∙ ap authority_of r.bound ∙ goes.authority;
+      }
+
+  accepted_back : (a : Authority) → AreAccepted primitive_types items a → AreAccepted former_types items a
+  accepted_back a j =
+      let r = j.resolves in
+      let new : ResolvesOver primitive_types items (after r.program r.one) = subst (ResolvesOver primitive_types items) r.bound r in
+      let goes = goes_back r.program r.one new in
+      record {
+        program = before r.program r.one;
+        resolves = resolves_before r.program r.one j.program r;
+        accepted = goes.accepted (subst Accepted r.bound j.accepted);
+        reported = j.reported ∙ ap authority_of r.bound ∙ goes.authority;
+      }
+
   judged_onward : (a : Authority) → AreJudged former_types items a → AreJudged primitive_types items a
   judged_onward a j =
       let r = j.resolves in
@@ -226,6 +250,9 @@ module _ (resolved_is_core : ResolvedIsCore) (items : List ItemTree) (old : AreO
         within = goes.within (subst IsWithinLimits r.bound j.within);
         reported = j.reported ∙ ap authority_of r.bound ∙ goes.authority;
       }
+
+pub accepted_alike : ResolvedIsCore → OldItemsAreAcceptedAlike
+accepted_alike resolved_is_core items old a = (accepted_onward resolved_is_core items old a, accepted_back resolved_is_core items old a)
 
 pub judged_alike : ResolvedIsCore → OldItemsAreJudgedAlike
 judged_alike resolved_is_core items old a = (judged_onward resolved_is_core items old a, judged_back resolved_is_core items old a)

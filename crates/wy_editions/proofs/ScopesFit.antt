@@ -18,10 +18,12 @@ use Rattle.wy_types.specs.declared.resolved.Field.{Field}
 use Rattle.wy_types.specs.Code.{Expr, Number, Quoted, Truth as TruthOf, Nothing as NothingOf, This, Name, Unary, Binary, TextCall, Call, New, Ascribe, Assign, Value, Plain, If, Values, none, more, Block, Last, Then, Val}
 use Rattle.wy_types.specs.Program.{Program, Scope, Body, Start, Init, Run}
 use Rattle.wy_types.specs.Types.{is_plain}
-use Rattle.wy_types.specs.Fitting.{member_count, FitsType}
+use Rattle.wy_types.specs.Fitting.{FitsType}
+use Rattle.wy_types.specs.MemberCount.{member_count}
 use Rattle.wy_types.specs.Written.{written_types, expr_types, value_types, values_types, block_types}
 use Rattle.wy_types.specs.Reached.{start_types}
-use Rattle.wy_types.specs.Core.{HasSets, IsWritten, AllWritten, ExprFits, ValueFits, ValuesFit, BlockFits, BodyFits, StartFits, OriginFits, IsAscribed, ScopeFits, literal_fields, literal_captures, body_parameters}
+use Rattle.wy_types.specs.Core.{HasSets, IsWritten, AllWritten, ExprFits, ValueFits, ValuesFit, BlockFits, BodyFits, StartFits, OriginFits, IsAscribed, ScopeFits, body_parameters}
+use Rattle.wy_types.specs.Vals.{literal_fields, literal_captures}
 use Rattle.wy_rules.specs.Transfer.{NamesNot, WritesNot, DiffersAt}
 
 -- a written type is among the types of what it is written at

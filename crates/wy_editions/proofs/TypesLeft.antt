@@ -23,7 +23,7 @@ use Rattle.wy_types.specs.declared.resolved.Field.{Field}
 use Rattle.wy_types.specs.declared.resolved.Literal.{Literal}
 use Rattle.wy_types.specs.declared.resolved.OwnName.{OwnName}
 use Rattle.wy_types.specs.Code as code
-use Rattle.wy_types.specs.Core.{literal_fields}
+use Rattle.wy_types.specs.Vals.{literal_fields}
 use Rattle.wy_types.specs.Program.{Body}
 use Rattle.wy_types.specs.Signature.{Signature}
 use Rattle.wy_types.specs.Types.{is_plain, signature}

@@ -44,6 +44,16 @@ pub record AreJudged (table : List TypeDecl) (items : List ItemTree) (authority 
   pub within : IsWithinLimits program
   pub reported : authority ≡ authority_of program
 
+-- .. whatever its size: the limits on types and instances are left aside
+pub record AreAccepted (table : List TypeDecl) (items : List ItemTree) (authority : Authority) : Type 0 where
+  pub program : Program
+  pub resolves : ResolvesOver table items program
+  pub accepted : Accepted program
+  pub reported : authority ≡ authority_of program
+
+abbrev pub OldItemsAreAcceptedAlike : Type 0
+OldItemsAreAcceptedAlike = (items : List ItemTree) → AreOld items → (authority : Authority) → AreAccepted former_types items authority ↔ AreAccepted primitive_types items authority
+
 abbrev pub OldItemsAreJudgedAlike : Type 0
 OldItemsAreJudgedAlike = (items : List ItemTree) → AreOld items → (authority : Authority) → AreJudged former_types items authority ↔ AreJudged primitive_types items authority
 

@@ -2,15 +2,16 @@
 //! clause.
 #![tactic(auto)]
 
-ghost use Rattle.wy_editions.specs.Editions.{OldItemsAreJudgedAlike, OldItemsMeanTheSame};
+ghost use Rattle.wy_editions.specs.Editions.{OldItemsAreAcceptedAlike, OldItemsAreJudgedAlike, OldItemsMeanTheSame};
 
 use wy_meaning::laws::longer_texts_change_nothing_else;
 use wy_well_formed::resolved_is_core;
 
-/// Where no name is `FullFolder`, the same items are accepted, with the same authority, over the four primitive types of
-/// the edition before and over today's five.
+/// States that items in which no name is `FullFolder` are accepted over the four primitive types of the edition before exactly if
+/// they are over today's five, with the same authority. It says so within the limits on types and instances, and beyond them.
 pub fn old_items_are_judged_alike()
-    ensures { OldItemsAreJudgedAlike }
+    ensures within { OldItemsAreJudgedAlike }
+    ensures beyond { OldItemsAreAcceptedAlike }
 {
     resolved_is_core();
 }
