@@ -11,8 +11,9 @@ use Rattle.wy_proving.specs.declared.proof.CertTest.{CertTest}
 use Rattle.wy_proving.specs.Proving.{IsProof}
 use Rattle.wy_proving.specs.Unproved.{IsFirstUnproved}
 use Rattle.wy_proving.proofs.FirstFailures.{one_unproved, unproved_is_no_proof}
-use Rattle.wy_recheck.specs.Rechecked.{IsProvedBy}
-use Rattle.wy_certify.specs.Certificates.{IsCertified, IsTooLong, OneSize, most_bytes}
+use Rattle.wy_recheck.specs.ProvedBy.{IsProvedBy}
+use Rattle.wy_certify.specs.Certificates.{IsCertified, IsTooLong, most_bytes}
+use Rattle.wy_certify.specs.CertificateLaws.{OneSize}
 use Rattle.wy_engine.specs.Certificates.{Disproves}
 use Rattle.wy_engine.specs.declared.status.Status.{Status}
 use Rattle.wy_engine.specs.declared.status.Status.TheVariants as status

@@ -18,7 +18,7 @@ use Rattle.wy_machine.specs.declared.run_end.RunEnd.TheVariants as end
 use Rattle.wy_machine.specs.TrapKinds.{trap_meant}
 use Rattle.wy_meaning.specs.Laws.{IsCheap, TakesInOrder}
 use Rattle.wy_meaning.specs.Start.{Course}
-use Rattle.wy_sound.specs.Laws.{course}
+use Rattle.wy_sound.specs.Courses.{course}
 use Rattle.wy_sound.specs.Programs.{program_starts}
 use Rattle.wy_types.specs.Program.{Program}
 use Rattle.wy_engine.specs.Headline.{EndsAs}

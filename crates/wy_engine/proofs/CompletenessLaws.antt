@@ -16,7 +16,7 @@ use Rattle.wy_code.specs.declared.code.Code.{Code}
 use Rattle.wy_lower.specs.Lowering.{lowered}
 use Rattle.wy_machine.specs.Runs.{tapes_of}
 use Rattle.wy_meaning.specs.Start.{Course}
-use Rattle.wy_sound.specs.Laws.{course}
+use Rattle.wy_sound.specs.Courses.{course}
 use Rattle.wy_sound.specs.Programs.{program_starts}
 use Rattle.wy_syntax.specs.Canonical.{canonical_form}
 use Rattle.wy_types.specs.Program.{Program}
@@ -24,16 +24,21 @@ use Rattle.wy_settings.specs.Settings.{Settings}
 use Rattle.wy_settings.specs.declared.command_line.Command.{Command}
 use Rattle.wy_settings.specs.declared.command_line.Command.TheVariants as command
 use Rattle.wy_engine.specs.Completeness.{EndsAsMeant, HasNoFault, IsWritten, RunsEnd, WritesEnd}
-use Rattle.wy_engine.specs.Headline.{Accepts, EndsAs, Headline, IsUncut, IsUnwritten, Runs, Settles, Writes, before_last_line}
+use Rattle.wy_engine.specs.Headline.{Does, EndsAs, Headline, IsUncut, IsUnwritten, Runs, Writes, before_last_line}
 use Rattle.wy_engine.specs.Judgement.{Asks, Did, accepted_text, allowed_text, authority_text, certified, checked, formatted, nothing, permitted, proved, ran, reported}
 use Rattle.wy_engine.specs.Passing.{Passes}
 use Rattle.wy_engine.specs.Certificates.{proved_text}
 use Rattle.wy_engine.specs.ProgramLaws.{AcceptedRunAsMeant, RunsAsMeant}
 use Rattle.wy_engine.specs.Status.{IsOfEnd, IsOfOut}
 use Rattle.wy_engine.specs.Told.{course_in}
-use Rattle.wy_engine.specs.TopCall.{IsGiven, IsSet, TopCall}
+use Rattle.wy_engine.specs.Given.{IsGiven}
+use Rattle.wy_engine.specs.TopCall.{IsSet, TopCall}
 use Rattle.wy_engine.specs.declared.status.Status.{Status}
 use Rattle.wy_engine.specs.declared.status.Status.TheVariants as status
+use Rattle.wy_certify.specs.CertificateLaws.{OneSize}
+use Rattle.wy_well_formed.specs.WellFormed.{ResolvedIsCore}
+use Rattle.wy_engine.proofs.Statuses.{memory_or}
+use Rattle.wy_engine.proofs.TextsTold.{texts_told}
 use Rattle.wy_engine.proofs.Deeds.{no_tapes, spliced-none, tapes_between-of}
 
 -- ---- a meaning is not spent
@@ -127,42 +132,24 @@ settled_run law call settings set program meant_so run tells report out devices 
     ] in
     meant call.status c.end (so.whole within) (unspent law program meant_so settings.depth _) (λ grant op is. devices (kind_named op) (run.failed grant op is))
 
-memory_or : (s : Status) → (s ≡ status.Memory) ⊎ (s ≢ status.Memory)
-memory_or status.Ended = inr (λ is. cc)
-memory_or status.Usage = inr (λ is. cc)
-memory_or (status.Unread file) = inr (λ is. cc)
-memory_or (status.Syntax place kind) = inr (λ is. cc)
-memory_or (status.Refused fault) = inr (λ is. cc)
-memory_or (status.Limit name) = inr (λ is. cc)
-memory_or (status.Trap kind place) = inr (λ is. cc)
-memory_or status.TooDeep = inr (λ is. cc)
-memory_or status.Spent = inr (λ is. cc)
-memory_or (status.DeviceFailed grant op) = inr (λ is. cc)
-memory_or status.Unwritten = inr (λ is. cc)
-memory_or status.Memory = inl refl
-memory_or (status.BadCert at) = inr (λ is. cc)
-memory_or (status.Unproved scope test index) = inr (λ is. cc)
-memory_or (status.Denied line instance atom) = inr (λ is. cc)
-memory_or (status.BadPolicy line) = inr (λ is. cc)
-
 -- what was settled was done, unless memory was wanting
-settled_did : (call : TopCall) (h : Headline call) → HasNoFault call → (named : Command) (texts : List (List ℕ)) → IsGiven call named texts → (did : Did) → Asks named texts did → h.settled ≢ status.Memory
+settled_did : ResolvedIsCore → OneSize → (call : TopCall) (h : Headline call) → HasNoFault call → (named : Command) (texts : List (List ℕ)) → IsGiven call named texts → (did : Did) → Asks named texts did → h.settled ≢ status.Memory
     → h.settles.did ≡ did
-settled_did call h none named texts given did asks full =
+settled_did law size call h none named texts given did asks full =
     let before : TopCall = before_last_line call h.settled h.report in
     let unread : (file : ℕ) → before.status ≢ status.Unread file = λ file is. none.shelf (h.settles.reads.counted file is) in
-    let given_before : IsGiven before named texts = record { settings = given.settings; set = given.set; is = given.is; few = given.few; texts_are = given.texts_are } in
-    let accepts : Accepts before named h.settles.did texts = h.settles.accepts named texts given_before unread in
-    accepts.does did asks full
+    let given_before : IsGiven before named texts = record { settings = given.settings; set = given.set; is = given.is; few = given.few; are = given.are } in
+    (texts_told law size before h.settles named texts given_before unread).does did asks full
 
-pub runs_end : ((code : Code) → SpentTakesAll code) → AcceptedRunAsMeant → RunsEnd
-runs_end law accepted call h none tells named texts given program asks bound =
+pub runs_end : ResolvedIsCore → OneSize → ((code : Code) → SpentTakesAll code) → AcceptedRunAsMeant → RunsEnd
+runs_end core size law accepted call h none tells named texts given program asks bound =
     elim h.closes.kept [
       | inr memory ↦ inl memory
       | inl same ↦ elim (memory_or h.settled) [
         | inl memory ↦ inl (same ∙ memory)
         | inr full ↦
-            let run : Runs (before_last_line call h.settled h.report) program = h.settles.runs program (settled_did call h none named texts given (ran program) asks full) in
+            let run : Runs (before_last_line call h.settled h.report) program =
+            subst (λ (d : Did). Does (before_last_line call h.settled h.report) d) (settled_did core size call h none named texts given (ran program) asks full) h.settles.does in
             inr (subst (λ (s : Status). EndsAsMeant s (course_in call given.settings program).end) (sym same)
             (settled_run law (before_last_line call h.settled h.report) given.settings given.set program (accepted texts program (passed named texts program asks)) run tells
             (no_report call h none) none.out none.devices full bound))
@@ -192,22 +179,23 @@ out_ended (status.BadPolicy line) out written full = absurd out
 written_ended : (call : TopCall) (named : Command) (text : List ℕ) → Writes call named text → ¬ Rose call.out.faults call.out_after.faults → call.status ≢ status.Memory → call.status ≡ status.Ended
 written_ended call named text writes out full = out_ended call.status writes.reached (λ is. out (writes.proper is).1) full
 
-settled_written : (call : TopCall) (settles : Settles call) (did : Did) → settles.did ≡ did → IsWritten did → ¬ Rose call.out.faults call.out_after.faults → call.status ≢ status.Memory → call.status ≡ status.Ended
-settled_written call settles nothing is written out full = absurd written
-settled_written call settles checked is written out full = written_ended call command.Check accepted_text (settles.checks is) out full
-settled_written call settles (reported program) is written out full = written_ended call command.Authority (authority_text program) (settles.reports program is) out full
-settled_written call settles (ran program) is written out full = absurd written
-settled_written call settles (formatted tree) is written out full = written_ended call command.Format (canonical_form tree) (settles.formats tree is) out full
-settled_written call settles permitted is written out full = written_ended call command.Policy allowed_text (settles.allows is) out full
-settled_written call settles (certified program) is written out full = (let so = settles.certifies program is in written_ended call command.Certify so.0 so.2 out full)
-settled_written call settles (proved program) is written out full = written_ended call command.Recheck proved_text (settles.proves program is).1 out full
+settled_written : (call : TopCall) (did : Did) → Does call did → IsWritten did → ¬ Rose call.out.faults call.out_after.faults → call.status ≢ status.Memory → call.status ≡ status.Ended
+settled_written call nothing does written out full = absurd written
+settled_written call checked does written out full = written_ended call command.Check accepted_text does out full
+settled_written call (reported program) does written out full = written_ended call command.Authority (authority_text program) does out full
+settled_written call (ran program) does written out full = absurd written
+settled_written call (formatted tree) does written out full = written_ended call command.Format (canonical_form tree) does out full
+settled_written call permitted does written out full = written_ended call command.Policy allowed_text does out full
+settled_written call (certified program) does written out full = written_ended call command.Certify does.0 does.2 out full
+settled_written call (proved program) does written out full = written_ended call command.Recheck proved_text does.1 out full
 
-pub writes_end : WritesEnd
-writes_end call h none named texts given did written asks =
+pub writes_end : ResolvedIsCore → OneSize → WritesEnd
+writes_end core size call h none named texts given did written asks =
     elim h.closes.kept [
       | inr memory ↦ inl memory
       | inl same ↦ elim (memory_or h.settled) [
         | inl memory ↦ inl (same ∙ memory)
-        | inr full ↦ inr (same ∙ settled_written (before_last_line call h.settled h.report) h.settles did (settled_did call h none named texts given did asks full) written none.out full)
+        | inr full ↦ inr (same ∙ settled_written (before_last_line call h.settled h.report) did
+            (subst (λ (d : Did). Does (before_last_line call h.settled h.report) d) (settled_did core size call h none named texts given did asks full) h.settles.does) written none.out full)
       ]
     ]

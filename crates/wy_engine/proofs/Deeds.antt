@@ -4,7 +4,7 @@ use Rattle.std.proofs.Math.Seq.{drop-append_seam}
 use Rattle.std.proofs.lemmas.List.{append-nil, length-append, length-map, nil_from_length}
 use Rattle.wy_text.proofs.Gains.{gained-nil}
 use Rattle.wy_text.specs.Outside.{gained}
-use Rattle.wy_device.specs.Devices.{DevicesState}
+use Rattle.wy_device.specs.Devices.{DevicesState, device_of}
 use Rattle.wy_device.specs.Events.{DidExactly, TellsDeeds, deeds_of, same_kind}
 use Rattle.wy_device.specs.Operation.{kind_of}
 use Rattle.wy_device.specs.Requests.{tape_of}
@@ -37,11 +37,20 @@ new_of_gained : (before after : Option (List DeedRecord)) (deeds : List DeedReco
 new_of_gained None after deeds tells is = absurd (cc)
 new_of_gained (Some b) after deeds tells is = rw is (drop-append_seam b deeds)
 
+pub new_deeds_of_kind : (kind : Kind) (before after : DevicesState) (events : List Event) → IsSome (device_of before kind).deeds → DidExactly before after events → new_deeds_of kind before after ≡ deeds_of kind events
+new_deeds_of_kind Console before after events tells did = new_of_gained before.console.deeds after.console.deeds _ tells did.console
+new_deeds_of_kind Folder before after events tells did = new_of_gained before.folder.deeds after.folder.deeds _ tells did.folder
+new_deeds_of_kind Clock before after events tells did = new_of_gained before.clock.deeds after.clock.deeds _ tells did.clock
+new_deeds_of_kind Random before after events tells did = new_of_gained before.random.deeds after.random.deeds _ tells did.random
+
+pub tells_each : (kind : Kind) (d : DevicesState) → TellsDeeds d → IsSome (device_of d kind).deeds
+tells_each Console d tells = tells.console
+tells_each Folder d tells = tells.folder
+tells_each Clock d tells = tells.clock
+tells_each Random d tells = tells.random
+
 pub new_deeds_are : (kind : Kind) (before after : DevicesState) (events : List Event) → TellsDeeds before → DidExactly before after events → new_deeds_of kind before after ≡ deeds_of kind events
-new_deeds_are Console before after events tells did = new_of_gained before.console.deeds after.console.deeds _ tells.console did.console
-new_deeds_are Folder before after events tells did = new_of_gained before.folder.deeds after.folder.deeds _ tells.folder did.folder
-new_deeds_are Clock before after events tells did = new_of_gained before.clock.deeds after.clock.deeds _ tells.clock did.clock
-new_deeds_are Random before after events tells did = new_of_gained before.random.deeds after.random.deeds _ tells.random did.random
+new_deeds_are kind before after events tells did = new_deeds_of_kind kind before after events (tells_each kind before tells) did
 
 -- what devices answered between two states is what they answered in the events
 pub tapes_between-of : (before after : DevicesState) (events : List Event) → TellsDeeds before → DidExactly before after events → tapes_between before after ≡ tapes_of events

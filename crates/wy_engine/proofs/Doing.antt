@@ -9,19 +9,20 @@ use Rattle.wy_types.specs.Program.{Program}
 use Rattle.wy_symbols.specs.Declarations.{all_items}
 use Rattle.wy_names.specs.Names.{Resolves}
 use Rattle.wy_rules.specs.Ends as ends
-use Rattle.wy_judge.specs.Checking.{IsAccepted, IsRefusalOf}
+use Rattle.wy_rules.specs.Ends.{IsAccepted}
+use Rattle.wy_judge.specs.Checking.{IsRefusalOf}
 use Rattle.wy_judge.specs.declared.checking.CheckRefusal.{CheckRefusal}
 use Rattle.wy_judge.specs.declared.checking.CheckRefusal.TheVariants as refusal
 use Rattle.wy_engine.specs.Answering.{Answered, CertifiesTrees, ChecksTrees, FailsCheck, JudgesByPolicy, JudgesTreesByPolicy, RechecksTrees, RunsAccepted, RunsTrees, accepted, accepted_trees, certified, certified_trees, certify_status, check_status, checked, declined, denied, disproved, fails, fails_check, formatted, judged, kept, limited, nameless, not_accepted, overlong_for, permitted, proved, proved_trees, ran, ran_program, recheck_status, reported, unaccepted, uncertified, unjudged, unnamed, wanting}
 use Rattle.wy_engine.specs.FileTrees.{FirstNoTree, HaveTrees}
 use Rattle.wy_certify.specs.declared.certifying.CertifyRefusal.{CertifyRefusal}
 use Rattle.wy_certify.specs.declared.certifying.CertifyRefusal.TheVariants as overlong
-use Rattle.wy_certify.specs.Certificates as certifying
+use Rattle.wy_certify.specs.NotCertified as certifying
 use Rattle.wy_certify.specs.Certificates.{IsCertified}
 use Rattle.wy_recheck.specs.declared.rechecking.CertRefusal.{CertRefusal}
 use Rattle.wy_recheck.specs.declared.rechecking.CertRefusal.TheVariants as disproof
-use Rattle.wy_recheck.specs.Rechecked as rechecking
-use Rattle.wy_recheck.specs.Rechecked.{IsProvedBy}
+use Rattle.wy_recheck.specs.ProvedBy as rechecking
+use Rattle.wy_recheck.specs.ProvedBy.{IsProvedBy}
 use Rattle.wy_engine.specs.Certificates.{HasLargeCertificate, HasNoLargeCertificate, ResolveBehind, most_certificate}
 use Rattle.wy_engine.specs.Judgement.{EndsLowering, HasFirst, IsNumbered, RunsPrograms, Stage, Stops, StopsTexts, accepted_text, authority_text, by_certificate, by_length, by_policy, by_size, by_texts, running, stage_of}
 use Rattle.wy_engine.specs.Passing.{Passes}

@@ -6,14 +6,14 @@ use Rattle.std.proofs.Math.Seq.{take-length}
 use Rattle.wy_text.specs.Outside.{gained, Rose}
 use Rattle.wy_text.specs.Shelf.{ShelfState}
 use Rattle.wy_text.specs.declared.limit.LimitName.TheVariants as limit
-use Rattle.wy_engine.specs.Reading.{GivesFiles, ReadsWell, first_bytes}
+use Rattle.wy_engine.specs.Reading.{ReadsWell}
 use Rattle.wy_sample.specs.Sample.{sample_text}
 use Rattle.wy_settings.specs.Settings.{Settings, sample_number, takes}
-use Rattle.wy_engine.specs.TopCall.{HasTexts, IsGiven, IsSet, ReadsFiles, ReadsFor, ReadsInOrder, TellsTexts, TopCall, most_files, reads_of, sampled, takes_files}
+use Rattle.wy_engine.specs.Texts.{AreTexts, GivesFiles, HasTexts, first_bytes, sampled}
+use Rattle.wy_engine.specs.TopCall.{IsSet, ReadsFiles, ReadsFor, ReadsInOrder, TopCall, most_files, reads_of, takes_files}
 use Rattle.wy_settings.specs.declared.command_line.Command.{Command}
 use Rattle.wy_settings.specs.declared.command_line.Command.TheVariants as command
 use Rattle.wy_engine.specs.declared.status.Status.TheVariants as status
-use Rattle.wy_engine.proofs.Givens.{IsTextOf, cut_texts}
 use Rattle.wy_engine.proofs.Statuses.{IsPastReading}
 
 pub same_settings : (call : TopCall) (one other : Settings) → IsSet call one → IsSet call other → one ≡ other
@@ -54,17 +54,18 @@ reads_for command.Policy call names takes order = order
 reads_for command.Certify call names takes order = order
 reads_for command.Recheck call names takes order = order
 
-tells_of : (asked : Command) (shelf : ShelfState) (names texts : List (List ℕ)) → takes_files asked ≡ true → HasTexts asked shelf names texts → TellsTexts shelf names texts
-tells_of command.Check shelf names texts takes has = has
-tells_of command.Authority shelf names texts takes has = has
-tells_of command.Run shelf names texts takes has = has
-tells_of command.Trace shelf names texts takes has = has
-tells_of command.Observe shelf names texts takes has = has
-tells_of command.Sample shelf names texts takes has = absurd (cc)
-tells_of command.Format shelf names texts takes has = has
-tells_of command.Policy shelf names texts takes has = has
-tells_of command.Certify shelf names texts takes has = has
-tells_of command.Recheck shelf names texts takes has = has
+-- what was read are the texts of a command that has files
+texts_read : (asked : Command) (shelf : ShelfState) (names texts : List (List ℕ)) → takes_files asked ≡ true → GivesFiles (first_bytes asked) shelf names texts → AreTexts asked shelf names texts
+texts_read command.Check shelf names texts takes gives = gives
+texts_read command.Authority shelf names texts takes gives = gives
+texts_read command.Run shelf names texts takes gives = gives
+texts_read command.Trace shelf names texts takes gives = gives
+texts_read command.Observe shelf names texts takes gives = gives
+texts_read command.Sample shelf names texts takes gives = absurd (cc)
+texts_read command.Format shelf names texts takes gives = gives
+texts_read command.Policy shelf names texts takes gives = gives
+texts_read command.Certify shelf names texts takes gives = gives
+texts_read command.Recheck shelf names texts takes gives = gives
 
 -- the text that the number of a sample makes
 pub record SampleMade (names : List (List ℕ)) : Type 0 where
@@ -98,23 +99,19 @@ reads_all call settings texts set few (made asked shelf is) past = reads_by call
     (subst (λ (c : Command). ReadsFor c call settings.files) (sym asked) (record { shelf = shelf; unread = past.unread }))
     (λ file is. absurd (past.unread file is))
 
--- the texts of a call, and those that came
-pub record IsRead (asked other : Command) (read texts : List (List ℕ)) : Type 0 where
-  pub same : asked ≡ other
-  pub came : IsTextOf asked read texts
-
-pub given_came : (call : TopCall) (settings : Settings) (read : List (List ℕ)) (other : Command) (texts : List (List ℕ)) → IsSet call settings
-    → Came call settings read → IsGiven call other texts → IsRead settings.command other read texts
-given_came call settings read other texts set came given =
-    let e : settings ≡ given.settings = same_settings call settings given.settings set given.set in
-    let has : HasTexts settings.command call.shelf settings.files texts = subst (λ (s : Settings). HasTexts s.command call.shelf s.files texts) (sym e) given.texts_are in
-    record { same = ap (λ (s : Settings). s.command) e ∙ given.is; came = by came has }
-  where
-    by : Came call settings read → HasTexts settings.command call.shelf settings.files texts → IsTextOf settings.command read texts
-    by (read_well takes so) has =
-        let told : TellsTexts call.shelf settings.files texts = tells_of settings.command call.shelf settings.files texts takes has in
-        inl (cut_texts (first_bytes settings.command) call.shelf told.files settings.files read texts told.told (subst (λ x. GivesFiles (first_bytes settings.command) call.shelf x read) (take-length settings.files) so.gives) told.found)
-    by (made asked shelf is) has =
-        let there : sampled settings.files ≡ Some texts = subst (λ (c : Command). HasTexts c call.shelf settings.files texts) asked has in
-        let same : Some read ≡ Some texts = sym is ∙ there in
-        inr (cc)
+-- .. and these are the texts of the call
+pub came_texts : (call : TopCall) (settings : Settings) (texts : List (List ℕ)) → IsSet call settings → length settings.files ≤ most_files → Came call settings texts → HasTexts call settings.command texts
+came_texts call settings texts set few (read_well takes so) = record {
+  settings = settings;
+  set = set;
+  is = refl;
+  few = few;
+  are = texts_read settings.command call.shelf settings.files texts takes (subst (λ x. GivesFiles (first_bytes settings.command) call.shelf x texts) (take-length settings.files) so.gives);
+}
+came_texts call settings texts set few (made asked shelf is) = record {
+  settings = settings;
+  set = set;
+  is = refl;
+  few = few;
+  are = subst (λ (c : Command). AreTexts c call.shelf settings.files texts) (sym asked) is;
+}

@@ -15,15 +15,16 @@ use Rattle.wy_policy.specs.Policy.{HasTooMany, IsBad, IsPolicy, IsRefused}
 use Rattle.wy_policy.specs.declared.policy.PolicyRefusal.{PolicyRefusal}
 use Rattle.wy_policy.specs.declared.policy.PolicyRefusal.TheVariants as unread
 use Rattle.wy_policy.specs.declared.policy.PolicyRow.{PolicyRow}
-use Rattle.wy_canonical.specs.Printed.{HasTree}
+use Rattle.wy_canonical.specs.HasTree.{HasTree}
 use Rattle.wy_engine.specs.FileTrees.{FirstNoTree, HasNoTree, HaveTrees}
-use Rattle.wy_recheck.specs.Rechecked.{IsProvedBy}
-use Rattle.wy_engine.specs.Certificates.{Disproves, EndsCertifying, HasLargeCertificate, HasNoLargeCertificate, ProvesTexts, ResolveBehind, StopsByCertificate, UnderCertificate, most_certificate}
+use Rattle.wy_recheck.specs.ProvedBy.{IsProvedBy}
+use Rattle.wy_engine.specs.Certificates.{Disproves, HasLargeCertificate, HasNoLargeCertificate, ProvesTexts, ResolveBehind, StopsByCertificate, UnderCertificate, most_certificate}
+use Rattle.wy_engine.specs.Certifying.{EndsCertifying}
 use Rattle.wy_engine.specs.Judgement.{KeepsToPolicy, Refuses, Runnable, Stage, Stops, StopsByPolicy, StopsTexts, UnderPolicy, by_certificate, by_length, by_policy, by_size, by_texts, running, stage_of}
 use Rattle.wy_engine.specs.Passing.{Passes}
 use Rattle.wy_engine.specs.NameFaults.{NamesStop, ResolveTo}
-use Rattle.wy_engine.specs.Reading.{GivesFiles, asked_bytes, first_bytes}
-use Rattle.wy_engine.specs.TopCall.{texts_of}
+use Rattle.wy_engine.specs.Given.{texts_of}
+use Rattle.wy_engine.specs.Texts.{GivesFiles, asked_bytes, first_bytes}
 use Rattle.wy_settings.specs.Settings.{texts_among}
 use Rattle.wy_settings.specs.declared.command_line.Command.{Command}
 use Rattle.wy_settings.specs.declared.command_line.Command.TheVariants as command
@@ -344,6 +345,5 @@ pub proves_read : (asked : Command) (read files : List (List ℕ)) (program : Pr
 proves_read asked read files program is =
     by_read (λ (ts : List (List ℕ)). ProvesTexts ts program) asked read files (of_named (λ (ts : List (List ℕ)). ProvesTexts ts program) asked command.Recheck files is (proof_of_cut files program))
 
-pub stopped_read : (asked : Command) (read texts : List (List ℕ)) (end : Status) → IsTextOf asked read texts → (end ≡ status.Memory) ⊎ Stops asked read end → (end ≡ status.Memory) ⊎ Stops asked texts end
-stopped_read asked read texts end of (inl is) = inl is
-stopped_read asked read texts end of (inr stops) = inr (by_read (λ (ts : List (List ℕ)). Stops asked ts end) asked read texts (stops_of_cut asked texts end) of stops)
+pub stops_read : (asked : Command) (read texts : List (List ℕ)) (end : Status) → IsTextOf asked read texts → Stops asked read end → Stops asked texts end
+stops_read asked read texts end = by_read (λ (ts : List (List ℕ)). Stops asked ts end) asked read texts (stops_of_cut asked texts end)

@@ -8,6 +8,7 @@ mod ExamplesNames
 mod FewAtoms
 mod FilesRead
 mod Givens
+mod LinesClosed
 mod MarksInFiles
 mod NamesInCode
 mod NamesJudged
@@ -27,6 +28,7 @@ mod Statuses
 mod SumsMade
 mod TextsAmong
 mod TextsAnswered
+mod TextsTold
 mod TracesMade
 mod UsedMade
 mod ValsInText

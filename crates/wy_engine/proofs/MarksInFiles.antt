@@ -9,7 +9,7 @@ use Rattle.wy_layout.specs.Laws.{TokensNameTheirFile}
 use Rattle.wy_syntax.specs.Marks.{ItemsPass, TokensPass}
 use Rattle.wy_syntax.specs.Tokens.{toks}
 use Rattle.wy_syntax.specs.Trees.{ItemTree}
-use Rattle.wy_canonical.specs.Printed.{HasTree}
+use Rattle.wy_canonical.specs.HasTree.{HasTree}
 use Rattle.wy_parser.specs.Laws.{MarksOfTokens}
 use Rattle.wy_text.specs.Members.{In}
 use Rattle.wy_types.specs.Program.{Program}

@@ -10,16 +10,16 @@ use Rattle.wy_syntax.specs.Tokens.{Tok, toks}
 use Rattle.wy_syntax.specs.Trees.{ItemTree}
 use Rattle.wy_canonical.proofs.OwnWords.{are_words}
 use Rattle.wy_canonical.proofs.Source.{lexed_fair}
-use Rattle.wy_canonical.specs.Printed.{HasTree}
+use Rattle.wy_canonical.specs.HasTree.{HasTree}
 use Rattle.wy_text.specs.Members.{In}
 use Rattle.wy_types.specs.Primitive.{primitive_types}
 use Rattle.wy_symbols.specs.Declarations.{all_items}
 use Rattle.wy_names.specs.Names.{ResolvesOver}
 use Rattle.wy_authority.specs.Authority.{authority_of}
 use Rattle.wy_authority.specs.Report.{report_text}
-use Rattle.wy_editions.specs.Editions.{AreOld, IsOther, LacksName, OldItemsAreJudgedAlike, OldItemsMeanTheSame}
+use Rattle.wy_editions.specs.Editions.{AreOld, IsOther, LacksName, OldItemsAreAcceptedAlike, OldItemsAreJudgedAlike, OldItemsMeanTheSame}
 use Rattle.wy_engine.specs.FileTrees.{HaveTrees}
-use Rattle.wy_engine.specs.OldTexts.{AreOldTexts, FileLacks, OldTextsAreJudgedAlike, OldTextsMeanTheSame, ReportedArePassed, TextsLack}
+use Rattle.wy_engine.specs.OldTexts.{AreOldTexts, FileLacks, OldTextsAreAcceptedAlike, OldTextsAreJudgedAlike, OldTextsMeanTheSame, ReportedArePassed, TextsLack}
 use Rattle.wy_engine.proofs.OneTree.{same_trees}
 
 ------------------------------------------------------------
@@ -92,6 +92,12 @@ pub judged_alike : OldItemsAreJudgedAlike → OldTextsAreJudgedAlike
 judged_alike law texts old report = (
   (λ r. record { trees = r.trees; have = r.have; authority = r.authority; judged = (law (all_items r.trees) (are_old texts r.trees r.have old) r.authority).0 r.judged; text = r.text }),
   (λ r. record { trees = r.trees; have = r.have; authority = r.authority; judged = (law (all_items r.trees) (are_old texts r.trees r.have old) r.authority).1 r.judged; text = r.text }),
+)
+
+pub accepted_alike : OldItemsAreAcceptedAlike → OldTextsAreAcceptedAlike
+accepted_alike law texts old report = (
+  (λ r. record { trees = r.trees; have = r.have; authority = r.authority; accepted = (law (all_items r.trees) (are_old texts r.trees r.have old) r.authority).0 r.accepted; text = r.text }),
+  (λ r. record { trees = r.trees; have = r.have; authority = r.authority; accepted = (law (all_items r.trees) (are_old texts r.trees r.have old) r.authority).1 r.accepted; text = r.text }),
 )
 
 pub mean_the_same : OldItemsMeanTheSame → OldTextsMeanTheSame

@@ -14,8 +14,10 @@ use Rattle.wy_authority.specs.Authority.{authority_of}
 use Rattle.wy_lower.specs.Counts.{lowering_limit}
 use Rattle.wy_sound.specs.Programs.{program_starts}
 use Rattle.wy_engine.specs.FileTrees.{FirstNoTree, HasNoTree, HaveTrees}
-use Rattle.wy_certify.specs.Certificates.{IsTooLong, OneSize}
-use Rattle.wy_engine.specs.Certificates.{Disproves, HasCertificate, HasLargeCertificate, HasNoLargeCertificate, ProvesTexts, ResolveBehind, StopsByCertificate, UnderCertificate, most_certificate}
+use Rattle.wy_certify.specs.Certificates.{IsTooLong}
+use Rattle.wy_certify.specs.CertificateLaws.{OneSize}
+use Rattle.wy_engine.specs.Certificates.{Disproves, HasLargeCertificate, HasNoLargeCertificate, ProvesTexts, ResolveBehind, StopsByCertificate, UnderCertificate, most_certificate}
+use Rattle.wy_engine.specs.Certifying.{HasCertificate}
 use Rattle.wy_engine.specs.Judgement.{Asks, Did, EndsJudging, EndsLowering, KeepsToPolicy, Refuses, Runnable, RunsPrograms, Stage, Stops, StopsByPolicy, StopsLimited, StopsTexts, StopsUnnamed, UnderPolicy, by_certificate, by_length, by_policy, by_size, by_texts, certified, checked, formatted, judging, lowering, naming, parsing, permitted, proved, ran, reported, running, stage_of}
 use Rattle.wy_engine.specs.Passing.{Passes}
 use Rattle.wy_engine.specs.NameFaults.{NamesStop, ResolveTo}

@@ -15,7 +15,7 @@ use Rattle.wy_syntax.specs.Trees.{ItemTree}
 use Rattle.wy_parser.specs.Refusals.{IsFirstBad}
 use Rattle.wy_parser.proofs.FileReader.{one_tree}
 use Rattle.wy_parser.proofs.FirstBad.{no_tree, one_bad}
-use Rattle.wy_canonical.specs.Printed.{HasTree}
+use Rattle.wy_canonical.specs.HasTree.{HasTree}
 use Rattle.wy_engine.specs.FileTrees.{FirstNoTree, HasNoTree, HaveTrees, IsUnexpected}
 use Rattle.wy_engine.specs.declared.status.Status.{Status}
 use Rattle.wy_engine.specs.declared.status.Status.TheVariants as status

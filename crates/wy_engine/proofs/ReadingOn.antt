@@ -6,7 +6,8 @@ use Rattle.std.proofs.Math.Seq.{take-length, take-suc, drop-cons}
 use Rattle.wy_text.specs.Outside.{gained, Rose}
 use Rattle.wy_text.specs.Shelf.{GivesFile, ShelfState, read_badly, read_well}
 use Rattle.wy_text.proofs.Gains.{gained-gained, gained-nil, rose_later}
-use Rattle.wy_engine.specs.Reading.{GivesFiles, ReadsWell, StopsAfter, StopsAt, asked_bytes, bytes_at}
+use Rattle.wy_engine.specs.Reading.{ReadsWell, StopsAfter, StopsAt, bytes_at}
+use Rattle.wy_engine.specs.Texts.{GivesFiles, asked_bytes}
 use Rattle.wy_engine.specs.TopCall.{reads_of}
 
 pub reads_none : (first : ℕ) (names : List (List ℕ)) (shelf : ShelfState) → ReadsWell first names 0 shelf shelf []

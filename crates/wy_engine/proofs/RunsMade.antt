@@ -13,7 +13,7 @@ use Rattle.wy_machine.specs.Runs.{EndsIn, FailsByFault, tapes_of}
 use Rattle.wy_machine.specs.declared.run_end.RunEnd.{RunEnd}
 use Rattle.wy_machine.specs.declared.run_end.RunEnd.TheVariants as end
 use Rattle.wy_rules.specs.Acceptance.{Accepted}
-use Rattle.wy_sound.specs.Laws.{course}
+use Rattle.wy_sound.specs.Courses.{course}
 use Rattle.wy_sound.specs.Programs.{program_starts}
 use Rattle.wy_types.specs.Program.{Program}
 use Rattle.wy_engine.specs.Headline.{EndsAs, HasEnded, HasRun, IsUncut, IsUnprinted, IsUnwritten, MissesReport, Runs, WritesRun, WritesUsed, meant_after}

@@ -1,5 +1,5 @@
 -- What a call promises at each way out of it, before its last line is written.
-use Rattle.std.proofs.Common.{◌≡◌, ◌≢◌, ◌<◌, ◌≤◌, inl, ℕ, List, [], Option, None, Some, Bool, true, false, refl, sym, ◌∙◌, ap, subst, arith, length, take, drop}
+use Rattle.std.proofs.Common.{◌≡◌, ◌≢◌, ◌<◌, ◌≤◌, ◌⊎◌, inl, inr, ℕ, List, [], ◌++◌, Option, None, Some, Bool, true, false, refl, sym, ◌∙◌, ap, subst, arith, length, take, drop}
 use Rattle.std.proofs.lemmas.Bool.Decides.{nat_tests}
 use Rattle.std.proofs.lemmas.List.{append-nil}
 use Rattle.wy_text.proofs.Gains.{gained-nil}
@@ -12,31 +12,31 @@ use Rattle.wy_types.specs.Program.{Program}
 use Rattle.wy_symbols.specs.Declarations.{all_items}
 use Rattle.wy_rules.specs.Acceptance.{Accepted}
 use Rattle.wy_proving.specs.Proving.{ProvedIsAccepted}
-use Rattle.wy_certify.specs.Certificates.{IsCertified, OneSize}
+use Rattle.wy_certify.specs.CertificateLaws.{OneSize}
 use Rattle.wy_well_formed.specs.WellFormed.{ResolvedIsCore}
 use Rattle.wy_engine.specs.Answering.{Answered}
 use Rattle.wy_engine.specs.Answering as answering
-use Rattle.wy_engine.specs.Headline.{Accepts, Closes, HasCommand, Headline, Runs, Settles, Writes, before_last_line}
-use Rattle.wy_engine.specs.LastLine.{LineWords, line_words}
+use Rattle.wy_engine.specs.Headline.{Closes, HasCommand, Headline, IsTextless, Settles, answered, before_last_line, textless}
+use Rattle.wy_engine.specs.LastLine.{LineWords, last_line, line_words}
 use Rattle.wy_engine.specs.Certificates.{ProvesTexts, proved_text}
 use Rattle.wy_engine.specs.Judgement.{HasFirst, accepted_text, allowed_text, authority_text, certified, checked, formatted, nothing, permitted, proved, ran, reported}
 use Rattle.wy_engine.specs.ProgramLaws.{AcceptedRunAsMeant}
 use Rattle.wy_engine.specs.Reading.{StopsAfter, StopsAt}
 use Rattle.wy_settings.specs.Settings.{Settings, settings_of, takes}
-use Rattle.wy_engine.specs.Status.{IsOfOut, IsOfRun, IsOfTexts, refusal_status}
-use Rattle.wy_engine.specs.TopCall.{IsGiven, IsQuiet, IsSet, ReadsFiles, ReadsFor, TopCall, most_files, reads_of, takes_files}
+use Rattle.wy_engine.specs.Status.{IsOfOut, IsOfRun}
+use Rattle.wy_engine.specs.StatusNumber.{refusal_status}
+use Rattle.wy_engine.specs.TopCall.{IsQuiet, IsSet, ReadsFiles, ReadsFor, TopCall, most_files, reads_of, takes_files}
 use Rattle.wy_settings.specs.declared.command_line.Command.{Command}
 use Rattle.wy_settings.specs.declared.command_line.Command.TheVariants as command
 use Rattle.wy_settings.specs.declared.command_line.SettingsRefusal.{SettingsRefusal}
 use Rattle.wy_settings.specs.declared.command_line.SettingsRefusal.TheVariants as words
 use Rattle.wy_engine.specs.declared.status.Status.{Status}
 use Rattle.wy_engine.specs.declared.status.Status.TheVariants as status
-use Rattle.wy_engine.proofs.FilesRead.{Came, is_sample, reads_all, reads_by, reads_for, same_settings}
-use Rattle.wy_engine.proofs.Givens.{keeps_read, passes_read, proves_read, run_bytes, runnable_read, same_bytes, tree_read}
+use Rattle.wy_engine.proofs.FilesRead.{Came, came_texts, is_sample, reads_all, reads_by, reads_for, same_settings}
 use Rattle.wy_engine.proofs.OutWritten.{writes_by}
 use Rattle.wy_engine.proofs.RunsMade.{ran_counted, runs_by}
 use Rattle.wy_engine.proofs.Statuses.{idle_declined, out_past, out_run, out_wrote, past_declined, run_past, run_ran}
-use Rattle.wy_engine.proofs.TextsAnswered.{accepts_none, accepts_some, asks_certify, asks_check, asks_format, asks_policy, asks_recheck, asks_report, asks_run}
+use Rattle.wy_engine.proofs.TextsAnswered.{accepts_done, accepts_stopped, asks_certify, asks_check, asks_format, asks_policy, asks_recheck, asks_report, asks_run}
 
 -- `format` has one file
 pub one_of_format : (named : Command) (files : List (List ℕ)) → takes named files ≡ true → named ≡ command.Format → length files ≡ 1
@@ -65,23 +65,13 @@ not_crowded call settings other set few same many =
     let less : most_files < length settings.files = subst (λ (s : Settings). most_files < length s.files) one many in
     absurd (omega arith)
 
--- a call that did nothing, and that its texts did not end
-quiet_settles : (call : TopCall) → ReadsFiles call → ((asked : Command) (texts : List (List ℕ)) → IsGiven call asked texts → ((file : ℕ) → call.status ≢ status.Unread file) → Accepts call asked nothing texts)
-    → IsQuiet call → (call.status ≢ status.Memory → ¬ IsOfRun call.status) → Settles call
-quiet_settles call reads accepts quiet idle = record {
+-- a call to which not all texts came did nothing
+quiet_settles : (call : TopCall) → ReadsFiles call → IsTextless call.status → IsQuiet call → (call.status ≢ status.Memory → ¬ IsOfRun call.status) → Settles call
+quiet_settles call reads without quiet idle = record {
   reads = reads;
   did = nothing;
-  accepts = accepts;
-  quiet = λ _. quiet;
-  crowded = λ settings set many. refl;
-  idle = λ _. idle;
-  runs = λ program none. absurd (cc);
-  checks = λ none. absurd (cc);
-  reports = λ program none. absurd (cc);
-  formats = λ tree none. absurd (cc);
-  allows = λ none. absurd (cc);
-  certifies = λ program none. absurd (cc);
-  proves = λ program none. absurd (cc);
+  answers = textless without refl;
+  does = (quiet, idle);
   counted = rw quiet.report (omega arith);
 }
 
@@ -96,8 +86,7 @@ settles_faulty call none shelf quiet is = quiet_settles call
       reads = λ settings set. let q : Some settings ≡ None = sym set ∙ none in absurd (cc);
       counted = λ file unread. let q : status.Usage ≡ status.Unread file = sym is ∙ unread in absurd (cc);
     })
-    (λ asked texts given. let q : Some given.settings ≡ None = sym given.set ∙ none in absurd (cc))
-    quiet (λ full run. subst IsOfRun is run)
+    (subst IsTextless (sym is) tt) quiet (λ full run. subst IsOfRun is run)
 
 -- the words name more files than the limit
 pub settles_crowded : (call : TopCall) (settings : Settings) → IsSet call settings → most_files < length settings.files → call.shelf_after ≡ call.shelf → IsQuiet call → call.status ≡ status.Limit limit.Files → Settles call
@@ -110,8 +99,7 @@ settles_crowded call settings set many shelf quiet is = quiet_settles call
       reads = λ other same few. not_crowded call other settings same few set many;
       counted = λ file unread. let q : status.Limit limit.Files ≡ status.Unread file = sym is ∙ unread in absurd (cc);
     })
-    (λ asked texts given none. not_crowded call given.settings settings given.set given.few set many)
-    quiet (λ full run. subst IsOfRun is run)
+    (subst IsTextless (sym is) refl) quiet (λ full run. subst IsOfRun is run)
 
 -- nothing was read, for want of memory
 nothing_for : (asked : Command) (call : TopCall) (names : List (List ℕ)) → call.shelf_after ≡ call.shelf → call.status ≡ status.Memory → ReadsFor asked call names
@@ -142,84 +130,58 @@ settles_unsettled call shelf quiet is = quiet_settles call
       reads = λ settings set few. nothing_for settings.command call settings.files shelf is;
       counted = λ file unread. let q : status.Memory ≡ status.Unread file = sym is ∙ unread in absurd (cc);
     })
-    (λ asked texts given none. record {
-      stopped = λ of_texts. absurd (subst IsOfTexts is of_texts);
-      stops = λ end stop full. absurd (full is);
-      done = inl refl;
-      does = λ other asks full. absurd (full is);
-    })
-    quiet (λ full run. full is)
+    (subst IsTextless (sym is) tt) quiet (λ full run. full is)
 
 -- the last line of a call that wanted memory does not hang on its words
 pub closes_unsettled : (one other : LineWords) (end : Status) (before after : SinkState) → Closes one status.Memory end before after → Closes other status.Memory end before after
-closes_unsettled one other end before after closes = record {
-  line = closes.line;
-  cut = closes.cut;
-  split = closes.split;
-  taken = closes.taken;
-  whole = closes.whole;
-  counted = closes.counted;
-  kept = closes.kept;
-}
+closes_unsettled one other end before after closes = by closes.says
+  where
+    is_memory : closes.said ≡ status.Memory
+    is_memory = elim closes.says [ inl same ↦ same | inr both ↦ both.0 ]
+
+    split : last_line other closes.said ≡ closes.line ++ closes.cut
+    split = subst (λ (s : Status). last_line other s ≡ closes.line ++ closes.cut) (sym is_memory) (subst (λ (s : Status). last_line one s ≡ closes.line ++ closes.cut) is_memory closes.split)
+
+    by : (closes.said ≡ status.Memory) ⊎ ((closes.said ≡ status.Memory) × (end ≡ status.Memory)) → Closes other status.Memory end before after
+    by says = record {
+      said = closes.said;
+      says = says;
+      line = closes.line;
+      cut = closes.cut;
+      split = split;
+      taken = closes.taken;
+      whole = closes.whole;
+      counted = closes.counted;
+      kept = closes.kept;
+    }
 
 -- a file was not read
 pub settles_unread : (call : TopCall) (settings : Settings) (file : ℕ) → IsSet call settings → takes_files settings.command ≡ true → length settings.files ≤ most_files → StopsAt settings.files file call.shelf call.shelf_after
     → call.out_after ≡ call.out → call.report_after ≡ call.report → call.devices_after ≡ call.devices → call.status ≡ status.Unread file → Settles call
-settles_unread call settings file set takes few stops out report devices is = record {
-  reads = reads_by call settings set few (λ usage. let q : status.Unread file ≡ status.Usage = sym is ∙ usage in absurd (cc)) (λ crowd. let q : status.Unread file ≡ status.Limit limit.Files = sym is ∙ crowd in absurd (cc)) (reads_for settings.command call settings.files takes (record {
-    well = stops.well;
-    badly = reads_of true (take 1 (drop stops.well settings.files));
-    reads = stops.reads;
-    unread = λ other same. let q : status.Unread file ≡ status.Unread other = sym is ∙ same in let e : other ≡ file = cc in (stops.within, e ∙ stops.number, refl);
-    others = λ none. absurd (none file is);
-    all = λ full none. absurd (none file is);
-  })) (λ other same. stops.counted);
-  did = nothing;
-  accepts = λ asked texts given none. absurd (none file is);
-  quiet = λ _. record { out = out; report = report; devices = devices };
-  crowded = λ other same many. refl;
-  idle = λ _ full run. subst IsOfRun is run;
-  runs = λ program none. absurd (cc);
-  checks = λ none. absurd (cc);
-  reports = λ program none. absurd (cc);
-  formats = λ tree none. absurd (cc);
-  allows = λ none. absurd (cc);
-  certifies = λ program none. absurd (cc);
-  proves = λ program none. absurd (cc);
-  counted = rw report (omega arith);
-}
+settles_unread call settings file set takes few stops out report devices is = quiet_settles call
+    (reads_by call settings set few (λ usage. let q : status.Unread file ≡ status.Usage = sym is ∙ usage in absurd (cc)) (λ crowd. let q : status.Unread file ≡ status.Limit limit.Files = sym is ∙ crowd in absurd (cc)) (reads_for settings.command call settings.files takes (record {
+      well = stops.well;
+      badly = reads_of true (take 1 (drop stops.well settings.files));
+      reads = stops.reads;
+      unread = λ other same. let q : status.Unread file ≡ status.Unread other = sym is ∙ same in let e : other ≡ file = cc in (stops.within, e ∙ stops.number, refl);
+      others = λ none. absurd (none file is);
+      all = λ full none. absurd (none file is);
+    })) (λ other same. stops.counted))
+    (subst IsTextless (sym is) tt) (record { out = out; report = report; devices = devices }) (λ full run. subst IsOfRun is run)
 
 -- memory was wanting while files were read
 pub settles_starved : (call : TopCall) (settings : Settings) → IsSet call settings → takes_files settings.command ≡ true → length settings.files ≤ most_files → StopsAfter settings.files call.shelf call.shelf_after
     → call.out_after ≡ call.out → call.report_after ≡ call.report → call.devices_after ≡ call.devices → call.status ≡ status.Memory → Settles call
-settles_starved call settings set takes few stops out report devices is = record {
-  reads = reads_by call settings set few (λ usage. let q : status.Memory ≡ status.Usage = sym is ∙ usage in absurd (cc)) (λ crowd. let q : status.Memory ≡ status.Limit limit.Files = sym is ∙ crowd in absurd (cc)) (reads_for settings.command call settings.files takes (record {
-    well = stops.well;
-    badly = [];
-    reads = stops.reads ∙ ap (λ x. gained call.shelf.reads x) (sym (append-nil (reads_of false (take stops.well settings.files))));
-    unread = λ file same. let q : status.Memory ≡ status.Unread file = sym is ∙ same in absurd (cc);
-    others = λ none. refl;
-    all = λ full none. absurd (full is);
-  })) (λ file same. let q : status.Memory ≡ status.Unread file = sym is ∙ same in absurd (cc));
-  did = nothing;
-  accepts = λ asked texts given none. record {
-    stopped = λ of_texts. absurd (subst IsOfTexts is of_texts);
-    stops = λ end stop full. absurd (full is);
-    done = inl refl;
-    does = λ other asks full. absurd (full is);
-  };
-  quiet = λ _. record { out = out; report = report; devices = devices };
-  crowded = λ other same many. refl;
-  idle = λ _ full run. full is;
-  runs = λ program none. absurd (cc);
-  checks = λ none. absurd (cc);
-  reports = λ program none. absurd (cc);
-  formats = λ tree none. absurd (cc);
-  allows = λ none. absurd (cc);
-  certifies = λ program none. absurd (cc);
-  proves = λ program none. absurd (cc);
-  counted = rw report (omega arith);
-}
+settles_starved call settings set takes few stops out report devices is = quiet_settles call
+    (reads_by call settings set few (λ usage. let q : status.Memory ≡ status.Usage = sym is ∙ usage in absurd (cc)) (λ crowd. let q : status.Memory ≡ status.Limit limit.Files = sym is ∙ crowd in absurd (cc)) (reads_for settings.command call settings.files takes (record {
+      well = stops.well;
+      badly = [];
+      reads = stops.reads ∙ ap (λ x. gained call.shelf.reads x) (sym (append-nil (reads_of false (take stops.well settings.files))));
+      unread = λ file same. let q : status.Memory ≡ status.Unread file = sym is ∙ same in absurd (cc);
+      others = λ none. refl;
+      all = λ full none. absurd (full is);
+    })) (λ file same. let q : status.Memory ≡ status.Unread file = sym is ∙ same in absurd (cc)))
+    (subst IsTextless (sym is) tt) (record { out = out; report = report; devices = devices }) (λ full run. full is)
 
 -- what is proved is accepted
 proves_accepted : ResolvedIsCore → ProvedIsAccepted → (files : List (List ℕ)) (program : Program) → ProvesTexts files program → Accepted program
@@ -237,17 +199,8 @@ unfolding has_command
 settles_answered law size sound runs call settings read set few so (answering.declined why out report devices) = record {
   reads = reads_all call settings read set few so (past_declined settings.command read call.status why);
   did = nothing;
-  accepts = λ other texts given none. accepts_none law size call settings read set so why other texts given;
-  quiet = λ _. record { out = out; report = report; devices = devices };
-  crowded = λ other same many. refl;
-  idle = λ _. idle_declined settings.command read call.status why;
-  runs = λ program none. absurd (cc);
-  checks = λ none. absurd (cc);
-  reports = λ program none. absurd (cc);
-  formats = λ tree none. absurd (cc);
-  allows = λ none. absurd (cc);
-  certifies = λ program none. absurd (cc);
-  proves = λ program none. absurd (cc);
+  answers = answered settings.command read (came_texts call settings read set few so) (accepts_stopped law size call settings.command read why);
+  does = (record { out = out; report = report; devices = devices }, idle_declined settings.command read call.status why);
   counted = rw report (omega arith);
 }
 settles_answered law size sound runs call settings read set few so (answering.checked program check passes wrote report devices) =
@@ -255,18 +208,8 @@ settles_answered law size sound runs call settings read set few so (answering.ch
     record {
       reads = reads_all call settings read set few so (out_past call.status reached);
       did = checked;
-      accepts = λ other texts given none. accepts_some law size call settings read checked set so
-          (λ told same. asks_check settings.command told program check (passes_read settings.command read told program (same_bytes settings.command command.Check check refl) same passes)) (out_run call.status reached) other texts given;
-      quiet = λ none. absurd (cc);
-      crowded = λ other same many. not_crowded call settings other set few same many;
-      idle = λ none. absurd (cc);
-      runs = λ program none. absurd (cc);
-      checks = λ _. writes_by call command.Check accepted_text (has_command call settings command.Check set check) report devices wrote;
-      reports = λ program none. absurd (cc);
-      formats = λ tree none. absurd (cc);
-      allows = λ none. absurd (cc);
-      certifies = λ program none. absurd (cc);
-      proves = λ program none. absurd (cc);
+      answers = answered settings.command read (came_texts call settings read set few so) (accepts_done law size call settings.command (checked) read (asks_check settings.command read program check passes) (out_run call.status reached));
+      does = writes_by call command.Check accepted_text (has_command call settings command.Check set check) report devices wrote;
       counted = rw report (omega arith);
     }
 settles_answered law size sound runs call settings read set few so (answering.reported program asks passes wrote report devices) =
@@ -274,19 +217,8 @@ settles_answered law size sound runs call settings read set few so (answering.re
     record {
       reads = reads_all call settings read set few so (out_past call.status reached);
       did = reported program;
-      accepts = λ other texts given none. accepts_some law size call settings read (reported program) set so
-          (λ told same. asks_report settings.command told program asks (passes_read settings.command read told program (same_bytes settings.command command.Authority asks refl) same passes)) (out_run call.status reached) other texts given;
-      quiet = λ none. absurd (cc);
-      crowded = λ other same many. not_crowded call settings other set few same many;
-      idle = λ none. absurd (cc);
-      runs = λ program none. absurd (cc);
-      checks = λ none. absurd (cc);
-      reports = λ other same. let e : program ≡ other = cc in subst (λ (p : Program). Writes call command.Authority (authority_text p)) e
-          (writes_by call command.Authority (authority_text program) (has_command call settings command.Authority set asks) report devices wrote);
-      formats = λ tree none. absurd (cc);
-      allows = λ none. absurd (cc);
-      certifies = λ program none. absurd (cc);
-      proves = λ program none. absurd (cc);
+      answers = answered settings.command read (came_texts call settings read set few so) (accepts_done law size call settings.command (reported program) read (asks_report settings.command read program asks passes) (out_run call.status reached));
+      does = writes_by call command.Authority (authority_text program) (has_command call settings command.Authority set asks) report devices wrote;
       counted = rw report (omega arith);
     }
 settles_answered law size sound runs call settings read set few so (answering.ran program way run number is ended) =
@@ -294,19 +226,8 @@ settles_answered law size sound runs call settings read set few so (answering.ra
     record {
       reads = reads_all call settings read set few so (run_past call.status reached);
       did = ran program;
-      accepts = λ other texts given none. accepts_some law size call settings read (ran program) set so
-          (λ told same. asks_run settings.command told way program run (runnable_read settings.command read told program (run_bytes settings.command way run) same is)) reached other texts given;
-      quiet = λ none. absurd (cc);
-      crowded = λ other same many. not_crowded call settings other set few same many;
-      idle = λ none. absurd (cc);
-      runs = λ other same. let e : program ≡ other = cc in subst (λ (p : Program). Runs call p) e
-          (runs_by call settings set program is.passes.accepted.accepted (runs read program is.passes) way run number ended);
-      checks = λ none. absurd (cc);
-      reports = λ program none. absurd (cc);
-      formats = λ tree none. absurd (cc);
-      allows = λ none. absurd (cc);
-      certifies = λ program none. absurd (cc);
-      proves = λ program none. absurd (cc);
+      answers = answered settings.command read (came_texts call settings read set few so) (accepts_done law size call settings.command (ran program) read (asks_run settings.command read way program run is) reached);
+      does = runs_by call settings set program is.passes.accepted.accepted (runs read program is.passes) way run number ended;
       counted = ran_counted way program settings.depth settings.steps call.out call.out_after call.report call.report_after call.devices call.devices_after call.status ended;
     }
 settles_answered law size sound runs call settings read set few so (answering.formatted tree format have wrote report devices) =
@@ -314,19 +235,8 @@ settles_answered law size sound runs call settings read set few so (answering.fo
     record {
       reads = reads_all call settings read set few so (out_past call.status reached);
       did = formatted tree;
-      accepts = λ other texts given none. accepts_some law size call settings read (formatted tree) set so
-          (λ told same. asks_format settings.command told tree format (tree_read settings.command read told tree (same_bytes settings.command command.Format format refl) same have)) (out_run call.status reached) other texts given;
-      quiet = λ none. absurd (cc);
-      crowded = λ other same many. not_crowded call settings other set few same many;
-      idle = λ none. absurd (cc);
-      runs = λ program none. absurd (cc);
-      checks = λ none. absurd (cc);
-      reports = λ program none. absurd (cc);
-      formats = λ other same. let e : tree ≡ other = cc in subst (λ (t : List ItemTree). Writes call command.Format (canonical_form t)) e
-          (writes_by call command.Format (canonical_form tree) (has_command call settings command.Format set format) report devices wrote);
-      allows = λ none. absurd (cc);
-      certifies = λ program none. absurd (cc);
-      proves = λ program none. absurd (cc);
+      answers = answered settings.command read (came_texts call settings read set few so) (accepts_done law size call settings.command (formatted tree) read (asks_format settings.command read tree format have) (out_run call.status reached));
+      does = writes_by call command.Format (canonical_form tree) (has_command call settings command.Format set format) report devices wrote;
       counted = rw report (omega arith);
     }
 settles_answered law size sound runs call settings read set few so (answering.permitted asks keeps wrote report devices) =
@@ -334,18 +244,8 @@ settles_answered law size sound runs call settings read set few so (answering.pe
     record {
       reads = reads_all call settings read set few so (out_past call.status reached);
       did = permitted;
-      accepts = λ other texts given none. accepts_some law size call settings read permitted set so
-          (λ told same. asks_policy settings.command told asks (keeps_read settings.command read told (same_bytes settings.command command.Policy asks refl) same keeps)) (out_run call.status reached) other texts given;
-      quiet = λ none. absurd (cc);
-      crowded = λ other same many. not_crowded call settings other set few same many;
-      idle = λ none. absurd (cc);
-      runs = λ program none. absurd (cc);
-      checks = λ none. absurd (cc);
-      reports = λ program none. absurd (cc);
-      formats = λ tree none. absurd (cc);
-      allows = λ _. writes_by call command.Policy allowed_text (has_command call settings command.Policy set asks) report devices wrote;
-      certifies = λ program none. absurd (cc);
-      proves = λ program none. absurd (cc);
+      answers = answered settings.command read (came_texts call settings read set few so) (accepts_done law size call settings.command (permitted) read (asks_policy settings.command read asks keeps) (out_run call.status reached));
+      does = writes_by call command.Policy allowed_text (has_command call settings command.Policy set asks) report devices wrote;
       counted = rw report (omega arith);
     }
 settles_answered law size sound runs call settings read set few so (answering.certified program text asks passes is wrote report devices) =
@@ -353,20 +253,8 @@ settles_answered law size sound runs call settings read set few so (answering.ce
     record {
       reads = reads_all call settings read set few so (out_past call.status reached);
       did = certified program;
-      accepts = λ other texts given none. accepts_some law size call settings read (certified program) set so
-          (λ told same. asks_certify settings.command told program asks (record { passes = passes_read settings.command read told program (same_bytes settings.command command.Certify asks refl) same passes; bytes = text; is = is }))
-          (out_run call.status reached) other texts given;
-      quiet = λ none. absurd (cc);
-      crowded = λ other same many. not_crowded call settings other set few same many;
-      idle = λ none. absurd (cc);
-      runs = λ program none. absurd (cc);
-      checks = λ none. absurd (cc);
-      reports = λ program none. absurd (cc);
-      formats = λ tree none. absurd (cc);
-      allows = λ none. absurd (cc);
-      certifies = λ other same. let e : program ≡ other = cc in
-          (text, subst (λ (p : Program). IsCertified p text) e is, writes_by call command.Certify text (has_command call settings command.Certify set asks) report devices wrote);
-      proves = λ program none. absurd (cc);
+      answers = answered settings.command read (came_texts call settings read set few so) (accepts_done law size call settings.command (certified program) read (asks_certify settings.command read program asks (record { passes = passes; bytes = text; is = is })) (out_run call.status reached));
+      does = (text, is, writes_by call command.Certify text (has_command call settings command.Certify set asks) report devices wrote);
       counted = rw report (omega arith);
     }
 settles_answered law size sound runs call settings read set few so (answering.proved program asks proves wrote report devices) =
@@ -374,19 +262,8 @@ settles_answered law size sound runs call settings read set few so (answering.pr
     record {
       reads = reads_all call settings read set few so (out_past call.status reached);
       did = proved program;
-      accepts = λ other texts given none. accepts_some law size call settings read (proved program) set so
-          (λ told same. asks_recheck settings.command told program asks (proves_read settings.command read told program asks same proves)) (out_run call.status reached) other texts given;
-      quiet = λ none. absurd (cc);
-      crowded = λ other same many. not_crowded call settings other set few same many;
-      idle = λ none. absurd (cc);
-      runs = λ program none. absurd (cc);
-      checks = λ none. absurd (cc);
-      reports = λ program none. absurd (cc);
-      formats = λ tree none. absurd (cc);
-      allows = λ none. absurd (cc);
-      certifies = λ program none. absurd (cc);
-      proves = λ other same. let e : program ≡ other = cc in
-          (subst (λ (p : Program). Accepted p) e (proves_accepted law sound read program proves), writes_by call command.Recheck proved_text (has_command call settings command.Recheck set asks) report devices wrote);
+      answers = answered settings.command read (came_texts call settings read set few so) (accepts_done law size call settings.command (proved program) read (asks_recheck settings.command read program asks proves) (out_run call.status reached));
+      does = (proves_accepted law sound read program proves, writes_by call command.Recheck proved_text (has_command call settings command.Recheck set asks) report devices wrote);
       counted = rw report (omega arith);
     }
 

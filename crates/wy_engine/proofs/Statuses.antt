@@ -1,5 +1,5 @@
 -- Which statuses come when: once files were read, of texts that stop a call, of a run, and of what was written.
-use Rattle.std.proofs.Common.{◌≡◌, ◌≢◌, ◌⊎◌, inl, inr, ℕ, List, [], ◌∷◌, Some, None, Bool, true, false, nat_lt, if◌then◌else◌, sym, ◌∙◌, subst}
+use Rattle.std.proofs.Common.{◌≡◌, ◌≢◌, ◌⊎◌, inl, inr, ℕ, List, [], ◌∷◌, Some, None, Bool, true, false, nat_lt, if◌then◌else◌, refl, sym, ◌∙◌, subst}
 use Rattle.wy_text.specs.LimitName.{limit_number}
 use Rattle.wy_text.specs.Outside.{SinkState}
 use Rattle.wy_text.specs.declared.limit.LimitName.TheVariants as limit
@@ -253,3 +253,41 @@ past_declined asked texts end (inr stops) = stops_past asked texts end stops
 pub idle_declined : (asked : Command) (texts : List (List ℕ)) (end : Status) → (end ≡ status.Memory) ⊎ Stops asked texts end → end ≢ status.Memory → ¬ IsOfRun end
 idle_declined asked texts end (inl is) full run = full is
 idle_declined asked texts end (inr stops) full run = stops_idle asked texts end stops run
+
+-- memory ran out, or not
+pub memory_or : (s : Status) → (s ≡ status.Memory) ⊎ (s ≢ status.Memory)
+memory_or status.Ended = inr (λ is. cc)
+memory_or status.Usage = inr (λ is. cc)
+memory_or (status.Unread file) = inr (λ is. cc)
+memory_or (status.Syntax place kind) = inr (λ is. cc)
+memory_or (status.Refused fault) = inr (λ is. cc)
+memory_or (status.Limit name) = inr (λ is. cc)
+memory_or (status.Trap kind place) = inr (λ is. cc)
+memory_or status.TooDeep = inr (λ is. cc)
+memory_or status.Spent = inr (λ is. cc)
+memory_or (status.DeviceFailed grant op) = inr (λ is. cc)
+memory_or status.Unwritten = inr (λ is. cc)
+memory_or status.Memory = inl refl
+memory_or (status.BadCert at) = inr (λ is. cc)
+memory_or (status.Unproved scope test index) = inr (λ is. cc)
+memory_or (status.Denied line instance atom) = inr (λ is. cc)
+memory_or (status.BadPolicy line) = inr (λ is. cc)
+
+-- a status that is not of a run, of words or of a file that was not read is one that texts have
+pub ends_by_texts : (end : Status) → end ≢ status.Usage → ((file : ℕ) → end ≢ status.Unread file) → ¬ IsOfRun end → IsOfTexts end
+ends_by_texts status.Ended usage unread idle = absurd (idle tt)
+ends_by_texts status.Usage usage unread idle = absurd (usage refl)
+ends_by_texts (status.Unread file) usage unread idle = absurd (unread file refl)
+ends_by_texts (status.Syntax place kind) usage unread idle = tt
+ends_by_texts (status.Refused fault) usage unread idle = tt
+ends_by_texts (status.Limit name) usage unread idle = tt
+ends_by_texts (status.Trap kind place) usage unread idle = absurd (idle tt)
+ends_by_texts status.TooDeep usage unread idle = absurd (idle tt)
+ends_by_texts status.Spent usage unread idle = absurd (idle tt)
+ends_by_texts (status.DeviceFailed grant op) usage unread idle = absurd (idle tt)
+ends_by_texts status.Unwritten usage unread idle = absurd (idle tt)
+ends_by_texts status.Memory usage unread idle = absurd (idle tt)
+ends_by_texts (status.BadCert at) usage unread idle = tt
+ends_by_texts (status.Unproved scope test index) usage unread idle = tt
+ends_by_texts (status.Denied line instance atom) usage unread idle = tt
+ends_by_texts (status.BadPolicy line) usage unread idle = tt

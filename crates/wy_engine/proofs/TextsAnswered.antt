@@ -5,24 +5,23 @@ use Rattle.wy_types.specs.Program.{Program}
 use Rattle.wy_well_formed.specs.WellFormed.{ResolvedIsCore}
 use Rattle.wy_engine.specs.FileTrees.{HaveTrees}
 use Rattle.wy_engine.specs.Headline.{Accepts}
-use Rattle.wy_certify.specs.Certificates.{OneSize}
-use Rattle.wy_engine.specs.Certificates.{HasCertificate, ProvesTexts}
+use Rattle.wy_certify.specs.CertificateLaws.{OneSize}
+use Rattle.wy_engine.specs.Certificates.{ProvesTexts}
+use Rattle.wy_engine.specs.Certifying.{HasCertificate}
 use Rattle.wy_engine.specs.Judgement.{Asks, Did, KeepsToPolicy, Runnable, Stops, certified, checked, formatted, nothing, permitted, proved, ran, reported, running}
 use Rattle.wy_engine.specs.Passing.{Passes}
-use Rattle.wy_settings.specs.Settings.{Settings}
 use Rattle.wy_engine.specs.Status.{IsOfRun, IsOfTexts}
-use Rattle.wy_engine.specs.TopCall.{IsGiven, IsSet, TopCall}
+use Rattle.wy_engine.specs.TopCall.{TopCall}
 use Rattle.wy_settings.specs.declared.command_line.Command.{Command}
 use Rattle.wy_settings.specs.declared.command_line.Command.TheVariants as command
 use Rattle.wy_engine.specs.declared.running.Mode.{Mode}
 use Rattle.wy_engine.specs.declared.running.Mode.TheVariants as mode
 use Rattle.wy_engine.specs.declared.status.Status.TheVariants as status
-use Rattle.wy_engine.proofs.FilesRead.{Came, IsRead, given_came}
-use Rattle.wy_engine.proofs.Givens.{IsTextOf, stopped_read}
 use Rattle.wy_engine.proofs.OneAnswer.{ask_or_stop, one_ask, one_stop}
 use Rattle.wy_engine.proofs.Statuses.{run_or_texts}
 
-accepts_stopped : ResolvedIsCore → OneSize → (call : TopCall) (asked : Command) (texts : List (List ℕ)) → (call.status ≡ status.Memory) ⊎ Stops asked texts call.status → Accepts call asked nothing texts
+-- the texts that came stop the call
+pub accepts_stopped : ResolvedIsCore → OneSize → (call : TopCall) (asked : Command) (texts : List (List ℕ)) → (call.status ≡ status.Memory) ⊎ Stops asked texts call.status → Accepts call asked nothing texts
 accepts_stopped law size call asked texts (inl is) = record {
   stopped = λ of_texts. absurd (subst IsOfTexts is of_texts);
   stops = λ end stop full. absurd (full is);
@@ -36,7 +35,8 @@ accepts_stopped law size call asked texts (inr here) = record {
   does = λ other asks full. absurd (ask_or_stop law size asked texts other call.status asks here);
 }
 
-accepts_done : ResolvedIsCore → OneSize → (call : TopCall) (asked : Command) (did : Did) (texts : List (List ℕ)) → Asks asked texts did → IsOfRun call.status → Accepts call asked did texts
+-- .. or something is done with them
+pub accepts_done : ResolvedIsCore → OneSize → (call : TopCall) (asked : Command) (did : Did) (texts : List (List ℕ)) → Asks asked texts did → IsOfRun call.status → Accepts call asked did texts
 accepts_done law size call asked did texts asks run = record {
   stopped = λ of_texts. absurd (run_or_texts call.status run of_texts);
   stops = λ end stop full. absurd (ask_or_stop law size asked texts did end asks stop);
@@ -67,22 +67,3 @@ asks_certify asked texts program certify is = subst (λ (c : Command). Asks c te
 
 pub asks_recheck : (asked : Command) (files : List (List ℕ)) (program : Program) → asked ≡ command.Recheck → ProvesTexts files program → Asks asked files (proved program)
 asks_recheck asked files program recheck is = subst (λ (c : Command). Asks c files (proved program)) (sym recheck) is
-
-accepts_where : (call : TopCall) (asked other : Command) (did : Did) (read texts : List (List ℕ)) → IsRead asked other read texts
-    → ((same : IsTextOf asked read texts) → Accepts call asked did texts) → Accepts call other did texts
-accepts_where call asked other did read texts is accepts = subst (λ (c : Command). Accepts call c did texts) is.same (accepts is.came)
-
--- the texts that came stop the call
-pub accepts_none : ResolvedIsCore → OneSize → (call : TopCall) (settings : Settings) (read : List (List ℕ)) → IsSet call settings
-    → Came call settings read → (call.status ≡ status.Memory) ⊎ Stops settings.command read call.status
-    → (other : Command) (texts : List (List ℕ)) → IsGiven call other texts → Accepts call other nothing texts
-accepts_none law size call settings read set came why other texts given =
-    accepts_where call settings.command other nothing read texts (given_came call settings read other texts set came given) (λ same. accepts_stopped law size call settings.command texts
-    (stopped_read settings.command read texts call.status same why))
-
--- .. or something is done with them
-pub accepts_some : ResolvedIsCore → OneSize → (call : TopCall) (settings : Settings) (read : List (List ℕ)) (did : Did) → IsSet call settings
-    → Came call settings read → ((texts : List (List ℕ)) → IsTextOf settings.command read texts → Asks settings.command texts did) → IsOfRun call.status
-    → (other : Command) (texts : List (List ℕ)) → IsGiven call other texts → Accepts call other did texts
-accepts_some law size call settings read did set came asks run other texts given =
-    accepts_where call settings.command other did read texts (given_came call settings read other texts set came given) (λ same. accepts_done law size call settings.command did texts (asks texts same) run)

@@ -18,7 +18,7 @@ use Rattle.wy_lower.specs.Lowering.{lowered}
 use Rattle.wy_machine.specs.Runs.{Runs as RunsMachine, tapes_of}
 use Rattle.wy_machine.specs.declared.run_end.RunEnd.{RunEnd}
 use Rattle.wy_machine.specs.declared.run_end.RunEnd.TheVariants as end
-use Rattle.wy_sound.specs.Laws.{course}
+use Rattle.wy_sound.specs.Courses.{course}
 use Rattle.wy_sound.specs.Programs.{allowed, program_starts}
 use Rattle.wy_sound.specs.Used.{IsUsedWithin}
 use Rattle.wy_types.specs.Program.{Program}

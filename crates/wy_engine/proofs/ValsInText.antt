@@ -19,9 +19,9 @@ use Rattle.wy_syntax.specs.Tokens.{Tok, tok_of, toks, code}
 use Rattle.wy_syntax.specs.Trees.{ItemTree}
 use Rattle.wy_syntax.specs.Languages.{Each}
 use Rattle.wy_syntax.specs.Grammar.{SpellsItem}
-use Rattle.wy_syntax.specs.Nodes.{is_before}
+use Rattle.wy_syntax.specs.Before.{is_before}
 use Rattle.wy_text.specs.Members.{In}
-use Rattle.wy_canonical.specs.Printed.{HasTree}
+use Rattle.wy_canonical.specs.HasTree.{HasTree}
 use Rattle.wy_symbols.specs.Declarations.{all_items}
 use Rattle.wy_well_formed.specs.ValPlaces.{if_name, name_places, Ascend, AreInText, ResolvedValsAreInOrder}
 use Rattle.wy_engine.specs.FileTrees.{HaveTrees}

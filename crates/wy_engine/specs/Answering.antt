@@ -9,7 +9,8 @@ use Rattle.wy_symbols.specs.Declarations.{all_items}
 use Rattle.wy_names.specs.Names.{Refused, Resolves}
 use Rattle.wy_names.specs.declared.refusal.NameRefusal.{NameRefusal}
 use Rattle.wy_types.specs.Program.{Program}
-use Rattle.wy_judge.specs.Checking.{IsAccepted, IsRefusalOf}
+use Rattle.wy_rules.specs.Ends.{IsAccepted}
+use Rattle.wy_judge.specs.Checking.{IsRefusalOf}
 use Rattle.wy_judge.specs.declared.checking.CheckRefusal.{CheckRefusal}
 use Rattle.wy_judge.specs.declared.checking.CheckRefusal.TheVariants as refusal
 use Rattle.wy_lower.specs.Counts.{lowering_limit}
@@ -20,12 +21,12 @@ use Rattle.wy_policy.specs.declared.policy.PolicyRefusal.{PolicyRefusal}
 use Rattle.wy_policy.specs.declared.policy.PolicyRefusal.TheVariants as unread
 use Rattle.wy_policy.specs.declared.policy.PolicyRow.{PolicyRow}
 use Rattle.wy_sound.specs.Programs.{program_starts}
-use Rattle.wy_certify.specs.Certificates as certifying
+use Rattle.wy_certify.specs.NotCertified as certifying
 use Rattle.wy_certify.specs.Certificates.{IsCertified}
 use Rattle.wy_certify.specs.declared.certifying.CertifyRefusal.{CertifyRefusal}
 use Rattle.wy_certify.specs.declared.certifying.CertifyRefusal.TheVariants as overlong
-use Rattle.wy_recheck.specs.Rechecked as rechecking
-use Rattle.wy_recheck.specs.Rechecked.{IsProvedBy}
+use Rattle.wy_recheck.specs.ProvedBy as rechecking
+use Rattle.wy_recheck.specs.ProvedBy.{IsProvedBy}
 use Rattle.wy_recheck.specs.declared.rechecking.CertRefusal.{CertRefusal}
 use Rattle.wy_recheck.specs.declared.rechecking.CertRefusal.TheVariants as disproof
 use Rattle.wy_engine.specs.Certificates.{ProvesTexts, proved_text}

@@ -1,13 +1,11 @@
--- Certificates of programs: what is written of an accepted one, and what bytes prove of one whose names resolve.
+-- What bytes prove of a program whose names resolve.
 use Rattle.std.specs.Prelude.{codes, ◌≡◌, ◌<◌, ◌≤◌, ℕ, List, ◌∷◌, length, ⊤}
 use Rattle.wy_text.specs.LimitName.{limit_number}
 use Rattle.wy_text.specs.declared.limit.LimitName.TheVariants as limit
 use Rattle.wy_types.specs.Program.{Program}
-use Rattle.wy_certify.specs.Certificates.{IsCertified, IsTooLong}
-use Rattle.wy_recheck.specs.Rechecked.{IsProvedBy, IsRefusedBy}
+use Rattle.wy_recheck.specs.ProvedBy.{IsProvedBy, IsRefusedBy}
 use Rattle.wy_recheck.specs.declared.rechecking.CertRefusal.TheVariants as refusal
 use Rattle.wy_engine.specs.NameFaults.{ResolveTo}
-use Rattle.wy_engine.specs.Passing.{Passes}
 use Rattle.wy_engine.specs.declared.status.Status.{Status}
 use Rattle.wy_engine.specs.declared.status.Status.TheVariants as status
 use Rattle.wy_settings.specs.declared.command_line.Command.{Command}
@@ -20,22 +18,6 @@ most_certificate = limit_number limit.CertificateBytes
 -- what is written where a certificate proves the program of texts
 abbrev pub proved_text : List ℕ
 proved_text = codes "proved\n"
-
--- ---- what is written
-
--- the texts pass, and a certificate of their program is within the limit
-pub record HasCertificate (texts : List (List ℕ)) (program : Program) : Type 0 where
-  pub passes : Passes texts program
-  pub bytes : List ℕ
-  pub is : IsCertified program bytes
-
--- .. or has more bytes
-pub record EndsCertifying (texts : List (List ℕ)) : Type 0 where
-  pub program : Program
-  pub passes : Passes texts program
-  pub long : IsTooLong program
-
--- ---- what is rechecked
 
 -- the first of these files is there for a certificate, and the others are texts
 pub record UnderCertificate (files : List (List ℕ)) : Type 0 where

@@ -10,10 +10,11 @@ use Rattle.wy_device.specs.declared.operation.Kind.{Kind}
 use Rattle.wy_machine.specs.TrapKinds.{trap_meant}
 use Rattle.wy_types.specs.Program.{Program}
 use Rattle.wy_settings.specs.declared.command_line.Command.{Command}
+use Rattle.wy_engine.specs.Given.{IsGiven}
 use Rattle.wy_engine.specs.Headline.{Headline}
 use Rattle.wy_engine.specs.Judgement.{Asks, Did, certified, checked, formatted, nothing, permitted, proved, ran, reported}
 use Rattle.wy_engine.specs.Told.{course_in}
-use Rattle.wy_engine.specs.TopCall.{IsGiven, TopCall}
+use Rattle.wy_engine.specs.TopCall.{TopCall}
 use Rattle.wy_engine.specs.declared.status.Status.{Status}
 use Rattle.wy_engine.specs.declared.status.Status.TheVariants as status
 

@@ -7,7 +7,7 @@ use Rattle.wy_layout.specs.Layout.{IsFirst, IsLimit, Lexes}
 use Rattle.wy_layout.specs.declared.refusal.Fault.TheVariants as fault
 use Rattle.wy_syntax.specs.Tokens.{toks}
 use Rattle.wy_syntax.specs.Trees.{ItemTree}
-use Rattle.wy_canonical.specs.Printed.{HasTree}
+use Rattle.wy_canonical.specs.HasTree.{HasTree}
 use Rattle.wy_parser.specs.Refusals.{IsFirstBad}
 use Rattle.wy_engine.specs.declared.status.Status.{Status}
 use Rattle.wy_engine.specs.declared.status.Status.TheVariants as status

@@ -1,6 +1,7 @@
 -- Formatting what was formatted.
 use Rattle.std.specs.Prelude.{◌≡◌, ℕ, List}
-use Rattle.wy_canonical.specs.Printed.{HasTree, IsWithinLimits}
+use Rattle.wy_canonical.specs.Printed.{IsWithinLimits}
+use Rattle.wy_canonical.specs.HasTree.{HasTree}
 use Rattle.wy_syntax.specs.Canonical.{canonical_form}
 use Rattle.wy_syntax.specs.Trees.{ItemTree}
 

@@ -1,6 +1,6 @@
 -- What a call of the top function promises: which texts it accepts, what it prints and writes, which operations it
 -- does, that they are within the authority that it printed, and how it ends.
-use Rattle.std.specs.Prelude.{◌≡◌, ◌≢◌, ◌⊎◌, ◌<◌, ◌≤◌, ◌*◌, ℕ, List, [], ◌∷◌, ◌++◌, Some, length}
+use Rattle.std.specs.Prelude.{◌≡◌, ◌≢◌, ◌⊎◌, ◌<◌, ◌≤◌, ◌*◌, ℕ, List, [], ◌∷◌, ◌++◌, Some, length, ⊤}
 use Rattle.wy_text.specs.Outside.{gained, Rose, SinkState}
 use Rattle.wy_device.specs.Devices.{device_of}
 use Rattle.wy_device.specs.Events.{DidExactly}
@@ -10,6 +10,7 @@ use Rattle.wy_device.specs.Tapes.{Tapes, spliced}
 use Rattle.wy_device.specs.declared.deed.Event.{Event}
 use Rattle.wy_device.specs.declared.operation.OpName.{OpName}
 use Rattle.wy_text.specs.Members.{In}
+use Rattle.wy_text.specs.declared.limit.LimitName.TheVariants as limit
 use Rattle.wy_authority.specs.Authority.{authority_of}
 use Rattle.wy_authority.specs.declared.rows.InstanceRow.{InstanceRow}
 use Rattle.wy_code.specs.Running.{Ran, machine}
@@ -23,7 +24,7 @@ use Rattle.wy_meaning.specs.Start.{Course}
 use Rattle.wy_syntax.specs.Canonical.{canonical_form}
 use Rattle.wy_syntax.specs.Trees.{ItemTree}
 use Rattle.wy_types.specs.Program.{Program}
-use Rattle.wy_sound.specs.Laws.{course}
+use Rattle.wy_sound.specs.Courses.{course}
 use Rattle.wy_sound.specs.Programs.{allowed, program_starts}
 use Rattle.wy_sound.specs.Used.{IsUsedWithin}
 use Rattle.wy_rules.specs.Acceptance.{Accepted}
@@ -32,22 +33,35 @@ use Rattle.wy_engine.specs.Certificates.{proved_text}
 use Rattle.wy_engine.specs.Judgement.{Asks, Did, IsReported, RunsPrograms, Stops, accepted_text, allowed_text, authority_text, certified, checked, formatted, nothing, observed_text, permitted, proved, ran, reported, summary_text}
 use Rattle.wy_engine.specs.LastLine.{LineWords, last_line, line_words}
 use Rattle.wy_settings.specs.Settings.{Settings, sample_number, settings_of}
+use Rattle.wy_engine.specs.Texts.{HasTexts}
 use Rattle.wy_engine.specs.Status.{IsOfEnd, IsOfOut, IsOfRun, IsOfTexts}
-use Rattle.wy_engine.specs.TopCall.{IsGiven, IsQuiet, IsSet, ReadsFiles, TopCall, most_files}
+use Rattle.wy_engine.specs.TopCall.{IsQuiet, IsSet, ReadsFiles, TopCall}
 use Rattle.wy_settings.specs.declared.command_line.Command.{Command}
 use Rattle.wy_settings.specs.declared.command_line.Command.TheVariants as command
 use Rattle.wy_engine.specs.declared.status.Status.{Status}
 use Rattle.wy_engine.specs.declared.status.Status.TheVariants as status
 
--- Texts that the shelf tells and that were all read. A status that texts have by themselves is theirs, and comes
--- wherever it is; and so with the program that was run, the file whose canonical form was written, the program that
--- keeps to its policy, the one whose certificate was written and the one that a certificate proves. Only want of memory may come in
--- the place of these answers.
+-- Texts came to a call of this command. They stop it with a status, or it does with them what the command asks. Each answer comes
+-- exactly if the texts have it. Only running out of memory can replace it.
 pub record Accepts (call : TopCall) (command : Command) (did : Did) (texts : List (List ℕ)) : Type 0 where
   pub stopped : IsOfTexts call.status → Stops command texts call.status
   pub stops : (end : Status) → Stops command texts end → call.status ≢ status.Memory → call.status ≡ end
   pub done : (did ≡ nothing) ⊎ Asks command texts did
   pub does : (other : Did) → Asks command texts other → call.status ≢ status.Memory → did ≡ other
+
+-- a status of a call to which not all texts came
+abbrev pub IsTextless : Status → Type 0
+IsTextless status.Usage = ⊤
+IsTextless (status.Unread file) = ⊤
+IsTextless (status.Limit name) = name ≡ limit.Files
+IsTextless status.Memory = ⊤
+IsTextless other = ⊥
+
+-- What a call did with its texts. Either not all of them came, and it did nothing. Or they came: they are what was read of its
+-- files, whether or not the shelf tells what the files hold.
+pub data Answers (call : TopCall) (did : Did) : Type 0 where
+  textless : IsTextless call.status → did ≡ nothing → Answers call did
+  answered : (command : Command) (texts : List (List ℕ)) → HasTexts call command texts → Accepts call command did texts → Answers call did
 
 -- the words of a call are settings of the command
 pub record HasCommand (call : TopCall) (command : Command) : Type 0 where
@@ -223,30 +237,33 @@ pub record Writes (call : TopCall) (command : Command) (text : List ℕ) : Type 
   pub report : call.report_after ≡ call.report
   pub devices : call.devices_after ≡ call.devices
 
--- All that a call promises before its last line is written. Where nothing was done, nothing was printed or written; and
--- nothing is done where the words name more files than the limit.
+-- What a call left, by what it did.
+abbrev pub Does : TopCall → Did → Type 0
+Does call nothing = IsQuiet call × (call.status ≢ status.Memory → ¬ IsOfRun call.status)
+Does call checked = Writes call command.Check accepted_text
+Does call (reported program) = Writes call command.Authority (authority_text program)
+Does call (ran program) = Runs call program
+Does call (formatted tree) = Writes call command.Format (canonical_form tree)
+Does call permitted = Writes call command.Policy allowed_text
+Does call (certified program) = (text : List ℕ) × IsCertified program text × Writes call command.Certify text
+Does call (proved program) = Accepted program × Writes call command.Recheck proved_text
+
+-- All that a call promises before its last line is written.
 pub record Settles (call : TopCall) : Type 0 where
   pub reads : ReadsFiles call
   pub did : Did
-  pub accepts : (command : Command) (texts : List (List ℕ)) → IsGiven call command texts → ((file : ℕ) → call.status ≢ status.Unread file) → Accepts call command did texts
-  pub quiet : did ≡ nothing → IsQuiet call
-  pub crowded : (settings : Settings) → IsSet call settings → most_files < length settings.files → did ≡ nothing
-  pub idle : did ≡ nothing → call.status ≢ status.Memory → ¬ IsOfRun call.status
-  pub runs : (program : Program) → did ≡ ran program → Runs call program
-  pub checks : did ≡ checked → Writes call command.Check accepted_text
-  pub reports : (program : Program) → did ≡ reported program → Writes call command.Authority (authority_text program)
-  pub formats : (tree : List ItemTree) → did ≡ formatted tree → Writes call command.Format (canonical_form tree)
-  pub allows : did ≡ permitted → Writes call command.Policy allowed_text
-  pub certifies : (program : Program) → did ≡ certified program → (text : List ℕ) × IsCertified program text × Writes call command.Certify text
-  pub proves : (program : Program) → did ≡ proved program → Accepted program × Writes call command.Recheck proved_text
+  pub answers : Answers call did
+  pub does : Does call did
   pub counted : call.report.faults ≤ call.report_after.faults
 
--- The last line of a settled status was written, whole unless the sink counted a fault; a fault changes no status.
--- Where memory was wanting for it the status is Memory.
+-- The last line of the settled status was written. If memory ran out while it was made, the line of Memory was written in its place.
+-- The line is whole unless the sink counted a fault or the status is Memory. A fault changes no status.
 pub record Closes (words : LineWords) (settled end : Status) (before after : SinkState) : Type 0 where
+  pub said : Status
+  pub says : (said ≡ settled) ⊎ ((said ≡ status.Memory) × (end ≡ status.Memory))
   pub line : List ℕ
   pub cut : List ℕ
-  pub split : last_line words settled ≡ line ++ cut
+  pub split : last_line words said ≡ line ++ cut
   pub taken : after.taken ≡ gained before.taken line
   pub whole : end ≢ status.Memory → (cut ≡ []) ⊎ Rose before.faults after.faults
   pub counted : before.faults ≤ after.faults

@@ -17,7 +17,8 @@ use Rattle.wy_lower.specs.Counts.{lowering_limit}
 use Rattle.wy_sound.specs.Programs.{allowed, program_starts}
 use Rattle.wy_sound.specs.Telling.{call_of}
 use Rattle.wy_engine.specs.FileTrees.{FirstNoTree, HaveTrees}
-use Rattle.wy_engine.specs.Certificates.{EndsCertifying, HasCertificate, HasLargeCertificate, HasNoLargeCertificate, ProvesTexts, StopsByCertificate}
+use Rattle.wy_engine.specs.Certificates.{HasLargeCertificate, HasNoLargeCertificate, ProvesTexts, StopsByCertificate}
+use Rattle.wy_engine.specs.Certifying.{EndsCertifying, HasCertificate}
 use Rattle.wy_engine.specs.NameFaults.{NamesStop, ResolveTo}
 use Rattle.wy_engine.specs.Passing.{Passes}
 use Rattle.wy_sample.specs.Sample.{summary_line}

@@ -1,9 +1,11 @@
 pub mod Answering
 pub mod Certificates
+pub mod Certifying
 pub mod CertifiedProved
 pub mod Completeness
 pub mod FileTrees
 pub mod FormatAgain
+pub mod Given
 pub mod Headline
 pub mod Judgement
 pub mod LastLine
@@ -16,6 +18,8 @@ pub mod ProgramLaws
 pub mod Reading
 pub mod Running
 pub mod Status
+pub mod StatusNumber
+pub mod Texts
 pub mod Told
 pub mod TopCall
 pub mod ValsInOrder

@@ -21,7 +21,7 @@ use Rattle.wy_device.specs.Traps.{LongText}
 use Rattle.wy_meaning.specs.Start.{meaning}
 use Rattle.wy_meaning.specs.Widening.{HasShortTexts, in_edition}
 use Rattle.wy_sound.specs.Programs.{program_starts}
-use Rattle.wy_editions.specs.Editions.{AreJudged}
+use Rattle.wy_editions.specs.Editions.{AreAccepted, AreJudged}
 use Rattle.wy_engine.specs.FileTrees.{HaveTrees}
 use Rattle.wy_engine.specs.Judgement.{authority_text}
 use Rattle.wy_engine.specs.Passing.{Passes}
@@ -46,12 +46,23 @@ pub record AreReported (table : List TypeDecl) (texts : List (List ℕ)) (report
   pub judged : AreJudged table (all_items trees) authority
   pub text : report ≡ report_text authority
 
+-- .. whatever its size: the limits on types and instances are left aside
+pub record AreReportedBeyond (table : List TypeDecl) (texts : List (List ℕ)) (report : List ℕ) : Type 0 where
+  pub trees : List (List ItemTree)
+  pub have : HaveTrees 1 texts trees
+  pub authority : Authority
+  pub accepted : AreAccepted table (all_items trees) authority
+  pub text : report ≡ report_text authority
+
 -- over today's table these are the texts that pass, with their reports
 abbrev pub ReportedArePassed : Type 0
 ReportedArePassed = (texts : List (List ℕ)) (report : List ℕ) → AreReported primitive_types texts report ↔ ((program : Program) × Passes texts program × (report ≡ authority_text program))
 
 abbrev pub OldTextsAreJudgedAlike : Type 0
 OldTextsAreJudgedAlike = (texts : List (List ℕ)) → AreOldTexts texts → (report : List ℕ) → AreReported former_types texts report ↔ AreReported primitive_types texts report
+
+abbrev pub OldTextsAreAcceptedAlike : Type 0
+OldTextsAreAcceptedAlike = (texts : List (List ℕ)) → AreOldTexts texts → (report : List ℕ) → AreReportedBeyond former_types texts report ↔ AreReportedBeyond primitive_types texts report
 
 -- over a table of primitive types the texts are those of a program
 pub record AreOf (table : List TypeDecl) (texts : List (List ℕ)) (program : Program) : Type 0 where

@@ -10,7 +10,7 @@ use Rattle.wy_lower.specs.Correct.{Follows}
 use Rattle.wy_lower.specs.Lowering.{lowered}
 use Rattle.wy_meaning.specs.Bounds.{Bounded}
 use Rattle.wy_meaning.specs.Laws.{IsCheap, TakesInOrder}
-use Rattle.wy_sound.specs.Laws.{course}
+use Rattle.wy_sound.specs.Courses.{course}
 use Rattle.wy_sound.specs.Programs.{allowed, program_starts}
 use Rattle.wy_sound.specs.Used.{IsUsedWithin}
 use Rattle.wy_types.specs.Program.{Program}

@@ -1,32 +1,14 @@
 -- What reading the files of some names does to a shelf.
-use Rattle.std.specs.Prelude.{◌≡◌, ◌≤◌, ◌<◌, ◌+◌, ℕ, zero, suc, List, [], ◌∷◌, ◌++◌, true, false, length, take, drop, ⊤}
+use Rattle.std.specs.Prelude.{◌≡◌, ◌≤◌, ◌<◌, ◌+◌, ℕ, zero, suc, List, ◌++◌, true, false, length, take, drop}
 use Rattle.wy_text.specs.Outside.{gained, Rose}
-use Rattle.wy_text.specs.Shelf.{GivesFile, ShelfState}
-use Rattle.wy_settings.specs.declared.command_line.Command.{Command}
-use Rattle.wy_settings.specs.declared.command_line.Command.TheVariants as command
-use Rattle.wy_engine.specs.Certificates.{most_certificate}
+use Rattle.wy_text.specs.Shelf.{ShelfState}
+use Rattle.wy_engine.specs.Texts.{GivesFiles, asked_bytes}
 use Rattle.wy_engine.specs.TopCall.{reads_of}
 
--- how many bytes are asked for of a file: one more than a text or a policy may have
-abbrev pub asked_bytes : ℕ
-asked_bytes = 1048577
-
--- .. of a command's first file, which under `recheck` is a certificate
-abbrev pub first_bytes : Command → ℕ
-first_bytes command.Recheck = most_certificate + 1
-first_bytes other = asked_bytes
-
--- .. of the file at a place, which counts from 0, where so many are asked for of the first
+-- how many bytes are asked for of the file at a place, which counts from 0, if so many are asked for of the first
 abbrev pub bytes_at : ℕ → ℕ → ℕ
 bytes_at first zero = first
 bytes_at first (suc place) = asked_bytes
-
--- each text is as many first bytes of the file of its name, where the files are told; so many are asked for of the first
-abbrev pub GivesFiles : ℕ → ShelfState → List (List ℕ) → List (List ℕ) → Type 0
-GivesFiles first shelf [] [] = ⊤
-GivesFiles first shelf (name ∷ names) (text ∷ texts) = GivesFile shelf.files name first text × GivesFiles asked_bytes shelf names texts
-GivesFiles first shelf [] (text ∷ texts) = ⊥
-GivesFiles first shelf (name ∷ names) [] = ⊥
 
 -- the first files were read well, in order, and gave these texts
 pub record ReadsWell (first : ℕ) (names : List (List ℕ)) (well : ℕ) (before after : ShelfState) (texts : List (List ℕ)) : Type 0 where

@@ -1,15 +1,12 @@
 -- A call of the top function: what it was given, what it left, and what it read.
-use Rattle.std.specs.Prelude.{◌≡◌, ◌≢◌, ◌<◌, ◌≤◌, ◌+◌, ℕ, List, [], ◌∷◌, ◌++◌, Option, Some, None, Bool, true, false, length, take, drop, map}
-use Rattle.std.specs.Option.{option_and_then, option_map}
+use Rattle.std.specs.Prelude.{◌≡◌, ◌≢◌, ◌<◌, ◌≤◌, ◌+◌, ℕ, List, [], ◌++◌, Some, None, Bool, true, false, length, take, drop, map}
 use Rattle.wy_text.specs.LimitName.{limit_number}
 use Rattle.wy_text.specs.Outside.{gained, Rose, SinkState}
-use Rattle.wy_text.specs.Shelf.{ShelfState, file_named}
+use Rattle.wy_text.specs.Shelf.{ShelfState}
 use Rattle.wy_text.specs.declared.limit.LimitName.TheVariants as limit
-use Rattle.wy_text.specs.declared.shelf.NamedText.{NamedText}
 use Rattle.wy_text.specs.declared.shelf.ReadDone.{ReadDone}
 use Rattle.wy_device.specs.Devices.{DevicesState}
-use Rattle.wy_sample.specs.Sample.{sample_text}
-use Rattle.wy_settings.specs.Settings.{Settings, sample_number, settings_of}
+use Rattle.wy_settings.specs.Settings.{Settings, settings_of}
 use Rattle.wy_settings.specs.declared.command_line.Command.{Command}
 use Rattle.wy_settings.specs.declared.command_line.Command.TheVariants as command
 use Rattle.wy_engine.specs.declared.status.Status.{Status}
@@ -35,21 +32,6 @@ pub record TopCall : Type 0 where
 abbrev pub IsSet : TopCall → Settings → Type 0
 IsSet call settings = settings_of call.words ≡ Some settings
 
--- the texts of files of these names
-abbrev pub texts_of : List NamedText → List (List ℕ) → Option (List (List ℕ))
-texts_of files [] = Some []
-texts_of files (name ∷ names) = option_and_then (λ text. option_map (λ texts. text ∷ texts) (texts_of files names)) (file_named name files)
-
--- the shelf tells these texts for files of these names
-pub record TellsTexts (shelf : ShelfState) (names texts : List (List ℕ)) : Type 0 where
-  pub files : List NamedText
-  pub told : shelf.files ≡ Some files
-  pub found : texts_of files names ≡ Some texts
-
--- the one text of `sample`, by its file word, which is a number
-abbrev pub sampled : List (List ℕ) → Option (List (List ℕ))
-sampled names = option_map (λ number. sample_text number ∷ []) (sample_number names)
-
 -- whether the words of a command name files
 abbrev pub takes_files : Command → Bool
 takes_files command.Check = true
@@ -62,19 +44,6 @@ takes_files command.Policy = true
 takes_files command.Observe = true
 takes_files command.Certify = true
 takes_files command.Recheck = true
-
--- the texts of a command: those that the shelf tells for its files, a policy or a certificate among them, and of `sample` the one that its number makes
-abbrev pub HasTexts : Command → ShelfState → List (List ℕ) → List (List ℕ) → Type 0
-HasTexts command.Sample shelf names texts = sampled names ≡ Some texts
-HasTexts asked shelf names texts = TellsTexts shelf names texts
-
--- a call of the command, which has no more files than the limit; and these are its texts
-pub record IsGiven (call : TopCall) (command : Command) (texts : List (List ℕ)) : Type 0 where
-  pub settings : Settings
-  pub set : IsSet call settings
-  pub is : settings.command ≡ command
-  pub few : length settings.files ≤ most_files
-  pub texts_are : HasTexts settings.command call.shelf settings.files texts
 
 -- reads of these names, all with this outcome
 abbrev pub reads_of : Bool → List (List ℕ) → List ReadDone

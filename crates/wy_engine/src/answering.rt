@@ -24,7 +24,7 @@ use wy_text::limit::LimitName;
 use wy_text::sink::Sink;
 use wy_text::text::Text;
 
-/// The way in which a command runs programs.
+/// Returns the way in which a command runs programs.
 fn way_of(command: Command, files: &[String]) -> Mode
     requires { takes command (map string_bytes files.now) ≡ true }
     ensures numbered { IsNumbered result (map string_bytes files.now) }
@@ -41,7 +41,7 @@ fn way_of(command: Command, files: &[String]) -> Mode
     }
 }
 
-/// Whether the first file of a command is to be a certificate, and has more bytes than one may have. It takes no memory.
+/// Returns whether the first file of a command must be a certificate and has more bytes than one may have. It takes no memory.
 fn has_large_certificate(command: Command, files: &[Text]) -> bool
     ensures large { IsTrue result → (command ≡ Command.Recheck) × HasLargeCertificate files.now }
     ensures none { IsFalse result → HasNoLargeCertificate command files.now }
@@ -54,8 +54,9 @@ fn has_large_certificate(command: Command, files: &[Text]) -> bool
     }
 }
 
-/// Does with the trees of texts what a command asks: checks their program, reports what it may do, runs it, judges it by a policy or
-/// rechecks it by a certificate, which is the first text, writes a certificate of it, or writes the canonical form of the one tree.
+/// Does with the trees of texts what a command asks, and returns the status. It checks their program, reports what it may do, or runs
+/// it. It checks it against a policy or a certificate, which is the first text. It writes a certificate, or the canonical form of the
+/// one tree.
 fn answer_trees<O: Sink, E: Sink, D: Device>(
     alloc: Global,
     asked: CommandLine<'_>,
@@ -92,9 +93,9 @@ fn answer_trees<O: Sink, E: Sink, D: Device>(
     }
 }
 
-/// Does with texts what a command asks: parses them, and then checks their program, reports what it may do, runs it,
-/// judges it by a policy or rechecks it by a certificate, which is the first text, writes a certificate of it, or writes the canonical
-/// form of the one text.
+/// Parses texts, does with them what a command asks, and returns the status. It checks their program, reports what it may do, or runs
+/// it. It checks it against a policy or a certificate, which is the first text. It writes a certificate, or the canonical form of the
+/// one text.
 pub fn answer<O: Sink, E: Sink, D: Device>(
     alloc: Global,
     asked: CommandLine<'_>,

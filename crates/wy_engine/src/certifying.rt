@@ -1,4 +1,4 @@
-//! Certificates: one is written of a program that is accepted, and whether one proves a program is found out.
+//! Certificates: writes one of an accepted program, and checks whether one proves a program.
 
 ghost use Rattle.std.specs.Prelude.{◌≡◌, map};
 ghost use Rattle.wy_syntax.specs.Views.{file_tree};
@@ -16,7 +16,7 @@ use wy_syntax::items::Tree;
 use wy_text::sink::Sink;
 use wy_well_formed::resolved_is_core;
 
-/// The status of a call that writes no certificate. It takes no memory.
+/// Returns the status of a call that writes no certificate. It takes no memory.
 fn certify_status(why: CertifyRefusal) -> Status
     ensures { result ≡ certify_status why }
 {
@@ -26,7 +26,7 @@ fn certify_status(why: CertifyRefusal) -> Status
     }
 }
 
-/// Judges trees, and writes a certificate of their program to `out`, where it is accepted (docs/LANGUAGE.md, "Certificates").
+/// Checks trees. If their program is accepted, writes a certificate of it to `out` (docs/LANGUAGE.md, "Certificates").
 pub fn certify_trees<O: Sink>(alloc: Global, trees: &[Tree], out: &mut O) -> Status
     ensures { CertifiesTrees (map file_tree trees.now) (O.state out.old) (O.state out.new) result }
 {
@@ -41,7 +41,7 @@ pub fn certify_trees<O: Sink>(alloc: Global, trees: &[Tree], out: &mut O) -> Sta
     }
 }
 
-/// The status of a call whose certificate does not prove the program. It takes no memory.
+/// Returns the status of a call whose certificate does not prove the program. It takes no memory.
 fn recheck_status(why: CertRefusal) -> Status
     ensures { result ≡ recheck_status why }
 {
@@ -52,8 +52,8 @@ fn recheck_status(why: CertRefusal) -> Status
     }
 }
 
-/// Finds out what the names in trees stand for, and says on `out` that bytes are a certificate which proves their program, where they
-/// are. The program is judged by nothing else (docs/LANGUAGE.md, "Certificates").
+/// Resolves the names in trees. If the bytes are a certificate that proves their program, says so on `out`. Nothing else is checked
+/// of the program (docs/LANGUAGE.md, "Certificates").
 pub fn recheck_trees<O: Sink>(alloc: Global, trees: &[Tree], bytes: &[u8], out: &mut O) -> Status
     ensures { RechecksTrees bytes.now (map file_tree trees.now) (O.state out.old) (O.state out.new) result }
 {

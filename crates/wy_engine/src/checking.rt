@@ -23,14 +23,14 @@ use wy_text::text::Memory;
 use wy_types::resolved::Core;
 use wy_well_formed::resolved_is_kept;
 
-/// A program that is accepted, with its links.
+/// An accepted program with its links.
 #[derive(Drop)]
 pub struct Accepted {
     pub core: Core,
     pub links: Links,
 }
 
-/// The status of a call whose program is not accepted. It takes no memory.
+/// Returns the status of a call whose program is not accepted. It takes no memory.
 fn check_status(why: CheckRefusal) -> Status
     ensures { result ≡ check_status why }
 {
@@ -41,8 +41,12 @@ fn check_status(why: CheckRefusal) -> Status
     }
 }
 
-/// Judges the names in the trees of texts, and where they resolve their program: gives the program with its links where
-/// it is accepted, and else the status that ends the call (docs/LANGUAGE.md, "Names" and "What is checked").
+/// Resolves the names in the trees of texts and checks their program. Returns the program with its links if it is accepted.
+///
+/// # Errors
+///
+/// The status that ends the call: Refused or Limit if the names or the program are refused, Memory if memory ran out
+/// (docs/LANGUAGE.md, "Names" and "What is checked").
 pub fn judge_trees(alloc: Global, trees: &[Tree]) -> Result<Accepted, Status>
     ensures resolved { IfOk result (λ a. Resolves (all_items (map file_tree trees.now)) (program_of a.core)) }
     ensures accepted { IfOk result (λ a. IsCheckedProgram (program_of a.core) a.links) }
@@ -62,7 +66,7 @@ pub fn judge_trees(alloc: Global, trees: &[Tree]) -> Result<Accepted, Status>
     }
 }
 
-/// Judges trees, and says on `out` that their program is accepted, where it is.
+/// Checks trees. If their program is accepted, says so on `out`.
 pub fn check_trees<O: Sink>(alloc: Global, trees: &[Tree], out: &mut O) -> Status
     ensures { ChecksTrees (λ program. accepted_text) (map file_tree trees.now) (O.state out.old) (O.state out.new) result }
 {
@@ -72,7 +76,7 @@ pub fn check_trees<O: Sink>(alloc: Global, trees: &[Tree], out: &mut O) -> Statu
     }
 }
 
-/// The authority of a program that is accepted.
+/// Returns the authority of an accepted program.
 pub fn authority_of(alloc: Global, accepted: &Accepted) -> Result<Authority, Memory>
     requires { IsCheckedProgram (program_of accepted.now.core) accepted.now.links }
     ensures { IfOk result (λ a. a ≡ authority_of (program_of accepted.now.core)) }
@@ -86,7 +90,7 @@ pub fn authority_of(alloc: Global, accepted: &Accepted) -> Result<Authority, Mem
     )
 }
 
-/// How many lines of bodies these rows have; `None` where they are more than can be counted, which no memory holds.
+/// Returns how many lines of bodies these rows have; `None` if there are more than 2 ^ 64 - 1, which no memory holds.
 pub fn body_lines(rows: &[InstanceRow]) -> Option<u64>
     ensures { IfSome result (λ n. n ≡ body_lines rows.now) }
 {
@@ -96,8 +100,8 @@ pub fn body_lines(rows: &[InstanceRow]) -> Option<u64>
     body_lines(rest)?.checked_add(row.bodies.len() as u64)
 }
 
-/// Judges trees, and writes the report of the authority of their program to `out`, where it is accepted
-/// (docs/LANGUAGE.md, "Authority and report").
+/// Checks trees. If their program is accepted, writes the report of its authority to `out` (docs/LANGUAGE.md, "Authority and
+/// report").
 pub fn report_trees<O: Sink>(alloc: Global, trees: &[Tree], out: &mut O) -> Status
     ensures { ChecksTrees authority_text (map file_tree trees.now) (O.state out.old) (O.state out.new) result }
 {

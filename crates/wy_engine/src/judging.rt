@@ -5,14 +5,14 @@ use crate::status::Status;
 use wy_names::NameRefusal;
 use wy_text::fault::{Fault, Place, RuleName};
 
-/// Where a program that has no program block is refused.
+/// The place at which a program without a program block is refused.
 const FIRST: Place = Place {
     file: 1,
     line: 1,
     column: 1,
 };
 
-/// The fault of a rule of names at a place.
+/// Returns the fault of a rule of names at a place.
 fn name_fault(rule: RuleName, place: Place) -> Fault
     ensures { result ≡ name_fault rule place }
 {
@@ -24,7 +24,7 @@ fn name_fault(rule: RuleName, place: Place) -> Fault
     }
 }
 
-/// The status of a call whose names are refused (docs/LANGUAGE.md, "Names"). It takes no memory.
+/// Returns the status of a call whose names are refused (docs/LANGUAGE.md, "Names"). It takes no memory.
 pub fn names_status(why: NameRefusal) -> Status
     ensures { result ≡ names_status why }
 {

@@ -15,8 +15,7 @@ use wy_text::fault::{AtomName, Fault, Place};
 use wy_text::limit::LimitName;
 use wy_text::text::{Memory, Text};
 
-/// What the last line of a call needs of its words: the file words, those of the texts among them, and the bounds of a
-/// run.
+/// What the last line of a call needs of its arguments: the file arguments, those of the texts among them, and the bounds of a run.
 #[derive(Clone, Copy)]
 pub struct LineWords<'a> {
     pub names: &'a [String],
@@ -25,10 +24,10 @@ pub struct LineWords<'a> {
     pub depth: u32,
 }
 
-/// What is said of a faulty command line.
+/// The last line of a call with invalid arguments.
 const USAGE: &[u8] = b"usage: wyvern COMMAND [--steps N] [--depth N] FILE...\n";
 
-/// The file word of a number, which counts from 1; the empty text where there is none.
+/// Returns the file argument of a number, which counts from 1; the empty text if there is none.
 fn word_of(names: &[String], file: u16) -> &str
     ensures { result.now ≡ file_word (map string_bytes names.now) file }
 {
@@ -38,7 +37,7 @@ fn word_of(names: &[String], file: u16) -> &str
     }
 }
 
-/// Adds a text as it stands.
+/// Adds a text unchanged.
 fn push_text(line: &mut Vec<u8>, text: &[u8]) -> Result<(), Memory>
     ensures { OnOk result (line.new.items ≡ line.old.items ++ text.now) }
 {
@@ -52,7 +51,7 @@ fn push_number(alloc: Global, line: &mut Vec<u8>, number: u64) -> Result<(), Mem
     push_text(line, digits.as_bytes())
 }
 
-/// Adds a number that ends the line, as a bound of a run, behind what it is called.
+/// Adds what a number is called and the number, which ends the line.
 fn push_bound(alloc: Global, line: &mut Vec<u8>, called: &[u8], number: u64) -> Result<(), Memory>
     ensures { OnOk result (line.new.items ≡ line.old.items ++ (called.now ++ (decimal number ++ codes "\n"))) }
 {
@@ -104,7 +103,7 @@ fn push_fault(alloc: Global, line: &mut Vec<u8>, fault: &Fault) -> Result<(), Me
     push_lack(line, &fault.atom)
 }
 
-/// The word for what is wrong in a file.
+/// Returns the word for what is wrong in a file.
 fn syntax_word(kind: SyntaxKind) -> &'static str
     ensures { result.now ≡ syntax_text kind }
 {
@@ -128,7 +127,7 @@ fn push_limit(alloc: Global, line: &mut Vec<u8>, name: LimitName) -> Result<(), 
     push_bound(alloc, line, b" ", name.number())
 }
 
-/// The word for why a run trapped.
+/// Returns the word for why a run trapped.
 fn trap_word(kind: TrapKind) -> &'static str
     ensures { result.now ≡ trap_text (trap_meant kind) }
 {
@@ -142,7 +141,7 @@ fn trap_word(kind: TrapKind) -> &'static str
     }
 }
 
-/// Adds a line of the policy, which is the first file.
+/// Adds the number of a line of the policy, which is the first file.
 fn push_row(alloc: Global, line: &mut Vec<u8>, names: &[String], row: u32) -> Result<(), Memory>
     ensures { OnOk result (line.new.items ≡ line.old.items ++ row_text (map string_bytes names.now) row) }
 {
@@ -151,7 +150,7 @@ fn push_row(alloc: Global, line: &mut Vec<u8>, names: &[String], row: u32) -> Re
     push_number(alloc, line, u64::from(row))
 }
 
-/// Adds the line of the policy that is none.
+/// Adds that a line of the policy is invalid.
 fn push_bad_row(alloc: Global, line: &mut Vec<u8>, names: &[String], row: u32) -> Result<(), Memory>
     ensures { OnOk result (line.new.items ≡ line.old.items ++ (row_text (map string_bytes names.now) row ++ codes ": bad policy\n")) }
 {
@@ -159,7 +158,7 @@ fn push_bad_row(alloc: Global, line: &mut Vec<u8>, names: &[String], row: u32) -
     push_text(line, b": bad policy\n")
 }
 
-/// Adds what a row of a policy denies: an instance, and what it may not do.
+/// Adds what a row of a policy denies: an instance and an atom.
 fn push_denial(
     alloc: Global,
     line: &mut Vec<u8>,
@@ -178,7 +177,7 @@ fn push_denial(
     push_text(line, b"\n")
 }
 
-/// The word for a test of a certificate.
+/// Returns the word for a test of a certificate.
 fn test_word(test: CertTest) -> &'static str
     ensures { result.now ≡ test_text test }
 {
@@ -192,7 +191,7 @@ fn test_word(test: CertTest) -> &'static str
     }
 }
 
-/// Adds where the first file is no certificate.
+/// Adds at which byte the first file is no longer a certificate.
 fn push_bad_certificate(
     alloc: Global,
     line: &mut Vec<u8>,
@@ -205,7 +204,7 @@ fn push_bad_certificate(
     push_bound(alloc, line, b": bad certificate at ", at)
 }
 
-/// Adds that the certificate, which is the first file, does not prove a scope.
+/// Adds that the certificate, which is the first file, does not prove the scope of a number.
 fn push_scope(alloc: Global, line: &mut Vec<u8>, names: &[String], scope: u32) -> Result<(), Memory>
     ensures { OnOk result (line.new.items ≡ line.old.items ++ scope_text (map string_bytes names.now) scope) }
 {
@@ -214,7 +213,7 @@ fn push_scope(alloc: Global, line: &mut Vec<u8>, names: &[String], scope: u32) -
     push_number(alloc, line, u64::from(scope))
 }
 
-/// Adds what the certificate does not prove: a scope, a test, and the number at which it fails.
+/// Adds what the certificate does not prove: a scope, a test, and the number at which the test fails.
 fn push_unproved(
     alloc: Global,
     line: &mut Vec<u8>,
@@ -241,7 +240,7 @@ fn push_failed(line: &mut Vec<u8>, grant: &Text, op: OpName) -> Result<(), Memor
     push_text(line, b": failed\n")
 }
 
-/// Adds a place, what came there, and the word for it.
+/// Adds a place, what happened there, and the word for it.
 fn push_at(
     alloc: Global,
     line: &mut Vec<u8>,
@@ -258,7 +257,7 @@ fn push_at(
     push_text(line, b"\n")
 }
 
-/// Adds that a program is refused, and for which fault.
+/// Adds that a program is refused, with the place and the fault.
 fn push_refused(
     alloc: Global,
     line: &mut Vec<u8>,
@@ -327,8 +326,8 @@ fn push_last_line(
     }
 }
 
-/// The line that ends the report of a call with these words and this status (docs/LANGUAGE.md, "Statuses"); no byte where
-/// it ended.
+/// Returns the line that ends the report of a call with these arguments and this status (docs/LANGUAGE.md, "Statuses"). It is empty
+/// for Ended.
 pub fn last_line_of(alloc: Global, words: LineWords<'_>, status: &Status) -> Result<Vec<u8>, Memory>
     ensures { IfOk result (λ line. line.items ≡ last_line (record { names = map string_bytes words.entry.names.now; texts = map string_bytes words.entry.texts.now; steps = words.entry.steps; depth = words.entry.depth }) status.now) }
 {

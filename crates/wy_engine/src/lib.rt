@@ -1,6 +1,6 @@
-//! The top call: it reads the files that the words name, judges them, prints the authority of what it
-//! accepts, and runs or traces it on the devices that were handed in; or it says whether they are accepted, or keep to a
-//! policy, or are proved by a certificate, or writes that authority, a certificate, or a file's canonical form.
+//! The top call. It reads the files that the arguments name and does with them what the command asks: checks them, prints the
+//! authority of their program, runs it on the devices that were handed in, checks it against a policy or a certificate, or writes a
+//! certificate or a file's canonical form.
 #![tactic(auto)]
 
 pub mod answering;

@@ -1,6 +1,6 @@
 ghost use Rattle.std.specs.Prelude.{◌≡◌, ◌≤◌, ◌+◌, length, map, IfOk, IfErr, OnOk};
 ghost use Rattle.wy_syntax.specs.Views.{file_tree};
-ghost use Rattle.wy_canonical.specs.Printed.{HasTree};
+ghost use Rattle.wy_canonical.specs.HasTree.{HasTree};
 ghost use Rattle.wy_engine.specs.FileTrees.{FirstNoTree, HasNoTree, HaveTrees};
 ghost use Rattle.wy_engine.specs.Parsed.{AddsTrees, IfNotMemory, lexical_status};
 
@@ -19,7 +19,7 @@ fn syntax(place: Place, kind: SyntaxKind) -> Status
     Status::Syntax { place, kind }
 }
 
-/// The status of a call that stops at a file without tokens.
+/// Returns the status of a call that stops at a file without tokens.
 fn lexical(refusal: LexRefusal) -> Status
     ensures { result ≡ lexical_status refusal }
 {
@@ -36,7 +36,7 @@ fn lexical(refusal: LexRefusal) -> Status
     }
 }
 
-/// The tree of a file's bytes; or the status of a call that stops at it.
+/// Returns the tree of a file's bytes. The error is the status of a call that stops at this file.
 fn parse_file(alloc: Global, file: u16, bytes: &[u8]) -> Result<Tree, Status>
     ensures tree { IfOk result (λ tree. HasTree file bytes.now (file_tree tree)) }
     ensures none { IfErr result (λ end. IfNotMemory end (HasNoTree file bytes.now end)) }
@@ -52,8 +52,8 @@ fn parse_file(alloc: Global, file: u16, bytes: &[u8]) -> Result<Tree, Status>
     }
 }
 
-/// Adds the trees of texts, the first of which is the file of this number, in order; or gives the status of a
-/// call that stops at the first without one.
+/// Adds the trees of texts in order. The first text is the file of this number. The error is the status of a call that stops at the
+/// first text without a tree.
 fn parse_from(alloc: Global, file: u16, texts: &[Text], trees: &mut Vec<Tree>) -> Result<(), Status>
     requires { file + length texts.now ≤ 65 }
     ensures trees { OnOk result (AddsTrees file texts.now (map file_tree trees.old.items) (map file_tree trees.new.items)) }
@@ -69,8 +69,8 @@ fn parse_from(alloc: Global, file: u16, texts: &[Text], trees: &mut Vec<Tree>) -
     parse_from(alloc, file + 1, rest, trees)
 }
 
-/// The trees of texts, whose files are numbered from 1; or the status of a call that stops at the first without
-/// one.
+/// Returns the trees of texts, whose files are numbered from 1. The error is the status of a call that stops at the first text without
+/// a tree.
 pub fn parse_all(alloc: Global, texts: &[Text]) -> Result<Vec<Tree>, Status>
     requires { length texts.now ≤ 64 }
     ensures trees { IfOk result (λ trees. HaveTrees 1 texts.now (map file_tree trees.items)) }

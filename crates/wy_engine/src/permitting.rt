@@ -1,4 +1,4 @@
-//! Judging a program that is accepted by a policy.
+//! Checks an accepted program against a policy.
 
 ghost use Rattle.std.specs.Prelude.{◌≡◌, map};
 ghost use Rattle.wy_link.specs.Checking.{IsCheckedProgram};
@@ -14,7 +14,7 @@ use wy_policy::{Judgement, PolicyRefusal, judge, read_policy};
 use wy_syntax::items::Tree;
 use wy_text::sink::Sink;
 
-/// The status of a call whose policy is refused. It takes no memory.
+/// Returns the status of a call whose policy is refused. It takes no memory.
 fn policy_status(why: PolicyRefusal) -> Status
     ensures { result ≡ policy_status why }
 {
@@ -25,7 +25,7 @@ fn policy_status(why: PolicyRefusal) -> Status
     }
 }
 
-/// Judges an accepted program by the policy that bytes are, and says on `out` that it keeps to it, where it does.
+/// Checks an accepted program against the policy in these bytes. If it keeps to the policy, says so on `out`.
 fn permit_accepted<O: Sink>(alloc: Global, accepted: &Accepted, bytes: &[u8], out: &mut O) -> Status
     requires { IsCheckedProgram (program_of accepted.now.core) accepted.now.links }
     ensures { JudgesByPolicy bytes.now (program_of accepted.now.core) (O.state out.old) (O.state out.new) result }
@@ -54,7 +54,7 @@ fn permit_accepted<O: Sink>(alloc: Global, accepted: &Accepted, bytes: &[u8], ou
     }
 }
 
-/// Judges trees, and where their program is accepted judges it by the policy that bytes are (docs/LANGUAGE.md, "Policies").
+/// Checks trees. If their program is accepted, checks it against the policy in these bytes (docs/LANGUAGE.md, "Policies").
 pub fn permit_trees<O: Sink>(alloc: Global, trees: &[Tree], bytes: &[u8], out: &mut O) -> Status
     ensures { JudgesTreesByPolicy bytes.now (map file_tree trees.now) (O.state out.old) (O.state out.new) result }
 {

@@ -1,5 +1,6 @@
 ghost use Rattle.std.specs.Prelude.{ℕ, ◌≡◌, ◌≤◌, length, map, string_bytes, Err, IfOk};
-ghost use Rattle.wy_engine.specs.Reading.{ReadsWell, StopsAfter, StopsAt, bytes_at, first_bytes};
+ghost use Rattle.wy_engine.specs.Reading.{ReadsWell, StopsAfter, StopsAt, bytes_at};
+ghost use Rattle.wy_engine.specs.Texts.{first_bytes};
 
 use std::alloc::Global;
 use wy_settings::Command;
@@ -13,14 +14,14 @@ const ASKED_BYTES: usize = 1_048_577;
 /// How many bytes are asked for of a certificate: one more than it may have.
 const ASKED_OF_CERTIFICATE: usize = 67_108_865;
 
-/// Why not all files were read: the one of this number, which counts from 1, was not, or memory was wanting.
+/// Why not all files were read: the one of this number, which counts from 1, could not be read, or memory ran out.
 #[derive(Drop)]
 pub enum Stop {
     Unread(u16),
     Memory,
 }
 
-/// How many bytes are asked for of a command's first file.
+/// Returns how many bytes are asked for of a command's first file.
 fn first_bytes(command: Command) -> usize
     ensures { result ≡ first_bytes command }
 {
@@ -38,7 +39,7 @@ fn first_bytes(command: Command) -> usize
     }
 }
 
-/// .. of the file at a place, which counts from 0.
+/// Returns how many bytes are asked for of the file at a place, which counts from 0.
 fn bytes_at(command: Command, place: usize) -> usize
     ensures { result ≡ bytes_at (first_bytes command) place }
 {
@@ -49,7 +50,11 @@ fn bytes_at(command: Command, place: usize) -> usize
     }
 }
 
-/// Reads the files of a command in the order of their names, each once, up to the first that is not read.
+/// Reads the files of a command in the order of their names, each once. It stops at the first that cannot be read.
+///
+/// # Errors
+///
+/// `Unread` with the number of a file that could not be read, and `Memory` if memory ran out.
 pub fn read_all<S: Shelf>(
     alloc: Global,
     shelf: &mut S,

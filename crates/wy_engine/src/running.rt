@@ -1,4 +1,4 @@
-//! Running a program that is accepted: its code, its report and its run.
+//! Runs an accepted program: lowers it to code, prints its report and runs the code.
 
 ghost use Rattle.std.specs.Prelude.{◌≡◌, ◌≤◌, IfOk, None, length, map};
 ghost use Rattle.wy_code.specs.Running.{NeverStuck};
@@ -38,21 +38,20 @@ use wy_syntax::items::Tree;
 use wy_text::sink::{Sink, WriteError};
 use wy_text::text::{Memory, Text, from_bytes};
 
-/// In which way a program is run.
+/// What is written to `out` of a run.
 #[derive(Clone, Copy)]
 pub enum Mode {
     /// Nothing is written to `out`.
     Silent,
-    /// The line of each event is written to `out` when it has happened.
+    /// The line of each event is written to `out` after the event.
     Traced,
-    /// Where the run ended, a line is written to `out` that sums it up. The program is the sample of this number.
+    /// If the run ended, a line that sums it up is written to `out`. The program is the sample of this number.
     Summed(u32),
-    /// Behind the run, a line for each instance is written to `out` with what was used of it, however the run ended.
+    /// After the run, however it ended, a line for each instance is written to `out` with what was used of it.
     Observed,
 }
 
-/// How a program is run: in which way, how many steps the run may take, and how many calls on objects may be open in it at
-/// once.
+/// How a program is run: what is written of the run, how many steps it may take, and how many calls on objects may be open at once.
 #[derive(Clone, Copy)]
 pub struct Manner {
     pub way: Mode,
@@ -60,7 +59,7 @@ pub struct Manner {
     pub depth: u32,
 }
 
-/// The status of a run's end.
+/// Returns the status of a run's end.
 fn status_of(end: RunEnd) -> Status
     ensures { result ≡ status_of end }
 {
@@ -75,7 +74,7 @@ fn status_of(end: RunEnd) -> Status
     }
 }
 
-/// Writes a text to `out` where a run ended well, and gives the status of it all.
+/// Writes a text to `out` if a run ended well, and returns the status of the whole.
 fn sum_up<O: Sink>(end: RunEnd, summary: &[u8], out: &mut O) -> Status
     ensures { ThenWrote summary.now (O.state out.old) (O.state out.new) end result }
 {
@@ -85,7 +84,7 @@ fn sum_up<O: Sink>(end: RunEnd, summary: &[u8], out: &mut O) -> Status
     }
 }
 
-/// Writes what was used of each instance to `out` behind a run that ended so, and gives the status of it all.
+/// Writes what was used of each instance to `out` after a run that ended so, and returns the status of the whole.
 fn write_used<O: Sink>(
     alloc: Global,
     end: RunEnd,
@@ -107,7 +106,7 @@ fn write_used<O: Sink>(
     }
 }
 
-/// Runs code that was loaded, and writes to `out` behind it what was used of each instance of this authority.
+/// Runs code that was loaded. After the run, writes what was used of each instance of this authority to `out`.
 fn observe_image<O: Sink, D: Device>(
     alloc: Global,
     image: &mut Image<'_>,
@@ -131,8 +130,8 @@ fn observe_image<O: Sink, D: Device>(
     write_used(alloc, end, authority, &used, out)
 }
 
-/// Runs code that was loaded; where it is to be traced, writes the line of each event to `out`, where it is to be summed
-/// up, this text behind it, and where it is to be observed, what was used of each instance of this authority.
+/// Runs code that was loaded, and writes to `out` what the manner asks: the line of each event, this text after a run that ended, or
+/// what was used of each instance of this authority.
 fn run_image<O: Sink, D: Device>(
     alloc: Global,
     image: &mut Image<'_>,
@@ -157,7 +156,7 @@ fn run_image<O: Sink, D: Device>(
     }
 }
 
-/// The text that sums a run of a program of this authority up, which only a sample has.
+/// Returns the text that sums up a run of a program of this authority; the empty text if the program is not a sample.
 fn summary_of(alloc: Global, authority: &Authority, way: Mode) -> Result<Text, Memory>
     ensures { IfOk result (λ text. (p : Program) → authority.now ≡ authority_of p → text ≡ summary_in way p) }
 {
@@ -170,7 +169,7 @@ fn summary_of(alloc: Global, authority: &Authority, way: Mode) -> Result<Text, M
     }
 }
 
-/// Prints the report of an accepted program row by row, and then runs its code, which was loaded.
+/// Prints the report of an accepted program row by row. Then it runs the program's code, which was loaded.
 fn report_and_run<O: Sink, E: Sink, D: Device>(
     alloc: Global,
     accepted: &Accepted,
@@ -227,7 +226,7 @@ fn run_code<O: Sink, E: Sink, D: Device>(
     }
 }
 
-/// Lowers an accepted program, loads its code, prints its report row by row, and then runs the code.
+/// Lowers an accepted program, loads its code, prints its report row by row, and runs the code.
 fn run_accepted<O: Sink, E: Sink, D: Device>(
     alloc: Global,
     accepted: &Accepted,
@@ -248,9 +247,9 @@ fn run_accepted<O: Sink, E: Sink, D: Device>(
     }
 }
 
-/// Judges trees, and where their program is accepted prints its report and runs it; where it is to be traced, the line of
-/// each event comes to `out` when it has happened, where it is to be summed up, a line behind a run that ended, and where it is to be observed, what
-/// was used of each instance (docs/LANGUAGE.md, "Authority and report", "Events", "How a run ends" and "Observation").
+/// Checks trees. If their program is accepted, prints its report and runs it. It writes to `out` what the manner asks: the line of
+/// each event after the event, a line that sums up a run that ended, or what was used of each instance (docs/LANGUAGE.md,
+/// "Authority and report", "Events", "How a run ends" and "Observation").
 pub fn run_trees<O: Sink, E: Sink, D: Device>(
     alloc: Global,
     trees: &[Tree],

@@ -5,8 +5,7 @@ use wy_text::fault::{AtomName, Fault, Place};
 use wy_text::limit::LimitName;
 use wy_text::text::Text;
 
-/// What is wrong in a file that has no tokens or no tree (docs/LANGUAGE.md, "What is refused in a file" and
-/// "Grammar").
+/// What is wrong in a file without tokens or without a tree (docs/LANGUAGE.md, "What is refused in a file" and "Grammar").
 #[derive(Clone, Copy)]
 pub enum SyntaxKind {
     NotUtf8,
@@ -22,27 +21,27 @@ pub enum SyntaxKind {
 /// How a call of the program ended (docs/LANGUAGE.md, "Statuses").
 #[derive(Drop)]
 pub enum Status {
-    /// The command was done, and the program that was run came to its end.
+    /// The command was done. If a program was run, it came to its end.
     Ended,
-    /// The words are no command line of the program.
+    /// The arguments are invalid.
     Usage,
-    /// A file was not read. Its number among the file words counts from 1.
+    /// A file could not be read. Its number among the file arguments counts from 1.
     Unread(u16),
-    /// A file has no tokens or no tree. It is the first such file, and the place is the first in it.
+    /// A file has no tokens or no tree. It is the first such file, and the place is that of its first fault.
     Syntax {
         place: Place,
         kind: SyntaxKind,
     },
-    /// A name in the texts is refused, or else their program is.
+    /// A name in the texts is refused, or their program is.
     Refused(Fault),
-    /// A limit is passed.
+    /// A limit is exceeded.
     Limit(LimitName),
     /// The program that was run trapped at a place.
     Trap {
         kind: TrapKind,
         place: Place,
     },
-    /// A call on an object was one too many that are open at once.
+    /// One call more on an object was made than may be open at once.
     TooDeep,
     /// The run took all the steps that it may take.
     Spent,
@@ -51,31 +50,31 @@ pub enum Status {
         grant: Text,
         op: OpName,
     },
-    /// The report, or what the command writes, was not written whole.
+    /// The report, or what the command writes, could not be written whole.
     Unwritten,
-    /// Memory was wanting.
+    /// Memory ran out.
     Memory,
-    /// The first file is no certificate: so many of its bytes can stand, and not one more.
+    /// The first file is not a certificate. This many of its bytes can begin one; one byte more cannot.
     BadCert {
         at: u64,
     },
-    /// The first file is a certificate that does not prove the program. The test is the first that fails, in the first scope where
-    /// one does; the index is the number of the type, pair, rule or node at which it fails, from 0. Where the certificate has not
-    /// one part for each scope, both numbers are 0.
+    /// The first file is a certificate that does not prove the program. The scope is the first in which a test fails, and the test
+    /// is the first that fails there. The index is the number of the type, pair, rule or node at which it fails, from 0. Both
+    /// numbers are 0 if the certificate does not have one part for each scope.
     Unproved {
         scope: u32,
         test: CertTest,
         index: u64,
     },
-    /// The program does not keep to its policy. The instance, or `main`, is the first that may do more than the policy
-    /// allows it. It goes by the row of this line, 0 where there is none, and the atom is the first of its authority that the
-    /// row does not allow.
+    /// The program does not keep to its policy. The instance, or `main`, is the first that may do more than the policy allows. The
+    /// line is that of the row that applies to it; 0 if no row does. The atom is the first of its authority that the row does not
+    /// allow.
     Denied {
         line: u32,
         instance: Text,
         atom: AtomName,
     },
-    /// A line of a policy is neither blank nor a comment nor a row. It is the first such line, and counts from 1.
+    /// A line of a policy is neither blank nor a comment nor a row. It is the first such line. Lines count from 1.
     BadPolicy {
         line: u32,
     },
@@ -83,9 +82,9 @@ pub enum Status {
 
 impl Status {
     ghost use Rattle.std.specs.Prelude.{◌≡◌};
-    ghost use Rattle.wy_engine.specs.Status.{number_of};
+    ghost use Rattle.wy_engine.specs.StatusNumber.{number_of};
 
-    /// The number that the program ends with. It takes no memory.
+    /// Returns the number with which the program ends, from 0 to 17. It takes no memory.
     pub fn number(&self) -> u8
         ensures { result ≡ number_of self.now }
     {

@@ -5,8 +5,10 @@ ghost use Rattle.wy_settings.specs.Settings.{settings_of, takes};
 ghost use Rattle.wy_engine.specs.Answering.{Answered};
 ghost use Rattle.wy_engine.specs.Headline.{Closes, Headline, Settles};
 ghost use Rattle.wy_engine.specs.LastLine.{line_words};
-ghost use Rattle.wy_engine.specs.Status.{refusal_status};
-ghost use Rattle.wy_engine.specs.TopCall.{sampled, takes_files};
+ghost use Rattle.wy_engine.specs.StatusNumber.{refusal_status};
+ghost use Rattle.wy_engine.specs.Texts.{sampled};
+ghost use Rattle.wy_engine.specs.TopCall.{takes_files};
+ghost use Rattle.wy_engine.specs.Writing.{BeginsEnd, EndsReport};
 
 use crate::answering::answer;
 use crate::last_line::{LineWords, last_line_of};
@@ -33,7 +35,7 @@ use wy_well_formed::resolved_is_core;
 /// The most files of a call.
 const MOST_FILES: usize = 64;
 
-/// Whether the words of a command name files.
+/// Returns whether the arguments of a command name files.
 fn takes_files(command: Command) -> bool
     ensures { result ≡ takes_files command }
 {
@@ -51,7 +53,7 @@ fn takes_files(command: Command) -> bool
     }
 }
 
-/// Makes the sample of a command line, and does with it what the command asks.
+/// Makes the sample of a command line, does with it what the command asks, and returns the status.
 fn answer_sample<O: Sink, E: Sink, D: Device>(
     alloc: Global,
     line: CommandLine<'_>,
@@ -73,7 +75,7 @@ fn answer_sample<O: Sink, E: Sink, D: Device>(
     answer(alloc, line, &[text], out, report, devices)
 }
 
-/// Reads the files of a command line, or makes its sample, parses them, and does with them what the command asks.
+/// Reads the files of a command line, or makes its sample, does with them what the command asks, and returns the status.
 fn settle<S: Shelf, O: Sink, E: Sink, D: Device>(
     alloc: Global,
     line: CommandLine<'_>,
@@ -114,7 +116,21 @@ fn settle<S: Shelf, O: Sink, E: Sink, D: Device>(
     }
 }
 
-/// Writes the last line of a status that is settled; one that its sink refuses is lost.
+/// The last line of a call that ran out of memory. It is constant, so that it needs no memory.
+const NO_MEMORY: &[u8] = b"no memory\n";
+
+/// Ends the report with a text. A text that the sink refuses is lost.
+fn end_report<E: Sink>(report: &mut E, text: &[u8]) -> Result<(), Memory>
+    ensures told { OnOk result (EndsReport text.now (E.state report.old) (E.state report.new)) }
+    ensures starved { OnErr result (BeginsEnd text.now (E.state report.old) (E.state report.new)) }
+{
+    match write_all(report, text) {
+        Err(WriteError::Memory) => Err(Memory),
+        Ok(()) | Err(WriteError::Failed) => Ok(()),
+    }
+}
+
+/// Writes the last line of a status that is settled, or that of Memory if no memory is left to make it.
 fn write_last_line<E: Sink>(
     alloc: Global,
     words: LineWords<'_>,
@@ -124,14 +140,16 @@ fn write_last_line<E: Sink>(
     ensures told { OnOk result (Closes (record { names = map string_bytes words.entry.names.now; texts = map string_bytes words.entry.texts.now; steps = words.entry.steps; depth = words.entry.depth }) settled.now settled.now (E.state report.old) (E.state report.new)) }
     ensures starved { OnErr result (Closes (record { names = map string_bytes words.entry.names.now; texts = map string_bytes words.entry.texts.now; steps = words.entry.steps; depth = words.entry.depth }) settled.now Status.Memory (E.state report.old) (E.state report.new)) }
 {
-    let line = last_line_of(alloc, words, settled)?;
-    match write_all(report, line.as_slice()) {
-        Err(WriteError::Memory) => Err(Memory),
-        Ok(()) | Err(WriteError::Failed) => Ok(()),
+    match last_line_of(alloc, words, settled) {
+        Ok(line) => end_report(report, line.as_slice()),
+        Err(why) => {
+            end_report(report, NO_MEMORY)?;
+            Err(why)
+        }
     }
 }
 
-/// Writes the last line of a status that is settled, and gives the status of the whole call.
+/// Writes the last line of a status that is settled, and returns the status of the whole call.
 fn close<E: Sink>(alloc: Global, words: LineWords<'_>, report: &mut E, settled: Status) -> Status
     ensures { Closes (record { names = map string_bytes words.entry.names.now; texts = map string_bytes words.entry.texts.now; steps = words.entry.steps; depth = words.entry.depth }) settled result (E.state report.old) (E.state report.new) }
 {
@@ -141,7 +159,7 @@ fn close<E: Sink>(alloc: Global, words: LineWords<'_>, report: &mut E, settled: 
     }
 }
 
-/// What the last line of a call needs of its command line.
+/// Returns what the last line of a call needs of its command line.
 fn line_words(line: CommandLine<'_>) -> LineWords<'_>
     ensures { line_words (Some (record { command = line.entry.command; steps = line.entry.steps; depth = line.entry.depth; files = map string_bytes line.entry.files.now })) ≡ record { names = map string_bytes result.names.now; texts = map string_bytes result.texts.now; steps = result.steps; depth = result.depth } }
 {
@@ -153,7 +171,7 @@ fn line_words(line: CommandLine<'_>) -> LineWords<'_>
     }
 }
 
-/// What the last line of a call needs of words that give no settings.
+/// Returns what the last line of a call needs if the arguments are invalid.
 fn no_words() -> LineWords<'static>
     ensures { line_words None ≡ record { names = map string_bytes result.names.now; texts = map string_bytes result.texts.now; steps = result.steps; depth = result.depth } }
 {
@@ -165,7 +183,7 @@ fn no_words() -> LineWords<'static>
     }
 }
 
-/// The status of words that give no settings.
+/// Returns the status of a call whose arguments give no settings.
 fn status_of(refusal: SettingsRefusal) -> Status
     ensures { result ≡ refusal_status refusal }
 {
@@ -175,19 +193,23 @@ fn status_of(refusal: SettingsRefusal) -> Status
     }
 }
 
-/// Does what the words say: reads the files that they name, and parses them. `check` judges their names and their
-/// program by the rules, and says on `out` that it is accepted; `authority` judges as `check` does, and writes the
-/// report of what the program's bodies may do to `out`; `run` judges as `check` does, lowers what is accepted to code, prints the
-/// report on `report`, and runs the code on the devices; `trace` does so too, and writes the line of each event of the
-/// run to `out`; `sample` runs the program that its number makes, reads no file, and writes a line that sums it up to `out`
-/// where the run ended; `format` writes the canonical form of its one file to `out`; `policy` judges the files behind its first as
-/// `check` does, and says on `out` that their program keeps to the policy that the first is, where it does; `observe` does as `run` does, and writes
-/// to `out` behind it what was used of each instance; `certify` judges as `check` does, and writes a certificate of what is accepted to
-/// `out`; `recheck` says on `out` that the program of the files behind the first is proved by the certificate that the first is, where it
-/// is, and judges them by nothing else. The report ends with a line that says how the call ended, unless all was done (docs/LANGUAGE.md, "The command line",
-/// "Authority and report" and "Statuses").
+/// Does what the arguments ask, and returns the status of the call (docs/LANGUAGE.md, "The command line" and "Statuses").
 ///
-/// The devices are of the four kinds in their order, which `devices` gives.
+/// It reads the files that the arguments name, each once. Then it does what the command asks:
+///
+/// - `check` writes to `out` that the rules accept the program;
+/// - `authority` writes the report of what the bodies of an accepted program may do to `out`;
+/// - `run` prints that report on `report`, and runs an accepted program on the devices;
+/// - `trace` does so too, and writes the line of each event to `out`;
+/// - `sample` runs the program that its number makes, and writes a line that sums it up to `out`;
+/// - `observe` does as `run` does, and then writes to `out` what was used of each instance;
+/// - `format` writes the canonical form of its one file to `out`;
+/// - `policy` writes to `out` that the program of the files after the first keeps to the policy in the first;
+/// - `certify` writes a certificate of an accepted program to `out`;
+/// - `recheck` writes to `out` that the certificate in the first file proves the program of the files after it.
+///
+/// The report ends with a line that says how the call ended, unless the status is Ended. The devices must be of the four kinds in
+/// their order, which `devices` gives.
 pub fn wyvern<S: Shelf, O: Sink, E: Sink, D: Device>(
     alloc: Global,
     words: &[String],

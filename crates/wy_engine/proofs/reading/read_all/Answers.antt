@@ -1,5 +1,6 @@
 use Rattle.std.proofs.Common.{rules, ◌≡◌, ◌+◌, map, string_bytes, subst}
-use Rattle.wy_engine.specs.Reading.{StopsAt, first_bytes}
+use Rattle.wy_engine.specs.Reading.{StopsAt}
+use Rattle.wy_engine.specs.Texts.{first_bytes}
 use Rattle.wy_engine.proofs.ReadingOn.{reads_more, stands_at, stops_after, stops_at}
 use Rattle.wy_engine.proofs.reading.read_all.Goals as goal
 

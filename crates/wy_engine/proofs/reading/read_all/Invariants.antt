@@ -1,5 +1,6 @@
 use Rattle.std.proofs.Common.{◌-◌, length, map, string_bytes}
-use Rattle.wy_engine.specs.Reading.{ReadsWell, first_bytes}
+use Rattle.wy_engine.specs.Reading.{ReadsWell}
+use Rattle.wy_engine.specs.Texts.{first_bytes}
 use Rattle.wy_engine.proofs.reading.read_all.Given as goal
 
 abbrev pub invariant-loop-well : goal.invariant-loop-well

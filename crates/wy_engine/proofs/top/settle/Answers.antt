@@ -2,7 +2,7 @@ use Rattle.std.proofs.Common.{rules, arith, ◌≡◌, ◌≤◌, ◌∙◌, ref
 use Rattle.std.proofs.lemmas.List.{length-map}
 use Rattle.wy_settings.specs.Settings.{Settings}
 use Rattle.wy_settings.specs.declared.command_line.Command.TheVariants as command
-use Rattle.wy_engine.specs.Reading.{first_bytes}
+use Rattle.wy_engine.specs.Texts.{first_bytes}
 use Rattle.wy_engine.proofs.FilesRead.{SampleMade, is_sample, made, read_well, sample_made}
 use Rattle.wy_engine.proofs.ReadingOn.{reads_exactly, reads_many}
 use Rattle.wy_engine.proofs.Settling.{one_of_format, settles_answered, settles_crowded, settles_starved, settles_unread, some_first}
