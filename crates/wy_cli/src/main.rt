@@ -26,10 +26,10 @@ use wy_host::folder::RealFolder;
 use wy_host::random::RealRandom;
 use wy_host::stream::Stream;
 
-/// The last line where memory is wanting before the call (docs/LANGUAGE.md, "Statuses"). The call writes its own.
+/// The last line if memory ran out before the call (docs/LANGUAGE.md, "Statuses"). The call writes its own.
 const NO_MEMORY: &[u8] = b"no memory\n";
 
-/// The words after the program's name; none where one of them is not text. The error is want of memory.
+/// The words after the program's name; none where one of them is not text. The error is that memory ran out.
 fn words(rt: &HostRuntime) -> io::Result<Vec<String>> {
     let mut words = Vec::new(rt.alloc());
     let all = match env::args(rt) {
@@ -64,7 +64,7 @@ fn hand_in(
     )
 }
 
-/// Makes the rest of the outside from the real one, and calls. The error is want of memory before the call.
+/// Makes the rest of the outside from the real one, and calls. The error is that memory ran out before the call.
 fn call(rt: HostRuntime, handed: Devices<Handed>) -> io::Result<Status>
     requires { IsInOrder (states ⟦<Handed as Device>⟧.state handed) }
 {
@@ -84,7 +84,14 @@ fn call(rt: HostRuntime, handed: Devices<Handed>) -> io::Result<Status>
     ))
 }
 
-/// Makes the devices of the machine, and calls with them. The error is want of memory before the call.
+/// Makes the folders of the machine: that of a grant is the one of its name in the working folder.
+fn folders(rt: &HostRuntime) -> io::Result<RealFolder<HostRuntime>> {
+    let alloc: Global = rt.alloc();
+    let base = String::from_str(alloc, ".")?;
+    Ok(RealFolder::new(alloc, rt.clone()?, base, Vec::new(alloc)))
+}
+
+/// Makes the devices of the machine, and calls with them. The error is that memory ran out before the call.
 fn run(rt: HostRuntime) -> io::Result<Status> {
     let alloc: Global = rt.alloc();
     // (boxed first: behind others the prover does not find its kind)
@@ -92,9 +99,7 @@ fn run(rt: HostRuntime) -> io::Result<Status> {
     let input = BufReader::new(alloc, rt.stdin())?;
     let console = RealConsole::new(alloc, input, rt.stdout())?;
     let console: Box<dyn Device> = Box::new(alloc, console)?;
-    let base = String::from_str(alloc, ".")?;
-    let folder = RealFolder::new(alloc, rt.clone()?, base, Vec::new(alloc));
-    let folder: Box<dyn Device> = Box::new(alloc, folder)?;
+    let folder: Box<dyn Device> = Box::new(alloc, folders(&rt)?)?;
     let random: Box<dyn Device> = Box::new(alloc, RealRandom::new(rt.clone()?))?;
     let handed = hand_in(console, folder, clock, random);
     call(rt, handed)
@@ -112,7 +117,7 @@ fn main(rt: HostRuntime) -> ExitCode {
     let status = match run(rt) {
         Ok(status) => status,
         Err(_) => {
-            // (where the line is not written, the status stays the same)
+            // (if the line is not written, the status stays the same)
             let _written = write_no_memory(&mut report);
             Status::Memory
         }
