@@ -5,9 +5,9 @@ _wyvern() {
   for word in "${COMP_WORDS[@]:1:COMP_CWORD-1}"; do
     case $word in check | authority | run | trace | sample | format | policy | observe | certify | recheck) command=$word && break ;; esac
   done
-  case $before in --steps | --depth) return ;; esac
+  case $before in --steps | --depth | --folder) return ;; esac
   if [[ $now == -* ]]; then
-    mapfile -t COMPREPLY < <(compgen -W '--steps --depth' -- "$now")
+    mapfile -t COMPREPLY < <(compgen -W '--steps --depth --folder' -- "$now")
   elif [ -z "$command" ]; then
     mapfile -t COMPREPLY < <(compgen -W 'check authority run trace sample format policy observe certify recheck' -- "$now")
   elif [ "$before" = recheck ]; then

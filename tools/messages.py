@@ -60,7 +60,7 @@ def files_of(words):
         word = words.pop(0)
         if word == "--":
             return files + words
-        if word in ("--steps", "--depth"):
+        if word in ("--steps", "--depth", "--folder"):
             words = words[1:]
         elif not word.startswith("--"):
             files.append(word)

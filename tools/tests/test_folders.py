@@ -64,5 +64,35 @@ class Folders(ToolTest):
             self.assertEqual([(self.last_line(it), it.returncode) for it in both], [(self.last_of_report(), 0)] * 2)
         self.assertEqual(os.listdir(os.path.join(self.room, "logs")), [])
 
+    def run_with(self, *words):
+        """Runs a program that copies the text `f` of the folder `logs` to `g`, and returns its status and its last line."""
+        self.write("x.wy", HEAD + '    logs.write("g", logs.read("f"))\n')
+        done = subprocess.run([PROGRAM, "run", "x.wy", *words], cwd=self.room, stderr=subprocess.PIPE, text=True)
+        return done.returncode, done.stderr.splitlines()[-1]
+
+    def test_a_folder_may_be_given_for_a_grant(self):
+        there = os.path.join(self.room, "else", "where")
+        os.makedirs(there)
+        os.symlink(there, os.path.join(self.room, "link"))
+        for path in ("else/where", "./else/../else/where/", there, "link", os.path.join(self.room, "link")):
+            self.write("else/where/f", path)
+            self.assertEqual(self.run_with("--folder", f"logs={path}"), (0, self.last_of_report()))
+            self.assertEqual(self.read("else/where/g"), path)
+        self.assertEqual(os.listdir(os.path.join(self.room, "logs")), [])
+
+    def test_a_given_path_that_is_no_folder_fails(self):
+        self.write("else", "")
+        os.symlink("none", os.path.join(self.room, "link"))
+        for path in ("none", "else", "link", "logs/none"):
+            self.assertEqual(self.run_with(f"--folder=logs={path}"), (9, "logs.read: failed"))
+        self.assertEqual(os.listdir(os.path.join(self.room, "logs")), [])
+
+    def test_a_folder_for_another_grant_ends_the_call_before_it_does_anything(self):
+        self.write("logs/f", "")
+        status, last = self.run_with("--folder", "log=else")
+        self.assertEqual(status, 1)
+        self.assertTrue(last.startswith("usage: "))
+        self.assertEqual(os.listdir(os.path.join(self.room, "logs")), ["f"])
+
     def last_of_report(self):
         return "  run: logs.Read, logs.Write, logs.Append, logs.Remove"

@@ -2,8 +2,8 @@ use crate::support::{outcome_of, wrong_row};
 use std::alloc::Global;
 use std::test::Fail;
 
-/// Words that are no command line.
-static FAULTY: [&[&str]; 35] = [
+/// Invalid command lines. The last is one because its program has no folder `disk`.
+static FAULTY: [&[&str]; 44] = [
     &[],
     &["check"],
     &["check", "-b.wy"],
@@ -39,9 +39,18 @@ static FAULTY: [&[&str]; 35] = [
     &["certify", "--steps", "9"],
     &["recheck"],
     &["recheck", "b.wy"],
+    &["run", "b.wy", "--folder"],
+    &["check", "--folder", "disk", "b.wy"],
+    &["check", "--folder", "disk=", "b.wy"],
+    &["check", "--folder", "=x", "b.wy"],
+    &["check", "--folder", "new=x", "b.wy"],
+    &["check", "--folder", "a-b=x", "b.wy"],
+    &["check", "--folder", "disk=x", "--folder=disk=x", "b.wy"],
+    &["format", "--folder=disk=x", "--folder", "disk=y", "b.wy"],
+    &["sample", "--folder", "disk=x", "1"],
 ];
 
-/// Whether a call with these words, over a shelf with an empty `b.wy`, ends with the status of the number and the
+/// Returns whether a call with these words, over a shelf with an empty `b.wy`, ends with the status of the number and the
 /// line, and does nothing else.
 fn ends_with(alloc: Global, words: &[&str], number: u8, line: &str) -> Result<bool, Fail> {
     Ok(outcome_of(alloc, words, &[("b.wy", b"")])?.says(number, "", line))
@@ -49,7 +58,7 @@ fn ends_with(alloc: Global, words: &[&str], number: u8, line: &str) -> Result<bo
 
 /// Fails with the number of the first words that do not get the usage line.
 fn all_get_the_usage_line(alloc: Global, cases: &[&[&str]]) -> Result<(), Fail> {
-    let usage = "usage: wyvern COMMAND [--steps N] [--depth N] FILE...\n";
+    let usage = "usage: wyvern COMMAND [--steps N] [--depth N] [--folder GRANT=PATH]... FILE...\n";
     for (at, words) in cases.iter().enumerate() {
         if !ends_with(alloc, words, 1, usage)? {
             return Err(wrong_row(at));

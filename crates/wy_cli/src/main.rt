@@ -23,8 +23,10 @@ use wy_host::clock::RealClock;
 use wy_host::console::RealConsole;
 use wy_host::files::RealFiles;
 use wy_host::folder::RealFolder;
+use wy_host::grant_folder::GrantFolder;
 use wy_host::random::RealRandom;
 use wy_host::stream::Stream;
+use wy_settings::{SettingsRefusal, settings};
 
 /// The last line if memory ran out before the call (docs/LANGUAGE.md, "Statuses"). The call writes its own.
 const NO_MEMORY: &[u8] = b"no memory\n";
@@ -64,45 +66,64 @@ fn hand_in(
     )
 }
 
-/// Makes the rest of the outside from the real one, and calls. The error is that memory ran out before the call.
-fn call(rt: HostRuntime, handed: Devices<Handed>) -> io::Result<Status>
+/// Makes the rest of the outside from the real one, and calls with these words.
+fn call(rt: HostRuntime, words: &[String], handed: Devices<Handed>) -> Status
     requires { IsInOrder (states ⟦<Handed as Device>⟧.state handed) }
 {
     let mut handed = handed;
     let alloc: Global = rt.alloc();
-    let words = words(&rt)?;
     let mut out = Stream::new(rt.stdout());
     let mut report = Stream::new(rt.stderr());
     let mut shelf = RealFiles::new(alloc, rt);
-    Ok(wyvern(
-        alloc,
-        words.as_slice(),
-        &mut shelf,
-        &mut out,
-        &mut report,
-        &mut handed,
-    ))
+    wyvern(alloc, words, &mut shelf, &mut out, &mut report, &mut handed)
 }
 
-/// Makes the folders of the machine: that of a grant is the one of its name in the working folder.
-fn folders(rt: &HostRuntime) -> io::Result<RealFolder<HostRuntime>> {
+/// Returns the folders that the words give for grants; none if the words are invalid, since the call then touches no folder. The
+/// error is that memory ran out.
+fn given_folders(alloc: Global, words: &[String]) -> io::Result<Vec<GrantFolder>> {
+    let mut folders = Vec::new(alloc);
+    match settings(alloc, words) {
+        Ok(settings) => {
+            for folder in settings.folders {
+                folders.push(GrantFolder {
+                    grant: folder.grant,
+                    path: folder.path,
+                })?;
+            }
+            Ok(folders)
+        }
+        Err(SettingsRefusal::Usage) => Ok(folders),
+        Err(SettingsRefusal::Memory) => Err(io::ErrorKind::OutOfMemory.into()),
+    }
+}
+
+/// Makes the folders of the machine. A grant's folder is the one that the words give, or else the one of the grant's name in the
+/// working folder. The error is that memory ran out.
+fn folders(rt: &HostRuntime, words: &[String]) -> io::Result<RealFolder<HostRuntime>> {
     let alloc: Global = rt.alloc();
     let base = String::from_str(alloc, ".")?;
-    Ok(RealFolder::new(alloc, rt.clone()?, base, Vec::new(alloc)))
+    let given = given_folders(alloc, words)?;
+    Ok(RealFolder::new(alloc, rt.clone()?, base, given))
 }
 
-/// Makes the devices of the machine, and calls with them. The error is that memory ran out before the call.
-fn run(rt: HostRuntime) -> io::Result<Status> {
+/// Makes the devices of the machine, and calls with them and these words. The error is that memory ran out before the call.
+fn call_with_devices(rt: HostRuntime, words: &[String]) -> io::Result<Status> {
     let alloc: Global = rt.alloc();
     // (boxed first: behind others the prover does not find its kind)
     let clock: Box<dyn Device> = Box::new(alloc, RealClock::new(rt.clone()?))?;
     let input = BufReader::new(alloc, rt.stdin())?;
     let console = RealConsole::new(alloc, input, rt.stdout())?;
     let console: Box<dyn Device> = Box::new(alloc, console)?;
-    let folder: Box<dyn Device> = Box::new(alloc, folders(&rt)?)?;
+    let folder: Box<dyn Device> = Box::new(alloc, folders(&rt, words)?)?;
     let random: Box<dyn Device> = Box::new(alloc, RealRandom::new(rt.clone()?))?;
     let handed = hand_in(console, folder, clock, random);
-    call(rt, handed)
+    Ok(call(rt, words, handed))
+}
+
+/// Reads the words, and calls with them. The error is that memory ran out before the call.
+fn run(rt: HostRuntime) -> io::Result<Status> {
+    let words = words(&rt)?;
+    call_with_devices(rt, words.as_slice())
 }
 
 /// Writes the last line of Memory. It takes no memory.

@@ -1,5 +1,5 @@
 -- Where nothing fails outside, accepted texts come to their end.
-use Rattle.std.proofs.Common.{◌≡◌, ◌≢◌, ◌⊎◌, inl, inr, ◌≤◌, ◌<◌, ◌+◌, ◌*◌, ℕ, suc, List, Some, refl, sym, ◌∙◌, ap, subst, arith}
+use Rattle.std.proofs.Common.{◌≡◌, ◌≢◌, inl, inr, ◌≤◌, ◌<◌, ◌+◌, ◌*◌, ℕ, suc, List, Some, refl, sym, ◌∙◌, ap, subst, arith}
 use Rattle.std.proofs.lemmas.Bool.{cases_lt}
 use Rattle.wy_text.specs.Outside.{Rose}
 use Rattle.wy_device.specs.Devices.{device_of}
@@ -31,6 +31,7 @@ use Rattle.wy_engine.specs.Certificates.{proved_text}
 use Rattle.wy_engine.specs.ProgramLaws.{AcceptedRunAsMeant, RunsAsMeant}
 use Rattle.wy_engine.specs.Status.{IsOfEnd, IsOfOut}
 use Rattle.wy_engine.specs.Told.{course_in}
+use Rattle.wy_engine.specs.Folders.{AsksCall}
 use Rattle.wy_engine.specs.Given.{IsGiven}
 use Rattle.wy_engine.specs.TopCall.{IsSet, TopCall}
 use Rattle.wy_engine.specs.declared.status.Status.{Status}
@@ -133,25 +134,25 @@ settled_run law call settings set program meant_so run tells report out devices 
     meant call.status c.end (so.whole within) (unspent law program meant_so settings.depth _) (λ grant op is. devices (kind_named op) (run.failed grant op is))
 
 -- what was settled was done, unless memory was wanting
-settled_did : ResolvedIsCore → OneSize → (call : TopCall) (h : Headline call) → HasNoFault call → (named : Command) (texts : List (List ℕ)) → IsGiven call named texts → (did : Did) → Asks named texts did → h.settled ≢ status.Memory
-    → h.settles.did ≡ did
-settled_did law size call h none named texts given did asks full =
+settled_did : ResolvedIsCore → OneSize → (call : TopCall) (h : Headline call) → HasNoFault call → (asked : Settings) (texts : List (List ℕ)) → IsGiven call asked texts → (did : Did) → AsksCall asked texts did
+    → h.settled ≢ status.Memory → h.settles.did ≡ did
+settled_did law size call h none asked texts given did asks full =
     let before : TopCall = before_last_line call h.settled h.report in
     let unread : (file : ℕ) → before.status ≢ status.Unread file = λ file is. none.shelf (h.settles.reads.counted file is) in
-    let given_before : IsGiven before named texts = record { settings = given.settings; set = given.set; is = given.is; few = given.few; are = given.are } in
-    (texts_told law size before h.settles named texts given_before unread).does did asks full
+    let given_before : IsGiven before asked texts = record { set = given.set; few = given.few; are = given.are } in
+    (texts_told law size before h.settles asked texts given_before unread).does did asks full
 
 pub runs_end : ResolvedIsCore → OneSize → ((code : Code) → SpentTakesAll code) → AcceptedRunAsMeant → RunsEnd
-runs_end core size law accepted call h none tells named texts given program asks bound =
+runs_end core size law accepted call h none tells asked texts given program asks bound =
     elim h.closes.kept [
       | inr memory ↦ inl memory
       | inl same ↦ elim (memory_or h.settled) [
         | inl memory ↦ inl (same ∙ memory)
         | inr full ↦
             let run : Runs (before_last_line call h.settled h.report) program =
-            subst (λ (d : Did). Does (before_last_line call h.settled h.report) d) (settled_did core size call h none named texts given (ran program) asks full) h.settles.does in
-            inr (subst (λ (s : Status). EndsAsMeant s (course_in call given.settings program).end) (sym same)
-            (settled_run law (before_last_line call h.settled h.report) given.settings given.set program (accepted texts program (passed named texts program asks)) run tells
+            subst (λ (d : Did). Does (before_last_line call h.settled h.report) d) (settled_did core size call h none asked texts given (ran program) asks full) h.settles.does in
+            inr (subst (λ (s : Status). EndsAsMeant s (course_in call asked program).end) (sym same)
+            (settled_run law (before_last_line call h.settled h.report) asked given.set program (accepted texts program (passed asked.command texts program asks.files)) run tells
             (no_report call h none) none.out none.devices full bound))
       ]
     ]
@@ -190,12 +191,12 @@ settled_written call (certified program) does written out full = written_ended c
 settled_written call (proved program) does written out full = written_ended call command.Recheck proved_text does.1 out full
 
 pub writes_end : ResolvedIsCore → OneSize → WritesEnd
-writes_end core size call h none named texts given did written asks =
+writes_end core size call h none asked texts given did written asks =
     elim h.closes.kept [
       | inr memory ↦ inl memory
       | inl same ↦ elim (memory_or h.settled) [
         | inl memory ↦ inl (same ∙ memory)
         | inr full ↦ inr (same ∙ settled_written (before_last_line call h.settled h.report) did
-            (subst (λ (d : Did). Does (before_last_line call h.settled h.report) d) (settled_did core size call h none named texts given did asks full) h.settles.does) written none.out full)
+            (subst (λ (d : Did). Does (before_last_line call h.settled h.report) d) (settled_did core size call h none asked texts given did asks full) h.settles.does) written none.out full)
       ]
     ]

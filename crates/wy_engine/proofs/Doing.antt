@@ -13,17 +13,17 @@ use Rattle.wy_rules.specs.Ends.{IsAccepted}
 use Rattle.wy_judge.specs.Checking.{IsRefusalOf}
 use Rattle.wy_judge.specs.declared.checking.CheckRefusal.{CheckRefusal}
 use Rattle.wy_judge.specs.declared.checking.CheckRefusal.TheVariants as refusal
-use Rattle.wy_engine.specs.Answering.{Answered, CertifiesTrees, ChecksTrees, FailsCheck, JudgesByPolicy, JudgesTreesByPolicy, RechecksTrees, RunsAccepted, RunsTrees, accepted, accepted_trees, certified, certified_trees, certify_status, check_status, checked, declined, denied, disproved, fails, fails_check, formatted, judged, kept, limited, nameless, not_accepted, overlong_for, permitted, proved, proved_trees, ran, ran_program, recheck_status, reported, unaccepted, uncertified, unjudged, unnamed, wanting}
+use Rattle.wy_engine.specs.Answering.{Answered, CertifiesTrees, ChecksTrees, FailsCheck, JudgesByPolicy, JudgesTreesByPolicy, RechecksTrees, RunsAccepted, RunsTrees, accepted, accepted_trees, certified, certified_trees, certify_status, check_status, checked, declined, denied, disproved, fails, fails_check, formatted, judged, kept, limited, nameless, not_accepted, overlong_for, permitted, proved, proved_trees, lacking, ran, ran_program, recheck_status, reported, unaccepted, uncertified, unjudged, unnamed, wanting}
 use Rattle.wy_engine.specs.FileTrees.{FirstNoTree, HaveTrees}
 use Rattle.wy_certify.specs.declared.certifying.CertifyRefusal.{CertifyRefusal}
 use Rattle.wy_certify.specs.declared.certifying.CertifyRefusal.TheVariants as overlong
 use Rattle.wy_certify.specs.NotCertified as certifying
-use Rattle.wy_certify.specs.Certificates.{IsCertified}
 use Rattle.wy_recheck.specs.declared.rechecking.CertRefusal.{CertRefusal}
 use Rattle.wy_recheck.specs.declared.rechecking.CertRefusal.TheVariants as disproof
 use Rattle.wy_recheck.specs.ProvedBy as rechecking
 use Rattle.wy_recheck.specs.ProvedBy.{IsProvedBy}
 use Rattle.wy_engine.specs.Certificates.{HasLargeCertificate, HasNoLargeCertificate, ResolveBehind, most_certificate}
+use Rattle.wy_engine.specs.Folders.{StopsCall, by_files, by_folders}
 use Rattle.wy_engine.specs.Judgement.{EndsLowering, HasFirst, IsNumbered, RunsPrograms, Stage, Stops, StopsTexts, accepted_text, authority_text, by_certificate, by_length, by_policy, by_size, by_texts, running, stage_of}
 use Rattle.wy_engine.specs.Passing.{Passes}
 use Rattle.wy_engine.specs.NameFaults.{ResolveTo}
@@ -37,6 +37,7 @@ use Rattle.wy_engine.specs.declared.status.Status.{Status}
 use Rattle.wy_engine.specs.declared.status.Status.TheVariants as status
 use Rattle.wy_engine.proofs.NamesJudged.{JudgesNames, names_stop}
 use Rattle.wy_engine.proofs.OneAnswer.{JudgesPrograms, lowers_programs, stops_ended, stops_lowered, stops_treeless}
+use Rattle.wy_engine.proofs.TextsAnswered.{asks_run}
 use Rattle.wy_engine.proofs.TextsAmong.{all_run, all_texts, behind_certificate, behind_first}
 
 stops_unless : (stage : Stage) (texts : List (List ℕ)) (end : Status) → (end ≢ status.Memory → FirstNoTree 1 texts end) → (end ≡ status.Memory) ⊎ StopsTexts stage texts end
@@ -79,14 +80,19 @@ no_certificate command.Recheck files other = absurd (other refl)
 none_as : (asked named : Command) (files : List (List ℕ)) → asked ≡ named → named ≢ command.Recheck → HasNoLargeCertificate asked files
 none_as asked named files same other = no_certificate asked files (λ is. other (sym same ∙ is))
 
+-- files that stop their command end its call
+by_its_files : (asked : Settings) (files : List (List ℕ)) (end : Status) → (end ≡ status.Memory) ⊎ Stops asked.command files end → (end ≡ status.Memory) ⊎ StopsCall asked files end
+by_its_files asked files end (inl is) = inl is
+by_its_files asked files end (inr stops) = inr (by_files stops)
+
 pub did_large : (asked : Settings) (files : List (List ℕ)) (out report : SinkState) (devices : DevicesState) → asked.command ≡ command.Recheck → HasLargeCertificate files
     → Answered asked files out out report report devices devices (status.Limit limit.CertificateBytes)
-did_large asked files out report devices recheck large = declined (inr (by_size recheck large refl)) refl refl refl
+did_large asked files out report devices recheck large = declined (inr (by_files (by_size recheck large refl))) refl refl refl
 
 pub did_none : (asked : Settings) (files : List (List ℕ)) (out report : SinkState) (devices : DevicesState) (end : Status) → HasNoLargeCertificate asked.command files
     → (end ≢ status.Memory → FirstNoTree 1 (texts_among asked.command files) end) → Answered asked files out out report report devices devices end
 did_none asked files out report devices end small none =
-    declined (among asked.command files end small (stops_unless (stage_of asked.command) (texts_among asked.command files) end none)) refl refl refl
+    declined (by_its_files asked files end (among asked.command files end small (stops_unless (stage_of asked.command) (texts_among asked.command files) end none))) refl refl refl
 
 judges_as : (asked named : Command) → asked ≡ named → JudgesNames (stage_of named) → JudgesNames (stage_of asked)
 judges_as asked named same judges = subst (λ (c : Command). JudgesNames (stage_of c)) (sym same) judges
@@ -132,14 +138,16 @@ runs_other mode.Observed is = cc
 runs_other (mode.Summed number) is = cc
 
 did_accepted : (asked : Settings) (texts : List (List ℕ)) (way : Mode) (program : Program) (out out' report report' : SinkState) (devices devices' : DevicesState) (end : Status)
-    → asked.command ≡ running way → IsNumbered way asked.files → Passes texts program → RunsAccepted way program asked.depth asked.steps out out' report report' devices devices' end
+    → asked.command ≡ running way → IsNumbered way asked.files → Passes texts program → RunsAccepted way program asked.folders asked.depth asked.steps out out' report report' devices devices' end
     → Answered asked texts out out' report report' devices devices' end
 did_accepted asked texts way program out out' report report' devices devices' end run number passes (limited name passed is o r d) =
     let lowers : EndsLowering texts name = record { program = program; passes = passes; passed = passed } in
     let stop : StopsTexts (stage_of asked.command) texts end = subst (λ (s : Status). StopsTexts (stage_of asked.command) texts s) (sym is) (stops_lowered (stage_of asked.command) texts name (lowers_programs asked.command way run) lowers) in
-    declined (inr (by_texts (none_as asked.command (running way) texts run (runs_other way)) (subst (λ (ts : List (List ℕ)). StopsTexts (stage_of asked.command) ts end) (sym (all_run asked.command way texts run)) stop))) o r d
+    declined (inr (by_files (by_texts (none_as asked.command (running way) texts run (runs_other way)) (subst (λ (ts : List (List ℕ)). StopsTexts (stage_of asked.command) ts end) (sym (all_run asked.command way texts run)) stop)))) o r d
 did_accepted asked texts way program out out' report report' devices devices' end run number passes (wanting is o r d) = declined (inl is) o r d
-did_accepted asked texts way program out out' report report' devices devices' end run number passes (ran_program within so) = ran program way run number (record { passes = passes; within = within }) so
+did_accepted asked texts way program out out' report report' devices devices' end run number passes (lacking within lacks is o r d) =
+    declined (inr (by_folders (record { program = program; runs = asks_run asked.command texts way program run (record { passes = passes; within = within }); lacks = lacks }) is)) o r d
+did_accepted asked texts way program out out' report report' devices devices' end run number passes (ran_program within fits so) = ran program way run number (record { passes = passes; within = within }) fits so
 
 judges_run : (way : Mode) → JudgesNames (stage_of (running way))
 judges_run mode.Silent = tt
@@ -158,23 +166,23 @@ pub runs_as : {asked named : Command} → asked ≡ named → RunsPrograms named
 runs_as is runs = subst (λ (c : Command). RunsPrograms c) (sym is) runs
 
 pub did_run : (asked : Settings) (texts : List (List ℕ)) (way : Mode) (trees : List (List ItemTree)) (out out' report report' : SinkState) (devices devices' : DevicesState) (end : Status)
-    → asked.command ≡ running way → IsNumbered way asked.files → HaveTrees 1 (texts_among asked.command texts) trees → RunsTrees way trees asked.depth asked.steps out out' report report' devices devices' end
+    → asked.command ≡ running way → IsNumbered way asked.files → HaveTrees 1 (texts_among asked.command texts) trees → RunsTrees way trees asked.folders asked.depth asked.steps out out' report report' devices devices' end
     → Answered asked texts out out' report report' devices devices' end
 did_run asked texts way trees out out' report report' devices devices' end run number have (fails_check why o r d) =
-    declined (failed_among asked.command (running way) texts trees end run (runs_other way) (judges_run way) (checks_run way) have why) o r d
+    declined (by_its_files asked texts end (failed_among asked.command (running way) texts trees end run (runs_other way) (judges_run way) (checks_run way) have why)) o r d
 did_run asked texts way trees out out' report report' devices devices' end run number have (accepted_trees program resolves passes so) =
     did_accepted asked texts way program out out' report report' devices devices' end run number
     (passes_check texts trees program (are_all (texts_among asked.command texts) texts trees (all_run asked.command way texts run) have) resolves passes) so
 
 pub did_check : (asked : Settings) (texts : List (List ℕ)) (trees : List (List ItemTree)) (out out' report : SinkState) (devices : DevicesState) (end : Status)
     → asked.command ≡ command.Check → HaveTrees 1 (texts_among asked.command texts) trees → ChecksTrees (λ (program : Program). accepted_text) trees out out' end → Answered asked texts out out' report report devices devices end
-did_check asked texts trees out out' report devices end check have (fails why o) = declined (failed_among asked.command command.Check texts trees end check (λ e. cc) tt tt have why) o refl refl
+did_check asked texts trees out out' report devices end check have (fails why o) = declined (by_its_files asked texts end (failed_among asked.command command.Check texts trees end check (λ e. cc) tt tt have why)) o refl refl
 did_check asked texts trees out out' report devices end check have (accepted program resolves passes wrote) =
     checked program check (passes_check texts trees program (are_all (texts_among asked.command texts) texts trees (all_texts asked.command command.Check texts check refl) have) resolves passes) wrote refl refl
 
 pub did_report : (asked : Settings) (texts : List (List ℕ)) (trees : List (List ItemTree)) (out out' report : SinkState) (devices : DevicesState) (end : Status)
     → asked.command ≡ command.Authority → HaveTrees 1 (texts_among asked.command texts) trees → ChecksTrees authority_text trees out out' end → Answered asked texts out out' report report devices devices end
-did_report asked texts trees out out' report devices end asks have (fails why o) = declined (failed_among asked.command command.Authority texts trees end asks (λ e. cc) tt tt have why) o refl refl
+did_report asked texts trees out out' report devices end asks have (fails why o) = declined (by_its_files asked texts end (failed_among asked.command command.Authority texts trees end asks (λ e. cc) tt tt have why)) o refl refl
 did_report asked texts trees out out' report devices end asks have (accepted program resolves passes wrote) =
     reported program asks (passes_check texts trees program (are_all (texts_among asked.command texts) texts trees (all_texts asked.command command.Authority texts asks refl) have) resolves passes) wrote refl refl
 
@@ -187,7 +195,7 @@ did_judge : (asked : Settings) (policy : List ℕ) (texts : List (List ℕ)) (pr
     → asked.command ≡ command.Policy → Passes texts program → JudgesByPolicy policy program out out' end → Answered asked (policy ∷ texts) out out' report report devices devices end
 did_judge asked policy texts program out out' report devices end asks passes (unjudged is o) = declined (inl is) o refl refl
 did_judge asked policy texts program out out' report devices end asks passes (denied refuses o) =
-    declined (inr (by_policy asks (record { under = record { policy = policy; texts = texts; split = refl; program = program; passes = passes }; refuses = refuses }))) o refl refl
+    declined (by_its_files asked (policy ∷ texts) end (inr (by_policy asks (record { under = record { policy = policy; texts = texts; split = refl; program = program; passes = passes }; refuses = refuses })))) o refl refl
 did_judge asked policy texts program out out' report devices end asks passes (kept rows is allowed wrote) =
     permitted asks (record { under = record { policy = policy; texts = texts; split = refl; program = program; passes = passes }; rows = rows; is = is; allowed = allowed }) wrote refl refl
 
@@ -195,7 +203,7 @@ did_first : (asked : Settings) (policy : List ℕ) (texts : List (List ℕ)) (tr
     → asked.command ≡ command.Policy → HaveTrees 1 (texts_among asked.command (policy ∷ texts)) trees → JudgesTreesByPolicy policy trees out out' end
     → Answered asked (policy ∷ texts) out out' report report devices devices end
 did_first asked policy texts trees out out' report devices end asks have (unaccepted why o) =
-    declined (failed_among asked.command command.Policy (policy ∷ texts) trees end asks (λ e. cc) tt tt have why) o refl refl
+    declined (by_its_files asked (policy ∷ texts) end (failed_among asked.command command.Policy (policy ∷ texts) trees end asks (λ e. cc) tt tt have why)) o refl refl
 did_first asked policy texts trees out out' report devices end asks have (judged program resolves passes so) =
     let behind : HaveTrees 1 texts trees = are_all (texts_among asked.command (policy ∷ texts)) texts trees (behind_first asked.command policy texts asks) have in
     did_judge asked policy texts program out out' report devices end asks (passes_check texts trees program behind resolves passes) so
@@ -227,11 +235,11 @@ not_certified asked texts program overlong.Memory certify passes is = inl refl
 
 pub did_certify : (asked : Settings) (texts : List (List ℕ)) (trees : List (List ItemTree)) (out out' report : SinkState) (devices : DevicesState) (end : Status)
     → asked.command ≡ command.Certify → HaveTrees 1 (texts_among asked.command texts) trees → CertifiesTrees trees out out' end → Answered asked texts out out' report report devices devices end
-did_certify asked texts trees out out' report devices end certify have (uncertified why o) = declined (failed_among asked.command command.Certify texts trees end certify (λ e. cc) tt tt have why) o refl refl
+did_certify asked texts trees out out' report devices end certify have (uncertified why o) = declined (by_its_files asked texts end (failed_among asked.command command.Certify texts trees end certify (λ e. cc) tt tt have why)) o refl refl
 did_certify asked texts trees out out' report devices end certify have (overlong_for program resolves accepts why of is o) =
     let all : HaveTrees 1 texts trees = are_all (texts_among asked.command texts) texts trees (all_texts asked.command command.Certify texts certify refl) have in
     let passes : Passes texts program = passes_check texts trees program all resolves accepts in
-    declined (subst (λ (s : Status). (s ≡ status.Memory) ⊎ Stops asked.command texts s) (sym is) (not_certified asked texts program why certify passes of)) o refl refl
+    declined (by_its_files asked texts end (subst (λ (s : Status). (s ≡ status.Memory) ⊎ Stops asked.command texts s) (sym is) (not_certified asked texts program why certify passes of))) o refl refl
 did_certify asked texts trees out out' report devices end certify have (certified_trees program resolves accepts text is wrote) =
     let all : HaveTrees 1 texts trees = are_all (texts_among asked.command texts) texts trees (all_texts asked.command command.Certify texts certify refl) have in
     certified program text certify (passes_check texts trees program all resolves accepts) is wrote refl refl
@@ -252,12 +260,12 @@ did_prove : (asked : Settings) (bytes : List ℕ) (texts : List (List ℕ)) (tre
     → asked.command ≡ command.Recheck → HasNoLargeCertificate asked.command (bytes ∷ texts) → HaveTrees 1 (texts_among asked.command (bytes ∷ texts)) trees → RechecksTrees bytes trees out out' end
     → Answered asked (bytes ∷ texts) out out' report report devices devices end
 did_prove asked bytes texts trees out out' report devices end recheck none have (unnamed why refused is o) =
-    declined (among asked.command (bytes ∷ texts) end none
-    (names_stop (stage_of asked.command) (texts_among asked.command (bytes ∷ texts)) trees why end (judges_as asked.command command.Recheck recheck tt) have refused is)) o refl refl
+    declined (by_its_files asked (bytes ∷ texts) end (among asked.command (bytes ∷ texts) end none
+    (names_stop (stage_of asked.command) (texts_among asked.command (bytes ∷ texts)) trees why end (judges_as asked.command command.Recheck recheck tt) have refused is))) o refl refl
 did_prove asked bytes texts trees out out' report devices end recheck none have (disproved program resolves why of is o) =
     let behind : HaveTrees 1 texts trees = are_all (texts_among asked.command (bytes ∷ texts)) texts trees (behind_certificate asked.command bytes texts recheck) have in
-    declined (subst (λ (s : Status). (s ≡ status.Memory) ⊎ Stops asked.command (bytes ∷ texts) s) (sym is)
-    (not_proved asked bytes texts program why recheck (resolve_to texts trees program behind resolves) (within_as asked.command bytes texts recheck none) of)) o refl refl
+    declined (by_its_files asked (bytes ∷ texts) end (subst (λ (s : Status). (s ≡ status.Memory) ⊎ Stops asked.command (bytes ∷ texts) s) (sym is)
+    (not_proved asked bytes texts program why recheck (resolve_to texts trees program behind resolves) (within_as asked.command bytes texts recheck none) of))) o refl refl
 did_prove asked bytes texts trees out out' report devices end recheck none have (proved_trees program resolves proves wrote) =
     let behind : HaveTrees 1 texts trees = are_all (texts_among asked.command (bytes ∷ texts)) texts trees (behind_certificate asked.command bytes texts recheck) have in
     let resolve : ResolveBehind (bytes ∷ texts) program = record { under = record { bytes = bytes; texts = texts; split = refl }; within = within_as asked.command bytes texts recheck none; read = resolve_to texts trees program behind resolves } in

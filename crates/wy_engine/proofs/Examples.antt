@@ -49,7 +49,7 @@ spent_line = refl
 
 -- under a policy the places are those of the texts behind it
 abbrev of_policy : LineWords
-of_policy = line_words (Some (record { command = Policy; steps = usual_steps; depth = usual_depth; files = codes "p.pol" ∷ codes "a.wy" ∷ codes "b.wy" ∷ [] }))
+of_policy = line_words (Some (record { command = Policy; steps = usual_steps; depth = usual_depth; folders = []; files = codes "p.pol" ∷ codes "a.wy" ∷ codes "b.wy" ∷ [] }))
 
 denied_line : last_line of_policy (status.Denied 3 (codes "rep") (record { owner = codes "console"; member = codes "Out" })) ≡ codes "p.pol:3: denied: rep console.Out\n"
 unfolding digits
@@ -65,7 +65,7 @@ behind_line = refl
 
 -- .. and so under a certificate
 abbrev of_certificate : LineWords
-of_certificate = line_words (Some (record { command = Recheck; steps = usual_steps; depth = usual_depth; files = codes "c" ∷ codes "log.wy" ∷ codes "main.wy" ∷ [] }))
+of_certificate = line_words (Some (record { command = Recheck; steps = usual_steps; depth = usual_depth; folders = []; files = codes "c" ∷ codes "log.wy" ∷ codes "main.wy" ∷ [] }))
 
 unproved_example : last_line of_certificate (status.Unproved 1 Nodes 3) ≡ codes "c: unproved 1 C-Nodes 3\n"
 unfolding digits

@@ -1,5 +1,5 @@
 -- Which files a call read, and what the texts of its files are.
-use Rattle.std.proofs.Common.{◌≡◌, ◌≢◌, ◌≤◌, inl, inr, ℕ, List, [], ◌∷◌, Option, Some, None, true, false, refl, sym, ◌∙◌, ap, subst, arith, length, take, is_some}
+use Rattle.std.proofs.Common.{◌≡◌, ◌≢◌, ◌≤◌, ℕ, List, [], ◌∷◌, Option, Some, None, true, false, refl, sym, ◌∙◌, ap, subst, arith, length, take, is_some}
 use Rattle.std.specs.Option.{option_map}
 use Rattle.std.proofs.lemmas.List.{append-nil}
 use Rattle.std.proofs.Math.Seq.{take-length}
@@ -19,10 +19,9 @@ use Rattle.wy_engine.proofs.Statuses.{IsPastReading}
 pub same_settings : (call : TopCall) (one other : Settings) → IsSet call one → IsSet call other → one ≡ other
 same_settings call one other a b = let e : Some one ≡ Some other = sym a ∙ b in cc
 
-pub reads_by : (call : TopCall) (settings : Settings) → IsSet call settings → length settings.files ≤ most_files → call.status ≢ status.Usage → call.status ≢ status.Limit limit.Files
+pub reads_by : (call : TopCall) (settings : Settings) → IsSet call settings → length settings.files ≤ most_files → call.status ≢ status.Limit limit.Files
     → ReadsFor settings.command call settings.files → ((file : ℕ) → call.status ≡ status.Unread file → Rose call.shelf.faults call.shelf_after.faults) → ReadsFiles call
-reads_by call settings set few some uncrowded order counted = record {
-  usage = λ is. absurd (some is);
+reads_by call settings set few uncrowded order counted = record {
   faulty = λ none. let q : Some settings ≡ None = sym set ∙ none in absurd (cc);
   crowd = λ is. absurd (uncrowded is);
   crowded = λ other same many. let h : length other.files ≤ most_files = subst (λ (s : Settings). length s.files ≤ most_files) (same_settings call settings other set same) few in absurd (omega arith);
@@ -87,7 +86,7 @@ pub data Came (call : TopCall) (settings : Settings) (read : List (List ℕ)) : 
 -- all texts came
 pub reads_all : (call : TopCall) (settings : Settings) (texts : List (List ℕ)) → IsSet call settings → length settings.files ≤ most_files
     → Came call settings texts → IsPastReading call.status → ReadsFiles call
-reads_all call settings texts set few (read_well takes so) past = reads_by call settings set few past.usage past.crowd (reads_for settings.command call settings.files takes (record {
+reads_all call settings texts set few (read_well takes so) past = reads_by call settings set few past.crowd (reads_for settings.command call settings.files takes (record {
   well = length settings.files;
   badly = [];
   reads = so.reads ∙ ap (λ x. gained call.shelf.reads x) (sym (append-nil (reads_of false (take (length settings.files) settings.files))));
@@ -95,23 +94,19 @@ reads_all call settings texts set few (read_well takes so) past = reads_by call 
   others = λ none. refl;
   all = λ full none. refl;
 })) (λ file is. absurd (past.unread file is))
-reads_all call settings texts set few (made asked shelf is) past = reads_by call settings set few past.usage past.crowd
+reads_all call settings texts set few (made asked shelf is) past = reads_by call settings set few past.crowd
     (subst (λ (c : Command). ReadsFor c call settings.files) (sym asked) (record { shelf = shelf; unread = past.unread }))
     (λ file is. absurd (past.unread file is))
 
 -- .. and these are the texts of the call
-pub came_texts : (call : TopCall) (settings : Settings) (texts : List (List ℕ)) → IsSet call settings → length settings.files ≤ most_files → Came call settings texts → HasTexts call settings.command texts
+pub came_texts : (call : TopCall) (settings : Settings) (texts : List (List ℕ)) → IsSet call settings → length settings.files ≤ most_files → Came call settings texts → HasTexts call settings texts
 came_texts call settings texts set few (read_well takes so) = record {
-  settings = settings;
   set = set;
-  is = refl;
   few = few;
   are = texts_read settings.command call.shelf settings.files texts takes (subst (λ x. GivesFiles (first_bytes settings.command) call.shelf x texts) (take-length settings.files) so.gives);
 }
 came_texts call settings texts set few (made asked shelf is) = record {
-  settings = settings;
   set = set;
-  is = refl;
   few = few;
   are = subst (λ (c : Command). AreTexts c call.shelf settings.files texts) (sym asked) is;
 }

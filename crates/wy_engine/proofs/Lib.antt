@@ -1,3 +1,4 @@
+mod CallAnswers
 mod CertificateAnswers
 mod CodeRuns
 mod CompletenessLaws

@@ -1,5 +1,5 @@
 -- How the line of Memory closes the report of a call that ran out of memory for its last line.
-use Rattle.std.proofs.Common.{◌⊎◌, inr, List, ℕ, refl, Result, Ok, Err, OnErr}
+use Rattle.std.proofs.Common.{inr, List, ℕ, refl, Result, Ok, Err, OnErr}
 use Rattle.wy_text.specs.Outside.{SinkState}
 use Rattle.wy_engine.specs.Headline.{Closes}
 use Rattle.wy_engine.specs.LastLine.{LineWords, last_line}

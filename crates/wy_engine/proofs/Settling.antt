@@ -7,7 +7,6 @@ use Rattle.wy_text.specs.Outside.{SinkState, gained}
 use Rattle.wy_text.specs.Shelf.{ShelfState}
 use Rattle.wy_text.specs.declared.limit.LimitName.TheVariants as limit
 use Rattle.wy_syntax.specs.Canonical.{canonical_form}
-use Rattle.wy_syntax.specs.Trees.{ItemTree}
 use Rattle.wy_types.specs.Program.{Program}
 use Rattle.wy_symbols.specs.Declarations.{all_items}
 use Rattle.wy_rules.specs.Acceptance.{Accepted}
@@ -66,7 +65,7 @@ not_crowded call settings other set few same many =
     absurd (omega arith)
 
 -- a call to which not all texts came did nothing
-quiet_settles : (call : TopCall) → ReadsFiles call → IsTextless call.status → IsQuiet call → (call.status ≢ status.Memory → ¬ IsOfRun call.status) → Settles call
+quiet_settles : (call : TopCall) → ReadsFiles call → IsTextless call.words call.status → IsQuiet call → (call.status ≢ status.Memory → ¬ IsOfRun call.status) → Settles call
 quiet_settles call reads without quiet idle = record {
   reads = reads;
   did = nothing;
@@ -79,27 +78,25 @@ quiet_settles call reads without quiet idle = record {
 pub settles_faulty : (call : TopCall) → settings_of call.words ≡ None → call.shelf_after ≡ call.shelf → IsQuiet call → call.status ≡ status.Usage → Settles call
 settles_faulty call none shelf quiet is = quiet_settles call
     (record {
-      usage = λ _. none;
       faulty = λ _. ((λ full. is), shelf);
       crowd = λ crowd. let q : status.Usage ≡ status.Limit limit.Files = sym is ∙ crowd in absurd (cc);
       crowded = λ settings set. let q : Some settings ≡ None = sym set ∙ none in absurd (cc);
       reads = λ settings set. let q : Some settings ≡ None = sym set ∙ none in absurd (cc);
       counted = λ file unread. let q : status.Usage ≡ status.Unread file = sym is ∙ unread in absurd (cc);
     })
-    (subst IsTextless (sym is) tt) quiet (λ full run. subst IsOfRun is run)
+    (subst (IsTextless call.words) (sym is) none) quiet (λ full run. subst IsOfRun is run)
 
 -- the words name more files than the limit
 pub settles_crowded : (call : TopCall) (settings : Settings) → IsSet call settings → most_files < length settings.files → call.shelf_after ≡ call.shelf → IsQuiet call → call.status ≡ status.Limit limit.Files → Settles call
 settles_crowded call settings set many shelf quiet is = quiet_settles call
     (record {
-      usage = λ usage. let q : status.Limit limit.Files ≡ status.Usage = sym is ∙ usage in absurd (cc);
       faulty = λ none. let q : Some settings ≡ None = sym set ∙ none in absurd (cc);
       crowd = λ _ other same. subst (λ (s : Settings). most_files < length s.files) (same_settings call settings other set same) many;
       crowded = λ other same more. ((λ full. is), shelf);
       reads = λ other same few. not_crowded call other settings same few set many;
       counted = λ file unread. let q : status.Limit limit.Files ≡ status.Unread file = sym is ∙ unread in absurd (cc);
     })
-    (subst IsTextless (sym is) refl) quiet (λ full run. subst IsOfRun is run)
+    (subst (IsTextless call.words) (sym is) refl) quiet (λ full run. subst IsOfRun is run)
 
 -- nothing was read, for want of memory
 nothing_for : (asked : Command) (call : TopCall) (names : List (List ℕ)) → call.shelf_after ≡ call.shelf → call.status ≡ status.Memory → ReadsFor asked call names
@@ -123,14 +120,13 @@ nothing_for asked call names shelf is = by (takes_files asked) refl
 pub settles_unsettled : (call : TopCall) → call.shelf_after ≡ call.shelf → IsQuiet call → call.status ≡ status.Memory → Settles call
 settles_unsettled call shelf quiet is = quiet_settles call
     (record {
-      usage = λ usage. let q : status.Memory ≡ status.Usage = sym is ∙ usage in absurd (cc);
       faulty = λ _. ((λ full. absurd (full is)), shelf);
       crowd = λ crowd. let q : status.Memory ≡ status.Limit limit.Files = sym is ∙ crowd in absurd (cc);
       crowded = λ settings set many. ((λ full. absurd (full is)), shelf);
       reads = λ settings set few. nothing_for settings.command call settings.files shelf is;
       counted = λ file unread. let q : status.Memory ≡ status.Unread file = sym is ∙ unread in absurd (cc);
     })
-    (subst IsTextless (sym is) tt) quiet (λ full run. full is)
+    (subst (IsTextless call.words) (sym is) tt) quiet (λ full run. full is)
 
 -- the last line of a call that wanted memory does not hang on its words
 pub closes_unsettled : (one other : LineWords) (end : Status) (before after : SinkState) → Closes one status.Memory end before after → Closes other status.Memory end before after
@@ -159,7 +155,7 @@ closes_unsettled one other end before after closes = by closes.says
 pub settles_unread : (call : TopCall) (settings : Settings) (file : ℕ) → IsSet call settings → takes_files settings.command ≡ true → length settings.files ≤ most_files → StopsAt settings.files file call.shelf call.shelf_after
     → call.out_after ≡ call.out → call.report_after ≡ call.report → call.devices_after ≡ call.devices → call.status ≡ status.Unread file → Settles call
 settles_unread call settings file set takes few stops out report devices is = quiet_settles call
-    (reads_by call settings set few (λ usage. let q : status.Unread file ≡ status.Usage = sym is ∙ usage in absurd (cc)) (λ crowd. let q : status.Unread file ≡ status.Limit limit.Files = sym is ∙ crowd in absurd (cc)) (reads_for settings.command call settings.files takes (record {
+    (reads_by call settings set few (λ crowd. let q : status.Unread file ≡ status.Limit limit.Files = sym is ∙ crowd in absurd (cc)) (reads_for settings.command call settings.files takes (record {
       well = stops.well;
       badly = reads_of true (take 1 (drop stops.well settings.files));
       reads = stops.reads;
@@ -167,13 +163,13 @@ settles_unread call settings file set takes few stops out report devices is = qu
       others = λ none. absurd (none file is);
       all = λ full none. absurd (none file is);
     })) (λ other same. stops.counted))
-    (subst IsTextless (sym is) tt) (record { out = out; report = report; devices = devices }) (λ full run. subst IsOfRun is run)
+    (subst (IsTextless call.words) (sym is) tt) (record { out = out; report = report; devices = devices }) (λ full run. subst IsOfRun is run)
 
 -- memory was wanting while files were read
 pub settles_starved : (call : TopCall) (settings : Settings) → IsSet call settings → takes_files settings.command ≡ true → length settings.files ≤ most_files → StopsAfter settings.files call.shelf call.shelf_after
     → call.out_after ≡ call.out → call.report_after ≡ call.report → call.devices_after ≡ call.devices → call.status ≡ status.Memory → Settles call
 settles_starved call settings set takes few stops out report devices is = quiet_settles call
-    (reads_by call settings set few (λ usage. let q : status.Memory ≡ status.Usage = sym is ∙ usage in absurd (cc)) (λ crowd. let q : status.Memory ≡ status.Limit limit.Files = sym is ∙ crowd in absurd (cc)) (reads_for settings.command call settings.files takes (record {
+    (reads_by call settings set few (λ crowd. let q : status.Memory ≡ status.Limit limit.Files = sym is ∙ crowd in absurd (cc)) (reads_for settings.command call settings.files takes (record {
       well = stops.well;
       badly = [];
       reads = stops.reads ∙ ap (λ x. gained call.shelf.reads x) (sym (append-nil (reads_of false (take stops.well settings.files))));
@@ -181,7 +177,7 @@ settles_starved call settings set takes few stops out report devices is = quiet_
       others = λ none. refl;
       all = λ full none. absurd (full is);
     })) (λ file same. let q : status.Memory ≡ status.Unread file = sym is ∙ same in absurd (cc)))
-    (subst IsTextless (sym is) tt) (record { out = out; report = report; devices = devices }) (λ full run. full is)
+    (subst (IsTextless call.words) (sym is) tt) (record { out = out; report = report; devices = devices }) (λ full run. full is)
 
 -- what is proved is accepted
 proves_accepted : ResolvedIsCore → ProvedIsAccepted → (files : List (List ℕ)) (program : Program) → ProvesTexts files program → Accepted program
@@ -197,10 +193,10 @@ pub settles_answered : ResolvedIsCore → OneSize → ProvedIsAccepted → Accep
     → Answered settings read call.out call.out_after call.report call.report_after call.devices call.devices_after call.status → Settles call
 unfolding has_command
 settles_answered law size sound runs call settings read set few so (answering.declined why out report devices) = record {
-  reads = reads_all call settings read set few so (past_declined settings.command read call.status why);
+  reads = reads_all call settings read set few so (past_declined settings read call.status why);
   did = nothing;
-  answers = answered settings.command read (came_texts call settings read set few so) (accepts_stopped law size call settings.command read why);
-  does = (record { out = out; report = report; devices = devices }, idle_declined settings.command read call.status why);
+  answers = answered settings read (came_texts call settings read set few so) (accepts_stopped law size call settings read why);
+  does = (record { out = out; report = report; devices = devices }, idle_declined settings read call.status why);
   counted = rw report (omega arith);
 }
 settles_answered law size sound runs call settings read set few so (answering.checked program check passes wrote report devices) =
@@ -208,7 +204,7 @@ settles_answered law size sound runs call settings read set few so (answering.ch
     record {
       reads = reads_all call settings read set few so (out_past call.status reached);
       did = checked;
-      answers = answered settings.command read (came_texts call settings read set few so) (accepts_done law size call settings.command (checked) read (asks_check settings.command read program check passes) (out_run call.status reached));
+      answers = answered settings read (came_texts call settings read set few so) (accepts_done law size call settings (checked) read (record { files = asks_check settings.command read program check passes; folders = tt }) (out_run call.status reached));
       does = writes_by call command.Check accepted_text (has_command call settings command.Check set check) report devices wrote;
       counted = rw report (omega arith);
     }
@@ -217,16 +213,16 @@ settles_answered law size sound runs call settings read set few so (answering.re
     record {
       reads = reads_all call settings read set few so (out_past call.status reached);
       did = reported program;
-      answers = answered settings.command read (came_texts call settings read set few so) (accepts_done law size call settings.command (reported program) read (asks_report settings.command read program asks passes) (out_run call.status reached));
+      answers = answered settings read (came_texts call settings read set few so) (accepts_done law size call settings (reported program) read (record { files = asks_report settings.command read program asks passes; folders = tt }) (out_run call.status reached));
       does = writes_by call command.Authority (authority_text program) (has_command call settings command.Authority set asks) report devices wrote;
       counted = rw report (omega arith);
     }
-settles_answered law size sound runs call settings read set few so (answering.ran program way run number is ended) =
+settles_answered law size sound runs call settings read set few so (answering.ran program way run number is fits ended) =
     let reached : IsOfRun call.status = run_ran way program settings.depth settings.steps call.out call.out_after call.report call.report_after call.devices call.devices_after call.status ended in
     record {
       reads = reads_all call settings read set few so (run_past call.status reached);
       did = ran program;
-      answers = answered settings.command read (came_texts call settings read set few so) (accepts_done law size call settings.command (ran program) read (asks_run settings.command read way program run is) reached);
+      answers = answered settings read (came_texts call settings read set few so) (accepts_done law size call settings (ran program) read (record { files = asks_run settings.command read way program run is; folders = fits }) reached);
       does = runs_by call settings set program is.passes.accepted.accepted (runs read program is.passes) way run number ended;
       counted = ran_counted way program settings.depth settings.steps call.out call.out_after call.report call.report_after call.devices call.devices_after call.status ended;
     }
@@ -235,7 +231,7 @@ settles_answered law size sound runs call settings read set few so (answering.fo
     record {
       reads = reads_all call settings read set few so (out_past call.status reached);
       did = formatted tree;
-      answers = answered settings.command read (came_texts call settings read set few so) (accepts_done law size call settings.command (formatted tree) read (asks_format settings.command read tree format have) (out_run call.status reached));
+      answers = answered settings read (came_texts call settings read set few so) (accepts_done law size call settings (formatted tree) read (record { files = asks_format settings.command read tree format have; folders = tt }) (out_run call.status reached));
       does = writes_by call command.Format (canonical_form tree) (has_command call settings command.Format set format) report devices wrote;
       counted = rw report (omega arith);
     }
@@ -244,7 +240,7 @@ settles_answered law size sound runs call settings read set few so (answering.pe
     record {
       reads = reads_all call settings read set few so (out_past call.status reached);
       did = permitted;
-      answers = answered settings.command read (came_texts call settings read set few so) (accepts_done law size call settings.command (permitted) read (asks_policy settings.command read asks keeps) (out_run call.status reached));
+      answers = answered settings read (came_texts call settings read set few so) (accepts_done law size call settings (permitted) read (record { files = asks_policy settings.command read asks keeps; folders = tt }) (out_run call.status reached));
       does = writes_by call command.Policy allowed_text (has_command call settings command.Policy set asks) report devices wrote;
       counted = rw report (omega arith);
     }
@@ -253,7 +249,7 @@ settles_answered law size sound runs call settings read set few so (answering.ce
     record {
       reads = reads_all call settings read set few so (out_past call.status reached);
       did = certified program;
-      answers = answered settings.command read (came_texts call settings read set few so) (accepts_done law size call settings.command (certified program) read (asks_certify settings.command read program asks (record { passes = passes; bytes = text; is = is })) (out_run call.status reached));
+      answers = answered settings read (came_texts call settings read set few so) (accepts_done law size call settings (certified program) read (record { files = asks_certify settings.command read program asks (record { passes = passes; bytes = text; is = is }); folders = tt }) (out_run call.status reached));
       does = (text, is, writes_by call command.Certify text (has_command call settings command.Certify set asks) report devices wrote);
       counted = rw report (omega arith);
     }
@@ -262,7 +258,7 @@ settles_answered law size sound runs call settings read set few so (answering.pr
     record {
       reads = reads_all call settings read set few so (out_past call.status reached);
       did = proved program;
-      answers = answered settings.command read (came_texts call settings read set few so) (accepts_done law size call settings.command (proved program) read (asks_recheck settings.command read program asks proves) (out_run call.status reached));
+      answers = answered settings read (came_texts call settings read set few so) (accepts_done law size call settings (proved program) read (record { files = asks_recheck settings.command read program asks proves; folders = tt }) (out_run call.status reached));
       does = (proves_accepted law sound read program proves, writes_by call command.Recheck proved_text (has_command call settings command.Recheck set asks) report devices wrote);
       counted = rw report (omega arith);
     }

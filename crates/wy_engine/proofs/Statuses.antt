@@ -18,11 +18,12 @@ use Rattle.wy_rules.specs.Refusals.{Numbered}
 use Rattle.wy_authority.specs.Authority.{authority_of}
 use Rattle.wy_authority.specs.declared.rows.Authority.{Authority}
 use Rattle.wy_engine.specs.Certificates.{Disproves}
+use Rattle.wy_engine.specs.Folders.{StopsCall, by_files, by_folders}
 use Rattle.wy_engine.specs.Judgement.{Refuses, Stage, Stops, StopsLimited, StopsTexts, StopsUnnamed, by_certificate, by_length, by_policy, by_size, by_texts, judging, lowering, naming, observed_text, parsing, stage_of}
 use Rattle.wy_engine.specs.Running.{ObservesCode, Ran, ThenObserved, ThenWrote, begun, behind, observed, performed, skipped, status_of, stopped, summary_in, summed, unbegun, unobserved}
 use Rattle.wy_engine.specs.Status.{IsOfOut, IsOfRun, IsOfTexts}
 use Rattle.wy_engine.specs.Writing.{Wrote, cut, starved, whole}
-use Rattle.wy_settings.specs.Settings.{texts_among}
+use Rattle.wy_settings.specs.Settings.{Settings, texts_among}
 use Rattle.wy_settings.specs.declared.command_line.Command.{Command}
 use Rattle.wy_engine.specs.declared.running.Mode.{Mode}
 use Rattle.wy_engine.specs.declared.running.Mode.TheVariants as mode
@@ -58,7 +59,6 @@ ends_uncrowded program (inr rest) =
 
 -- a status that comes once the files were read
 pub record IsPastReading (end : Status) : Type 0 where
-  pub usage : end ≢ status.Usage
   pub unread : (file : ℕ) → end ≢ status.Unread file
   pub crowd : end ≢ status.Limit limit.Files
 
@@ -88,21 +88,18 @@ crowds_none lowering texts (inr stop) = lowers_uncrowded stop.program (program_s
 
 texts_past : (stage : Stage) (texts : List (List ℕ)) (end : Status) → StopsTexts stage texts end → IsPastReading end
 texts_past stage texts end stops = record {
-  usage = λ is. subst (λ (s : Status). StopsTexts stage texts s) is stops;
   unread = λ file is. subst (λ (s : Status). StopsTexts stage texts s) is stops;
   crowd = λ is. crowds_none stage texts (subst (λ (s : Status). StopsTexts stage texts s) is stops);
 }
 
 policy_past : (bytes : List ℕ) (a : Authority) (end : Status) → Refuses bytes a end → IsPastReading end
 policy_past bytes a end refuses = record {
-  usage = λ is. subst (λ (s : Status). Refuses bytes a s) is refuses;
   unread = λ file is. subst (λ (s : Status). Refuses bytes a s) is refuses;
   crowd = λ is. uncrowded_policy bytes a (subst (λ (s : Status). Refuses bytes a s) is refuses);
 }
 
 certificate_past : (bytes : List ℕ) (program : Program) (end : Status) → Disproves bytes program end → IsPastReading end
 certificate_past bytes program end disproves = record {
-  usage = λ is. subst (λ (s : Status). Disproves bytes program s) is disproves;
   unread = λ file is. subst (λ (s : Status). Disproves bytes program s) is disproves;
   crowd = λ is. subst (λ (s : Status). Disproves bytes program s) is disproves;
 }
@@ -110,7 +107,6 @@ certificate_past bytes program end disproves = record {
 -- the limit on a certificate's bytes is not the one on files
 size_past : (end : Status) → end ≡ status.Limit limit.CertificateBytes → IsPastReading end
 size_past end is = record {
-  usage = λ other. let e : status.Limit limit.CertificateBytes ≡ status.Usage = sym is ∙ other in cc;
   unread = λ file other. let e : status.Limit limit.CertificateBytes ≡ status.Unread file = sym is ∙ other in cc;
   crowd = λ other. let e : status.Limit limit.CertificateBytes ≡ status.Limit limit.Files = sym is ∙ other in cc;
 }
@@ -123,10 +119,10 @@ stops_past asked files end (by_length certify long is) = size_past end is
 stops_past asked files end (by_certificate recheck stops) = certificate_past stops.resolve.under.bytes stops.program end stops.disproves
 
 pub run_past : (end : Status) → IsOfRun end → IsPastReading end
-run_past end run = record { usage = λ is. subst IsOfRun is run; unread = λ file is. subst IsOfRun is run; crowd = λ is. subst IsOfRun is run }
+run_past end run = record { unread = λ file is. subst IsOfRun is run; crowd = λ is. subst IsOfRun is run }
 
 pub out_past : (end : Status) → IsOfOut end → IsPastReading end
-out_past end out = record { usage = λ is. subst IsOfOut is out; unread = λ file is. subst IsOfOut is out; crowd = λ is. subst IsOfOut is out }
+out_past end out = record { unread = λ file is. subst IsOfOut is out; crowd = λ is. subst IsOfOut is out }
 
 texts_idle : (stage : Stage) (texts : List (List ℕ)) (end : Status) → StopsTexts stage texts end → ¬ IsOfRun end
 texts_idle stage texts status.Ended stops run = stops
@@ -246,13 +242,21 @@ run_ran (mode.Summed number) program depth steps out out' report report' devices
 run_ran mode.Observed program depth steps out out' report report' devices devices' s (performed written so) =
     code_observed (observed_text program) (lowered program (program_starts program)) depth steps out out' devices devices' s so
 
-pub past_declined : (asked : Command) (texts : List (List ℕ)) (end : Status) → (end ≡ status.Memory) ⊎ Stops asked texts end → IsPastReading end
-past_declined asked texts end (inl is) = run_past end (subst IsOfRun (sym is) tt)
-past_declined asked texts end (inr stops) = stops_past asked texts end stops
+usage_past : (end : Status) → end ≡ status.Usage → IsPastReading end
+usage_past end is = record {
+  unread = λ file other. let e : status.Usage ≡ status.Unread file = sym is ∙ other in cc;
+  crowd = λ other. let e : status.Usage ≡ status.Limit limit.Files = sym is ∙ other in cc;
+}
 
-pub idle_declined : (asked : Command) (texts : List (List ℕ)) (end : Status) → (end ≡ status.Memory) ⊎ Stops asked texts end → end ≢ status.Memory → ¬ IsOfRun end
+pub past_declined : (asked : Settings) (texts : List (List ℕ)) (end : Status) → (end ≡ status.Memory) ⊎ StopsCall asked texts end → IsPastReading end
+past_declined asked texts end (inl is) = run_past end (subst IsOfRun (sym is) tt)
+past_declined asked texts end (inr (by_files stops)) = stops_past asked.command texts end stops
+past_declined asked texts end (inr (by_folders lacks is)) = usage_past end is
+
+pub idle_declined : (asked : Settings) (texts : List (List ℕ)) (end : Status) → (end ≡ status.Memory) ⊎ StopsCall asked texts end → end ≢ status.Memory → ¬ IsOfRun end
 idle_declined asked texts end (inl is) full run = full is
-idle_declined asked texts end (inr stops) full run = stops_idle asked texts end stops run
+idle_declined asked texts end (inr (by_files stops)) full run = stops_idle asked.command texts end stops run
+idle_declined asked texts end (inr (by_folders lacks is)) full run = subst IsOfRun is run
 
 -- memory ran out, or not
 pub memory_or : (s : Status) → (s ≡ status.Memory) ⊎ (s ≢ status.Memory)
@@ -273,21 +277,21 @@ memory_or (status.Unproved scope test index) = inr (λ is. cc)
 memory_or (status.Denied line instance atom) = inr (λ is. cc)
 memory_or (status.BadPolicy line) = inr (λ is. cc)
 
--- a status that is not of a run, of words or of a file that was not read is one that texts have
-pub ends_by_texts : (end : Status) → end ≢ status.Usage → ((file : ℕ) → end ≢ status.Unread file) → ¬ IsOfRun end → IsOfTexts end
-ends_by_texts status.Ended usage unread idle = absurd (idle tt)
-ends_by_texts status.Usage usage unread idle = absurd (usage refl)
-ends_by_texts (status.Unread file) usage unread idle = absurd (unread file refl)
-ends_by_texts (status.Syntax place kind) usage unread idle = tt
-ends_by_texts (status.Refused fault) usage unread idle = tt
-ends_by_texts (status.Limit name) usage unread idle = tt
-ends_by_texts (status.Trap kind place) usage unread idle = absurd (idle tt)
-ends_by_texts status.TooDeep usage unread idle = absurd (idle tt)
-ends_by_texts status.Spent usage unread idle = absurd (idle tt)
-ends_by_texts (status.DeviceFailed grant op) usage unread idle = absurd (idle tt)
-ends_by_texts status.Unwritten usage unread idle = absurd (idle tt)
-ends_by_texts status.Memory usage unread idle = absurd (idle tt)
-ends_by_texts (status.BadCert at) usage unread idle = tt
-ends_by_texts (status.Unproved scope test index) usage unread idle = tt
-ends_by_texts (status.Denied line instance atom) usage unread idle = tt
-ends_by_texts (status.BadPolicy line) usage unread idle = tt
+-- a status that is not of a run or of a file that was not read is one that texts have
+pub ends_by_texts : (end : Status) → ((file : ℕ) → end ≢ status.Unread file) → ¬ IsOfRun end → IsOfTexts end
+ends_by_texts status.Ended unread idle = absurd (idle tt)
+ends_by_texts status.Usage unread idle = tt
+ends_by_texts (status.Unread file) unread idle = absurd (unread file refl)
+ends_by_texts (status.Syntax place kind) unread idle = tt
+ends_by_texts (status.Refused fault) unread idle = tt
+ends_by_texts (status.Limit name) unread idle = tt
+ends_by_texts (status.Trap kind place) unread idle = absurd (idle tt)
+ends_by_texts status.TooDeep unread idle = absurd (idle tt)
+ends_by_texts status.Spent unread idle = absurd (idle tt)
+ends_by_texts (status.DeviceFailed grant op) unread idle = absurd (idle tt)
+ends_by_texts status.Unwritten unread idle = absurd (idle tt)
+ends_by_texts status.Memory unread idle = absurd (idle tt)
+ends_by_texts (status.BadCert at) unread idle = tt
+ends_by_texts (status.Unproved scope test index) unread idle = tt
+ends_by_texts (status.Denied line instance atom) unread idle = tt
+ends_by_texts (status.BadPolicy line) unread idle = tt

@@ -8,20 +8,22 @@ use Rattle.wy_engine.specs.Headline.{Accepts}
 use Rattle.wy_certify.specs.CertificateLaws.{OneSize}
 use Rattle.wy_engine.specs.Certificates.{ProvesTexts}
 use Rattle.wy_engine.specs.Certifying.{HasCertificate}
-use Rattle.wy_engine.specs.Judgement.{Asks, Did, KeepsToPolicy, Runnable, Stops, certified, checked, formatted, nothing, permitted, proved, ran, reported, running}
+use Rattle.wy_engine.specs.Folders.{AsksCall, StopsCall}
+use Rattle.wy_engine.specs.Judgement.{Asks, Did, KeepsToPolicy, Runnable, certified, checked, formatted, nothing, permitted, proved, ran, reported, running}
 use Rattle.wy_engine.specs.Passing.{Passes}
 use Rattle.wy_engine.specs.Status.{IsOfRun, IsOfTexts}
 use Rattle.wy_engine.specs.TopCall.{TopCall}
+use Rattle.wy_settings.specs.Settings.{Settings}
 use Rattle.wy_settings.specs.declared.command_line.Command.{Command}
 use Rattle.wy_settings.specs.declared.command_line.Command.TheVariants as command
 use Rattle.wy_engine.specs.declared.running.Mode.{Mode}
 use Rattle.wy_engine.specs.declared.running.Mode.TheVariants as mode
 use Rattle.wy_engine.specs.declared.status.Status.TheVariants as status
-use Rattle.wy_engine.proofs.OneAnswer.{ask_or_stop, one_ask, one_stop}
+use Rattle.wy_engine.proofs.CallAnswers.{call_asks_or_stops, one_call_ask, one_call_stop}
 use Rattle.wy_engine.proofs.Statuses.{run_or_texts}
 
 -- the texts that came stop the call
-pub accepts_stopped : ResolvedIsCore → OneSize → (call : TopCall) (asked : Command) (texts : List (List ℕ)) → (call.status ≡ status.Memory) ⊎ Stops asked texts call.status → Accepts call asked nothing texts
+pub accepts_stopped : ResolvedIsCore → OneSize → (call : TopCall) (asked : Settings) (texts : List (List ℕ)) → (call.status ≡ status.Memory) ⊎ StopsCall asked texts call.status → Accepts call asked nothing texts
 accepts_stopped law size call asked texts (inl is) = record {
   stopped = λ of_texts. absurd (subst IsOfTexts is of_texts);
   stops = λ end stop full. absurd (full is);
@@ -30,18 +32,18 @@ accepts_stopped law size call asked texts (inl is) = record {
 }
 accepts_stopped law size call asked texts (inr here) = record {
   stopped = λ _. here;
-  stops = λ end stop full. one_stop law asked texts call.status end here stop;
+  stops = λ end stop full. one_call_stop law size asked texts call.status end here stop;
   done = inl refl;
-  does = λ other asks full. absurd (ask_or_stop law size asked texts other call.status asks here);
+  does = λ other asks full. absurd (call_asks_or_stops law size asked texts other call.status asks here);
 }
 
 -- .. or something is done with them
-pub accepts_done : ResolvedIsCore → OneSize → (call : TopCall) (asked : Command) (did : Did) (texts : List (List ℕ)) → Asks asked texts did → IsOfRun call.status → Accepts call asked did texts
+pub accepts_done : ResolvedIsCore → OneSize → (call : TopCall) (asked : Settings) (did : Did) (texts : List (List ℕ)) → AsksCall asked texts did → IsOfRun call.status → Accepts call asked did texts
 accepts_done law size call asked did texts asks run = record {
   stopped = λ of_texts. absurd (run_or_texts call.status run of_texts);
-  stops = λ end stop full. absurd (ask_or_stop law size asked texts did end asks stop);
+  stops = λ end stop full. absurd (call_asks_or_stops law size asked texts did end asks stop);
   done = inr asks;
-  does = λ other also full. one_ask asked texts did other asks also;
+  does = λ other also full. one_call_ask asked texts did other asks also;
 }
 
 pub asks_check : (asked : Command) (texts : List (List ℕ)) (program : Program) → asked ≡ command.Check → Passes texts program → Asks asked texts checked

@@ -7,11 +7,12 @@ use Rattle.wy_settings.specs.Settings.{Settings, settings_of}
 use Rattle.wy_settings.specs.declared.command_line.Command.{Command}
 use Rattle.wy_settings.specs.declared.command_line.Command.TheVariants as command
 use Rattle.wy_well_formed.specs.WellFormed.{ResolvedIsCore}
+use Rattle.wy_engine.specs.Folders.{AsksCall, StopsCall, by_files, by_folders}
 use Rattle.wy_engine.specs.Given.{AreTold, IsGiven, TextsAreTold}
 use Rattle.wy_engine.specs.Headline.{Accepts, Answers, Does, IsTextless, Settles, answered, textless}
-use Rattle.wy_engine.specs.Judgement.{Asks, Did, Stops, certified, checked, formatted, nothing, permitted, proved, ran, reported}
-use Rattle.wy_engine.specs.Status.{IsOfRun, IsOfTexts}
-use Rattle.wy_engine.specs.Texts.{AreTexts, HasTexts, first_bytes}
+use Rattle.wy_engine.specs.Judgement.{Asks, Did, certified, checked, formatted, nothing, permitted, proved, ran, reported}
+use Rattle.wy_engine.specs.Status.{IsOfRun}
+use Rattle.wy_engine.specs.Texts.{AreTexts, first_bytes}
 use Rattle.wy_engine.specs.TopCall.{TopCall, most_files}
 use Rattle.wy_engine.specs.declared.status.Status.{Status}
 use Rattle.wy_engine.specs.declared.status.Status.TheVariants as status
@@ -74,53 +75,61 @@ did_run call permitted some does = out_run call.status does.reached
 did_run call (certified program) some does = out_run call.status does.2.reached
 did_run call (proved program) some does = out_run call.status does.1.reached
 
-textless_is : (s : Status) → IsTextless s → (s ≡ status.Memory) ⊎ ((s ≡ status.Usage) ⊎ ((s ≡ status.Limit limit.Files) ⊎ ((file : ℕ) × (s ≡ status.Unread file))))
-textless_is status.Memory is = inl refl
-textless_is status.Usage is = inr (inl refl)
-textless_is (status.Limit name) is = inr (inr (inl (ap (λ n. status.Limit n) is)))
-textless_is (status.Unread file) is = inr (inr (inr (file, refl)))
-textless_is other is = absurd is
+textless_is : (words : List (List ℕ)) (s : Status) → IsTextless words s
+    → (s ≡ status.Memory) ⊎ ((settings_of words ≡ None) ⊎ ((s ≡ status.Limit limit.Files) ⊎ ((file : ℕ) × (s ≡ status.Unread file))))
+textless_is words status.Memory is = inl refl
+textless_is words status.Usage is = inr (inl is)
+textless_is words (status.Limit name) is = inr (inr (inl (ap (λ n. status.Limit n) is)))
+textless_is words (status.Unread file) is = inr (inr (inr (file, refl)))
+textless_is words other is = absurd is
 
 -- ---- the law
 
+-- what ends a call by what was read of its files ends it by them
+stops_call_read : (asked : Settings) (read texts : List (List ℕ)) (end : Status) → IsTextOf asked.command read texts → StopsCall asked read end → StopsCall asked texts end
+stops_call_read asked read texts end of (by_files stops) = by_files (stops_read asked.command read texts end of stops)
+stops_call_read asked read texts end of (by_folders lacks is) =
+    by_folders (record { program = lacks.program; runs = asks_read asked.command read texts (ran lacks.program) of lacks.runs; lacks = lacks.lacks }) is
+
+asks_call_read : (asked : Settings) (read texts : List (List ℕ)) (did : Did) → IsTextOf asked.command read texts → AsksCall asked read did → AsksCall asked texts did
+asks_call_read asked read texts did of asks = record { files = asks_read asked.command read texts did of asks.files; folders = asks.folders }
+
 module _ (law : ResolvedIsCore) (size : OneSize) (call : TopCall) (settles : Settles call) where
-  accepts_nothing : (asked : Command) (texts : List (List ℕ)) → settles.did ≡ nothing → (call.status ≡ status.Memory) ⊎ Stops asked texts call.status → Accepts call asked settles.did texts
+  accepts_nothing : (asked : Settings) (texts : List (List ℕ)) → settles.did ≡ nothing → (call.status ≡ status.Memory) ⊎ StopsCall asked texts call.status → Accepts call asked settles.did texts
   accepts_nothing asked texts none why = subst (λ (d : Did). Accepts call asked d texts) (sym none) (accepts_stopped law size call asked texts why)
 
-  accepts_told : (asked : Command) (read texts : List (List ℕ)) → IsTextOf asked read texts → call.status ≢ status.Usage → ((file : ℕ) → call.status ≢ status.Unread file)
+  accepts_told : (asked : Settings) (read texts : List (List ℕ)) → IsTextOf asked.command read texts → ((file : ℕ) → call.status ≢ status.Unread file)
       → Accepts call asked settles.did read → Accepts call asked settles.did texts
-  accepts_told asked read texts of usage unread accepts =
+  accepts_told asked read texts of unread accepts =
       elim accepts.done [
         | inl none ↦ elim (memory_or call.status) [
           | inl memory ↦ accepts_nothing asked texts none (inl memory)
           | inr full ↦
               let idle : ¬ IsOfRun call.status = (subst (λ (d : Did). Does call d) none settles.does).1 full in
-              accepts_nothing asked texts none (inr (stops_read asked read texts call.status of (accepts.stopped (ends_by_texts call.status usage unread idle))))
+              accepts_nothing asked texts none (inr (stops_call_read asked read texts call.status of (accepts.stopped (ends_by_texts call.status unread idle))))
         ]
-        | inr asks ↦ accepts_done law size call asked settles.did texts (asks_read asked read texts settles.did of asks)
-            (did_run call settles.did (λ none. asks_something asked read (subst (λ (d : Did). Asks asked read d) none asks)) settles.does)
+        | inr asks ↦ accepts_done law size call asked settles.did texts (asks_call_read asked read texts settles.did of asks)
+            (did_run call settles.did (λ none. asks_something asked.command read (subst (λ (d : Did). Asks asked.command read d) none asks.files)) settles.does)
       ]
 
   -- .. of a call to which not all texts came
-  accepts_textless : (named : Command) (texts : List (List ℕ)) → IsGiven call named texts → ((file : ℕ) → call.status ≢ status.Unread file) → settles.did ≡ nothing
-      → (call.status ≡ status.Memory) ⊎ ((call.status ≡ status.Usage) ⊎ ((call.status ≡ status.Limit limit.Files) ⊎ ((file : ℕ) × (call.status ≡ status.Unread file)))) → Accepts call named settles.did texts
-  accepts_textless named texts given unread none (inl memory) = accepts_nothing named texts none (inl memory)
-  accepts_textless named texts given unread none (inr (inl usage)) = let q : Some given.settings ≡ None = sym given.set ∙ settles.reads.usage usage in absurd (cc)
-  accepts_textless named texts given unread none (inr (inr (inl crowd))) = absurd (not_many given.settings.files given.few (settles.reads.crowd crowd given.settings given.set))
+  accepts_textless : (asked : Settings) (texts : List (List ℕ)) → IsGiven call asked texts → ((file : ℕ) → call.status ≢ status.Unread file) → settles.did ≡ nothing
+      → (call.status ≡ status.Memory) ⊎ ((settings_of call.words ≡ None) ⊎ ((call.status ≡ status.Limit limit.Files) ⊎ ((file : ℕ) × (call.status ≡ status.Unread file)))) → Accepts call asked settles.did texts
+  accepts_textless asked texts given unread none (inl memory) = accepts_nothing asked texts none (inl memory)
+  accepts_textless asked texts given unread none (inr (inl usage)) = let q : Some asked ≡ None = sym given.set ∙ usage in absurd (cc)
+  accepts_textless asked texts given unread none (inr (inr (inl crowd))) = absurd (not_many asked.files given.few (settles.reads.crowd crowd asked given.set))
     where
       not_many : (files : List (List ℕ)) → length files ≤ most_files → most_files < length files → ⊥
       not_many files few many = omega arith
-  accepts_textless named texts given unread none (inr (inr (inr not_read))) = absurd (unread not_read.0 not_read.1)
+  accepts_textless asked texts given unread none (inr (inr (inr not_read))) = absurd (unread not_read.0 not_read.1)
 
-  texts_told_by : (named : Command) (texts : List (List ℕ)) → IsGiven call named texts → ((file : ℕ) → call.status ≢ status.Unread file) → Answers call settles.did → Accepts call named settles.did texts
-  texts_told_by named texts given unread (textless without none) = accepts_textless named texts given unread none (textless_is call.status without)
-  texts_told_by named texts given unread (answered asked read has accepts) =
-      let e : has.settings ≡ given.settings = same_settings call has.settings given.settings has.set given.set in
-      let told : AreTold has.settings.command call.shelf has.settings.files texts = subst (λ (s : Settings). AreTold s.command call.shelf s.files texts) (sym e) given.are in
-      let of : IsTextOf asked read texts = subst (λ (c : Command). IsTextOf c read texts) has.is (is_text_of has.settings.command call.shelf has.settings.files read texts has.are told) in
-      let some : call.status ≢ status.Usage = λ usage. let q : Some given.settings ≡ None = sym given.set ∙ settles.reads.usage usage in cc in
-      let same : asked ≡ named = sym has.is ∙ (ap (λ (s : Settings). s.command) e ∙ given.is) in
-      subst (λ (c : Command). Accepts call c settles.did texts) same (accepts_told asked read texts of some unread accepts)
+  texts_told_by : (asked : Settings) (texts : List (List ℕ)) → IsGiven call asked texts → ((file : ℕ) → call.status ≢ status.Unread file) → Answers call settles.did → Accepts call asked settles.did texts
+  texts_told_by asked texts given unread (textless without none) = accepts_textless asked texts given unread none (textless_is call.words call.status without)
+  texts_told_by asked texts given unread (answered other read has accepts) =
+      let e : other ≡ asked = same_settings call other asked has.set given.set in
+      let are : AreTexts asked.command call.shelf asked.files read = subst (λ (s : Settings). AreTexts s.command call.shelf s.files read) e has.are in
+      accepts_told asked read texts (is_text_of asked.command call.shelf asked.files read texts are given.are) unread
+      (subst (λ (s : Settings). Accepts call s settles.did read) e accepts)
 
 pub texts_told : ResolvedIsCore → OneSize → TextsAreTold
-texts_told law size call settles named texts given unread = texts_told_by law size call settles named texts given unread settles.answers
+texts_told law size call settles asked texts given unread = texts_told_by law size call settles asked texts given unread settles.answers

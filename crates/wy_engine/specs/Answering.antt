@@ -1,5 +1,5 @@
 -- What answering texts does, before it is known which words named them.
-use Rattle.std.specs.Prelude.{◌≡◌, ◌⊎◌, ℕ, List, [], ◌∷◌, Some, None}
+use Rattle.std.specs.Prelude.{◌≡◌, ◌⊎◌, ℕ, List, [], ◌∷◌, Some, None, true, false}
 use Rattle.wy_text.specs.Outside.{SinkState}
 use Rattle.wy_text.specs.declared.limit.LimitName.{LimitName}
 use Rattle.wy_device.specs.Devices.{DevicesState}
@@ -31,12 +31,14 @@ use Rattle.wy_recheck.specs.declared.rechecking.CertRefusal.{CertRefusal}
 use Rattle.wy_recheck.specs.declared.rechecking.CertRefusal.TheVariants as disproof
 use Rattle.wy_engine.specs.Certificates.{ProvesTexts, proved_text}
 use Rattle.wy_engine.specs.FileTrees.{HaveTrees}
-use Rattle.wy_engine.specs.Judgement.{IsNumbered, KeepsToPolicy, Refuses, Runnable, Stops, accepted_text, allowed_text, authority_text, running}
+use Rattle.wy_engine.specs.Folders.{StopsCall, fit_program}
+use Rattle.wy_engine.specs.Judgement.{IsNumbered, KeepsToPolicy, Refuses, Runnable, accepted_text, allowed_text, authority_text, running}
 use Rattle.wy_engine.specs.Passing.{Passes}
 use Rattle.wy_engine.specs.NameFaults.{names_status}
 use Rattle.wy_engine.specs.Running.{Ran}
 use Rattle.wy_engine.specs.Writing.{Wrote}
 use Rattle.wy_engine.specs.declared.running.Mode.{Mode}
+use Rattle.wy_settings.specs.Folders.{GivenFolder}
 use Rattle.wy_settings.specs.Settings.{Settings}
 use Rattle.wy_settings.specs.declared.command_line.Command.TheVariants as command
 use Rattle.wy_engine.specs.declared.status.Status.{Status}
@@ -103,31 +105,34 @@ pub data RechecksTrees (bytes : List ℕ) (trees : List (List ItemTree)) (out ou
       → RechecksTrees bytes trees out out' end
   proved_trees : (program : Program) → Resolves (all_items trees) program → IsProvedBy program bytes → Wrote proved_text out out' end → RechecksTrees bytes trees out out' end
 
--- what running an accepted program did: nothing, since its code passes a limit or memory was wanting; or it was run
-pub data RunsAccepted (way : Mode) (program : Program) (depth steps : ℕ) (out out' report report' : SinkState) (devices devices' : DevicesState) (end : Status) : Type 0 where
+-- What running an accepted program did: nothing, since its code passes a limit, or a folder is not for one of its grants, or memory ran
+-- out; or it was run.
+pub data RunsAccepted (way : Mode) (program : Program) (folders : List GivenFolder) (depth steps : ℕ) (out out' report report' : SinkState) (devices devices' : DevicesState) (end : Status) : Type 0 where
   limited : (name : LimitName) → lowering_limit program (program_starts program) ≡ Some name → end ≡ status.Limit name → out' ≡ out → report' ≡ report → devices' ≡ devices
-      → RunsAccepted way program depth steps out out' report report' devices devices' end
-  wanting : end ≡ status.Memory → out' ≡ out → report' ≡ report → devices' ≡ devices → RunsAccepted way program depth steps out out' report report' devices devices' end
-  ran_program : lowering_limit program (program_starts program) ≡ None → Ran way program depth steps out out' report report' devices devices' end
-      → RunsAccepted way program depth steps out out' report report' devices devices' end
+      → RunsAccepted way program folders depth steps out out' report report' devices devices' end
+  wanting : end ≡ status.Memory → out' ≡ out → report' ≡ report → devices' ≡ devices → RunsAccepted way program folders depth steps out out' report report' devices devices' end
+  lacking : lowering_limit program (program_starts program) ≡ None → fit_program program folders ≡ false → end ≡ status.Usage → out' ≡ out → report' ≡ report → devices' ≡ devices
+      → RunsAccepted way program folders depth steps out out' report report' devices devices' end
+  ran_program : lowering_limit program (program_starts program) ≡ None → fit_program program folders ≡ true → Ran way program depth steps out out' report report' devices devices' end
+      → RunsAccepted way program folders depth steps out out' report report' devices devices' end
 
 -- .. and with trees: nothing, since they do not pass; or their program was accepted
-pub data RunsTrees (way : Mode) (trees : List (List ItemTree)) (depth steps : ℕ) (out out' report report' : SinkState) (devices devices' : DevicesState) (end : Status) : Type 0 where
-  fails_check : FailsCheck trees end → out' ≡ out → report' ≡ report → devices' ≡ devices → RunsTrees way trees depth steps out out' report report' devices devices' end
-  accepted_trees : (program : Program) → Resolves (all_items trees) program → IsAccepted program → RunsAccepted way program depth steps out out' report report' devices devices' end
-      → RunsTrees way trees depth steps out out' report report' devices devices' end
+pub data RunsTrees (way : Mode) (trees : List (List ItemTree)) (folders : List GivenFolder) (depth steps : ℕ) (out out' report report' : SinkState) (devices devices' : DevicesState) (end : Status) : Type 0 where
+  fails_check : FailsCheck trees end → out' ≡ out → report' ≡ report → devices' ≡ devices → RunsTrees way trees folders depth steps out out' report report' devices devices' end
+  accepted_trees : (program : Program) → Resolves (all_items trees) program → IsAccepted program → RunsAccepted way program folders depth steps out out' report report' devices devices' end
+      → RunsTrees way trees folders depth steps out out' report report' devices devices' end
 
 -- what was done with texts: nothing, since memory was wanting or they stop the call; it was said that they are accepted;
 -- the report of what their program may do was written; a program was run; the canonical form of a file was written; it was said
 -- that a program keeps to its policy; a program's certificate was written; or it was said that one proves a program
 pub data Answered (asked : Settings) (texts : List (List ℕ)) (out out' report report' : SinkState) (devices devices' : DevicesState) (end : Status) : Type 0 where
-  declined : (end ≡ status.Memory) ⊎ Stops asked.command texts end → out' ≡ out → report' ≡ report → devices' ≡ devices
+  declined : (end ≡ status.Memory) ⊎ StopsCall asked texts end → out' ≡ out → report' ≡ report → devices' ≡ devices
       → Answered asked texts out out' report report' devices devices' end
   checked : (program : Program) → asked.command ≡ command.Check → Passes texts program → Wrote accepted_text out out' end → report' ≡ report → devices' ≡ devices
       → Answered asked texts out out' report report' devices devices' end
   reported : (program : Program) → asked.command ≡ command.Authority → Passes texts program → Wrote (authority_text program) out out' end → report' ≡ report → devices' ≡ devices
       → Answered asked texts out out' report report' devices devices' end
-  ran : (program : Program) (way : Mode) → asked.command ≡ running way → IsNumbered way asked.files → Runnable texts program → Ran way program asked.depth asked.steps out out' report report' devices devices' end
+  ran : (program : Program) (way : Mode) → asked.command ≡ running way → IsNumbered way asked.files → Runnable texts program → fit_program program asked.folders ≡ true → Ran way program asked.depth asked.steps out out' report report' devices devices' end
       → Answered asked texts out out' report report' devices devices' end
   formatted : (tree : List ItemTree) → asked.command ≡ command.Format → HaveTrees 1 texts (tree ∷ []) → Wrote (canonical_form tree) out out' end → report' ≡ report → devices' ≡ devices
       → Answered asked texts out out' report report' devices devices' end

@@ -9,10 +9,11 @@ use Rattle.wy_device.specs.RunEnds.{RunEnd}
 use Rattle.wy_device.specs.declared.operation.Kind.{Kind}
 use Rattle.wy_machine.specs.TrapKinds.{trap_meant}
 use Rattle.wy_types.specs.Program.{Program}
-use Rattle.wy_settings.specs.declared.command_line.Command.{Command}
+use Rattle.wy_settings.specs.Settings.{Settings}
+use Rattle.wy_engine.specs.Folders.{AsksCall}
 use Rattle.wy_engine.specs.Given.{IsGiven}
 use Rattle.wy_engine.specs.Headline.{Headline}
-use Rattle.wy_engine.specs.Judgement.{Asks, Did, certified, checked, formatted, nothing, permitted, proved, ran, reported}
+use Rattle.wy_engine.specs.Judgement.{Did, certified, checked, formatted, nothing, permitted, proved, ran, reported}
 use Rattle.wy_engine.specs.Told.{course_in}
 use Rattle.wy_engine.specs.TopCall.{TopCall}
 use Rattle.wy_engine.specs.declared.status.Status.{Status}
@@ -36,9 +37,9 @@ EndsAsMeant other end = ⊥
 -- that its meaning evaluates and four more, ends as its meaning does, unless memory was wanting.
 abbrev pub RunsEnd : Type 0
 RunsEnd = (call : TopCall) → Headline call → HasNoFault call → TellsDeeds call.devices
-    → (named : Command) (texts : List (List ℕ)) (given : IsGiven call named texts) (program : Program) → Asks named texts (ran program)
-    → 4 * (course_in call given.settings program).nodes + 4 ≤ given.settings.steps
-    → (call.status ≡ status.Memory) ⊎ EndsAsMeant call.status (course_in call given.settings program).end
+    → (asked : Settings) (texts : List (List ℕ)) → IsGiven call asked texts → (program : Program) → AsksCall asked texts (ran program)
+    → 4 * (course_in call asked program).nodes + 4 ≤ asked.steps
+    → (call.status ≡ status.Memory) ⊎ EndsAsMeant call.status (course_in call asked program).end
 
 -- what the other commands do with texts that do not stop them
 abbrev pub IsWritten : Did → Type 0
@@ -54,7 +55,7 @@ IsWritten (proved program) = ⊤
 -- .. and these end well, unless memory was wanting
 abbrev pub WritesEnd : Type 0
 WritesEnd = (call : TopCall) → Headline call → HasNoFault call
-    → (named : Command) (texts : List (List ℕ)) → IsGiven call named texts → (did : Did) → IsWritten did → Asks named texts did
+    → (asked : Settings) (texts : List (List ℕ)) → IsGiven call asked texts → (did : Did) → IsWritten did → AsksCall asked texts did
     → (call.status ≡ status.Memory) ⊎ (call.status ≡ status.Ended)
 
 pub record AcceptedTextsEnd : Type 0 where

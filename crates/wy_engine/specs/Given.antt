@@ -27,15 +27,13 @@ abbrev pub AreTold : Command → ShelfState → List (List ℕ) → List (List �
 AreTold command.Sample shelf names texts = sampled names ≡ Some texts
 AreTold asked shelf names texts = TellsTexts shelf names texts
 
--- a call of the command, which has no more files than the limit; and these are its texts
-pub record IsGiven (call : TopCall) (command : Command) (texts : List (List ℕ)) : Type 0 where
-  pub settings : Settings
-  pub set : IsSet call settings
-  pub is : settings.command ≡ command
-  pub few : length settings.files ≤ most_files
-  pub are : AreTold settings.command call.shelf settings.files texts
+-- the call has these settings, no more files than the limit, and these texts
+pub record IsGiven (call : TopCall) (asked : Settings) (texts : List (List ℕ)) : Type 0 where
+  pub set : IsSet call asked
+  pub few : length asked.files ≤ most_files
+  pub are : AreTold asked.command call.shelf asked.files texts
 
 -- If all files were read, what a call did is what the rules say of the files that the shelf tells.
 abbrev pub TextsAreTold : Type 0
-TextsAreTold = (call : TopCall) (settles : Settles call) (command : Command) (texts : List (List ℕ)) → IsGiven call command texts
-    → ((file : ℕ) → call.status ≢ status.Unread file) → Accepts call command settles.did texts
+TextsAreTold = (call : TopCall) (settles : Settles call) (asked : Settings) (texts : List (List ℕ)) → IsGiven call asked texts
+    → ((file : ℕ) → call.status ≢ status.Unread file) → Accepts call asked settles.did texts

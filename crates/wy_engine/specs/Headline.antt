@@ -1,6 +1,6 @@
 -- What a call of the top function promises: which texts it accepts, what it prints and writes, which operations it
 -- does, that they are within the authority that it printed, and how it ends.
-use Rattle.std.specs.Prelude.{◌≡◌, ◌≢◌, ◌⊎◌, ◌<◌, ◌≤◌, ◌*◌, ℕ, List, [], ◌∷◌, ◌++◌, Some, length, ⊤}
+use Rattle.std.specs.Prelude.{◌≡◌, ◌≢◌, ◌⊎◌, ◌<◌, ◌≤◌, ◌*◌, ℕ, List, [], ◌∷◌, ◌++◌, Some, None, length, ⊤}
 use Rattle.wy_text.specs.Outside.{gained, Rose, SinkState}
 use Rattle.wy_device.specs.Devices.{device_of}
 use Rattle.wy_device.specs.Events.{DidExactly}
@@ -22,7 +22,6 @@ use Rattle.wy_meaning.specs.Bounds.{Bounded}
 use Rattle.wy_meaning.specs.EventLines.{event_line, event_lines}
 use Rattle.wy_meaning.specs.Start.{Course}
 use Rattle.wy_syntax.specs.Canonical.{canonical_form}
-use Rattle.wy_syntax.specs.Trees.{ItemTree}
 use Rattle.wy_types.specs.Program.{Program}
 use Rattle.wy_sound.specs.Courses.{course}
 use Rattle.wy_sound.specs.Programs.{allowed, program_starts}
@@ -30,7 +29,8 @@ use Rattle.wy_sound.specs.Used.{IsUsedWithin}
 use Rattle.wy_rules.specs.Acceptance.{Accepted}
 use Rattle.wy_certify.specs.Certificates.{IsCertified}
 use Rattle.wy_engine.specs.Certificates.{proved_text}
-use Rattle.wy_engine.specs.Judgement.{Asks, Did, IsReported, RunsPrograms, Stops, accepted_text, allowed_text, authority_text, certified, checked, formatted, nothing, observed_text, permitted, proved, ran, reported, summary_text}
+use Rattle.wy_engine.specs.Folders.{AsksCall, StopsCall}
+use Rattle.wy_engine.specs.Judgement.{Did, IsReported, RunsPrograms, accepted_text, allowed_text, authority_text, certified, checked, formatted, nothing, observed_text, permitted, proved, ran, reported, summary_text}
 use Rattle.wy_engine.specs.LastLine.{LineWords, last_line, line_words}
 use Rattle.wy_settings.specs.Settings.{Settings, sample_number, settings_of}
 use Rattle.wy_engine.specs.Texts.{HasTexts}
@@ -41,27 +41,27 @@ use Rattle.wy_settings.specs.declared.command_line.Command.TheVariants as comman
 use Rattle.wy_engine.specs.declared.status.Status.{Status}
 use Rattle.wy_engine.specs.declared.status.Status.TheVariants as status
 
--- Texts came to a call of this command. They stop it with a status, or it does with them what the command asks. Each answer comes
--- exactly if the texts have it. Only running out of memory can replace it.
-pub record Accepts (call : TopCall) (command : Command) (did : Did) (texts : List (List ℕ)) : Type 0 where
-  pub stopped : IsOfTexts call.status → Stops command texts call.status
-  pub stops : (end : Status) → Stops command texts end → call.status ≢ status.Memory → call.status ≡ end
-  pub done : (did ≡ nothing) ⊎ Asks command texts did
-  pub does : (other : Did) → Asks command texts other → call.status ≢ status.Memory → did ≡ other
+-- Texts came to a call with these settings. They stop it with a status, or it does with them what it is asked to do. Each answer
+-- comes exactly if the texts have it. Only running out of memory can replace it.
+pub record Accepts (call : TopCall) (asked : Settings) (did : Did) (texts : List (List ℕ)) : Type 0 where
+  pub stopped : IsOfTexts call.status → StopsCall asked texts call.status
+  pub stops : (end : Status) → StopsCall asked texts end → call.status ≢ status.Memory → call.status ≡ end
+  pub done : (did ≡ nothing) ⊎ AsksCall asked texts did
+  pub does : (other : Did) → AsksCall asked texts other → call.status ≢ status.Memory → did ≡ other
 
--- a status of a call to which not all texts came
-abbrev pub IsTextless : Status → Type 0
-IsTextless status.Usage = ⊤
-IsTextless (status.Unread file) = ⊤
-IsTextless (status.Limit name) = name ≡ limit.Files
-IsTextless status.Memory = ⊤
-IsTextless other = ⊥
+-- a status of a call with these words to which not all texts came
+abbrev pub IsTextless : List (List ℕ) → Status → Type 0
+IsTextless words status.Usage = settings_of words ≡ None
+IsTextless words (status.Unread file) = ⊤
+IsTextless words (status.Limit name) = name ≡ limit.Files
+IsTextless words status.Memory = ⊤
+IsTextless words other = ⊥
 
 -- What a call did with its texts. Either not all of them came, and it did nothing. Or they came: they are what was read of its
 -- files, whether or not the shelf tells what the files hold.
 pub data Answers (call : TopCall) (did : Did) : Type 0 where
-  textless : IsTextless call.status → did ≡ nothing → Answers call did
-  answered : (command : Command) (texts : List (List ℕ)) → HasTexts call command texts → Accepts call command did texts → Answers call did
+  textless : IsTextless call.words call.status → did ≡ nothing → Answers call did
+  answered : (asked : Settings) (texts : List (List ℕ)) → HasTexts call asked texts → Accepts call asked did texts → Answers call did
 
 -- the words of a call are settings of the command
 pub record HasCommand (call : TopCall) (command : Command) : Type 0 where

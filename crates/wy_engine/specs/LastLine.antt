@@ -50,7 +50,7 @@ abbrev pub limit_line : LimitName → List ℕ
 limit_line name = codes "limit: " ++ (limit_text name ++ (codes " " ++ (decimal (limit_number name) ++ codes "\n")))
 
 abbrev pub usage_line : List ℕ
-usage_line = codes "usage: wyvern COMMAND [--steps N] [--depth N] FILE...\n"
+usage_line = codes "usage: wyvern COMMAND [--steps N] [--depth N] [--folder GRANT=PATH]... FILE...\n"
 
 -- a test of a certificate
 abbrev pub test_text : CertTest → List ℕ

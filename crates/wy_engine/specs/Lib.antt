@@ -4,6 +4,7 @@ pub mod Certifying
 pub mod CertifiedProved
 pub mod Completeness
 pub mod FileTrees
+pub mod Folders
 pub mod FormatAgain
 pub mod Given
 pub mod Headline

@@ -63,10 +63,10 @@ IsOfOut (status.Unproved scope test index) = ⊥
 IsOfOut (status.Denied line instance atom) = ⊥
 IsOfOut (status.BadPolicy line) = ⊥
 
--- a status that texts may have by themselves, before anything is run or written to `out`
+-- a status that texts may have, before anything is run or written to `out`
 abbrev pub IsOfTexts : Status → Type 0
 IsOfTexts status.Ended = ⊥
-IsOfTexts status.Usage = ⊥
+IsOfTexts status.Usage = ⊤
 IsOfTexts (status.Unread file) = ⊥
 IsOfTexts (status.Syntax place kind) = ⊤
 IsOfTexts (status.Refused fault) = ⊤

@@ -34,10 +34,8 @@ abbrev pub AreTexts : Command → ShelfState → List (List ℕ) → List (List 
 AreTexts command.Sample shelf names texts = sampled names ≡ Some texts
 AreTexts asked shelf names texts = GivesFiles (first_bytes asked) shelf names texts
 
--- the call is of this command, it has no more files than the limit, and these are its texts
-pub record HasTexts (call : TopCall) (command : Command) (texts : List (List ℕ)) : Type 0 where
-  pub settings : Settings
-  pub set : IsSet call settings
-  pub is : settings.command ≡ command
-  pub few : length settings.files ≤ most_files
-  pub are : AreTexts settings.command call.shelf settings.files texts
+-- the call has these settings, no more files than the limit, and these texts
+pub record HasTexts (call : TopCall) (asked : Settings) (texts : List (List ℕ)) : Type 0 where
+  pub set : IsSet call asked
+  pub few : length asked.files ≤ most_files
+  pub are : AreTexts asked.command call.shelf asked.files texts

@@ -72,7 +72,6 @@ ReadsFor asked call names = ReadsInOrder call names
 -- Which calls end by their words, and which reads were made. The shelf is asked for nothing where the words give no
 -- settings, or more files than the limit. Only want of memory may come in the place of what ends such a call.
 pub record ReadsFiles (call : TopCall) : Type 0 where
-  pub usage : call.status ≡ status.Usage → settings_of call.words ≡ None
   pub faulty : settings_of call.words ≡ None → (call.status ≢ status.Memory → call.status ≡ status.Usage) × (call.shelf_after ≡ call.shelf)
   pub crowd : call.status ≡ status.Limit limit.Files → (settings : Settings) → IsSet call settings → most_files < length settings.files
   pub crowded : (settings : Settings) → IsSet call settings → most_files < length settings.files → (call.status ≢ status.Memory → call.status ≡ status.Limit limit.Files) × (call.shelf_after ≡ call.shelf)

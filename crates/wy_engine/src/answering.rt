@@ -2,7 +2,7 @@ ghost use Rattle.std.specs.Prelude.{◌≡◌, ◌≤◌, length, map, string_by
 ghost use Rattle.wy_device.specs.Devices.{IsInOrder};
 ghost use Rattle.wy_machine.specs.Devices.{states};
 ghost use Rattle.wy_syntax.specs.Views.{file_tree};
-ghost use Rattle.wy_settings.specs.Settings.{takes, texts_among};
+ghost use Rattle.wy_settings.specs.Settings.{settings_of_line, takes, texts_among};
 ghost use Rattle.wy_engine.specs.Answering.{Answered};
 ghost use Rattle.wy_engine.specs.Certificates.{HasLargeCertificate, HasNoLargeCertificate};
 ghost use Rattle.wy_engine.specs.FileTrees.{HaveTrees};
@@ -72,12 +72,13 @@ fn answer_trees<O: Sink, E: Sink, D: Device>(
     requires none { HasNoLargeCertificate asked.command texts.now }
     requires trees { HaveTrees 1 (texts_among asked.command texts.now) (map file_tree trees.now) }
     requires in_order { IsInOrder (states D.state devices.old) }
-    ensures { Answered (record { command = asked.entry.command; steps = asked.entry.steps; depth = asked.entry.depth; files = map string_bytes asked.entry.files.now }) texts.now (O.state out.old) (O.state out.new) (E.state report.old) (E.state report.new) (states D.state devices.old) (states D.state devices.new) result }
+    ensures { Answered (settings_of_line asked.entry) texts.now (O.state out.old) (O.state out.new) (E.state report.old) (E.state report.new) (states D.state devices.old) (states D.state devices.new) result }
 {
     let manner = Manner {
         way: way_of(asked.command, asked.files),
         steps: asked.steps,
         depth: asked.depth,
+        folders: asked.folders,
     };
     match asked.command {
         Command::Check => check_trees(alloc, trees, out),
@@ -109,7 +110,7 @@ pub fn answer<O: Sink, E: Sink, D: Device>(
     requires one { asked.command ≡ Command.Format → length texts.now ≡ 1 }
     requires some { HasFirst asked.command → 1 ≤ length texts.now }
     requires in_order { IsInOrder (states D.state devices.old) }
-    ensures { Answered (record { command = asked.entry.command; steps = asked.entry.steps; depth = asked.entry.depth; files = map string_bytes asked.entry.files.now }) texts.now (O.state out.old) (O.state out.new) (E.state report.old) (E.state report.new) (states D.state devices.old) (states D.state devices.new) result }
+    ensures { Answered (settings_of_line asked.entry) texts.now (O.state out.old) (O.state out.new) (E.state report.old) (E.state report.new) (states D.state devices.old) (states D.state devices.new) result }
 {
     if has_large_certificate(asked.command, texts) {
         return Status::Limit(LimitName::CertificateBytes);

@@ -25,7 +25,8 @@ pub struct LineWords<'a> {
 }
 
 /// The last line of a call with invalid arguments.
-const USAGE: &[u8] = b"usage: wyvern COMMAND [--steps N] [--depth N] FILE...\n";
+const USAGE: &[u8] =
+    b"usage: wyvern COMMAND [--steps N] [--depth N] [--folder GRANT=PATH]... FILE...\n";
 
 /// Returns the file argument of a number, which counts from 1; the empty text if there is none.
 fn word_of(names: &[String], file: u16) -> &str

@@ -6,6 +6,7 @@
 pub mod answering;
 pub mod certifying;
 pub mod checking;
+pub mod folders;
 pub mod formatting;
 pub mod judging;
 pub mod last_line;

@@ -1,6 +1,6 @@
 //! Runs an accepted program: lowers it to code, prints its report and runs the code.
 
-ghost use Rattle.std.specs.Prelude.{◌≡◌, ◌≤◌, IfOk, None, length, map};
+ghost use Rattle.std.specs.Prelude.{◌≡◌, ◌≤◌, IfOk, None, length, map, true};
 ghost use Rattle.wy_code.specs.Running.{NeverStuck};
 ghost use Rattle.wy_device.specs.Devices.{IsInOrder};
 ghost use Rattle.wy_machine.specs.Devices.{states};
@@ -8,6 +8,7 @@ ghost use Rattle.wy_machine.specs.Observing.{instance_names};
 ghost use Rattle.wy_link.specs.Checking.{IsCheckedProgram};
 ghost use Rattle.wy_lower.specs.Counts.{lowering_limit};
 ghost use Rattle.wy_lower.specs.Lowering.{lowered};
+ghost use Rattle.wy_settings.specs.Folders.{given_folder};
 ghost use Rattle.wy_sound.specs.Programs.{program_starts};
 ghost use Rattle.wy_text.specs.Members.{Apart};
 ghost use Rattle.wy_policy.specs.Used.{used_sets, used_text};
@@ -16,10 +17,12 @@ ghost use Rattle.wy_authority.specs.Authority.{authority_of};
 ghost use Rattle.wy_types.specs.Program.{Program, program_of};
 ghost use Rattle.wy_engine.specs.Answering.{RunsAccepted, RunsTrees};
 ghost use Rattle.wy_engine.specs.FileTrees.{AreOfFiles};
+ghost use Rattle.wy_engine.specs.Folders.{fit_program};
 ghost use Rattle.wy_engine.specs.ProgramLaws.{RunsAsMeant, row_names};
 ghost use Rattle.wy_engine.specs.Running.{ObservesCode, RunsImage, ThenObserved, ThenWrote, status_of, summary_in};
 
 use crate::checking::{Accepted, authority_of, body_lines, judge_trees};
+use crate::folders::fit_grants;
 use crate::laws::accepted_run_as_meant;
 use crate::status::Status;
 use crate::writing::write_out;
@@ -34,6 +37,7 @@ use wy_machine::run_end::RunEnd;
 use wy_meaning::Used;
 use wy_policy::used_text;
 use wy_sample::summary;
+use wy_settings::GivenFolder;
 use wy_syntax::items::Tree;
 use wy_text::sink::{Sink, WriteError};
 use wy_text::text::{Memory, Text, from_bytes};
@@ -51,12 +55,14 @@ pub enum Mode {
     Observed,
 }
 
-/// How a program is run: what is written of the run, how many steps it may take, and how many calls on objects may be open at once.
+/// How a program is run: what is written of the run, how many steps it may take, how many calls on objects may be open at once, and the
+/// folders that are given for grants.
 #[derive(Clone, Copy)]
-pub struct Manner {
+pub struct Manner<'a> {
     pub way: Mode,
     pub steps: u64,
     pub depth: u32,
+    pub folders: &'a [GivenFolder],
 }
 
 /// Returns the status of a run's end.
@@ -135,7 +141,7 @@ fn observe_image<O: Sink, D: Device>(
 fn run_image<O: Sink, D: Device>(
     alloc: Global,
     image: &mut Image<'_>,
-    manner: Manner,
+    manner: Manner<'_>,
     summary: &[u8],
     authority: &Authority,
     out: &mut O,
@@ -146,7 +152,7 @@ fn run_image<O: Sink, D: Device>(
     requires few { length authority.now.atoms ≤ 512 }
     requires names { instance_names image.old.code ≡ row_names authority.now.rows }
     requires apart { Apart (row_names authority.now.rows) }
-    ensures { RunsImage manner.way summary.now (λ events. used_text authority.now (used_sets authority.now events)) image.old.code image.old.depth manner.steps (O.state out.old) (O.state out.new) (states D.state devices.old) (states D.state devices.new) result }
+    ensures { RunsImage manner.entry.way summary.now (λ events. used_text authority.now (used_sets authority.now events)) image.old.code image.old.depth manner.entry.steps (O.state out.old) (O.state out.new) (states D.state devices.old) (states D.state devices.new) result }
 {
     match manner.way {
         Mode::Silent => status_of(run(image, devices, manner.steps)),
@@ -174,7 +180,7 @@ fn report_and_run<O: Sink, E: Sink, D: Device>(
     alloc: Global,
     accepted: &Accepted,
     image: &mut Image<'_>,
-    manner: Manner,
+    manner: Manner<'_>,
     out: &mut O,
     report: &mut E,
     devices: &mut Devices<D>,
@@ -185,7 +191,8 @@ fn report_and_run<O: Sink, E: Sink, D: Device>(
     requires code { image.old.code ≡ lowered (program_of accepted.now.core) (program_starts (program_of accepted.now.core)) }
     requires deep { image.old.depth ≡ manner.depth }
     requires within { lowering_limit (program_of accepted.now.core) (program_starts (program_of accepted.now.core)) ≡ None }
-    ensures { RunsAccepted manner.way (program_of accepted.now.core) manner.depth manner.steps (O.state out.old) (O.state out.new) (E.state report.old) (E.state report.new) (states D.state devices.old) (states D.state devices.new) result }
+    requires folders { fit_program (program_of accepted.now.core) (map given_folder manner.folders.now) ≡ true }
+    ensures { RunsAccepted manner.entry.way (program_of accepted.now.core) (map given_folder manner.entry.folders.now) manner.entry.depth manner.entry.steps (O.state out.old) (O.state out.new) (E.state report.old) (E.state report.new) (states D.state devices.old) (states D.state devices.new) result }
 {
     let Ok(authority) = authority_of(alloc, accepted) else {
         return Status::Memory;
@@ -203,12 +210,13 @@ fn report_and_run<O: Sink, E: Sink, D: Device>(
     }
 }
 
-/// Loads the code of an accepted program, prints its report and runs it.
+/// Loads the code of an accepted program, prints its report and runs it. It does none of this if a folder is not given for one of the
+/// program's grants.
 fn run_code<O: Sink, E: Sink, D: Device>(
     alloc: Global,
     accepted: &Accepted,
     code: &Code,
-    manner: Manner,
+    manner: Manner<'_>,
     out: &mut O,
     report: &mut E,
     devices: &mut Devices<D>,
@@ -218,8 +226,11 @@ fn run_code<O: Sink, E: Sink, D: Device>(
     requires meant { RunsAsMeant (program_of accepted.now.core) }
     requires code { code.now ≡ lowered (program_of accepted.now.core) (program_starts (program_of accepted.now.core)) }
     requires within { lowering_limit (program_of accepted.now.core) (program_starts (program_of accepted.now.core)) ≡ None }
-    ensures { RunsAccepted manner.way (program_of accepted.now.core) manner.depth manner.steps (O.state out.old) (O.state out.new) (E.state report.old) (E.state report.new) (states D.state devices.old) (states D.state devices.new) result }
+    ensures { RunsAccepted manner.entry.way (program_of accepted.now.core) (map given_folder manner.entry.folders.now) manner.entry.depth manner.entry.steps (O.state out.old) (O.state out.new) (E.state report.old) (E.state report.new) (states D.state devices.old) (states D.state devices.new) result }
 {
+    if !fit_grants(code.grants.as_slice(), manner.folders) {
+        return Status::Usage;
+    }
     match load(alloc, code, manner.depth) {
         Ok(mut image) => report_and_run(alloc, accepted, &mut image, manner, out, report, devices),
         Err(_) => Status::Memory,
@@ -230,7 +241,7 @@ fn run_code<O: Sink, E: Sink, D: Device>(
 fn run_accepted<O: Sink, E: Sink, D: Device>(
     alloc: Global,
     accepted: &Accepted,
-    manner: Manner,
+    manner: Manner<'_>,
     out: &mut O,
     report: &mut E,
     devices: &mut Devices<D>,
@@ -238,7 +249,7 @@ fn run_accepted<O: Sink, E: Sink, D: Device>(
     requires checked { IsCheckedProgram (program_of accepted.now.core) accepted.now.links }
     requires in_order { IsInOrder (states D.state devices.old) }
     requires meant { RunsAsMeant (program_of accepted.now.core) }
-    ensures { RunsAccepted manner.way (program_of accepted.now.core) manner.depth manner.steps (O.state out.old) (O.state out.new) (E.state report.old) (E.state report.new) (states D.state devices.old) (states D.state devices.new) result }
+    ensures { RunsAccepted manner.entry.way (program_of accepted.now.core) (map given_folder manner.entry.folders.now) manner.entry.depth manner.entry.steps (O.state out.old) (O.state out.new) (E.state report.old) (E.state report.new) (states D.state devices.old) (states D.state devices.new) result }
 {
     match lower(alloc, &accepted.core, &accepted.links.instances) {
         Ok(code) => run_code(alloc, accepted, &code, manner, out, report, devices),
@@ -253,14 +264,14 @@ fn run_accepted<O: Sink, E: Sink, D: Device>(
 pub fn run_trees<O: Sink, E: Sink, D: Device>(
     alloc: Global,
     trees: &[Tree],
-    manner: Manner,
+    manner: Manner<'_>,
     out: &mut O,
     report: &mut E,
     devices: &mut Devices<D>,
 ) -> Status
     requires of_files { AreOfFiles (map file_tree trees.now) }
     requires in_order { IsInOrder (states D.state devices.old) }
-    ensures { RunsTrees manner.way (map file_tree trees.now) manner.depth manner.steps (O.state out.old) (O.state out.new) (E.state report.old) (E.state report.new) (states D.state devices.old) (states D.state devices.new) result }
+    ensures { RunsTrees manner.entry.way (map file_tree trees.now) (map given_folder manner.entry.folders.now) manner.entry.depth manner.entry.steps (O.state out.old) (O.state out.new) (E.state report.old) (E.state report.new) (states D.state devices.old) (states D.state devices.new) result }
 {
     accepted_run_as_meant();
     match judge_trees(alloc, trees) {

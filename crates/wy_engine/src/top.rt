@@ -1,7 +1,7 @@
 ghost use Rattle.std.specs.Prelude.{◌≡◌, List, None, OnErr, OnOk, Some, ℕ, map, false, string_bytes, true};
 ghost use Rattle.wy_device.specs.Devices.{IsInOrder};
 ghost use Rattle.wy_machine.specs.Devices.{states};
-ghost use Rattle.wy_settings.specs.Settings.{settings_of, takes};
+ghost use Rattle.wy_settings.specs.Settings.{settings_of, settings_of_line, takes};
 ghost use Rattle.wy_engine.specs.Answering.{Answered};
 ghost use Rattle.wy_engine.specs.Headline.{Closes, Headline, Settles};
 ghost use Rattle.wy_engine.specs.LastLine.{line_words};
@@ -64,7 +64,7 @@ fn answer_sample<O: Sink, E: Sink, D: Device>(
     requires in_order { IsInOrder (states D.state devices.old) }
     requires asked { takes_files line.command ≡ false }
     requires fits { takes line.command (map string_bytes line.files.now) ≡ true }
-    ensures { (texts : List (List ℕ)) → sampled (map string_bytes line.entry.files.now) ≡ Some texts → Answered (record { command = line.entry.command; steps = line.entry.steps; depth = line.entry.depth; files = map string_bytes line.entry.files.now }) texts (O.state out.old) (O.state out.new) (E.state report.old) (E.state report.new) (states D.state devices.old) (states D.state devices.new) result }
+    ensures { (texts : List (List ℕ)) → sampled (map string_bytes line.entry.files.now) ≡ Some texts → Answered (settings_of_line line.entry) texts (O.state out.old) (O.state out.new) (E.state report.old) (E.state report.new) (states D.state devices.old) (states D.state devices.new) result }
 {
     let Some(number) = sample_number(line.files) else {
         unreachable!()
@@ -86,7 +86,7 @@ fn settle<S: Shelf, O: Sink, E: Sink, D: Device>(
 ) -> Status
     requires in_order { IsInOrder (states D.state devices.old) }
     requires fits { takes line.command (map string_bytes line.files.now) ≡ true }
-    ensures { (words : List (List ℕ)) → settings_of words ≡ Some (record { command = line.entry.command; steps = line.entry.steps; depth = line.entry.depth; files = map string_bytes line.entry.files.now }) → Settles (record {
+    ensures { (words : List (List ℕ)) → settings_of words ≡ Some (settings_of_line line.entry) → Settles (record {
       words = words;
       shelf = S.state shelf.old;
       shelf_after = S.state shelf.new;
@@ -161,7 +161,7 @@ fn close<E: Sink>(alloc: Global, words: LineWords<'_>, report: &mut E, settled: 
 
 /// Returns what the last line of a call needs of its command line.
 fn line_words(line: CommandLine<'_>) -> LineWords<'_>
-    ensures { line_words (Some (record { command = line.entry.command; steps = line.entry.steps; depth = line.entry.depth; files = map string_bytes line.entry.files.now })) ≡ record { names = map string_bytes result.names.now; texts = map string_bytes result.texts.now; steps = result.steps; depth = result.depth } }
+    ensures { line_words (Some (settings_of_line line.entry)) ≡ record { names = map string_bytes result.names.now; texts = map string_bytes result.texts.now; steps = result.steps; depth = result.depth } }
 {
     LineWords {
         names: line.files,

@@ -62,6 +62,40 @@ fn words_have_their_settings(rt: HostRuntime) -> Result<(), Fail> {
     Ok(())
 }
 
+/// Returns whether these words have settings with these folders, each with the name of its grant.
+fn has_folders(alloc: Global, words: &[&str], folders: &[(&str, &str)]) -> Result<bool, Fail> {
+    let Ok(found) = settings_of(alloc, words)? else {
+        return Ok(false);
+    };
+    let mut rest = folders.iter();
+    let mut is_same = true;
+    for folder in found.line().folders {
+        is_same = is_same && rest.next() == Some(&(folder.grant.as_str(), folder.path.as_str()));
+    }
+    Ok(is_same && rest.next().is_none())
+}
+
+#[test]
+fn folders_are_given_for_grants(rt: HostRuntime) -> Result<(), Fail> {
+    let alloc = rt.alloc();
+    assert!(rt;
+        has_folders(
+            alloc,
+            &["run", "--folder", "disk=a=b", "a.wy", "--folder=été=/c d"],
+            &[("disk", "a=b"), ("été", "/c d")]
+        )?
+    );
+    assert!(rt; has_folders(alloc, &["check", "--", "--folder", "disk=x"], &[])?);
+    assert!(rt;
+        !has_folders(
+            alloc,
+            &["run", "--folder", "disk=x", "--folder", "disk=y", "a.wy"],
+            &[]
+        )?
+    );
+    Ok(())
+}
+
 #[test]
 fn other_words_have_none(rt: HostRuntime) -> Result<(), Fail> {
     let alloc = rt.alloc();

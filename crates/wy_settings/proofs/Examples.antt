@@ -1,13 +1,15 @@
 -- The settings that words give, tried on examples.
-use Rattle.std.proofs.Common.{codes, ◌≡◌, ℕ, List, [], ◌∷◌, Some, None, refl}
+use Rattle.std.proofs.Common.{codes, ◌≡◌, ℕ, List, [], ◌∷◌, Some, None, false, refl, true}
 use Rattle.clap.proofs.OnLiterals.{clap_on_literals}
+use Rattle.wy_layout.specs.Identifiers.{is_identifier}
+use Rattle.wy_settings.specs.Folders.{folder_in, folders_after}
 use Rattle.wy_settings.specs.Settings.{Settings, most_depth, settings_of, texts_among, usual_depth, usual_steps}
 use Rattle.wy_settings.specs.declared.command_line.Command.{Command}
 use Rattle.wy_settings.specs.declared.command_line.Command.TheVariants as command
 
 -- settings with the usual bounds
 abbrev usual : Command → List (List ℕ) → Settings
-usual named files = record { command = named; steps = usual_steps; depth = usual_depth; files = files }
+usual named files = record { command = named; steps = usual_steps; depth = usual_depth; folders = []; files = files }
 
 one_file : settings_of (codes "run" ∷ codes "b.wy" ∷ []) ≡ Some (usual command.Run (codes "b.wy" ∷ []))
 unfolding clap_on_literals
@@ -41,7 +43,7 @@ unfolding clap_on_literals
 one_policy = refl
 
 observe_words : settings_of (codes "observe" ∷ codes "a.wy" ∷ codes "--depth" ∷ codes "9" ∷ codes "b.wy" ∷ [])
-    ≡ Some (record { command = command.Observe; steps = usual_steps; depth = 9; files = codes "a.wy" ∷ codes "b.wy" ∷ [] })
+    ≡ Some (record { command = command.Observe; steps = usual_steps; depth = 9; folders = []; files = codes "a.wy" ∷ codes "b.wy" ∷ [] })
 unfolding clap_on_literals
 observe_words = refl
 
@@ -85,16 +87,16 @@ no_help = refl
 
 -- ---- options stand anywhere, with their number in the next word or behind an equals sign
 
-few_steps : settings_of (codes "run" ∷ codes "--steps" ∷ codes "9" ∷ codes "a.wy" ∷ []) ≡ Some (record { command = command.Run; steps = 9; depth = usual_depth; files = codes "a.wy" ∷ [] })
+few_steps : settings_of (codes "run" ∷ codes "--steps" ∷ codes "9" ∷ codes "a.wy" ∷ []) ≡ Some (record { command = command.Run; steps = 9; depth = usual_depth; folders = []; files = codes "a.wy" ∷ [] })
 unfolding clap_on_literals
 few_steps = refl
 
 options_last : settings_of (codes "run" ∷ codes "a.wy" ∷ codes "--depth=0" ∷ codes "b.wy" ∷ codes "--steps=0000000012345" ∷ [])
-    ≡ Some (record { command = command.Run; steps = 12345; depth = 0; files = codes "a.wy" ∷ codes "b.wy" ∷ [] })
+    ≡ Some (record { command = command.Run; steps = 12345; depth = 0; folders = []; files = codes "a.wy" ∷ codes "b.wy" ∷ [] })
 unfolding clap_on_literals
 options_last = refl
 
-option_first : settings_of (codes "--depth" ∷ codes "100000" ∷ codes "check" ∷ codes "a.wy" ∷ []) ≡ Some (record { command = command.Check; steps = usual_steps; depth = most_depth; files = codes "a.wy" ∷ [] })
+option_first : settings_of (codes "--depth" ∷ codes "100000" ∷ codes "check" ∷ codes "a.wy" ∷ []) ≡ Some (record { command = command.Check; steps = usual_steps; depth = most_depth; folders = []; files = codes "a.wy" ∷ [] })
 unfolding clap_on_literals
 option_first = refl
 
@@ -133,6 +135,26 @@ no_numeral = refl
 no_number : settings_of (codes "run" ∷ codes "a.wy" ∷ codes "--steps" ∷ []) ≡ None
 unfolding clap_on_literals
 no_number = refl
+
+-- ---- folders of grants; that a word is a name does not compute here
+
+-- what a word gives, if what comes before its first equals sign is a name
+given_path : is_identifier (codes "disk") ≡ true → folder_in (codes "disk=/tmp/a=b") ≡ Some (record { grant = codes "disk"; path = codes "/tmp/a=b" })
+given_path is = rw is refl
+
+reserved_word : is_identifier (codes "new") ≡ false → folder_in (codes "new=a") ≡ None
+reserved_word is = rw is refl
+
+given_twice : is_identifier (codes "disk") ≡ true → folders_after [] (codes "disk=a" ∷ codes "disk=b" ∷ []) ≡ None
+given_twice is = rw is refl
+
+no_path : settings_of (codes "check" ∷ codes "--folder" ∷ codes "disk=" ∷ codes "a.wy" ∷ []) ≡ None
+unfolding clap_on_literals
+no_path = refl
+
+no_sign : settings_of (codes "check" ∷ codes "a.wy" ∷ codes "--folder=disk" ∷ []) ≡ None
+unfolding clap_on_literals
+no_sign = refl
 
 -- ---- the number of a sample
 

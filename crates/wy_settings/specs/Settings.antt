@@ -7,21 +7,41 @@ use Rattle.clap.specs.Kinds.{Kinds}
 use Rattle.clap.specs.Simple.{App, matches_of, new_rule, new_shape}
 use Rattle.clap.specs.Walk.{Row, Rule, all_of, first_of}
 use Rattle.clap.specs.declared.builder.action.ArgAction.TheVariants.{Append}
+use Rattle.wy_settings.specs.Folders.{GivenFolder, folders_after, given_folder}
 use Rattle.wy_settings.specs.Numerals.{number_up_to}
 use Rattle.wy_settings.specs.declared.command_line.Command.{Command}
 use Rattle.wy_settings.specs.declared.command_line.Command.TheVariants as command
+use Rattle.wy_settings.specs.declared.command_line.CommandLine.{CommandLine}
 use Rattle.wy_settings.specs.declared.command_line.Settings.{Settings as OwnSettings}
 
--- a command, how many steps a run may take, how many calls on objects may be open in it at once, and the words of the files
+-- A command, how many steps a run may take, how many calls on objects may be open in it at once, the folders that are given for
+-- grants, and the file arguments.
 pub record Settings : Type 0 where
   pub command : Command
   pub steps : ℕ
   pub depth : ℕ
+  pub folders : List GivenFolder
   pub files : List (List ℕ)
 
--- .. of settings that keep their own words
+-- the settings of a command line
+abbrev pub settings_of_line : CommandLine → Settings
+settings_of_line line = record {
+  command = line.command;
+  steps = line.steps;
+  depth = line.depth;
+  folders = map given_folder line.folders.now;
+  files = map string_bytes line.files.now;
+}
+
+-- .. and of settings that keep their own words
 abbrev pub settings_kept : OwnSettings → Settings
-settings_kept s = record { command = s.command; steps = s.steps; depth = s.depth; files = map string_bytes s.files.items }
+settings_kept s = record {
+  command = s.command;
+  steps = s.steps;
+  depth = s.depth;
+  folders = map given_folder s.folders.items;
+  files = map string_bytes s.files.items;
+}
 
 abbrev pub usual_steps : ℕ
 usual_steps = 10000000
@@ -36,13 +56,17 @@ abbrev pub most_depth : ℕ
 most_depth = 100000
 
 ------------------------------------------------------------
--- The command of `clap`: COMMAND, `--steps N`, `--depth N` and FILE, of which there may be any number
+-- The command of `clap`: COMMAND, `--steps N`, `--depth N`, `--folder GRANT=PATH` and FILE; there may be any number of the last two
 
 abbrev pub command_rule : Rule
 command_rule = new_rule (codes "command")
 
 abbrev pub option_rule : List ℕ → Rule
 option_rule name = record (new_rule name) { long = Some name }
+
+-- an option that may be given any number of times
+abbrev pub repeated_rule : List ℕ → Rule
+repeated_rule name = record (option_rule name) { action = Some Append }
 
 abbrev pub files_rule : Rule
 files_rule = record (new_rule (codes "file")) { action = Some Append }
@@ -51,7 +75,9 @@ files_rule = record (new_rule (codes "file")) { action = Some Append }
 abbrev pub words_of_call : App
 words_of_call = record {
   top = record (new_shape (codes "wyvern")) {
-    rules = command_rule ∷ option_rule (codes "steps") ∷ option_rule (codes "depth") ∷ files_rule ∷ [];
+    rules =
+        command_rule ∷ option_rule (codes "steps") ∷ option_rule (codes "depth") ∷ repeated_rule (codes "folder") ∷
+        files_rule ∷ [];
     no_binary_name = true;
     disable_help_flag = true;
     disable_version_flag = true;
@@ -130,17 +156,25 @@ heading_of word steps depth =
 abbrev pub heading_in : List Row → Option Heading
 heading_in rows = heading_of (first_of (codes "command") rows) (first_of (codes "steps") rows) (first_of (codes "depth") rows)
 
-abbrev pub files_in : List Row → List (List ℕ)
-files_in rows = unwrap_or (all_of (codes "file") rows) []
+-- the words that stand for an argument
+abbrev pub words_in : List ℕ → List Row → List (List ℕ)
+words_in name rows = unwrap_or (all_of name rows) []
 
--- the settings of a heading with these files
-abbrev pub settings_with : List (List ℕ) → Heading → Option Settings
-settings_with files heading =
-    if takes heading.command files then Some (record { command = heading.command; steps = heading.steps; depth = heading.depth; files = files }) else None
+-- the folders that are given, if each of their words gives one and no grant has two
+abbrev pub folders_in : List Row → Option (List GivenFolder)
+folders_in rows = folders_after [] (words_in (codes "folder") rows)
+
+-- the settings of a heading with these folders and files
+abbrev pub settings_with : List GivenFolder → List (List ℕ) → Heading → Option Settings
+settings_with folders files heading =
+    if takes heading.command files then
+    Some (record { command = heading.command; steps = heading.steps; depth = heading.depth; folders = folders; files = files }) else None
 
 -- the settings that these matches give
 abbrev pub settings_in : List Row → Option Settings
-settings_in rows = option_and_then (settings_with (files_in rows)) (heading_in rows)
+settings_in rows =
+    option_and_then (λ heading. option_and_then (λ folders. settings_with folders (words_in (codes "file") rows) heading) (folders_in rows))
+    (heading_in rows)
 
 -- .. and none where `clap` finds a fault in the words
 abbrev pub settings_by : Kinds → List Row → Option Settings

@@ -2,12 +2,13 @@
 #![tactic(auto)]
 
 mod command_line;
+mod folders;
 mod matching;
 mod numerals;
 mod reading;
 
 pub use command_line::{
-    Command, CommandLine, MOST_DEPTH, MOST_STEPS, Settings, SettingsRefusal, USUAL_DEPTH,
-    USUAL_STEPS,
+    Command, CommandLine, GivenFolder, MOST_DEPTH, MOST_STEPS, Settings, SettingsRefusal,
+    USUAL_DEPTH, USUAL_STEPS,
 };
 pub use reading::{sample_number, settings, texts_among};

@@ -4,7 +4,7 @@ ghost use Rattle.clap.specs.Matches.{found_of};
 ghost use Rattle.clap.specs.Simple.{app_of, matches_of, new_rule};
 ghost use Rattle.clap.specs.Walk.{rows_of, rule_of};
 ghost use Rattle.clap.specs.declared.builder.action.ArgAction.TheVariants.{Append};
-ghost use Rattle.wy_settings.specs.Settings.{files_rule, option_rule, words_of_call};
+ghost use Rattle.wy_settings.specs.Settings.{files_rule, option_rule, repeated_rule, words_of_call};
 
 use crate::command_line::SettingsRefusal;
 use clap::error::ErrorKind;
@@ -19,7 +19,15 @@ fn option<'a>(alloc: Global, name: &'a str) -> Arg<'a>
     Arg::new(alloc, name).long(name)
 }
 
-/// The file words, of which there may be any number.
+/// An option with a value that may be given any number of times.
+fn repeated<'a>(alloc: Global, name: &'a str) -> Arg<'a>
+    ensures rule { rule_of result ≡ repeated_rule name.entry.now }
+    ensures own { result.global ≡ false }
+{
+    option(alloc, name).action(ArgAction::Append)
+}
+
+/// The file arguments, of which there may be any number.
 fn files<'a>(alloc: Global) -> Arg<'a>
     ensures rule { rule_of result ≡ files_rule }
     ensures own { result.global ≡ false }
@@ -27,7 +35,7 @@ fn files<'a>(alloc: Global) -> Arg<'a>
     Arg::new(alloc, "file").action(ArgAction::Append)
 }
 
-/// The command as whose words those of a call are read: COMMAND, `--steps N`, `--depth N`, FILE...
+/// The command as whose words those of a call are read: COMMAND, `--steps N`, `--depth N`, `--folder GRANT=PATH`..., FILE...
 fn command_line<'a>(alloc: Global) -> Result<Command<'a>, AllocError>
     ensures { IfOk result (λ c. app_of c ≡ words_of_call) }
 {
@@ -38,6 +46,7 @@ fn command_line<'a>(alloc: Global) -> Result<Command<'a>, AllocError>
         .arg(Arg::new(alloc, "command"))?
         .arg(option(alloc, "steps"))?
         .arg(option(alloc, "depth"))?
+        .arg(repeated(alloc, "folder"))?
         .arg(files(alloc))
 }
 

@@ -1,12 +1,15 @@
-ghost use Rattle.std.specs.Prelude.{◌≡◌, ◌≤◌, IfErr, IfOk, Some, None, length, map, string_bytes, true};
+ghost use Rattle.std.specs.Prelude.{codes, ◌≡◌, ◌≤◌, IfErr, IfOk, Some, None, length, map, string_bytes, true};
 ghost use Rattle.std.specs.Option.{IfSome, option_copied, option_map};
 ghost use Rattle.clap.specs.Matches.{found_of};
 ghost use Rattle.clap.specs.Walk.{all_of, first_of, rows_of};
-ghost use Rattle.wy_settings.specs.Settings.{bound, command_named, files_in, heading_in, most_sample, most_steps, sample_number, settings_in, settings_kept, settings_of, takes, texts_among};
+ghost use Rattle.wy_settings.specs.Folders.{given_folder};
+ghost use Rattle.wy_settings.specs.Settings.{bound, command_named, folders_in, heading_in, most_sample, most_steps, sample_number, settings_in, settings_kept, settings_of, takes, texts_among, words_in};
 
 use crate::command_line::{
-    Command, MOST_DEPTH, MOST_STEPS, Settings, SettingsRefusal, USUAL_DEPTH, USUAL_STEPS,
+    Command, GivenFolder, MOST_DEPTH, MOST_STEPS, Settings, SettingsRefusal, USUAL_DEPTH,
+    USUAL_STEPS,
 };
+use crate::folders::given_folders;
 use crate::matching::matches_of;
 use crate::numerals::number_up_to;
 use clap::ArgMatches;
@@ -133,16 +136,29 @@ fn copied(alloc: Global, words: &[&str]) -> Result<Vec<String>, AllocError>
     Ok(copies)
 }
 
-/// The words that stand for an argument of this name, where there are any.
+/// Returns the words that stand for an argument of this name, if there are any.
 fn all<'m, 'a>(matches: &'m ArgMatches<'a>, name: &str) -> Option<&'m [&'a str]>
     ensures { option_map (λ words. map (λ word. word.now) words.now) result ≡ all_of name.now (rows_of (found_of matches.now)) }
 {
     matches.get_raw(name)
 }
 
-/// Copies the file words of matches.
+/// Returns the folders that matches give for grants; `None` if their words are invalid.
+fn folders_in(
+    alloc: Global,
+    matches: &ArgMatches<'_>,
+) -> Result<Option<Vec<GivenFolder>>, AllocError>
+    ensures { IfOk result (λ found. option_map (λ folders. map given_folder folders.items) found ≡ folders_in (rows_of (found_of matches.now))) }
+{
+    match all(matches, "folder") {
+        Some(words) => given_folders(alloc, words),
+        None => Ok(Some(Vec::new(alloc))),
+    }
+}
+
+/// Copies the file arguments of matches.
 fn files_in(alloc: Global, matches: &ArgMatches<'_>) -> Result<Vec<String>, AllocError>
-    ensures { IfOk result (λ files. map string_bytes files.items ≡ files_in (rows_of (found_of matches.now))) }
+    ensures { IfOk result (λ files. map string_bytes files.items ≡ words_in (codes "file") (rows_of (found_of matches.now))) }
 {
     match all(matches, "file") {
         Some(words) => copied(alloc, words),
@@ -150,8 +166,11 @@ fn files_in(alloc: Global, matches: &ArgMatches<'_>) -> Result<Vec<String>, Allo
     }
 }
 
-/// The settings that words give, with such files as the command takes; `Usage` exactly where they give none, but for
-/// `Memory`, which comes only for want of it (docs/LANGUAGE.md, "The command line").
+/// Returns the settings that words give, with such files as the command takes (docs/LANGUAGE.md, "The command line").
+///
+/// # Errors
+///
+/// `Usage` comes exactly if the words give no settings. Only `Memory` can replace these answers.
 pub fn settings(alloc: Global, words: &[String]) -> Result<Settings, SettingsRefusal>
     ensures given { IfOk result (λ s. settings_of (map string_bytes words.now) ≡ Some (settings_kept s)) }
     ensures fits { IfOk result (λ s. takes s.command (map string_bytes s.files.items) ≡ true) }
@@ -159,6 +178,12 @@ pub fn settings(alloc: Global, words: &[String]) -> Result<Settings, SettingsRef
 {
     let matches = matches_of(alloc, words)?;
     let Some(heading) = heading_in(&matches) else {
+        return Err(SettingsRefusal::Usage);
+    };
+    let Ok(given) = folders_in(alloc, &matches) else {
+        return Err(SettingsRefusal::Memory);
+    };
+    let Some(folders) = given else {
         return Err(SettingsRefusal::Usage);
     };
     let Ok(files) = files_in(alloc, &matches) else {
@@ -171,6 +196,7 @@ pub fn settings(alloc: Global, words: &[String]) -> Result<Settings, SettingsRef
         command: heading.command,
         steps: heading.steps,
         depth: heading.depth,
+        folders,
         files,
     })
 }

@@ -39,7 +39,7 @@ run_image-requires-clause-names g c =
 pub returns-in-Ok-write_report : goal.returns-in-Ok-write_report
 returns-in-Ok-write_report g c =
     let program : Program = program_of c.args.accepted.now.core in
-    ran_program c.requires.within (ran_on c.args.manner.way program c.args.manner.depth c.args.manner.steps (report_text c.in-Ok.authority) _ _ _ _ _ _ _
+    ran_program c.requires.within c.requires.folders (ran_on c.args.manner.way program c.args.manner.depth c.args.manner.steps (report_text c.in-Ok.authority) _ _ _ _ _ _ _
     (ap (λ (a : Authority). report_text a) c.in-Ok.ensures) c.in-Ok-write_report.ensures.whole
     (runs_as c.args.manner.way program c.as_bytes-text.result.now c.in-Ok.authority c.args.image.now c.args.manner.depth c.args.manner.steps _ _ _ _ _
     (c.as_bytes-text.ensures ∙ c.in-Ok-summary_of.ensures program c.in-Ok.ensures) c.in-Ok.ensures c.requires.code c.requires.deep c.run_image.ensures))

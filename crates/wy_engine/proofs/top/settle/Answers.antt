@@ -1,6 +1,6 @@
 use Rattle.std.proofs.Common.{rules, arith, ◌≡◌, ◌≤◌, ◌∙◌, refl, sym, length, map, string_bytes}
 use Rattle.std.proofs.lemmas.List.{length-map}
-use Rattle.wy_settings.specs.Settings.{Settings}
+use Rattle.wy_settings.specs.Settings.{Settings, settings_of_line}
 use Rattle.wy_settings.specs.declared.command_line.Command.TheVariants as command
 use Rattle.wy_engine.specs.Texts.{first_bytes}
 use Rattle.wy_engine.proofs.FilesRead.{SampleMade, is_sample, made, read_well, sample_made}
@@ -28,24 +28,24 @@ answer-requires-clause-some g c = λ has.
 
 pub returns-then-line-gt-MOST_FILES : goal.returns-then-line-gt-MOST_FILES
 returns-then-line-gt-MOST_FILES g c = λ words set.
-    settles_crowded _ (record { command = c.args.line.command; steps = c.args.line.steps; depth = c.args.line.depth; files = map string_bytes c.args.line.files.now }) set (rw length-map (search rules)) refl (record { out = refl; report = refl; devices = refl }) refl
+    settles_crowded _ (settings_of_line c.args.line) set (rw length-map (search rules)) refl (record { out = refl; report = refl; devices = refl }) refl
 
 pub returns-in-Err-Unread : goal.returns-in-Err-Unread
 returns-in-Err-Unread g c = λ words set.
-    settles_unread _ (record { command = c.args.line.command; steps = c.args.line.steps; depth = c.args.line.depth; files = map string_bytes c.args.line.files.now }) c.in-Err-Unread.file set (sym c.takes_files.ensures ∙ c.if-not-takes_files.false) (rw length-map (search rules)) (search rules) refl refl refl (search rules)
+    settles_unread _ (settings_of_line c.args.line) c.in-Err-Unread.file set (sym c.takes_files.ensures ∙ c.if-not-takes_files.false) (rw length-map (search rules)) (search rules) refl refl refl (search rules)
 
 pub returns-in-Err-Memory : goal.returns-in-Err-Memory
 returns-in-Err-Memory g c = λ words set.
-    settles_starved _ (record { command = c.args.line.command; steps = c.args.line.steps; depth = c.args.line.depth; files = map string_bytes c.args.line.files.now }) set (sym c.takes_files.ensures ∙ c.if-not-takes_files.false) (rw length-map (search rules)) (search rules) refl refl refl (search rules)
+    settles_starved _ (settings_of_line c.args.line) set (sym c.takes_files.ensures ∙ c.if-not-takes_files.false) (rw length-map (search rules)) (search rules) refl refl refl (search rules)
 
 pub returns-in-Ok : goal.returns-in-Ok
 returns-in-Ok g c = λ words set.
-    settles_answered c.resolved_is_core.ensures c.certificates_have_one_size.ensures c.proved_is_accepted.ensures c.accepted_run_as_meant.ensures _ (record { command = c.args.line.command; steps = c.args.line.steps; depth = c.args.line.depth; files = map string_bytes c.args.line.files.now }) c.in-Ok.texts set (rw length-map (search rules)) (read_well (sym c.takes_files.ensures ∙ c.if-not-takes_files.false) (rw length-map c.in-Ok.ensures.all))
+    settles_answered c.resolved_is_core.ensures c.certificates_have_one_size.ensures c.proved_is_accepted.ensures c.accepted_run_as_meant.ensures _ (settings_of_line c.args.line) c.in-Ok.texts set (rw length-map (search rules)) (read_well (sym c.takes_files.ensures ∙ c.if-not-takes_files.false) (rw length-map c.in-Ok.ensures.all))
     (rw c.as_slice.ensures at c.answer.ensures)
 
 pub returns-then-not-takes_files : goal.returns-then-not-takes_files
 returns-then-not-takes_files g c = λ words set.
-    let asked : Settings = record { command = c.args.line.command; steps = c.args.line.steps; depth = c.args.line.depth; files = map string_bytes c.args.line.files.now } in
+    let asked : Settings = settings_of_line c.args.line in
     let is : c.args.line.command ≡ command.Sample = is_sample c.args.line.command (sym c.takes_files.ensures ∙ c.if-not-takes_files.true) in
     let there : SampleMade (map string_bytes c.args.line.files.now) = sample_made c.args.line.command (map string_bytes c.args.line.files.now) is c.requires.fits in
     settles_answered c.resolved_is_core.ensures c.certificates_have_one_size.ensures c.proved_is_accepted.ensures c.accepted_run_as_meant.ensures _ asked there.texts set (rw length-map (search rules)) (made is refl there.is) (c.answer_sample.ensures there.texts there.is)

@@ -1,7 +1,7 @@
-use Rattle.std.proofs.Common.{rules, ap, ap₂, refl, codes, true, ◌≡◌, ◌∙◌}
+use Rattle.std.proofs.Common.{rules, ap₂, codes, true, ◌≡◌, ◌∙◌}
 use Rattle.std.proofs.lemmas.Result.{IfOk-weaker}
 use Rattle.clap.specs.Simple.{App, app_of, new_app, new_rule, with_rule}
-use Rattle.wy_settings.specs.Settings.{files_rule, option_rule, words_of_call}
+use Rattle.wy_settings.specs.Settings.{option_rule, repeated_rule}
 use Rattle.wy_settings.proofs.matching.command_line.Goals as goal
 
 -- the command before its arguments
@@ -14,4 +14,5 @@ returns c =
     let one : app_of c.in_ok-arg.field-0 ≡ with_rule bare (new_rule (codes "command")) = c.in_ok-arg.ensures.shape (search rules) ∙ ap₂ with_rule none (search rules) in
     let two : app_of c.in_ok-arg-2.field-0 ≡ with_rule (with_rule bare (new_rule (codes "command"))) (option_rule (codes "steps")) = c.in_ok-arg-2.ensures.shape (search rules) ∙ ap₂ with_rule one (search rules) in
     let three : app_of c.in_ok-arg-3.field-0 ≡ with_rule (with_rule (with_rule bare (new_rule (codes "command"))) (option_rule (codes "steps"))) (option_rule (codes "depth")) = c.in_ok-arg-3.ensures.shape (search rules) ∙ ap₂ with_rule two (search rules) in
-    IfOk-weaker c.arg-4.result _ _ (λ r h. h.shape (search rules) ∙ ap₂ with_rule three (search rules)) c.arg-4.ensures
+    let four : app_of c.in_ok-arg-4.field-0 ≡ with_rule (with_rule (with_rule (with_rule bare (new_rule (codes "command"))) (option_rule (codes "steps"))) (option_rule (codes "depth"))) (repeated_rule (codes "folder")) = c.in_ok-arg-4.ensures.shape (search rules) ∙ ap₂ with_rule three (search rules) in
+    IfOk-weaker c.arg-5.result _ _ (λ r h. h.shape (search rules) ∙ ap₂ with_rule four (search rules)) c.arg-5.ensures

@@ -1,4 +1,4 @@
-use Rattle.std.proofs.Common.{◌≡◌, ◌∙◌, List, ℕ, Option, [], ap, map, string_bytes, unwrap_or}
+use Rattle.std.proofs.Common.{◌∙◌, List, ℕ, Option, [], ap, map, string_bytes, unwrap_or}
 use Rattle.std.proofs.lemmas.Result.{IfOk-weaker}
 use Rattle.wy_settings.proofs.reading.files_in.Goals as goal
 
