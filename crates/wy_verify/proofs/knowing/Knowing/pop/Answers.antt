@@ -1,0 +1,22 @@
+use Rattle.std.proofs.Common.{◌-◌, ◌≤◌, [], length, take, drop, sym, ap, ◌∙◌, arith}
+use Rattle.wy_verified.specs.declared.known.Known.{Known}
+use Rattle.wy_verified.specs.Rules.{reversed}
+use Rattle.wy_verify.proofs.Backwards.{popped, count_is, with_operands}
+use Rattle.wy_verify.proofs.knowing.Knowing.pop.Goals as goal
+
+pub overflow_sub-kept : goal.overflow_sub-kept
+overflow_sub-kept c =
+    let a = c.len.ensures ∙ c.self.inside.operands.ok.0 in
+    let b = count_is c.self.inside.operands.items c.args.self.now c.self.inside.stored c.self.inside.set c.self.view_is in
+    omega (arith, a, b, c.requires)
+
+pub returns : goal.returns
+returns c =
+    let a = c.len.ensures ∙ c.self.inside.operands.ok.0 in
+    let b = count_is c.self.inside.operands.items c.args.self.now c.self.inside.stored c.self.inside.set c.self.view_is in
+    let ks = c.self.inside.operands.items in
+    let le : c.args.count ≤ length ks = omega (arith, b, c.requires) in
+    ap (λ t. with_operands c.self.inside.stored c.self.inside.set t)
+    (ap (λ t. reversed t []) c.truncate.ensures.items ∙ ap (λ n. reversed (take (n - c.args.count) ks) []) a ∙
+    sym (popped ks c.args.count le)) ∙
+    ap (λ (k : Known). with_operands k.stored k.set (drop c.args.count k.operands)) c.self.view_is

@@ -1,0 +1,7 @@
+use Rattle.std.proofs.Common.{take}
+use Rattle.wy_text.specs.Members.{In}
+use Rattle.wy_verify.specs.declared.ranges.roles.Role as standing
+use Rattle.wy_verify.proofs.ranges.instances.are_all_among.Given as goal
+
+abbrev pub invariant-loop-role : goal.invariant-loop-role
+invariant-loop-role l = (r : standing.Role) → In r (take l.role-index l.roles) → In r.body l.numbers
