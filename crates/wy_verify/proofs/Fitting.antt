@@ -1,12 +1,17 @@
 -- Types that fit, one by one.
 use Rattle.std.proofs.Common.{◌≡◌, ℕ, zero, suc, ◌+◌, ◌<◌, ◌≤◌, List, [], ◌∷◌, length, drop, inl, inr, refl, sym, ap, ◌∙◌, subst, arith, Some, Bool, Result, Ok, Err}
 use Rattle.std.specs.Prelude.{◌↔◌, slice_get, IfOk, IsTrue}
+use Rattle.wy_code.specs.declared.instruction.Instruction.{Instruction}
 use Rattle.wy_verified.specs.Images.{Image}
 use Rattle.wy_verified.specs.Kinds.{IsObject, IsClosed, Fits, AllFit}
 use Rattle.wy_verified.specs.declared.known.Kind.{Kind}
+use Rattle.wy_verified.specs.declared.known.Kind.TheVariants.{Units}
+use Rattle.wy_verified.specs.declared.known.Known.{Known}
 use Rattle.wy_verified.specs.Rules.{reversed}
+use Rattle.wy_verified.specs.Walking.{FinishTypes, top_kind}
 use Rattle.wy_verified.proofs.Lists.{drop_at, read_there, some_same}
-use Rattle.wy_verify.specs.Turns.{FitsAt}
+use Rattle.wy_verify.specs.Sites.{Site}
+use Rattle.wy_verify.specs.Turns.{FitsAt, IsInTypes}
 use Rattle.wy_verify.proofs.Backwards.{reversed_twice}
 
 module _ (image : Image) where
@@ -104,3 +109,15 @@ pub decides : {E : Type 0} (r : Result Bool E) (P Q : Type 0) → (P ↔ Q) → 
     IfOk r (λ b. IsTrue b ↔ Q)
 decides (Ok b) P Q e h = ((λ t. e.0 (h.0 t)), (λ q. h.1 (e.1 q)))
 decides (Err x) P Q e h = h
+
+module _ (s : Site) (known : Known) where
+  -- what is decided of an instruction in one form
+  pub form_decides : {E : Type 0} (i j : Instruction) (r : Result Bool E) → i ≡ j →
+      IfOk r (λ b. IsTrue b ↔ IsInTypes s known j) → IfOk r (λ b. IsTrue b ↔ IsInTypes s known i)
+  form_decides i j r e h = subst (λ (i : Instruction). IfOk r (λ b. IsTrue b ↔ IsInTypes s known i)) (sym e) h
+
+  -- an operand is left at the end
+  pub left_fits : (ks : List Kind) → (length ks ≡ 0 → ⊥) →
+      (Fits s.image (top_kind ks) Units ↔ FinishTypes s.image s.x s.owner s.body s.bounds s.held ks)
+  left_fits [] some = absurd (some refl)
+  left_fits (k ∷ ks) some = ((λ h. h), (λ h. h))

@@ -1,5 +1,9 @@
+pub mod ArgumentsFit
 pub mod Backwards
 pub mod Brought
+pub mod CalledMethods
+pub mod Captured
+pub mod CodingLists
 mod Covering
 mod EffectSets
 mod Finding
@@ -10,13 +14,9 @@ mod Keys
 mod LookingUp
 mod Noting
 mod Numbered
-pub mod Reading
-mod Small
-pub mod SourcesRead
-mod Standing
-pub mod Turning
-mod Walks
-pub mod CodingLists
+mod Numbering
+pub mod Operands
+mod Owning
 pub mod RangeJoins
 pub mod RangeLists
 pub mod RangeNames
@@ -25,3 +25,13 @@ pub mod RangeRoles
 pub mod RangeTests
 pub mod RangeWhole
 pub mod RangeWords
+pub mod Reading
+pub mod Reported
+mod Siting
+mod Small
+pub mod SourcesRead
+mod Standing
+pub mod Turning
+pub mod Verdicts
+pub mod Visits
+mod Walks

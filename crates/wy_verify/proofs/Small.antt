@@ -29,7 +29,7 @@ read_less [] k x e = absurd (none_some e)
 read_less (y ∷ xs) zero x e = omega arith
 read_less (y ∷ xs) (suc k) x e = let h = read_less xs k x e in omega (arith, h)
 
-few_members : (p : Primitive) → length (members_of p) ≤ 5
+pub few_members : (p : Primitive) → length (members_of p) ≤ 5
 few_members primitive.Console = omega arith
 few_members primitive.Folder = omega arith
 few_members primitive.Clock = omega arith
@@ -75,7 +75,8 @@ module _ (file : ImageFile) (range : IsInRange file) where
   ------------------------------------------------------------
   -- What is stated of a body
 
-  in_scopes : (ss : List Scope) (s : Scope) (b : ℕ) → In s ss → In b (role_bodies (roles_of s)) → In b (scopes_bodies ss)
+  -- a body of a scope is one of the scopes'
+  pub in_scopes : (ss : List Scope) (s : Scope) (b : ℕ) → In s ss → In b (role_bodies (roles_of s)) → In b (scopes_bodies ss)
   in_scopes [] s b i j = absurd i
   in_scopes (t ∷ ss) s b (inl e) j = In-left b (role_bodies (roles_of t)) (scopes_bodies ss) (subst (λ (x : Scope). In b (role_bodies (roles_of x))) (sym e) j)
   in_scopes (t ∷ ss) s b (inr i) j = In-right b (role_bodies (roles_of t)) (scopes_bodies ss) (in_scopes ss s b i j)

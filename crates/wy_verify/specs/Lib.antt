@@ -1,8 +1,11 @@
+pub mod Authority
 pub mod Closing
 pub mod Effects
 pub mod Found
 pub mod Judging
 pub mod RangeParts
 pub mod Sites
+pub mod Subjects
 pub mod Tables
 pub mod Turns
+pub mod Verdicts

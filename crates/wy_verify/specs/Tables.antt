@@ -2,6 +2,7 @@
 use Rattle.std.specs.Prelude.{◌≡◌, ℕ, suc, Bool, ◌&&◌, List, [], ◌∷◌, ◌++◌, map, Option, Some, None, nat_eq, if◌then◌else◌}
 use Rattle.wy_text.specs.Members.{In}
 use Rattle.indexmap.specs.IndexMap.{IndexMap, get}
+use Rattle.wy_code.specs.declared.code.Code.{Code}
 use Rattle.wy_code.specs.declared.code.Literal.{Literal}
 use Rattle.wy_code.specs.declared.code.Method.{Method}
 use Rattle.wy_code.specs.declared.code.Scope.{Scope}
@@ -10,8 +11,12 @@ use Rattle.wy_image.specs.declared.typing.Atom.{Atom}
 use Rattle.wy_image.specs.declared.typing.Bounds.{Bounds}
 use Rattle.wy_image.specs.declared.typing.Signature.{Signature}
 use Rattle.wy_image.specs.declared.typing.Typing.{Typing}
+use Rattle.wy_verified.specs.Ranges.{Role, literal_roles}
+use Rattle.wy_verified.specs.Rules.{Owner}
+use Rattle.wy_verified.specs.Verifying.{owner_in}
 use Rattle.wy_verify.specs.declared.tables.Called.{Called}
 use Rattle.wy_verify.specs.declared.tables.Entry.{Entry}
+use Rattle.wy_verify.specs.declared.tables.Owners.{Owners}
 use Rattle.wy_verify.specs.declared.tables.Places.{Places}
 use Rattle.wy_verify.specs.Effects.{effect_numbers, AreSmall}
 
@@ -138,6 +143,40 @@ literals_notes s l (x ∷ xs) = methods_notes s l x.methods ++ literals_notes s 
 abbrev pub scopes_notes : ℕ → List Scope → List BodyNote
 scopes_notes s [] = []
 scopes_notes s (x ∷ xs) = literals_notes s 0 x.literals ++ scopes_notes (suc s) xs
+
+------------------------------------------------------------
+-- Of a scope and the number of a body: whose it is
+
+-- a note of an owner
+abbrev pub OwnerNote : Type 0
+OwnerNote = (ℕ × ℕ) × Owner
+
+-- notes were added to a table of owners
+abbrev pub AddsOwners : Owners → Owners → List OwnerNote → Type 0
+AddsOwners old new more = Adds same_pair old.owners new.owners more
+
+-- those of the bodies of the scope of a number
+abbrev pub role_notes : ℕ → List Role → List OwnerNote
+role_notes s [] = []
+role_notes s (r ∷ rs) = ((s, r.1), r.0) ∷ role_notes s rs
+
+-- the bodies of a scope: the first one, and the methods
+abbrev pub code_roles : Scope → List Role
+code_roles x = (None, x.start) ∷ literal_roles 0 x.literals
+
+-- those of the bodies of scopes, the first of which has this number
+abbrev pub owners_notes : ℕ → List Scope → List OwnerNote
+owners_notes s [] = []
+owners_notes s (x ∷ xs) = role_notes s (code_roles x) ++ owners_notes (suc s) xs
+
+-- the table tells the owners of the bodies of code
+abbrev pub HasOwners : Code → Owners → Type 0
+HasOwners code o = Tells same_pair o.owners (owners_notes 0 code.scopes)
+
+-- whose the body of a number is, among those of a scope
+abbrev pub owner_by : Option Scope → ℕ → Option Owner
+owner_by None b = None
+owner_by (Some x) b = owner_in (code_roles x) b
 
 ------------------------------------------------------------
 -- Small atoms

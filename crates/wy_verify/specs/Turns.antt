@@ -1,9 +1,11 @@
 -- What is tested at an instruction of a site, and what one turn of the walk comes to.
-use Rattle.std.specs.Prelude.{◌≡◌, ℕ, ◌+◌, ◌<◌, ◌≤◌, Bool, true, false, List, [], ◌∷◌, length, take, drop, Option, Some, None, slice_get, slice_index_or}
+use Rattle.std.specs.Prelude.{◌≡◌, ℕ, suc, ◌+◌, ◌-◌, ◌<◌, ◌≤◌, Bool, true, false, List, [], ◌∷◌, length, take, drop, Option, Some, None, slice_get, slice_index_or, IsTrue, ◌↔◌}
+use Rattle.wy_code.specs.declared.code.Literal.{Literal}
 use Rattle.wy_code.specs.declared.code.Source.{Source}
 use Rattle.wy_code.specs.declared.instruction.Constant.{Constant}
 use Rattle.wy_code.specs.declared.instruction.Constant.TheVariants as constant
 use Rattle.wy_code.specs.declared.instruction.Operator.{Operator}
+use Rattle.wy_code.specs.declared.instruction.Operator.TheVariants as operator
 use Rattle.wy_code.specs.declared.instruction.Instruction.{Instruction}
 use Rattle.wy_code.specs.declared.instruction.Placed.{Placed}
 use Rattle.wy_code.specs.declared.instruction.Instruction.TheVariants.{Push, Load, Get, Op, New, Call, Jump, JumpFalse}
@@ -11,7 +13,7 @@ use Rattle.wy_code.specs.Machine.{literal_of}
 use Rattle.wy_code.specs.Operations.{operand_count}
 use Rattle.wy_image.specs.declared.typing.Target.{Target}
 use Rattle.wy_verified.specs.Images.{Image}
-use Rattle.wy_verified.specs.Kinds.{methods, value_kinds, Fits, AllFit}
+use Rattle.wy_verified.specs.Kinds.{methods, kind_in, kinds_in, value_kinds, Fits, AllFit}
 use Rattle.wy_verified.specs.declared.known.Kind.{Kind}
 use Rattle.wy_verified.specs.declared.known.Kind.TheVariants.{Ints, Truths, Texts, Units, Own, Granted}
 use Rattle.wy_verified.specs.Passing.{jumped, set_at, MeetsSet, FlowPasses, Ends}
@@ -25,7 +27,7 @@ use Rattle.wy_verified.specs.declared.known.VerifyRule.{VerifyRule}
 use Rattle.wy_verified.specs.declared.known.VerifyRule.TheVariants.{Range, Argument, Flow, State, Depth, Types, Effect}
 use Rattle.wy_verify.specs.declared.verdict.Verdict.{Verdict}
 use Rattle.wy_verify.specs.declared.verdict.Verdict.TheVariants as verdict
-use Rattle.wy_verify.specs.Sites.{Site, IsTested, AreNoted, IsAt}
+use Rattle.wy_verify.specs.Sites.{Site, IsTested, AreNoted, IsAt, IsNoted}
 
 -- how many operands an instruction pushes
 abbrev pub pushed_count : Instruction → ℕ
@@ -66,10 +68,24 @@ abbrev pub FitsAt : Image → List Kind → List Kind → ℕ → Type 0
 FitsAt image ks ls at =
     (k : Kind) × (l : Kind) × (slice_get ks at ≡ Some k) × (slice_get ls at ≡ Some l) × Fits image k l
 
+-- two operands of one type that can be compared
+abbrev pub HasSame : List Kind → Type 0
+HasSame ks = (k : Kind) × IsCompared k × (ks ≡ k ∷ k ∷ [])
+
+-- the operands of an operator, the first one first, are of its types
+abbrev pub HasOperands : Operator → List Kind → Type 0
+HasOperands operator.Equal ks = HasSame ks
+HasOperands operator.NotEqual ks = HasSame ks
+HasOperands o ks = ks ≡ operand_kinds o Units
+
 module _ (s : Site) where
   -- V-Flow at an instruction
   abbrev pub IsFlow : ℕ → Known → List Jumped → Instruction → Type 0
   IsFlow at known js i = FlowPasses s.image s.x s.owner s.body s.bounds s.held at (jumped i known js) i
+
+  -- an answer says whether V-Flow holds, whatever is known
+  abbrev pub TellsFlow : List (Option ℕ) → ℕ → Instruction → Bool → Type 0
+  TellsFlow sets at i b = (js : List Jumped) (known : Known) → AreNoted sets js → (IsTrue b ↔ IsFlow at known js i)
 
   abbrev pub IsForward : ℕ → ℕ → Type 0
   IsForward at to = walking.GoesForward s.image s.x s.owner s.body s.bounds s.held at to
@@ -136,6 +152,14 @@ module _ (s : Site) where
       (popped_at i ≤ length known.operands) × IsInState known i ×
       JumpsInState s.image s.x s.owner s.body s.bounds s.held known js i
 
+  -- an answer says whether V-State holds at an instruction, apart from what falls in
+  abbrev pub TellsState : Known → List (Option ℕ) → Instruction → Bool → Type 0
+  TellsState known sets i b = (js : List Jumped) → AreNoted sets js → (IsTrue b ↔ IsStateHere known js i)
+
+  -- the operands are there, and what depends on the form of the instruction holds
+  abbrev pub IsReady : Known → Instruction → Type 0
+  IsReady known i = (popped_at i ≤ length known.operands) × IsInState known i
+
   -- V-State of what falls into a target
   abbrev pub FallsIn : Known → Target → Option ℕ → Type 0
   FallsIn known t noted = FallsInState s.image s.x s.owner s.body s.bounds s.held (Some known) (Some t) noted
@@ -157,6 +181,10 @@ module _ (s : Site) where
   AreMade stored sources fields kinds =
       walking.SourcesFit s.image s.x s.owner s.body s.bounds s.held stored sources fields kinds
 
+  -- .. those of a literal, by the values' types
+  abbrev pub IsMadeOf : Known → Literal → List Kind → Type 0
+  IsMadeOf known l kinds = AreMade known.stored l.captures (reversed (take l.fields known.operands) []) kinds
+
   abbrev pub IsMade : Known → ℕ → Type 0
   IsMade known l =
       AreMade known.stored (captures_at l) (reversed (take (fields_at l) known.operands) [])
@@ -172,6 +200,12 @@ module _ (s : Site) where
       (c : Source) × (k : Kind) × (slice_get sources at ≡ Some c) × (slice_get ks at ≡ Some k) ×
       Fits s.image (source_of stored c) k
 
+  -- each captured value fits; there may be more types
+  abbrev pub AreCaptured : List ℕ → List Source → List Kind → Type 0
+  AreCaptured stored [] ks = Unit {0}
+  AreCaptured stored (c ∷ cs) [] = ⊥
+  AreCaptured stored (c ∷ cs) (k ∷ ks) = Fits s.image (source_of stored c) k × AreCaptured stored cs ks
+
   -- there is a method, and the arguments fit
   abbrev pub IsCalled : Known → ℕ → ℕ → Type 0
   IsCalled known m n =
@@ -186,6 +220,24 @@ module _ (s : Site) where
   -- a jump that is made brings operands of the types of its target
   abbrev pub IsBroughtInTypes : Known → Instruction → Type 0
   IsBroughtInTypes known i = JumpsInTypes s.image s.x s.owner s.body s.bounds s.held known i
+
+  -- the topmost operand fits the slot that is stored into, the field that is set, or the result of the body
+  abbrev pub IsStoredInTypes : Known → ℕ → Type 0
+  IsStoredInTypes known n =
+      Fits s.image (top_kind known.operands)
+      (kind_or (slice_get (kinds_in s.x s.bounds.vals) (n - suc s.body.parameters)))
+
+  abbrev pub IsSetInTypes : Known → ℕ → Type 0
+  IsSetInTypes known i =
+      Fits s.image (top_kind known.operands)
+      (kind_or (walking.value_kind s.image s.x s.owner s.body s.bounds s.held i))
+
+  abbrev pub IsReturned : Known → Type 0
+  IsReturned known = Fits s.image (top_kind known.operands) (kind_in s.x s.bounds.result)
+
+  -- an operand that is left at the end is a unit
+  abbrev pub IsFinishedInTypes : Known → Type 0
+  IsFinishedInTypes known = walking.FinishTypes s.image s.x s.owner s.body s.bounds s.held known.operands
 
   -- the part of V-Type that depends on the form of the instruction
   abbrev pub IsInTypes : Known → Instruction → Type 0
@@ -203,6 +255,12 @@ module _ (s : Site) where
 
   abbrev pub IsEffect : Known → Instruction → Type 0
   IsEffect known i = walking.EffectOk s.image s.x s.owner s.body s.bounds s.held known i
+
+  -- the effect of the method that a call finds is within the body's
+  abbrev pub IsWithinEffect : Known → ℕ → ℕ → Type 0
+  IsWithinEffect known m n =
+      walking.MethodEffect s.image s.x s.owner s.body s.bounds s.held
+      (methods s.image (top_kind (drop n known.operands)) m)
 
   ------------------------------------------------------------
   -- The step
@@ -260,6 +318,12 @@ falling false known = None
 abbrev pub comes : Visit → Option Known
 comes v = falling v.falls v.known
 
+-- the number of set fields at a target: that of what falls in, or else that of the latest jump that led there
+abbrev pub IsSetAt : Visit → ℕ → ℕ → Type 0
+IsSetAt v at n =
+    (v.falls ≡ true → n ≡ v.known.set) ×
+    (v.falls ≡ false → IsNoted v.jumps at → Some n ≡ slice_index_or v.jumps at None)
+
 module _ (s : Site) where
   -- V-State and V-Type of what falls in
   abbrev pub FallsTo : Option Known → ℕ → List Jumped → Type 0
@@ -269,6 +333,10 @@ module _ (s : Site) where
   abbrev pub FallsToTypes : Option Known → ℕ → Type 0
   FallsToTypes o at =
       FallsInTypes s.image s.x s.owner s.body s.bounds s.held o (target_in at s.bounds.targets)
+
+  -- an answer says whether V-State holds of what falls in
+  abbrev pub TellsFall : Visit → ℕ → Bool → Type 0
+  TellsFall v at b = (js : List Jumped) → AreNoted v.jumps js → (IsTrue b ↔ FallsTo (comes v) at js)
 
   -- where nothing falls in, a jump has led to a target
   abbrev pub HasLed : Visit → ℕ → Type 0

@@ -2,9 +2,8 @@
 
 ghost use Rattle.std.specs.Prelude.{◌≡◌, ◌↔◌, ◌<◌, List, length, IsTrue};
 ghost use Rattle.wy_verified.specs.declared.known.Jumped.{Jumped};
-ghost use Rattle.wy_verified.specs.declared.known.Known.{Known};
 ghost use Rattle.wy_verify.specs.Sites.{AreNoted};
-ghost use Rattle.wy_verify.specs.Turns.{IsForward, IsEnd, IsFlow};
+ghost use Rattle.wy_verify.specs.Turns.{IsForward, IsEnd, StaysInside, TellsFlow};
 
 use crate::jumps::Jumps;
 use crate::site::Site;
@@ -29,7 +28,8 @@ fn ends(site: &Site<'_>, jumps: &Jumps, at: usize) -> bool
 /// Whether V-Flow holds at an instruction.
 pub fn flow_passes(site: &Site<'_>, jumps: &Jumps, at: usize, instruction: Instruction) -> bool
     requires { at < length site.now.body.instructions }
-    ensures { (js : List Jumped) (known : Known) → AreNoted jumps.now js → (IsTrue result ↔ IsFlow site.now at known js instruction) }
+    ensures decided { TellsFlow site.now jumps.now at instruction result }
+    ensures inside { IsTrue result → StaysInside site.now instruction }
 {
     let len = site.len();
     match instruction {

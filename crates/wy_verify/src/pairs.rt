@@ -14,6 +14,15 @@ use std::marker::Model;
 use wy_text::text::Memory;
 use wy_verified::Kind;
 
+/// How many pairs an image may ask for. A pair takes about 100 bytes.
+const MOST_PAIRS: usize = 1_048_576;
+
+/// How many units of work an image may ask for. A unit takes about eight nanoseconds.
+const MOST_WORK: usize = 134_217_728;
+
+/// What a test of a pair or of a method costs, in units of work.
+const TEST: usize = 8;
+
 /// A type as a part of a key.
 type KindKey = (u32, u32, u32);
 
@@ -27,11 +36,13 @@ pub struct KindPair {
     pub right: Kind,
 }
 
-/// Pairs that were asked for, and those that such pairs rest on, each once. Contracts see the list of them.
+/// Pairs that were asked for, and those that such pairs rest on, each once. Contracts see the list of them. `left` is how
+/// many more units of work an image may ask for.
 #[derive(Drop)]
 pub struct Pairs {
     pairs: Vec<KindPair>,
     keys: IndexSet<PairKey>,
+    left: usize,
 }
 
 impl Model for Pairs {
@@ -95,7 +106,19 @@ impl Pairs {
         Pairs {
             pairs: Vec::new(alloc),
             keys: IndexSet::new(alloc),
+            left: MOST_WORK,
         }
+    }
+
+    /// Counts units of work. An image that asks for too many is refused as if memory ran out.
+    pub(crate) fn spend(&mut self, units: usize) -> Result<(), Memory>
+        ensures { OnOk result (self.new ≡ self.old) }
+    {
+        let Some(left) = self.left.checked_sub(units) else {
+            return Err(Memory);
+        };
+        self.left = left;
+        Ok(())
     }
 
     /// Returns the number of pairs.
@@ -127,7 +150,11 @@ impl Pairs {
     {
         let key = (key_of(left), key_of(right));
         if self.keys.contains(&key) {
+            self.spend(TEST)?;
             return Ok(());
+        }
+        if self.pairs.len() >= MOST_PAIRS {
+            return Err(Memory);
         }
         self.pairs.reserve(1)?;
         self.keys.insert(key)?;
@@ -174,6 +201,7 @@ impl Pairs {
     ) -> Result<bool, Memory>
         ensures { IfOk result (IsCovering judged.now left right (number ∷ []) self.old self.new) }
     {
+        self.spend(TEST)?;
         let Some(asked) = judged.method(right, number) else {
             return Ok(true);
         };

@@ -5,7 +5,7 @@ mod bounds;
 mod distinct;
 mod instances;
 mod needs;
-mod references;
+pub(crate) mod references;
 mod roles;
 mod rows;
 mod scopes;

@@ -3,20 +3,27 @@
 ghost use Rattle.std.specs.Prelude.{◌≡◌, ◌<◌, Some, length, slice_get, IfSome, IfOk};
 ghost use Rattle.std.specs.Option.{option_copied};
 ghost use Rattle.wy_code.specs.Machine.{literal_of};
+ghost use Rattle.wy_text.specs.Members.{In};
+ghost use Rattle.wy_verified.specs.CodeOf.{image_of};
 ghost use Rattle.wy_verified.specs.Kinds.{kind_in, kinds_in, value_kinds};
 ghost use Rattle.wy_verified.specs.Rules.{literal_number};
 ghost use Rattle.wy_verified.specs.Walking.{target_in, slot_kind, value_kind, RangeOk};
+ghost use Rattle.wy_verified.specs.Verifying.{owner_of};
 ghost use Rattle.wy_verify.specs.Sites.{AreShort, IsAt};
+ghost use Rattle.wy_verify.specs.Verdicts.{site_of};
 
 use crate::effects::Effect;
 use crate::judged::Judged;
 use crate::kinds::{kind_among, kind_at, kind_of};
 use crate::knowing::Knowing;
+use crate::subject::Subject;
 use crate::targets::Targets;
+use std::alloc::Global;
 use std::marker::Model;
 use wy_code::code::{Body, Literal, Scope};
 use wy_code::instruction::Instruction;
 use wy_image::{Bounds, Reference, Target, Typing};
+use wy_text::text::Memory;
 use wy_verified::Kind;
 
 /// A body of an instance, whose it is, what is stated of it, and how many values its object has before its fields.
@@ -57,6 +64,36 @@ fn literal_number(owner: Option<u32>) -> u32
 }
 
 impl<'a> Site<'a> {
+    /// Makes the site of a body of which an instance states something. Fails only if memory runs out.
+    pub(crate) fn new(
+        alloc: Global,
+        subject: &Subject<'a>,
+        owner: Option<u32>,
+        body: &'a Body,
+        bounds: &'a Bounds,
+    ) -> Result<Site<'a>, Memory>
+        requires stated { In bounds.now subject.now.subject.typing.bodies }
+        requires owner { owner_of subject.now.subject.scope bounds.now.body ≡ Some owner }
+        requires body { slice_get (image_of subject.now.file).code.bodies bounds.now.body ≡ Some body.now }
+        ensures { IfOk result (λ s. s ≡ site_of subject.now owner body.now bounds.now) }
+    {
+        let held = subject.held(owner);
+        let targets = Targets::new(alloc, bounds, body.instructions.len())?;
+        let effect = subject.judged.effect_of(bounds);
+        Ok(Site {
+            judged: subject.judged,
+            x: subject.x,
+            owner,
+            body,
+            bounds,
+            held,
+            typing: subject.typing,
+            scope: subject.scope,
+            targets,
+            effect,
+        })
+    }
+
     /// What is judged.
     pub fn judged(&self) -> &Judged<'a>
         ensures { result.now ≡ self.now.image }

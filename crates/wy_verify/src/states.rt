@@ -5,7 +5,7 @@ ghost use Rattle.wy_code.specs.Operations.{operand_count};
 ghost use Rattle.wy_verified.specs.declared.known.Jumped.{Jumped};
 ghost use Rattle.wy_verified.specs.Rules.{CanRead, CanSet};
 ghost use Rattle.wy_verify.specs.Sites.{AreNoted, Site as Value_site};
-ghost use Rattle.wy_verify.specs.Turns.{IsMain, IsConstant, IsReadSource, AreReadSources, IsFinished, IsInState, IsSameSet, MeetsTarget, StaysInside, BringsTo, IsStateHere, IsDepth, FallsIn, captures_at, fields_at, popped_at, pushed_count};
+ghost use Rattle.wy_verify.specs.Turns.{IsMain, IsConstant, IsReadSource, AreReadSources, IsFinished, IsInState, IsSameSet, MeetsTarget, StaysInside, BringsTo, TellsState, IsReady, IsDepth, FallsIn, captures_at, fields_at, popped_at, pushed_count};
 
 use crate::jumps::Jumps;
 use crate::knowing::Knowing;
@@ -225,7 +225,8 @@ pub fn state_passes(
     instruction: Instruction,
 ) -> bool
     requires { StaysInside site.now instruction }
-    ensures { (js : List Jumped) → AreNoted jumps.now js → (IsTrue result ↔ IsStateHere site.now known.now js instruction) }
+    ensures decided { TellsState site.now known.now jumps.now instruction result }
+    ensures ready { IsTrue result → IsReady site.now known.now instruction }
 {
     if known.depth() < popped(site, instruction) || !instruction_passes(site, known, instruction) {
         return false;

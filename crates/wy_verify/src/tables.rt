@@ -7,9 +7,11 @@ ghost use Rattle.wy_image.specs.declared.typing.Typing.{Typing};
 ghost use Rattle.std.specs.Option.{option_copied};
 ghost use Rattle.indexmap.specs.IndexMap.{get};
 ghost use Rattle.wy_verified.specs.CodeOf.{typings_of};
+ghost use Rattle.wy_verified.specs.Ranges.{entry_roles, literal_roles};
 ghost use Rattle.wy_verify.specs.Effects.{AreSmall};
 ghost use Rattle.wy_verify.specs.Tables.{AddsBodies, AddsPlaces, Tells, entry_of, same_pair, same_triple};
 ghost use Rattle.wy_verify.specs.Tables.{literals_notes, methods_notes, scopes_notes};
+ghost use Rattle.wy_verify.specs.Tables.{AddsOwners, code_roles, owners_notes, role_notes};
 ghost use Rattle.wy_verify.specs.Tables.{SmallBounds, SmallSignatures, SmallTypes, SmallTypings};
 ghost use Rattle.wy_verify.specs.Tables.{bounds_notes, signatures_notes, types_notes, typings_in, typings_notes};
 
@@ -248,5 +250,95 @@ impl Called {
         ensures { result ≡ get same_triple self.now.bodies (scope, literal, method) }
     {
         self.bodies.get(&(scope, literal, method)).copied()
+    }
+}
+
+// ----------------------------------------------------------------------------
+// Owners
+
+/// The owner of the first body of each number of each scope.
+#[derive(Drop)]
+pub(crate) struct Owners {
+    owners: IndexMap<(u32, u32), Option<u32>>,
+}
+
+impl Owners {
+    /// Makes an empty table. Takes no memory.
+    fn new(alloc: Global) -> Owners
+        ensures { Tells same_pair result.owners [] }
+    {
+        Owners {
+            owners: IndexMap::new(alloc),
+        }
+    }
+
+    /// Notes the owner of a body, unless it has one.
+    fn note(&mut self, scope: u32, body: u32, owner: Option<u32>) -> Result<(), Memory>
+        ensures { OnOk result (AddsOwners self.old self.new (role_notes scope ((owner, body) ∷ []))) }
+    {
+        let key = (scope, body);
+        if !self.owners.contains_key(&key) {
+            self.owners.insert(key, owner)?;
+        }
+        Ok(())
+    }
+
+    /// Notes the bodies of the methods of a literal.
+    fn add_methods(
+        &mut self,
+        scope: u32,
+        literal: u32,
+        methods: &Items<Method>,
+    ) -> Result<(), Memory>
+        ensures { OnOk result (AddsOwners self.old self.new (role_notes scope (entry_roles literal methods.now))) }
+    {
+        for at in 0..methods.len() {
+            self.note(scope, item_at(methods, at).body, Some(literal))?;
+        }
+        Ok(())
+    }
+
+    /// Notes the bodies of the methods of literals.
+    fn add_literals(&mut self, scope: u32, literals: &Items<Literal>) -> Result<(), Memory>
+        ensures { OnOk result (AddsOwners self.old self.new (role_notes scope (literal_roles 0 literals.now))) }
+    {
+        for at in 0..literals.len() {
+            self.add_methods(scope, word(at)?, &item_at(literals, at).methods)?;
+        }
+        Ok(())
+    }
+
+    /// Notes the bodies of a scope: the first one, and the methods.
+    fn add_scope(&mut self, number: u32, scope: &Scope) -> Result<(), Memory>
+        ensures { OnOk result (AddsOwners self.old self.new (role_notes number (code_roles scope.now))) }
+    {
+        self.note(number, scope.start, None)?;
+        self.add_literals(number, &scope.literals)
+    }
+
+    /// Notes the bodies of scopes.
+    fn add_scopes(&mut self, scopes: &Items<Scope>) -> Result<(), Memory>
+        ensures { OnOk result (AddsOwners self.old self.new (owners_notes 0 scopes.now)) }
+    {
+        for at in 0..scopes.len() {
+            self.add_scope(word(at)?, item_at(scopes, at))?;
+        }
+        Ok(())
+    }
+
+    /// Makes the table of the owners of the bodies of scopes.
+    pub(crate) fn of_scopes(alloc: Global, scopes: &Items<Scope>) -> Result<Owners, Memory>
+        ensures { IfOk result (λ o. Tells same_pair o.owners (owners_notes 0 scopes.now)) }
+    {
+        let mut owners = Owners::new(alloc);
+        owners.add_scopes(scopes)?;
+        Ok(owners)
+    }
+
+    /// Returns the owner that was noted first. Takes no memory.
+    pub(crate) fn find(&self, scope: u32, body: u32) -> Option<Option<u32>>
+        ensures { result ≡ get same_pair self.now.owners (scope, body) }
+    {
+        self.owners.get(&(scope, body)).copied()
     }
 }

@@ -1,21 +1,22 @@
 //! V-Type and V-Effect at an instruction.
 
-ghost use Rattle.std.specs.Prelude.{◌≡◌, ◌↔◌, ◌+◌, ◌<◌, ◌≤◌, [], length, take, IfOk, OnOk, IsTrue, Some};
-ghost use Rattle.wy_code.specs.Operations.{operand_count};
-ghost use Rattle.wy_verified.specs.Images.{Image};
-ghost use Rattle.wy_verified.specs.Kinds.{AllFit, Fits, kinds_in, value_kinds};
-ghost use Rattle.wy_verified.specs.Rules.{IsCompared, reversed};
+mod literals;
+mod operators;
+
+ghost use Rattle.std.specs.Prelude.{◌≡◌, ◌↔◌, ◌-◌, ◌<◌, ◌≤◌, suc, length, IfOk, OnOk, IsTrue};
+ghost use Rattle.wy_verified.specs.Kinds.{AllFit, Fits, Within, kinds_in};
 ghost use Rattle.wy_verified.specs.Walking.{top_kind};
 ghost use Rattle.wy_verify.specs.Closing.{AreClosed};
-ghost use Rattle.wy_verify.specs.Sites.{AreShort, Site as Value_site};
-ghost use Rattle.wy_verify.specs.Turns.{AreMade, FitsAt, SourceFitsAt, source_of, IsMade, IsCalled, MeetsTargetTypes, IsBroughtInTypes, IsOperated, IsInState, IsInTypes, BringsTypes, IsTypedHere, IsEffect, StaysInside, popped_at, fields_at};
+ghost use Rattle.wy_verify.specs.Sites.{AreShort};
+ghost use Rattle.wy_verify.specs.Turns.{FitsAt, IsCalled, IsStoredInTypes, IsSetInTypes, IsReturned, IsFinishedInTypes, MeetsTargetTypes, IsBroughtInTypes, IsInState, IsInTypes, BringsTypes, IsTypedHere, IsEffect, IsWithinEffect, StaysInside, popped_at};
 
 use crate::kinds::kind_there;
 use crate::knowing::Knowing;
 use crate::methods::FoundMethod;
 use crate::pairs::Pairs;
 use crate::site::Site;
-use wy_code::code::Source;
+use crate::types::literals::literal_fits;
+use crate::types::operators::operator_fits;
 use wy_code::instruction::Instruction;
 use wy_image::{Reference, Target};
 use wy_text::text::Memory;
@@ -110,16 +111,6 @@ fn parameters_fit(
     Ok(true)
 }
 
-/// The type of a captured value.
-fn source_kind(site: &Site<'_>, known: &Knowing, source: Source) -> Kind
-    ensures { result ≡ source_of site.now known.now.stored source }
-{
-    match source {
-        Source::Slot(slot) => site.slot_kind(known, slot).unwrap_or(Kind::Units),
-        Source::Value(number) => site.value_kind(number).unwrap_or(Kind::Units),
-    }
-}
-
 /// Whether there is a method, and the arguments fit its parameters.
 fn call_fits(
     site: &Site<'_>,
@@ -137,13 +128,6 @@ fn call_fits(
         Some(method) => parameters_fit(site, pairs, known.topmost(arguments), &method),
         None => Ok(false),
     }
-}
-
-/// Whether a type is a base type that can be compared.
-fn is_compared(kind: Kind) -> bool
-    ensures { IsTrue result ↔ IsCompared kind }
-{
-    matches!(kind, Kind::Ints | Kind::Truths | Kind::Texts)
 }
 
 /// Whether the topmost operand fits a type.
@@ -210,5 +194,147 @@ fn jump_fits(
         Instruction::Jump(to) => brings_types(site, known, pairs, 0, to as usize),
         Instruction::JumpFalse(to) => brings_types(site, known, pairs, 1, to as usize),
         _ => Ok(true),
+    }
+}
+
+/// The number of the `val` whose slot this is.
+fn val_number(site: &Site<'_>, slot: u32) -> usize
+    requires { site.now.body.parameters < slot }
+    ensures { result ≡ slot - suc site.now.body.parameters }
+{
+    (slot - site.body().parameters - 1) as usize
+}
+
+/// Whether the value that a store takes fits the type of the slot.
+fn store_fits(
+    site: &Site<'_>,
+    known: &Knowing,
+    pairs: &mut Pairs,
+    slot: u32,
+) -> Result<bool, Memory>
+    requires closed { AreClosed site.now.image pairs.old }
+    requires count { 1 ≤ length known.now.operands }
+    requires local { site.now.body.parameters < slot }
+    ensures decided { IfOk result (λ b. IsTrue b ↔ IsStoredInTypes site.now known.now slot) }
+    ensures kept { OnOk result (AreClosed site.now.image pairs.new) }
+{
+    let kind = site.val_kind(val_number(site, slot)).unwrap_or(Kind::Units);
+    top_fits(site, known, pairs, kind)
+}
+
+/// Whether the value that a field is set to fits its type.
+fn set_fits(
+    site: &Site<'_>,
+    known: &Knowing,
+    pairs: &mut Pairs,
+    number: u32,
+) -> Result<bool, Memory>
+    requires closed { AreClosed site.now.image pairs.old }
+    requires count { 1 ≤ length known.now.operands }
+    ensures decided { IfOk result (λ b. IsTrue b ↔ IsSetInTypes site.now known.now number) }
+    ensures kept { OnOk result (AreClosed site.now.image pairs.new) }
+{
+    let kind = site.value_kind(number).unwrap_or(Kind::Units);
+    top_fits(site, known, pairs, kind)
+}
+
+/// Whether the operand that the body returns fits the type of its result.
+fn return_fits(site: &Site<'_>, known: &Knowing, pairs: &mut Pairs) -> Result<bool, Memory>
+    requires closed { AreClosed site.now.image pairs.old }
+    requires count { 1 ≤ length known.now.operands }
+    ensures decided { IfOk result (λ b. IsTrue b ↔ IsReturned site.now known.now) }
+    ensures kept { OnOk result (AreClosed site.now.image pairs.new) }
+{
+    top_fits(site, known, pairs, site.result())
+}
+
+/// Whether an operand that is left at the end is a unit.
+fn finish_fits(site: &Site<'_>, known: &Knowing, pairs: &mut Pairs) -> Result<bool, Memory>
+    requires { AreClosed site.now.image pairs.old }
+    ensures decided { IfOk result (λ b. IsTrue b ↔ IsFinishedInTypes site.now known.now) }
+    ensures kept { OnOk result (AreClosed site.now.image pairs.new) }
+{
+    if known.depth() == 0 {
+        return Ok(true);
+    }
+    top_fits(site, known, pairs, Kind::Units)
+}
+
+/// Whether the part of V-Type that depends on the form of an instruction holds.
+fn instruction_fits(
+    site: &Site<'_>,
+    known: &Knowing,
+    pairs: &mut Pairs,
+    instruction: Instruction,
+) -> Result<bool, Memory>
+    requires closed { AreClosed site.now.image pairs.old }
+    requires count { popped_at site.now instruction ≤ length known.now.operands }
+    requires state { IsInState site.now known.now instruction }
+    ensures decided { IfOk result (λ b. IsTrue b ↔ IsInTypes site.now known.now instruction) }
+    ensures kept { OnOk result (AreClosed site.now.image pairs.new) }
+{
+    match instruction {
+        Instruction::Store(slot) => store_fits(site, known, pairs, slot),
+        Instruction::Set(number) => set_fits(site, known, pairs, number),
+        Instruction::Op(operator) => Ok(operator_fits(known, operator)),
+        Instruction::JumpFalse(_) => top_fits(site, known, pairs, Kind::Truths),
+        Instruction::New(literal) => literal_fits(site, known, pairs, literal),
+        Instruction::Call(number, arguments) => {
+            call_fits(site, known, pairs, number, arguments as usize)
+        }
+        Instruction::Return => return_fits(site, known, pairs),
+        Instruction::Finish => finish_fits(site, known, pairs),
+        _ => Ok(true),
+    }
+}
+
+/// Returns whether V-Type holds at an instruction, apart from what falls in there. Fails only if memory runs out.
+pub fn types_pass(
+    site: &Site<'_>,
+    known: &Knowing,
+    pairs: &mut Pairs,
+    instruction: Instruction,
+) -> Result<bool, Memory>
+    requires closed { AreClosed site.now.image pairs.old }
+    requires inside { StaysInside site.now instruction }
+    requires count { popped_at site.now instruction ≤ length known.now.operands }
+    requires state { IsInState site.now known.now instruction }
+    ensures decided { IfOk result (λ b. IsTrue b ↔ IsTypedHere site.now known.now instruction) }
+    ensures kept { OnOk result (AreClosed site.now.image pairs.new) }
+{
+    if !instruction_fits(site, known, pairs, instruction)? {
+        return Ok(false);
+    }
+    jump_fits(site, known, pairs, instruction)
+}
+
+/// Whether the effect of a method is within the body's.
+fn is_within(site: &Site<'_>, method: &FoundMethod<'_>) -> bool
+    ensures { IsTrue result ↔ Within method.now.effect site.now.bounds.effect }
+{
+    method.is_within(site.effect())
+}
+
+/// Whether the effect of the method that a call finds is within the body's.
+fn call_passes(site: &Site<'_>, known: &Knowing, number: u32, arguments: usize) -> bool
+    requires { arguments < length known.now.operands }
+    ensures { IsTrue result ↔ IsWithinEffect site.now known.now number arguments }
+{
+    match site.judged().method(known.operand(arguments), number) {
+        Some(method) => is_within(site, &method),
+        None => true,
+    }
+}
+
+/// Returns whether V-Effect holds at an instruction. Takes no memory.
+pub fn effect_passes(site: &Site<'_>, known: &Knowing, instruction: Instruction) -> bool
+    requires { popped_at site.now instruction ≤ length known.now.operands }
+    ensures { IsTrue result ↔ IsEffect site.now known.now instruction }
+{
+    match instruction {
+        Instruction::Call(number, arguments) => {
+            call_passes(site, known, number, arguments as usize)
+        }
+        _ => true,
     }
 }

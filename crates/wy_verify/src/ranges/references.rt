@@ -18,7 +18,7 @@ pub(super) struct Writer<'a> {
 }
 
 /// Returns how many members a primitive type has.
-fn member_count(primitive: Primitive) -> usize
+pub(crate) fn member_count(primitive: Primitive) -> usize
     ensures { result ≡ length (members_of primitive) }
 {
     match primitive {
