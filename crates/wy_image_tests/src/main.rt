@@ -1,5 +1,6 @@
 //! Decodes and encodes each image that an argument names, the beginnings of its bytes, and its bytes with one changed.
-//! It prints a line for each image. crates/wy_image_tests/README.md says what the images are.
+//! It verifies the image too, and prints what it may do. If the first argument is `verdicts`, it only verifies.
+//! crates/wy_image_tests/README.md says what the images are.
 #![tactic(auto)]
 
 ghost use Rattle.std.specs.Prelude.{◌<◌, length};
@@ -8,7 +9,9 @@ use std::alloc::Global;
 use std::io::{self, Read};
 use std::process::ExitCode;
 use std::{env, fs};
+use wy_authority::report;
 use wy_image::{DecodeRefusal, decode, encode};
+use wy_verify::{Verified, VerifyRefusal, VerifyRule, verify};
 
 /// The most bytes of an image of which all beginnings and changes are tried: each of them reads the whole again.
 const MOST_TRIED: usize = 1200;
@@ -80,18 +83,79 @@ fn tried(alloc: Global, bytes: &mut [u8]) -> &'static str {
     }
 }
 
-/// Prints what becomes of the image of a file.
-fn try_image(rt: &HostRuntime, name: &str) -> io::Result<()> {
+/// Returns the name of a rule.
+fn rule_name(rule: VerifyRule) -> &'static str {
+    match rule {
+        VerifyRule::Range => "V-Range",
+        VerifyRule::Argument => "V-Argument",
+        VerifyRule::Flow => "V-Flow",
+        VerifyRule::State => "V-State",
+        VerifyRule::Depth => "V-Depth",
+        VerifyRule::Types => "V-Type",
+        VerifyRule::Effect => "V-Effect",
+    }
+}
+
+/// Prints that an image is verified, and the report of what it may do.
+fn print_report(rt: &HostRuntime, name: &str, verified: &Verified<'_>) -> io::Result<()> {
+    let alloc: Global = rt.alloc();
+    let Ok(authority) = verified.bounds(alloc) else {
+        return println!(rt; "{name}: no memory");
+    };
+    let Ok(text) = report(alloc, &authority) else {
+        return println!(rt; "{name}: no memory");
+    };
+    match str::from_utf8(text.as_bytes()) {
+        Ok(text) => print!(rt; "{name}: verified\n{text}"),
+        Err(_) => println!(rt; "{name}: verified, and a name is not UTF-8"),
+    }
+}
+
+/// Prints at which byte an image goes wrong, which rule fails first and where, or that it is verified.
+fn print_verdict(rt: &HostRuntime, name: &str, bytes: &[u8]) -> io::Result<()> {
+    let alloc: Global = rt.alloc();
+    let file = match decode(alloc, bytes) {
+        Ok(file) => file,
+        Err(DecodeRefusal::BadImage(at)) => return println!(rt; "{name}: bad image at {at}"),
+        Err(DecodeRefusal::Memory) => return println!(rt; "{name}: no memory"),
+    };
+    match verify(alloc, &file) {
+        Ok(verified) => print_report(rt, name, &verified),
+        Err(VerifyRefusal::Memory) => println!(rt; "{name}: no memory"),
+        Err(
+            VerifyRefusal::Fails {
+                rule,
+                instance,
+                body,
+                at,
+            },
+        ) => {
+            let rule = rule_name(rule);
+            println!(rt; "{name}: unverified {rule} {instance} {body} {at}")
+        }
+    }
+}
+
+/// Prints what becomes of the image of a file, and its verdict. If only verdicts are wanted, prints the verdict alone.
+fn try_image(rt: &HostRuntime, name: &str, verdicts: bool) -> io::Result<()> {
     let alloc: Global = rt.alloc();
     let mut bytes = Vec::new(alloc);
     fs::open(rt, name)?.read_to_end(&mut bytes)?;
-    let answer = tried(alloc, &mut bytes);
-    println!(rt; "{name}: {} bytes, {answer}", bytes.len())
+    if !verdicts {
+        let answer = tried(alloc, &mut bytes);
+        println!(rt; "{name}: {} bytes, {answer}", bytes.len())?;
+    }
+    print_verdict(rt, name, &bytes)
 }
 
 fn run(rt: &HostRuntime) -> io::Result<()> {
-    for name in env::args(rt)?.skip(1) {
-        try_image(rt, name.as_str())?;
+    let mut verdicts = false;
+    for word in env::args(rt)?.skip(1) {
+        if word.as_str() == "verdicts" {
+            verdicts = true;
+        } else {
+            try_image(rt, word.as_str(), verdicts)?;
+        }
     }
     Ok(())
 }
